@@ -1,0 +1,2 @@
+//! Commit versions in one chain, and the answers that are kept for repeated requests.
+#![tactic(auto)]

@@ -1,0 +1,24 @@
+-- How a client's log grows: by one call for each thing that it was told to do.
+use Rattle.std.specs.Prelude.{◌≡◌, Bool, true, false, List, [], ◌∷◌, ◌++◌}
+use Rattle.fdb_history.specs.Log.{position_after_calls}
+use Rattle.fdb_history.specs.declared.log.Call.{Call}
+use Rattle.fdb_history.specs.declared.log.CallAnswer.{CallAnswer}
+use Rattle.fdb_history.specs.declared.log.CallAnswer.TheVariants.{Version, Answered, Acked, Told, Refused}
+use Rattle.fdb_history.specs.declared.log.Input.{Input}
+
+-- whether a client may have seen more after a call with this answer than before it
+abbrev pub may_advance : CallAnswer → Bool
+may_advance (Version rec limits locked_out) = true
+may_advance (Acked rec raised) = true
+may_advance (Answered issued) = false
+may_advance Told = false
+may_advance (Refused cause) = false
+
+-- The log has one more call than before, with this input. The call begins at the position that the log had
+-- come to, and ends there too unless the register was asked.
+pub record AddsCall (before : List Call) (wanted : Input) (after : List Call) : Type 0 where
+  pub call : Call
+  pub added : after ≡ before ++ call ∷ []
+  pub input : call.input ≡ wanted
+  pub asked : call.asked ≡ position_after_calls 0 before
+  pub stays : may_advance call.answer ≡ false → call.position ≡ call.asked

@@ -1,0 +1,45 @@
+-- Commit versions: a list of fresh answers, in the order in which they were given.
+use Rattle.std.specs.Prelude.{◌≡◌, ℕ, ◌+◌, ◌-◌, ◌≤◌, ◌==◌, min, max, true, List, Option, None, Some, length, take, slice_get, count_by}
+use Rattle.fdb_history.specs.declared.chain.Issued.{Issued}
+use Rattle.fdb_history.specs.declared.chain.TheConstants.{MAX_STEP}
+use Rattle.fdb_history.specs.declared.register.TheConstants.{MAX_VERSION}
+
+-- How far a commit version is above the one before it: a version for each microsecond since, at least one
+-- and at most MAX_STEP. A moment before the last one counts as no time at all.
+-- (getVersion of masterserver, FoundationDB 7.1; whole microseconds, and the last sentence, are this product's own)
+abbrev pub step : ℕ → ℕ → ℕ
+step last_at at = max 1 (min MAX_STEP (at - last_at))
+
+-- The answer that was given last.
+abbrev pub last_answer : List Issued → Option Issued
+last_answer answers = slice_get answers (length answers - 1)
+
+-- The version before the next one: the last one that was given, and at first the end of the epoch before.
+-- (getVersion of masterserver: prevVersion, lastEpochEnd)
+abbrev pub prev_after : ℕ → Option Issued → ℕ
+prev_after epoch_end None = epoch_end
+prev_after epoch_end (Some last) = last.version
+
+-- The next version at a moment: a step above the last one, and at first the recovery version.
+-- (getVersion of masterserver: recoveryTransactionVersion)
+abbrev pub version_after : ℕ → Option Issued → ℕ → ℕ
+version_after recovery None at = recovery
+version_after recovery (Some last) at = last.version + step last.at at
+
+-- How many fresh answers a commit proxy has got. Its latest number, since it numbers them from 1.
+-- (latestRequestNum of CommitProxyVersionReplies, masterserver)
+abbrev pub latest : ℕ → List Issued → ℕ
+latest proxy answers = count_by (λ answer. answer.proxy == proxy) answers
+
+-- An answer is the next one after those before it.
+pub record IsNext (epoch_end recovery : ℕ) (before : List Issued) (answer : Issued) : Type 0 where
+  pub fresh : answer.fresh ≡ true
+  pub ordinal : answer.ordinal ≡ length before
+  pub num : answer.num ≡ latest answer.proxy before + 1
+  pub prev : answer.prev ≡ prev_after epoch_end (last_answer before)
+  pub version : answer.version ≡ version_after recovery (last_answer before) answer.at
+  pub in_range : answer.version ≤ MAX_VERSION
+
+-- One chain: each answer is the next one after those before it.
+abbrev pub IsChain : ℕ → ℕ → List Issued → Type 0
+IsChain epoch_end recovery answers = (place : ℕ) (answer : Issued) → slice_get answers place ≡ Some answer → IsNext epoch_end recovery (take place answers) answer

@@ -1,0 +1,46 @@
+-- Events of the register, one after another.
+use Rattle.std.specs.Prelude.{◌≡◌, ℕ, ◌+◌, Bool, false, if◌then◌else◌, List, [], ◌∷◌, fold, count_by}
+use Rattle.fdb_history.specs.Register.{raises, record_after}
+use Rattle.fdb_history.specs.declared.register.Record.{Record}
+use Rattle.fdb_history.specs.declared.event.Event.{Event}
+use Rattle.fdb_history.specs.declared.event.Event.TheVariants.{Report, Read}
+
+-- The register after one event. A read changes nothing.
+abbrev pub after_event : Record → Event → Record
+after_event current (Report client call rec raised) = record_after current rec
+after_event current (Read client call rec) = current
+
+-- The register after some events: a fold over them, from the start record.
+-- (liveCommittedVersion of masterserver, FoundationDB 7.1, as one register)
+abbrev pub register : Record → List Event → Record
+register start events = fold after_event start events
+
+-- What an event says is so, given the register before it: a read has the register's record, and a report
+-- says that it raised the register exactly where it did.
+abbrev pub IsTrueOf : Record → Event → Type 0
+IsTrueOf current (Report client call rec raised) = raised ≡ raises current rec
+IsTrueOf current (Read client call rec) = rec ≡ current
+
+-- A list of events is legal from a start record where each of them is true of the register before it.
+-- (the sequential specification of Herlihy and Wing, Linearizability, 1990, at this register)
+abbrev pub IsLegal : Record → List Event → Type 0
+IsLegal start [] = Unit {0}
+IsLegal start (event ∷ events) = IsTrueOf start event × IsLegal (after_event start event) events
+
+-- whether an event is a report that raised the register
+abbrev pub is_raise : Event → Bool
+is_raise (Report client call rec raised) = raised
+is_raise (Read client call rec) = false
+
+-- The position after an event, from the position before it: positions count the raises. (this product's own)
+abbrev pub position_after : ℕ → Event → ℕ
+position_after before event = if is_raise event then before + 1 else before
+
+-- The position of each event: the number of raises up to and including it.
+abbrev pub positions_from : ℕ → List Event → List ℕ
+positions_from before [] = []
+positions_from before (event ∷ events) = position_after before event ∷ positions_from (position_after before event) events
+
+-- how many raises there are
+abbrev pub raise_count : List Event → ℕ
+raise_count events = count_by is_raise events

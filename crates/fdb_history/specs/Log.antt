@@ -1,0 +1,59 @@
+-- The log of a client, and the register's events in it.
+use Rattle.std.specs.Prelude.{ℕ, ◌+◌, Bool, false, List, [], ◌∷◌, ◌++◌, map, Option, None, Some, option_to_list, slice_get, unwrap_or, count_by}
+use Rattle.std.specs.Option.{option_map}
+use Rattle.fdb_history.specs.declared.event.Event.{Event}
+use Rattle.fdb_history.specs.declared.event.Event.TheVariants.{Report, Read}
+use Rattle.fdb_history.specs.declared.log.Call.{Call}
+use Rattle.fdb_history.specs.declared.log.CallAnswer.{CallAnswer}
+use Rattle.fdb_history.specs.declared.log.CallAnswer.TheVariants.{Version, Answered, Acked, Told, Refused}
+use Rattle.fdb_history.specs.declared.log.ClientLog.{ClientLog}
+
+-- A register call is one that the register answered: a read with a record, or a report with an acknowledgement.
+-- This is its event, as the call at this place of this client's log.
+abbrev pub event_of_answer : ℕ → ℕ → CallAnswer → Option Event
+event_of_answer client place (Version rec limits locked_out) = Some (Read client place rec)
+event_of_answer client place (Acked rec raised) = Some (Report client place rec raised)
+event_of_answer client place (Answered issued) = None
+event_of_answer client place Told = None
+event_of_answer client place (Refused cause) = None
+
+-- a register call's event, with the position of the call
+pub record Placed : Type 0 where
+  pub event : Event
+  pub position : ℕ
+
+-- the events of a client's calls from this place of its log on, in the log's order
+abbrev pub placed_from : ℕ → ℕ → List Call → List Placed
+placed_from client place [] = []
+placed_from client place (call ∷ calls) =
+    map (λ event. record { event = event; position = call.position }) (option_to_list (event_of_answer client place call.answer))
+    ++ placed_from client (place + 1) calls
+
+-- the calls of a client, none where there is no such log
+abbrev pub calls_of : List ClientLog → ℕ → List Call
+calls_of logs client = unwrap_or (option_map (λ log. log.calls) (slice_get logs client)) []
+
+-- whether a call's answer says that it raised the register
+abbrev pub answer_raises : CallAnswer → Bool
+answer_raises (Version rec limits locked_out) = false
+answer_raises (Acked rec raised) = raised
+answer_raises (Answered issued) = false
+answer_raises Told = false
+answer_raises (Refused cause) = false
+
+-- The position after some calls, from a position before them: that of the last, if there is one.
+abbrev pub position_after_calls : ℕ → List Call → ℕ
+position_after_calls before [] = before
+position_after_calls before (call ∷ calls) = position_after_calls call.position calls
+
+-- whether a call drew a fresh commit version
+abbrev pub is_fresh_answer : CallAnswer → Bool
+is_fresh_answer (Version rec limits locked_out) = false
+is_fresh_answer (Acked rec raised) = false
+is_fresh_answer (Answered issued) = issued.fresh
+is_fresh_answer Told = false
+is_fresh_answer (Refused cause) = false
+
+-- how many fresh commit versions a client's calls drew
+abbrev pub fresh_count : List Call → ℕ
+fresh_count calls = count_by (λ call. is_fresh_answer call.answer) calls

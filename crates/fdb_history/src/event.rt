@@ -1,0 +1,54 @@
+//! The events of a history: what the register was told, and what it answered.
+
+ghost use Rattle.std.specs.Prelude.{◌≡◌};
+ghost use Rattle.fdb_history.specs.Event.{register};
+
+use crate::register::Record;
+use crate::sequence::Sequence;
+
+/// One step of the register. Clients are numbered from 0, and so are the calls of each client's log.
+#[derive(Clone, Copy, Debug, PartialEq, Eq, Hash)]
+pub enum Event {
+    /// A client reported a record (`reportLiveCommittedVersion`), and was told whether it raised the register.
+    Report {
+        /// The client.
+        client: u32,
+        /// The place of the call in the client's log.
+        call: u64,
+        /// What was reported.
+        rec: Record,
+        /// Whether the report replaced the record.
+        raised: bool,
+    },
+    /// A client read the register (`getLiveCommittedVersion`).
+    Read {
+        /// The client.
+        client: u32,
+        /// The place of the call in the client's log.
+        call: u64,
+        /// What was read.
+        rec: Record,
+    },
+}
+
+/// Events, one after another, that explain the replies of a run.
+#[derive(Debug, Drop, PartialEq, Eq)]
+pub struct History {
+    /// The events, in order.
+    pub events: Sequence<Event>,
+}
+
+/// The record after the events. Each report of a greater version replaces the whole record; reads change nothing.
+///
+/// It takes the reports as they come, and asks nothing of the flags and the records that the events claim.
+pub fn register_after(start: Record, events: &[Event]) -> Record
+    ensures { result ≡ register start events.now }
+{
+    let mut current = start;
+    for event in events {
+        if let Event::Report { rec, .. } = event {
+            current = current.after_report(*rec);
+        }
+    }
+    current
+}

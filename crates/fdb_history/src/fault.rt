@@ -1,0 +1,56 @@
+//! What an audit can find.
+
+use thiserror::Error;
+
+/// Why the logs of a run, with the chain of its commit versions, have no explanation. Clients are places in the
+/// list of logs and calls are places in a log, both counted from 0.
+#[derive(Clone, Copy, Debug, PartialEq, Eq, Hash, Error)]
+pub enum AuditFault {
+    /// A call was answered from before what its client had seen.
+    #[error("Order {client} {call}")]
+    Order {
+        /// The client.
+        client: u32,
+        /// The call.
+        call: u64,
+    },
+    /// Two raises have one position.
+    #[error("Clash {position}")]
+    Clash {
+        /// The position.
+        position: u64,
+    },
+    /// No raise has this position, and some call has one at least as great.
+    #[error("Gap {position}")]
+    Gap {
+        /// The position.
+        position: u64,
+    },
+    /// A read, or a report's answer, that the register would not have given at its position.
+    #[error("Wrong {client} {call}")]
+    Wrong {
+        /// The client.
+        client: u32,
+        /// The call.
+        call: u64,
+    },
+    /// An answer that its input, the chain or the client's own log does not bear out.
+    #[error("Stray {client} {call}")]
+    Stray {
+        /// The client.
+        client: u32,
+        /// The call.
+        call: u64,
+    },
+    /// A commit version that is not above what its asker had seen.
+    #[error("NotAbove {client} {call}")]
+    NotAbove {
+        /// The client.
+        client: u32,
+        /// The call.
+        call: u64,
+    },
+    /// Memory was refused.
+    #[error("want of memory")]
+    Memory,
+}

@@ -1,0 +1,43 @@
+//! What a client says with a read of the read version, and the limits in the answer.
+
+use crate::sequence::Sequence;
+
+/// The priority of a request, and with it its queue at the GRV proxy (`TransactionPriority`).
+#[derive(Clone, Copy, Debug, PartialEq, Eq, Hash)]
+pub enum Priority {
+    /// `IMMEDIATE`: no rate holds it.
+    System,
+    /// `DEFAULT`: the normal rate holds it.
+    Default,
+    /// `BATCH`: both rates hold it.
+    Batch,
+}
+
+/// The bytes of a transaction tag (`TransactionTag`).
+pub type Tag = Sequence<u8>;
+
+/// A throttle as a client is told of it (`ClientTagThrottleLimits`).
+#[derive(Debug, Drop, PartialEq, Eq)]
+pub struct TagLimit {
+    /// The tag.
+    pub tag: Tag,
+    /// Transactions per second.
+    pub rate: u64,
+    /// The moment from which on it holds no longer, in microseconds.
+    pub expires: u64,
+}
+
+/// What a client says with a request for a read version (`GetReadVersionRequest`).
+#[derive(Debug, Drop, PartialEq, Eq)]
+pub struct GrvOpts {
+    /// The priority.
+    pub priority: Priority,
+    /// How many transactions the request stands for.
+    pub count: u64,
+    /// The transactions' tags, in order.
+    pub tags: Sequence<Tag>,
+    /// Whether the client may go on when the database is locked.
+    pub lock_aware: bool,
+    /// The moment of the request, in microseconds.
+    pub at: u64,
+}

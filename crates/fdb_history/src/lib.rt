@@ -1,0 +1,24 @@
+//! Records, events and logs of a read-version service, and the definitions that its promises are made of.
+//!
+//! A run of the service leaves a log for each client and a chain of commit versions. This crate has their types,
+//! and in `specs/` says what the live committed version is after a list of events (`Register`, `Event`), what a
+//! history of the logs is (`Linear`), and how commit versions follow one another (`Chain`, `Answer`).
+#![tactic(auto)]
+
+mod chain;
+mod event;
+mod fault;
+mod gate;
+mod grv;
+mod log;
+mod register;
+mod sequence;
+
+pub use chain::{Ask, Issued, MAX_STEP};
+pub use event::{Event, History, register_after};
+pub use fault::AuditFault;
+pub use gate::{Gate, OpenGate, Place};
+pub use grv::{GrvOpts, Priority, Tag, TagLimit};
+pub use log::{Call, CallAnswer, ClientLog, Input, Refusal};
+pub use register::{MAX_VERSION, Record};
+pub use sequence::Sequence;

@@ -1,0 +1,136 @@
+//! The log of a client: each of its calls, with what it asked, had seen and was answered.
+
+use crate::chain::Issued;
+use crate::grv::{GrvOpts, TagLimit};
+use crate::register::Record;
+use crate::sequence::Sequence;
+use thiserror::Error;
+
+/// What a client called.
+#[derive(Debug, Drop, PartialEq, Eq)]
+pub enum Input {
+    /// It read the read version.
+    Grv(GrvOpts),
+    /// It asked for a commit version.
+    Ask {
+        /// The number of the request.
+        num: u64,
+        /// What it has processed.
+        processed: u64,
+        /// The moment, in microseconds.
+        at: u64,
+    },
+    /// It reported the commit version that it got under a number.
+    Report {
+        /// The number of the request.
+        num: u64,
+        /// Whether the database is locked from this version on.
+        locked: bool,
+        /// The metadata version, if there is one.
+        metadata: Option<u64>,
+    },
+    /// It told another client what it has seen.
+    Tell {
+        /// The other client.
+        to: u32,
+    },
+    /// It learnt what another client had seen.
+    Learn {
+        /// The other client.
+        from: u32,
+    },
+}
+
+/// What a call was answered.
+#[derive(Debug, Drop, PartialEq, Eq)]
+pub enum CallAnswer {
+    /// A read: the live record, and what throttles the tags of the request.
+    Version {
+        /// What was read.
+        rec: Record,
+        /// The throttles of the request's tags.
+        limits: Sequence<TagLimit>,
+        /// Whether the client was turned away because the database is locked.
+        locked_out: bool,
+    },
+    /// A commit version.
+    Answered(Issued),
+    /// A report was acknowledged.
+    Acked {
+        /// What was reported.
+        rec: Record,
+        /// Whether the report raised the live committed version.
+        raised: bool,
+    },
+    /// A tell or a learn was done.
+    Told,
+    /// The call was refused, and changed nothing.
+    Refused(Refusal),
+}
+
+/// Why a call was refused.
+#[derive(Clone, Copy, Debug, PartialEq, Eq, Hash, Error)]
+pub enum Refusal {
+    /// The request's number is beyond the next one of its proxy.
+    #[error("the next request number is {expected}")]
+    Early {
+        /// The next number.
+        expected: u64,
+    },
+    /// The answer under this number is not kept any more.
+    #[error("the answer is not kept any more")]
+    Forgotten,
+    /// There is no such commit proxy.
+    #[error("there is no such commit proxy")]
+    UnknownProxy,
+    /// The next version would be above the greatest one.
+    #[error("the versions are used up")]
+    Exhausted,
+    /// The count of a read is none that could ever start.
+    #[error("the count could never start")]
+    BadCount,
+    /// The batch limit is 0.
+    #[error("batch requests are throttled")]
+    BatchThrottled,
+    /// The queue was full.
+    #[error("the queue is full")]
+    Full,
+    /// The GRV proxy was closed.
+    #[error("the proxy is closed")]
+    ProxyClosed,
+    /// The client has no answer under this number.
+    #[error("no commit version was issued under this number")]
+    NotIssued,
+    /// An answer came that was another call's.
+    #[error("the answer is another call's")]
+    Stranger,
+    /// The version is above the greatest one.
+    #[error("the version is too large")]
+    TooLarge,
+    /// The live record has seen less than the caller.
+    #[error("the live record is at position {position}")]
+    Behind {
+        /// The position of the live record.
+        position: u64,
+    },
+}
+
+/// One call of a client. A position is the number of raises that had been seen.
+#[derive(Debug, Drop, PartialEq, Eq)]
+pub struct Call {
+    /// What was called.
+    pub input: Input,
+    /// The client's position before the call.
+    pub asked: u64,
+    /// The client's position after the call.
+    pub position: u64,
+    /// What came back.
+    pub answer: CallAnswer,
+}
+
+/// The calls of one client, in its order.
+#[derive(Debug, Drop, PartialEq, Eq)]
+pub struct ClientLog {
+    /// The calls.
+    pub calls: Sequence<Call>,
+}

@@ -1,0 +1,2 @@
+//! Scripts of clients, replayed from bytes to bytes.
+#![tactic(auto)]
