@@ -4,7 +4,8 @@ use crate::chain::Issued;
 use crate::grv::{GrvOpts, TagLimit};
 use crate::register::Record;
 use crate::sequence::Sequence;
-use thiserror::Error;
+use std::error::Error;
+use std::fmt;
 
 /// What a client called.
 #[derive(Debug, Drop, PartialEq, Eq)]
@@ -69,51 +70,66 @@ pub enum CallAnswer {
 }
 
 /// Why a call was refused.
-#[derive(Clone, Copy, Debug, PartialEq, Eq, Hash, Error)]
+#[derive(Clone, Copy, Debug, PartialEq, Eq, Hash)]
 pub enum Refusal {
     /// The request's number is beyond the next one of its proxy.
-    #[error("the next request number is {expected}")]
     Early {
         /// The next number.
         expected: u64,
     },
     /// The answer under this number is not kept any more.
-    #[error("the answer is not kept any more")]
     Forgotten,
     /// There is no such commit proxy.
-    #[error("there is no such commit proxy")]
     UnknownProxy,
     /// The next version would be above the greatest one.
-    #[error("the versions are used up")]
     Exhausted,
     /// The count of a read is none that could ever start.
-    #[error("the count could never start")]
     BadCount,
     /// The batch limit is 0.
-    #[error("batch requests are throttled")]
     BatchThrottled,
     /// The queue was full.
-    #[error("the queue is full")]
     Full,
     /// The GRV proxy was closed.
-    #[error("the proxy is closed")]
     ProxyClosed,
-    /// The client has no answer under this number.
-    #[error("no commit version was issued under this number")]
+    /// The client has no commit version under this number.
     NotIssued,
     /// An answer came that was another call's.
-    #[error("the answer is another call's")]
     Stranger,
     /// The version is above the greatest one.
-    #[error("the version is too large")]
     TooLarge,
     /// The live record has seen less than the caller.
-    #[error("the live record is at position {position}")]
     Behind {
         /// The position of the live record.
         position: u64,
     },
 }
+
+/// The refusal's name, and the number that it tells.
+impl fmt::Display for Refusal {
+    ghost use Rattle.std.specs.Prelude.{Some};
+    ghost use Rattle.fdb_history.specs.Text.{refusal_text};
+
+    ghost output = { λ cause. Some (refusal_text cause) };
+
+    fn fmt<W: fmt::Write>(&self, f: &mut fmt::Formatter<W>) -> fmt::Result {
+        match self {
+            Refusal::Early { expected } => write!(f, "Early {expected}"),
+            Refusal::Forgotten => f.write_str("Forgotten"),
+            Refusal::UnknownProxy => f.write_str("UnknownProxy"),
+            Refusal::Exhausted => f.write_str("Exhausted"),
+            Refusal::BadCount => f.write_str("BadCount"),
+            Refusal::BatchThrottled => f.write_str("BatchThrottled"),
+            Refusal::Full => f.write_str("Full"),
+            Refusal::ProxyClosed => f.write_str("ProxyClosed"),
+            Refusal::NotIssued => f.write_str("NotIssued"),
+            Refusal::Stranger => f.write_str("Stranger"),
+            Refusal::TooLarge => f.write_str("TooLarge"),
+            Refusal::Behind { position } => write!(f, "Behind {position}"),
+        }
+    }
+}
+
+impl Error for Refusal {}
 
 /// One call of a client. A position is the number of raises that had been seen.
 #[derive(Debug, Drop, PartialEq, Eq)]

@@ -3,6 +3,8 @@
 ghost use Rattle.std.specs.Prelude.{◌≡◌};
 ghost use Rattle.fdb_history.specs.Register.{record_after};
 
+use std::fmt;
+
 /// The greatest version: FoundationDB's versions are signed numbers of 64 bits, of which none below 0 is used.
 pub const MAX_VERSION: u64 = 9_223_372_036_854_775_807;
 
@@ -31,6 +33,27 @@ impl Record {
             reported
         } else {
             self
+        }
+    }
+}
+
+/// The version, `locked` or `unlocked`, and the metadata version or `none`.
+impl fmt::Display for Record {
+    ghost use Rattle.std.specs.Prelude.{Some};
+    ghost use Rattle.fdb_history.specs.Text.{record_text};
+
+    ghost output = { λ rec. Some (record_text rec) };
+
+    fn fmt<W: fmt::Write>(&self, f: &mut fmt::Formatter<W>) -> fmt::Result {
+        let version = self.version;
+        let lock = if self.locked {
+            " locked "
+        } else {
+            " unlocked "
+        };
+        match self.metadata {
+            None => write!(f, "{version}{lock}none"),
+            Some(metadata) => write!(f, "{version}{lock}{metadata}"),
         }
     }
 }

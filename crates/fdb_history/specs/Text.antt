@@ -1,0 +1,29 @@
+-- How a record and a refusal are printed. (this product's own)
+use Rattle.std.specs.Prelude.{ℕ, List, ◌++◌, Option, None, Some, codes, decimal, if◌then◌else◌}
+use Rattle.fdb_history.specs.declared.log.Refusal.{Refusal}
+use Rattle.fdb_history.specs.declared.log.Refusal.TheVariants.{Early, Forgotten, UnknownProxy, Exhausted, BadCount, BatchThrottled, Full, ProxyClosed, NotIssued, Stranger, TooLarge, Behind}
+use Rattle.fdb_history.specs.declared.register.Record.{Record}
+
+-- a metadata version, or `none`
+abbrev pub metadata_text : Option ℕ → List ℕ
+metadata_text None = codes "none"
+metadata_text (Some metadata) = decimal metadata
+
+-- a record: its version, its lock and its metadata version
+abbrev pub record_text : Record → List ℕ
+record_text rec = decimal rec.version ++ (if rec.locked then codes " locked " else codes " unlocked ") ++ metadata_text rec.metadata
+
+-- a refusal: its name, and the number that it tells
+abbrev pub refusal_text : Refusal → List ℕ
+refusal_text (Early expected) = codes "Early " ++ decimal expected
+refusal_text Forgotten = codes "Forgotten"
+refusal_text UnknownProxy = codes "UnknownProxy"
+refusal_text Exhausted = codes "Exhausted"
+refusal_text BadCount = codes "BadCount"
+refusal_text BatchThrottled = codes "BatchThrottled"
+refusal_text Full = codes "Full"
+refusal_text ProxyClosed = codes "ProxyClosed"
+refusal_text NotIssued = codes "NotIssued"
+refusal_text Stranger = codes "Stranger"
+refusal_text TooLarge = codes "TooLarge"
+refusal_text (Behind position) = codes "Behind " ++ decimal position
