@@ -1,2 +1,7 @@
-//! Scripts of clients, replayed from bytes to bytes.
+//! A script of clients, replayed against the read-version service from the script's bytes to the printed lines.
 #![tactic(auto)]
+
+mod reader;
+mod script;
+
+pub use script::{Act, Command, MAX_COMMANDS, MAX_ROUNDS, Script, ScriptError};
