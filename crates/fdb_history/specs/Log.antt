@@ -1,6 +1,8 @@
 -- The log of a client, and the register's events in it.
-use Rattle.std.specs.Prelude.{ℕ, ◌+◌, Bool, false, List, [], ◌∷◌, ◌++◌, map, Option, None, Some, option_to_list, slice_get, unwrap_or, count_by}
+use Rattle.std.specs.Prelude.{ℕ, ◌+◌, Bool, false, List, [], ◌∷◌, ◌++◌, map, Option, None, Some, option_to_list, slice_get, unwrap_or, filter}
+use Rattle.std.specs.List.{flat_map}
 use Rattle.std.specs.Option.{option_map}
+use Rattle.fdb_history.specs.declared.chain.Issued.{Issued}
 use Rattle.fdb_history.specs.declared.event.Event.{Event}
 use Rattle.fdb_history.specs.declared.event.Event.TheVariants.{Report, Read}
 use Rattle.fdb_history.specs.declared.log.Call.{Call}
@@ -46,14 +48,17 @@ abbrev pub position_after_calls : ℕ → List Call → ℕ
 position_after_calls before [] = before
 position_after_calls before (call ∷ calls) = position_after_calls call.position calls
 
--- whether a call drew a fresh commit version
-abbrev pub is_fresh_answer : CallAnswer → Bool
-is_fresh_answer (Version rec limits locked_out) = false
-is_fresh_answer (Acked rec raised) = false
-is_fresh_answer (Answered issued) = issued.fresh
-is_fresh_answer Told = false
-is_fresh_answer (Refused cause) = false
+-- the commit version answers in some calls, in order
+abbrev pub answer_in : CallAnswer → List Issued
+answer_in (Version rec limits locked_out) = []
+answer_in (Acked rec raised) = []
+answer_in (Answered issued) = issued ∷ []
+answer_in Told = []
+answer_in (Refused cause) = []
 
--- how many fresh commit versions a client's calls drew
-abbrev pub fresh_count : List Call → ℕ
-fresh_count calls = count_by (λ call. is_fresh_answer call.answer) calls
+abbrev pub answers_in : List Call → List Issued
+answers_in calls = flat_map (λ call. answer_in call.answer) calls
+
+-- those of them that were drawn for their call
+abbrev pub fresh_answers : List Call → List Issued
+fresh_answers calls = filter (λ issued. issued.fresh) (answers_in calls)

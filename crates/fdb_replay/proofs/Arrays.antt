@@ -1,8 +1,8 @@
 -- Arrays of a JSON value as lists, read item by item.
-use Rattle.std.proofs.Common.{◌≡◌, ℕ, ◌+◌, List, [], ◌∷◌, ◌++◌, Result, Ok, Err, Option, None, Some, refl, ap, sym, append_assoc}
+use Rattle.std.proofs.Common.{◌≡◌, ℕ, List, [], ◌∷◌, ◌++◌, Result, Ok, Err, Option, None, Some, refl, ap, append_assoc}
 use Rattle.serde_json.specs.Data.{Data}
 use Rattle.serde_json.specs.View.{items_of}
-use Rattle.fdb_replay.specs.Reading.{list_of, then_commands, commands_from, command_of}
+use Rattle.fdb_replay.specs.Reading.{list_of, then_commands}
 use Rattle.fdb_replay.specs.declared.script.Command.{Command}
 use Rattle.fdb_replay.specs.declared.script.ScriptError.{ScriptError}
 

@@ -1,12 +1,12 @@
 -- A script that is read is within the limits.
-use Rattle.std.proofs.Common.{◌≡◌, ℕ, suc, ◌+◌, ◌<◌, Bool, true, false, cond, List, [], ◌∷◌, Result, Ok, Err, Option, None, Some, length, sum_by, nat_lt, option_and_then, codes, refl, ap, sym, subst, arith}
+use Rattle.std.proofs.Common.{◌≡◌, ℕ, suc, ◌+◌, ◌<◌, Bool, true, false, cond, List, [], ◌∷◌, Result, Ok, Err, Option, None, Some, length, sum_by, nat_lt, option_and_then, codes, refl, ap, subst}
 use Rattle.std.specs.Option.{option_map}
 use Rattle.std.specs.List.{AllByRecursion}
 use Rattle.std.proofs.lemmas.Bool.{ltb-true, and_parts, leb-true, eqb-true}
 use Rattle.std.proofs.lemmas.List.Sums.{sum_by-cons}
 use Rattle.std.proofs.lemmas.Option.{cond_some, none-some}
 use Rattle.serde_json.specs.Data.{Data}
-use Rattle.fdb_replay.specs.Plan.{Plan, IsPlan}
+use Rattle.fdb_replay.specs.Plan.{IsPlan}
 use Rattle.fdb_replay.specs.Reading.{then_commands, commands_from, command_of, then_rounds, rounds_from, whole_member, act_of, Frame, is_frame}
 use Rattle.fdb_replay.specs.declared.script.Act.{Act}
 use Rattle.fdb_replay.specs.declared.script.Command.{Command}

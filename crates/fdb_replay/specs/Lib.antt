@@ -1,2 +1,6 @@
 pub mod Plan
 pub mod Reading
+pub mod Answering
+pub mod Served
+pub mod Outcome
+pub mod Session

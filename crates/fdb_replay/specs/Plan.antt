@@ -1,5 +1,5 @@
 -- What a script says. (the format is this product's own)
-use Rattle.std.specs.Prelude.{◌≡◌, ℕ, ◌<◌, ◌≤◌, List, length, sum_by, nat_lt}
+use Rattle.std.specs.Prelude.{◌≡◌, ℕ, ◌<◌, ◌≤◌, List, length, sum_by}
 use Rattle.std.specs.List.{AllByRecursion}
 use Rattle.fdb_history.specs.declared.register.TheConstants.{MAX_VERSION}
 use Rattle.fdb_replay.specs.declared.script.Command.{Command}

@@ -1,7 +1,9 @@
 //! A script of clients, replayed against the read-version service from the script's bytes to the printed lines.
 #![tactic(auto)]
 
+mod outcome;
 mod reader;
 mod script;
 
+pub use outcome::{Outcome, RunFault};
 pub use script::{Act, Command, MAX_COMMANDS, MAX_ROUNDS, Script, ScriptError};

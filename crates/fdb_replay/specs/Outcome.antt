@@ -1,0 +1,30 @@
+-- What a run promises of its outcome.
+use Rattle.std.specs.Prelude.{◌≡◌, ℕ, false, None, []}
+use Rattle.fdb_history.specs.Chain.{IsChain}
+use Rattle.fdb_history.specs.Explained.{explained}
+use Rattle.fdb_history.specs.Linear.{IsLinear}
+use Rattle.fdb_history.specs.Log.{calls_of, fresh_answers}
+use Rattle.fdb_history.specs.declared.register.Record.{Record}
+use Rattle.fdb_replay.specs.Answering.{Answers}
+use Rattle.fdb_replay.specs.declared.outcome.Outcome.{Outcome}
+use Rattle.fdb_replay.specs.Plan.{Plan}
+use Rattle.fdb_replay.specs.Served.{AreServed}
+
+-- the record before any report: the recovery version, unlocked, with no metadata version
+abbrev pub opening : ℕ → Record
+opening recovery = record { version = recovery; locked = false; metadata = None }
+
+-- The outcome is that of a run of the script, with a single client.
+pub record IsRunOf (plan : Plan) (outcome : Outcome) : Type 0 where
+  -- each client did what it was told, in its order, and nothing else
+  pub answers : Answers plan outcome.logs.items
+  -- the commit versions are one chain, without gap or fork
+  pub one_chain : IsChain plan.epoch_end plan.recovery outcome.chain.items
+  -- the replies are those of one register that takes reports and reads one at a time
+  pub linear : IsLinear (opening plan.recovery) outcome.logs.items outcome.history.events
+  -- the history is in the fixed order
+  pub in_order : outcome.history.events ≡ explained outcome.logs.items
+  -- each request got the answer after those before it, and each report was of the version that was issued
+  pub served : AreServed plan.epoch_end plan.recovery [] (calls_of outcome.logs.items 0)
+  -- the chain has the answers that the client got, and no others
+  pub drawn : outcome.chain.items ≡ fresh_answers (calls_of outcome.logs.items 0)

@@ -1,0 +1,49 @@
+//! What a run leaves.
+
+ghost use Rattle.std.specs.Prelude.{◌≡◌};
+
+use fdb_history::{AuditFault, ClientLog, History, Issued};
+use std::alloc::{AllocError, AllocFailed};
+use thiserror::Error;
+
+/// What a run leaves: the chain of commit versions, the log of each client, and the one history that explains them.
+#[derive(Debug, Drop)]
+pub struct Outcome {
+    /// The fresh commit version answers, in order.
+    pub chain: Vec<Issued>,
+    /// The log of each client, by its number.
+    pub logs: Vec<ClientLog>,
+    /// The history.
+    pub history: History,
+}
+
+/// Why a run has no outcome.
+#[derive(Clone, Copy, Debug, PartialEq, Eq, Hash, Error)]
+pub enum RunFault {
+    /// Memory was refused.
+    #[error("want of memory")]
+    Memory,
+    /// The logs have no explanation.
+    #[error("audit fault: {0}")]
+    Audit(AuditFault),
+}
+
+impl From<AllocError> for RunFault {
+    ghost use Rattle.fdb_replay.specs.declared.outcome.RunFault.TheVariants.{Memory};
+
+    ghost from_gives = { λ _ e. e ≡ Memory };
+
+    fn from(_error: AllocError) -> Self {
+        RunFault::Memory
+    }
+}
+
+impl<T: Drop> From<AllocFailed<T>> for RunFault {
+    ghost use Rattle.fdb_replay.specs.declared.outcome.RunFault.TheVariants.{Memory};
+
+    ghost from_gives = { λ _ e. e ≡ Memory };
+
+    fn from(_error: AllocFailed<T>) -> Self {
+        RunFault::Memory
+    }
+}

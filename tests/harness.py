@@ -1,0 +1,110 @@
+"""Runs the program, says what was wrong with a run, and writes scripts."""
+import os
+import subprocess
+from typing import NamedTuple
+
+ROOT = os.path.dirname(os.path.dirname(os.path.realpath(__file__)))
+EXAMPLES = f"{ROOT}/examples"
+SECONDS = 20
+NOT_ENDED = -1000
+
+DONE, REFUSED, NO_MEMORY, NO_STREAM = 0, 1, 3, 5
+
+
+class Ran(NamedTuple):
+    """How a run ended (below 0: by that signal), or how it is to end, and what it wrote."""
+
+    status: int
+    out: bytes
+    err: bytes
+
+
+def read(file):
+    with open(file, "rb") as it:
+        return it.read()
+
+
+def first_script():
+    return read(f"{EXAMPLES}/first.json")
+
+
+def first_output():
+    return read(f"{EXAMPLES}/first.out")
+
+
+def run(words, given=b"", seconds=SECONDS, **how):
+    """Runs a command on these bytes. With stdin in `how` it reads that in place of them."""
+    how = {"stdout": subprocess.PIPE, "stderr": subprocess.PIPE, "cwd": "/", **how}
+    how = how if "stdin" in how else {"input": given, **how}
+    try:
+        ran = subprocess.run(words, timeout=seconds, **how)
+    except subprocess.TimeoutExpired as late:
+        return Ran(NOT_ENDED, late.stdout or b"", late.stderr or b"")
+    return Ran(ran.returncode, ran.stdout or b"", ran.stderr or b"")
+
+
+def under(redirections, program, given=b"", **how):
+    """Runs the program with the shell's redirections, as '>&-'."""
+    return run(["sh", "-c", f'exec "$0" {redirections}', program], given, **how)
+
+
+def fault_of(ran, wanted):
+    """Returns how a run differs from what is wanted, or None. A stream whose wanted bytes are None is not looked at."""
+    if ran.status == NOT_ENDED and wanted.status != NOT_ENDED:
+        return "it had not ended in time"
+    if ran.status != wanted.status:
+        return f"status {ran.status} in place of {wanted.status}; it said {ran.err[-200:]!r}"
+    for name, got, bytes_wanted in (("error", ran.err, wanted.err), ("output", ran.out, wanted.out)):
+        if bytes_wanted is not None and got != bytes_wanted:
+            return f"standard {name} differs: {difference(got, bytes_wanted)}"
+    return None
+
+
+def difference(got, wanted):
+    """Names the first line that differs, counted from 1."""
+    got, wanted = got.split(b"\n"), wanted.split(b"\n")
+    at = next((i for i, (a, b) in enumerate(zip(got, wanted)) if a != b), min(len(got), len(wanted)))
+    line = lambda lines: repr(lines[at][:120]) if at < len(lines) else "nothing"
+    return f"line {at + 1} is {line(got)} in place of {line(wanted)}"
+
+
+def done(out):
+    return Ran(DONE, out, b"")
+
+
+def faulted(status, line):
+    return Ran(status, b"", f"fdb_replay: {line}\n".encode())
+
+
+def refused(why):
+    return faulted(REFUSED, f"script refused: {why}")
+
+
+READING_FAILED = faulted(NO_STREAM, "reading failed")
+WRITING_FAILED = faulted(NO_STREAM, "writing failed")
+OUT_OF_MEMORY = faulted(NO_MEMORY, "want of memory")
+
+
+def members(**texts):
+    """Writes an object from the JSON text of each member; a member whose text is None is left out."""
+    return "{" + ",".join(f'"{name}":{text}' for name, text in texts.items() if text is not None) + "}"
+
+
+def script(rounds="[]", **changed):
+    """Writes a script from the JSON texts of its members."""
+    top = {"epoch_end": "0", "recovery": "100", "clients": "1", "rounds": rounds}
+    return members(**{**top, **changed})
+
+
+def command(do, **changed):
+    """Writes a command of client 0 from the JSON texts of its members."""
+    return members(**{"do": f'"{do}"', "client": "0", **changed})
+
+
+def round_of(*commands):
+    return "[" + ",".join(commands) + "]"
+
+
+GRV = command("grv")
+ASK = command("ask", at="1000")
+REPORT = command("report", num="1")

@@ -1,0 +1,63 @@
+"""Memory that is refused: each allocation in turn, and then that one with all that follow."""
+import os
+import shutil
+import subprocess
+import tempfile
+
+from harness import OUT_OF_MEMORY, ROOT, done, fault_of, first_output, first_script, refused as refused_script, run
+from answers import written
+from model import printed
+
+SOURCE = f"{ROOT}/tests/refuse.c"
+LARGE = [[("ask", 9 * it) for it in range(500)], [("report", it + 1) for it in range(500)], [("grv", None)] * 500]
+MOST_RUNS = 2_000
+
+
+def built(folder):
+    """Compiles what refuses memory, by the compiler of the kit."""
+    kit = os.path.dirname(os.path.dirname(os.path.realpath(shutil.which("rt"))))
+    made = f"{folder}/refuse.so"
+    words = [f"{kit}/toolchain/bin/clang", "-O2", "-shared", "-fPIC", "-nostdlib", "-o", made, SOURCE]
+    subprocess.run(words, check=True, stdin=subprocess.DEVNULL)
+    return made
+
+
+def run_refused(program, preloaded, number, goes_on, given):
+    """Runs the program with an allocation refused, and returns how it ended and whether it got that far."""
+    tells, told = os.pipe()
+    env = {"LD_PRELOAD": preloaded, "REFUSE": str(number), "REFUSE_TELLS": str(told), "REFUSE_ON": str(int(goes_on))}
+    ran = run([program], given, env=env, pass_fds=[told])
+    os.close(told)
+    with os.fdopen(tells, "rb") as it:
+        return ran, it.read() != b""
+
+
+def swept(program, preloaded, given, wanted, goes_on, step):
+    """Refuses allocations until a run ends without one; `step` gives the next number."""
+    number, got_there = 1, True
+    for _ in range(MOST_RUNS):
+        ran, got_there = run_refused(program, preloaded, number, goes_on, given)
+        yield number, fault_of(ran, OUT_OF_MEMORY if got_there else wanted)
+        if not got_there:
+            return
+        number = step(number)
+    yield number, f"memory is still asked for after {MOST_RUNS} runs"
+
+
+def refused(program):
+    """A refused allocation ends the run with status 3 and its line, and a run without one is as ever."""
+    each, further = lambda at: at + 1, lambda at: at + 1 + at // 12
+    outputs = first_script(), done(first_output())
+    large = written(0, 100, LARGE), done(printed(0, 100, LARGE))
+    sweeps = [
+        ("the first script", *outputs, each),
+        ("a script that is refused", first_script().replace(b'"num":2', b'"num":-2'), refused_script("BadField 0 4"), each),
+        ("a large script", *large, further),
+    ]
+    with tempfile.TemporaryDirectory(prefix="refuse-") as folder:
+        preloaded = built(folder)
+        for name, given, wanted, step in sweeps:
+            for goes_on in (False, True):
+                what = f"{name}, from allocation" if goes_on else f"{name}, allocation"
+                for number, fault in swept(program, preloaded, given, wanted, goes_on, step):
+                    yield f"{what} {number}", fault

@@ -1,0 +1,44 @@
+// Refuses one allocation of the program that it is preloaded into, the one with the number REFUSE, counted from 1, and with
+// REFUSE_ON=1 also each later one. At the first it writes a byte to the descriptor REFUSE_TELLS, so that the test knows
+// that the run got that far.
+typedef unsigned long size_t;
+
+char *getenv(const char *name);
+long atol(const char *text);
+long write(int file, const void *bytes, size_t count);
+void *__libc_malloc(size_t size);
+void *__libc_calloc(size_t count, size_t size);
+void *__libc_realloc(void *old, size_t size);
+void *__libc_memalign(size_t align, size_t size);
+
+static long seen, refused = -1, goes_on, tells;
+
+static long number_in(const char *name) {
+    const char *text = getenv(name);
+    return text ? atol(text) : 0;
+}
+
+static int refuses(void) {
+    if (refused < 0) {
+        goes_on = number_in("REFUSE_ON");
+        tells = number_in("REFUSE_TELLS");
+        refused = number_in("REFUSE");
+    }
+    long number = __sync_add_and_fetch(&seen, 1);
+    if (number == refused) {
+        return write(tells, "x", 1) == 1;
+    }
+    return goes_on && number > refused;
+}
+
+void *malloc(size_t size) { return refuses() ? 0 : __libc_malloc(size); }
+void *calloc(size_t count, size_t size) { return refuses() ? 0 : __libc_calloc(count, size); }
+void *realloc(void *old, size_t size) { return refuses() ? 0 : __libc_realloc(old, size); }
+void *aligned_alloc(size_t align, size_t size) { return refuses() ? 0 : __libc_memalign(align, size); }
+int posix_memalign(void **made, size_t align, size_t size) {
+    void *found = refuses() ? 0 : __libc_memalign(align, size);
+    if (found) {
+        *made = found;
+    }
+    return found ? 0 : 12;
+}

@@ -1,0 +1,89 @@
+"""Streams that are closed, full, broken, endless, or as large as they may be."""
+import os
+import subprocess
+
+from harness import DONE, NO_STREAM, READING_FAILED, REFUSED, WRITING_FAILED, Ran, done, fault_of, first_output, first_script, refused, run, script, under
+from answers import MOST_COMMANDS, written
+
+MOST_BYTES = 16_777_216
+
+
+def sizes(program):
+    """16,777,216 bytes are read; of one more, reading is given up, whatever they hold."""
+    first, wanted = first_script(), done(first_output())
+    padded = lambda count, filler=b" ": first + filler * (count - len(first))
+    cases = [
+        ("a script and spaces, as large as may be", padded(MOST_BYTES), wanted),
+        ("a script and spaces, one byte less", padded(MOST_BYTES - 1), wanted),
+        ("a script and spaces, one byte more", padded(MOST_BYTES + 1), READING_FAILED),
+        ("spaces and a script, as large as may be", b"\n" * (MOST_BYTES - len(first)) + first, wanted),
+        ("an ignored text, as large as may be", with_note(MOST_BYTES), done(b"audit ok events 0 raised 0 versions 0\n")),
+        ("an ignored text, one byte more", with_note(MOST_BYTES + 1), READING_FAILED),
+        ("no JSON, as large as may be", b"x" * MOST_BYTES, refused("NotJson")),
+        ("no JSON, one byte more", b"x" * (MOST_BYTES + 1), READING_FAILED),
+        ("four times the size", padded(4 * MOST_BYTES), READING_FAILED),
+    ]
+    for name, given, expected in cases:
+        yield name, fault_of(run([program], given), expected)
+    yield "input that never ends", fault_of(under("< /dev/zero", program), READING_FAILED)
+
+
+def with_note(size):
+    """Writes a script of this many bytes, nearly all of them in a text that is ignored."""
+    empty = script(note='""').encode()
+    return script(note='"?"').encode().replace(b"?", b"a" * (size - len(empty)))
+
+
+def broken(program):
+    """A stream that fails ends the run with status 5 and a line; a standard error that fails changes no status."""
+    first = first_script()
+    large = written(0, 100, [[("ask", it) for it in range(MOST_COMMANDS)]])
+    no_error_line = Ran(NO_STREAM, b"", b"")
+    cases = [
+        ("standard output closed", ">&-", first, WRITING_FAILED),
+        ("standard output full", "> /dev/full", first, WRITING_FAILED),
+        ("standard output full, much to write", "> /dev/full", large, WRITING_FAILED),
+        ("standard output closed, no JSON", ">&-", b"", refused("NotJson")),
+        ("standard output full, a fault of the top level", "> /dev/full", b"{}", refused("BadLimit")),
+        ("standard input closed", "<&-", b"", READING_FAILED),
+        ("standard input a folder", "< /", b"", READING_FAILED),
+        ("standard input and output closed", "<&- >&-", b"", READING_FAILED),
+        ("standard error closed, a script that runs", "2>&-", first, done(first_output())),
+        ("standard error closed, no JSON", "2>&-", b"{", Ran(REFUSED, b"", b"")),
+        ("standard error full, no JSON", "2> /dev/full", b"{", Ran(REFUSED, b"", b"")),
+        ("standard error closed, output full", "> /dev/full 2>&-", first, no_error_line),
+        ("standard error closed, input a folder", "< / 2>&-", b"", no_error_line),
+        ("all closed", "<&- >&- 2>&-", b"", no_error_line),
+    ]
+    for name, redirections, given, wanted in cases:
+        yield name, fault_of(under(redirections, program, given), wanted)
+    yield "standard output with no reader", fault_of(unread(program, first), Ran(NO_STREAM, None, WRITING_FAILED.err))
+    yield "standard output that is closed half way", fault_of(half_read(program, large), Ran(NO_STREAM, None, WRITING_FAILED.err))
+    yield "a script that comes byte by byte", fault_of(byte_by_byte(program, first), Ran(DONE, first_output(), b""))
+
+
+def unread(program, given):
+    """Runs the program with a pipe as standard output that nobody reads."""
+    reader, writer = os.pipe()
+    os.close(reader)
+    try:
+        return run([program], given, stdout=writer)
+    finally:
+        os.close(writer)
+
+
+def half_read(program, given):
+    """Runs the program on a large script with a reader that goes away after one byte."""
+    return run(["bash", "-c", 'set -o pipefail; "$0" | head -c 1 > /dev/null', program], given)
+
+
+def byte_by_byte(program, given):
+    pipes = {"stdin": subprocess.PIPE, "stdout": subprocess.PIPE, "stderr": subprocess.PIPE}
+    with subprocess.Popen([program], bufsize=0, **pipes) as started:
+        try:
+            for at in range(len(given)):
+                started.stdin.write(given[at : at + 1])
+        except BrokenPipeError:
+            pass
+        out, err = started.communicate(timeout=20)
+    return Ran(started.returncode, out, err)
