@@ -1,0 +1,46 @@
+-- The members of a chain, and what a result has to do with the definition's answer.
+use Rattle.std.specs.Prelude.{◌≡◌, ℕ, ◌<◌, ◌≤◌, List, [], slice_get, Some, All, length, Result, Ok, Err, IsOkAnd, IsTrue}
+use Rattle.fdb_history.specs.Answer.{Chain}
+use Rattle.fdb_history.specs.Chain.{IsChain}
+use Rattle.fdb_history.specs.declared.chain.Issued.{Issued}
+use Rattle.fdb_history.specs.declared.log.Refusal.{Refusal}
+use Rattle.fdb_history.specs.declared.log.Refusal.TheVariants as refusal
+use Rattle.fdb_history.specs.declared.register.TheConstants.{MAX_VERSION}
+use Rattle.fdb_chain.specs.declared.chain_core.TheConstants.{MAX_PROXIES}
+use Rattle.fdb_chain.specs.declared.error.ChainError.{ChainError}
+use Rattle.fdb_chain.specs.declared.error.ChainError.TheVariants.{BadEpoch, NoProxy, UnknownProxy, Early, Forgotten, Exhausted, Memory}
+use Rattle.fdb_chain.specs.Replies.{KeptReplies, AreRepliesOf}
+
+-- The recovery version is a version, above the end of the epoch before.
+pub record IsEpoch (epoch_end recovery : ℕ) : Type 0 where
+  pub above : epoch_end < recovery
+  pub in_range : recovery ≤ MAX_VERSION
+
+-- There is a commit proxy, and no more of them than there may be.
+pub record IsProxyCount (proxies : ℕ) : Type 0 where
+  pub some : 0 < proxies
+  pub in_range : proxies ≤ MAX_PROXIES
+
+-- A chain with no answers.
+abbrev pub new_chain : ℕ → ℕ → ℕ → Chain
+new_chain epoch_end recovery proxies = record { epoch_end = epoch_end; recovery = recovery; proxies = proxies; answers = [] }
+
+-- A result is the definition's answer. Memory is refused only where that is a fresh one.
+abbrev pub IsAnswer : Result Issued Refusal → Result Issued ChainError → Type 0
+IsAnswer answer (Ok issued) = answer ≡ Ok issued
+IsAnswer answer (Err UnknownProxy) = answer ≡ Err refusal.UnknownProxy
+IsAnswer answer (Err (Early expected)) = answer ≡ Err (refusal.Early expected)
+IsAnswer answer (Err Forgotten) = answer ≡ Err refusal.Forgotten
+IsAnswer answer (Err Exhausted) = answer ≡ Err refusal.Exhausted
+IsAnswer answer (Err Memory) = IsOkAnd answer (λ issued. IsTrue issued.fresh)
+IsAnswer answer (Err BadEpoch) = ⊥
+IsAnswer answer (Err NoProxy) = ⊥
+
+-- What a chain keeps to: its members are in range, its answers are one chain of answers to its own proxies,
+-- and the replies of each proxy are those that the definition keeps.
+pub record IsKept (epoch_end recovery : ℕ) (answers : List Issued) (replies : List KeptReplies) : Type 0 where
+  pub epoch : IsEpoch epoch_end recovery
+  pub proxies : IsProxyCount (length replies)
+  pub one_chain : IsChain epoch_end recovery answers
+  pub asked : All (λ answer. answer.proxy < length replies) answers
+  pub kept : (proxy : ℕ) (own : KeptReplies) → slice_get replies proxy ≡ Some own → AreRepliesOf proxy answers own

@@ -1,0 +1,190 @@
+//! The chain of commit versions.
+
+ghost use Rattle.std.specs.Prelude.{◌≡◌, ◌+◌, ◌<◌, ◌≤◌, ◌⊎◌, ◌↔◌, ◌∷◌, ◌++◌, ◌^◌, [], All, IsSome, IfSome, OnOk, OnErr, IfOk, IfErr};
+ghost use Rattle.fdb_history.specs.Answer.{answer_to, fresh_answer, kept, kept_answer, next_answer, with_answer};
+ghost use Rattle.fdb_history.specs.Chain.{IsChain, IsNext, latest};
+ghost use Rattle.fdb_chain.specs.ChainCore.{IsAnswer, IsEpoch, IsProxyCount, new_chain};
+
+use crate::error::ChainError;
+use crate::replies::Replies;
+use crate::version;
+use fdb_history::{Ask, Issued, MAX_VERSION};
+use std::alloc::{AllocError, Global};
+use std::marker::Model;
+
+/// The most commit proxies that a chain may have.
+pub const MAX_PROXIES: u32 = 64;
+
+/// The commit versions that a sequencer has given, in one chain, and which of its answers it keeps
+/// (the part of `MasterData` of masterserver, FoundationDB 7.1, that `getVersion` reads and writes).
+///
+/// Contracts see it as the members that it was opened with and its fresh answers. Its memory grows with the chain.
+#[derive(Debug, Drop)]
+pub struct ChainCore {
+    epoch_end: u64,
+    recovery: u64,
+    answers: Vec<Issued>,
+    /// The replies of each commit proxy.
+    replies: Vec<Replies>,
+}
+
+impl Model for ChainCore {
+    ghost use Rattle.std.specs.Prelude.{length};
+    ghost use Rattle.fdb_history.specs.Answer.{Chain};
+
+    ghost Value = { Chain };
+
+    ghost use Rattle.fdb_chain.specs.ChainCore.{IsKept};
+
+    ghost view = { λ core. record { epoch_end = core.epoch_end; recovery = core.recovery; proxies = length core.replies.items; answers = core.answers.items } };
+
+    ghost invariant = { λ core. IsKept core.epoch_end core.recovery core.answers.items core.replies.items };
+}
+
+impl ChainCore {
+    /// A chain with no answers yet, for an epoch that begins with the version `recovery`, after one that ended
+    /// with `epoch_end`, and for this many commit proxies.
+    ///
+    /// It is refused as `BadEpoch`, else as `NoProxy`, else for memory.
+    pub fn new(
+        alloc: Global,
+        epoch_end: u64,
+        recovery: u64,
+        proxies: u32,
+    ) -> Result<ChainCore, ChainError>
+        ensures ok { IfOk result (λ core. core ≡ new_chain epoch_end recovery proxies) }
+        ensures ok_epoch { OnOk result (IsEpoch epoch_end recovery) }
+        ensures ok_proxies { OnOk result (IsProxyCount proxies) }
+
+        ensures bad_epoch { (result ≡ Err ChainError.BadEpoch) ↔ ((recovery ≤ epoch_end) ⊎ (MAX_VERSION < recovery)) }
+        ensures no_proxy { (result ≡ Err ChainError.NoProxy) ↔ (IsEpoch epoch_end recovery × ((proxies ≡ 0) ⊎ (MAX_PROXIES < proxies))) }
+        ensures else_memory { IsEpoch epoch_end recovery → IsProxyCount proxies → IfErr result (λ cause. cause ≡ ChainError.Memory) }
+    {
+        if recovery <= epoch_end || recovery > MAX_VERSION {
+            return Err(ChainError::BadEpoch);
+        }
+        if proxies == 0 || proxies > MAX_PROXIES {
+            return Err(ChainError::NoProxy);
+        }
+        let replies = Replies::of_each(alloc, proxies)?;
+        Ok(ChainCore {
+            epoch_end,
+            recovery,
+            answers: Vec::new(alloc),
+            replies,
+        })
+    }
+
+    /// Answers a request for a commit version (`getVersion` of masterserver). A request with its proxy's next
+    /// number draws the next version; one whose answer is kept gets it again.
+    ///
+    /// It is refused as `UnknownProxy`, `Early`, `Forgotten` or `Exhausted`, the first of these that stands.
+    /// A fresh request alone takes memory. After a refusal the chain is as it was. It takes constant time, the
+    /// growth of the chain aside.
+    pub fn ask(&mut self, ask: Ask) -> Result<Issued, ChainError>
+        ensures answer { IsAnswer (answer_to self.old ask) result }
+        ensures ok { IfOk result (λ issued. self.new ≡ with_answer self.old issued) }
+        ensures err { OnErr result (self.new ≡ self.old) }
+    {
+        let issued = self.answer_to(ask)?;
+        if issued.fresh {
+            self.append(issued)?;
+        }
+        Ok(issued)
+    }
+
+    /// The fresh answers, in order. Takes no memory.
+    pub fn answers(&self) -> &[Issued]
+        ensures items { result.now ≡ self.now.answers }
+        ensures one_chain { IsChain self.now.epoch_end self.now.recovery self.now.answers }
+        ensures asked { All (λ answer. answer.proxy < self.now.proxies) self.now.answers }
+        ensures epoch { IsEpoch self.now.epoch_end self.now.recovery }
+        ensures proxies { IsProxyCount self.now.proxies }
+    {
+        self.answers.as_slice()
+    }
+
+    /// What a request is to be answered.
+    fn answer_to(&self, ask: Ask) -> Result<Issued, ChainError>
+        ensures { IsAnswer (answer_to self.now ask) result }
+    {
+        let Some(latest) = self.latest_num(ask.proxy) else {
+            return Err(ChainError::UnknownProxy);
+        };
+        if ask.num > latest + 1 {
+            return Err(ChainError::Early {
+                expected: latest + 1,
+            });
+        }
+        if ask.num <= latest {
+            return self.kept_answer(ask.proxy, ask.num);
+        }
+        self.fresh_answer(ask)
+    }
+
+    /// The latest number of a commit proxy, if there is this proxy.
+    fn latest_num(&self, proxy: u32) -> Option<u64>
+        ensures known { IsSome result ↔ (proxy < self.now.proxies) }
+        ensures value { IfSome result (λ num. num ≡ latest proxy self.now.answers) }
+        ensures in_range { IfSome result (λ num. num < 2 ^ 63) }
+    {
+        let replies = self.replies.get(proxy as usize)?;
+        Some(replies.latest())
+    }
+
+    /// The answer that is kept under a proxy's number.
+    fn kept_answer(&self, proxy: u32, num: u64) -> Result<Issued, ChainError>
+        requires { proxy < self.now.proxies }
+        ensures { IsAnswer (kept_answer (kept proxy num self.now.answers)) result }
+    {
+        let Some(place) = self.replies[proxy as usize].place_of(num) else {
+            return Err(ChainError::Forgotten);
+        };
+        Ok(Issued {
+            fresh: false,
+            ..self.answers[place]
+        })
+    }
+
+    /// The next answer, if there is a version for it.
+    fn fresh_answer(&self, ask: Ask) -> Result<Issued, ChainError>
+        ensures { IsAnswer (fresh_answer self.now ask) result }
+    {
+        let next = self.next_answer(ask);
+        if next.version > MAX_VERSION {
+            return Err(ChainError::Exhausted);
+        }
+        Ok(next)
+    }
+
+    /// The next answer, with the request's members. Its version may be above the greatest one.
+    fn next_answer(&self, ask: Ask) -> Issued
+        ensures { result ≡ next_answer self.now ask }
+    {
+        let last = self.answers.last().copied();
+        Issued {
+            ordinal: self.answers.len() as u64,
+            proxy: ask.proxy,
+            num: ask.num,
+            processed: ask.processed,
+            prev: version::prev(self.epoch_end, last),
+            version: version::version(self.recovery, last, ask.at),
+            at: ask.at,
+            fresh: true,
+        }
+    }
+
+    /// Appends the next answer. Where memory is refused, nothing has changed.
+    fn append(&mut self, answer: Issued) -> Result<(), AllocError>
+        requires next { IsNext self.old.epoch_end self.old.recovery self.old.answers answer }
+        requires known { answer.proxy < self.old.proxies }
+        ensures ok { OnOk result (self.new ≡ with_answer self.old answer) }
+        ensures err { OnErr result (self.new ≡ self.old) }
+    {
+        self.answers.reserve(1)?;
+        let place = answer.ordinal as usize;
+        self.replies[answer.proxy as usize].keep(place, answer.processed)?;
+        self.answers.push_reserved(answer);
+        Ok(())
+    }
+}

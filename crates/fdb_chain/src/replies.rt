@@ -1,0 +1,79 @@
+//! The replies that are kept for one commit proxy.
+
+ghost use Rattle.std.specs.Prelude.{◌≡◌, ◌<◌, ◌^◌, length, All, OnOk, OnErr, IfOk};
+ghost use Rattle.fdb_chain.specs.Replies.{no_replies, place_of, replies_after};
+
+use std::alloc::{AllocError, Global};
+use std::marker::Model;
+
+/// Where the answers of one commit proxy stand in the chain, and which of them have been erased
+/// (`CommitProxyVersionReplies` of masterserver, FoundationDB 7.1).
+#[derive(Debug, Drop)]
+pub struct Replies {
+    /// The place of the answer with number `m` stands at `m - 1`.
+    places: Vec<usize>,
+    /// No answer up to this number is kept.
+    erased: u64,
+}
+
+impl Model for Replies {
+    ghost use Rattle.fdb_chain.specs.Replies.{KeptReplies};
+
+    ghost Value = { KeptReplies };
+
+    ghost view = { λ replies. record { places = replies.places.items; erased = replies.erased } };
+}
+
+impl Replies {
+    /// No replies. Takes no memory.
+    pub fn new(alloc: Global) -> Self
+        ensures { result ≡ no_replies }
+    {
+        Replies {
+            places: Vec::new(alloc),
+            erased: 0,
+        }
+    }
+
+    /// No replies for each of so many proxies.
+    pub fn of_each(alloc: Global, proxies: u32) -> Result<Vec<Replies>, AllocError>
+        ensures count { IfOk result (λ all. length all.items ≡ proxies) }
+        ensures empty { IfOk result (λ all. All (λ own. own ≡ no_replies) all.items) }
+    {
+        let mut all = Vec::with_capacity(alloc, proxies as usize)?;
+        for _ in 0..proxies {
+            all.push_reserved(Replies::new(alloc));
+        }
+        Ok(all)
+    }
+
+    /// The proxy's latest number.
+    pub fn latest(&self) -> u64
+        ensures value { result ≡ length self.now.places }
+        ensures in_range { result < 2 ^ 63 }
+    {
+        self.places.len() as u64
+    }
+
+    /// The place of the answer under a number, if it is kept.
+    pub fn place_of(&self, num: u64) -> Option<usize>
+        ensures { result ≡ place_of self.now num }
+    {
+        if num <= self.erased {
+            return None;
+        }
+        self.places.get((num - 1) as usize).copied()
+    }
+
+    /// Keeps the place of the proxy's next answer, and erases those that the proxy has processed, though not this
+    /// one. Where memory is refused, nothing has changed.
+    pub fn keep(&mut self, place: usize, processed: u64) -> Result<(), AllocError>
+        ensures ok { OnOk result (self.new ≡ replies_after self.old place processed) }
+        ensures err { OnErr result (self.new ≡ self.old) }
+    {
+        let latest = self.latest();
+        self.places.push(place)?;
+        self.erased = processed.max(self.erased).min(latest);
+        Ok(())
+    }
+}
