@@ -2,7 +2,7 @@
 import os
 import random
 
-from harness import ASK, EXAMPLES, GRV, Ran, command, done, fault_of, first_output, first_script, read, round_of, run, script
+from harness import ASK, EXAMPLES, GRV, Ran, command, done, fault_of, first_output, read, round_of, run, script
 from model import LAST_VERSION, printed
 
 LARGE_SECONDS = 5

@@ -36,10 +36,15 @@ is_raise (Read client call rec) = false
 abbrev pub position_after : ℕ → Event → ℕ
 position_after before event = if is_raise event then before + 1 else before
 
--- The position of each event: the number of raises up to and including it.
-abbrev pub positions_from : ℕ → List Event → List ℕ
-positions_from before [] = []
-positions_from before (event ∷ events) = position_after before event ∷ positions_from (position_after before event) events
+-- an event and a position
+pub record Placed : Type 0 where
+  pub event : Event
+  pub position : ℕ
+
+-- Each event with its position: the number of raises up to and including it, over a position before them all.
+abbrev pub stamped : ℕ → List Event → List Placed
+stamped before [] = []
+stamped before (event ∷ events) = record { event = event; position = position_after before event } ∷ stamped (position_after before event) events
 
 -- how many raises there are
 abbrev pub raise_count : List Event → ℕ

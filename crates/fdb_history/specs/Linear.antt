@@ -1,9 +1,8 @@
 -- A history that explains the logs of a run: the replies are those of one register that takes reports and
 -- reads one at a time.
-use Rattle.std.specs.Prelude.{◌≡◌, ℕ, ◌<◌, ◌≤◌, ◌==◌, List, [], ◌∷◌, map, filter, Option, Some, slice_get, IsTrue}
-use Rattle.std.specs.Option.{option_map}
+use Rattle.std.specs.Prelude.{◌≡◌, ℕ, ◌<◌, ◌≤◌, ◌==◌, List, [], ◌∷◌, map, filter, IsTrue}
 use Rattle.std.specs.List.{AllByRecursion}
-use Rattle.fdb_history.specs.Event.{IsLegal, positions_from, raise_count}
+use Rattle.fdb_history.specs.Event.{stamped, IsLegal, raise_count}
 use Rattle.fdb_history.specs.Log.{placed_from, calls_of, answer_raises}
 use Rattle.fdb_history.specs.declared.register.Record.{Record}
 use Rattle.fdb_history.specs.declared.event.Event.{Event}
@@ -15,15 +14,6 @@ use Rattle.fdb_history.specs.declared.log.ClientLog.{ClientLog}
 abbrev pub client_of : Event → ℕ
 client_of (Report client call rec raised) = client
 client_of (Read client call rec) = client
-
--- the place of its call in that client's log
-abbrev pub place_of : Event → ℕ
-place_of (Report client call rec raised) = call
-place_of (Read client call rec) = call
-
--- the position that the log has for an event's call
-abbrev pub logged_position : List ClientLog → Event → Option ℕ
-logged_position logs event = option_map (λ call. call.position) (slice_get (calls_of logs (client_of event)) (place_of event))
 
 -- No call was answered from before what its client had seen, and a raise is new to its client: from a
 -- position, each call begins at least where the one before it ended, ends at least where it began, and
@@ -41,8 +31,8 @@ pub record IsLinear (start : Record) (logs : List ClientLog) (history : List Eve
   -- each client's register calls stand in it once and in the log's order, with their places, records and
   -- raised flags, and nothing else stands in it
   pub complete : (client : ℕ) → filter (λ event. client_of event == client) history ≡ map (λ p. p.event) (placed_from client 0 (calls_of logs client))
-  -- each event has the position of its call
-  pub placed : map (logged_position logs) history ≡ map Some (positions_from 0 history)
+  -- each client's events have the positions of its calls
+  pub placed : (client : ℕ) → map (λ p. p.position) (filter (λ p. client_of p.event == client) (stamped 0 history)) ≡ map (λ p. p.position) (placed_from client 0 (calls_of logs client))
   -- no client's positions go back
   pub ordered : AllByRecursion (λ log. NeverGoesBack 0 log.calls) logs
   -- no call has seen more than there is

@@ -2,6 +2,7 @@
 use Rattle.std.specs.Prelude.{ℕ, ◌+◌, Bool, false, List, [], ◌∷◌, ◌++◌, map, Option, None, Some, option_to_list, slice_get, unwrap_or, filter}
 use Rattle.std.specs.List.{flat_map}
 use Rattle.std.specs.Option.{option_map}
+use Rattle.fdb_history.specs.Event.{Placed}
 use Rattle.fdb_history.specs.declared.chain.Issued.{Issued}
 use Rattle.fdb_history.specs.declared.event.Event.{Event}
 use Rattle.fdb_history.specs.declared.event.Event.TheVariants.{Report, Read}
@@ -19,12 +20,7 @@ event_of_answer client place (Answered issued) = None
 event_of_answer client place Told = None
 event_of_answer client place (Refused cause) = None
 
--- a register call's event, with the position of the call
-pub record Placed : Type 0 where
-  pub event : Event
-  pub position : ℕ
-
--- the events of a client's calls from this place of its log on, in the log's order
+-- the events of a client's calls from this place of its log on, in the log's order, with the positions of the calls
 abbrev pub placed_from : ℕ → ℕ → List Call → List Placed
 placed_from client place [] = []
 placed_from client place (call ∷ calls) =

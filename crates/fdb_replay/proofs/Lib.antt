@@ -1,2 +1,4 @@
 pub mod Arrays
 pub mod Within
+pub mod Sessions
+pub mod Numbers

@@ -1,13 +1,17 @@
 -- What a session with a single client keeps true from call to call. (private to this crate)
-use Rattle.std.specs.Prelude.{◌≡◌, ℕ, ◌+◌, ◌≤◌, List, [], ◌∷◌, map, if◌then◌else◌}
+use Rattle.std.specs.Prelude.{◌≡◌, ℕ, ◌+◌, ◌≤◌, List, [], ◌∷◌, map, if◌then◌else◌, ◌++◌}
 use Rattle.fdb_history.specs.Answer.{Chain}
 use Rattle.fdb_history.specs.Event.{register, IsLegal}
-use Rattle.fdb_history.specs.Log.{placed_from, answer_raises, position_after_calls, answers_in, fresh_answers}
+use Rattle.fdb_history.specs.Log.{placed_from, answer_raises, position_after_calls, answer_in, answers_in, fresh_answers}
 use Rattle.fdb_history.specs.declared.event.Event.{Event}
 use Rattle.fdb_history.specs.declared.log.Call.{Call}
 use Rattle.fdb_history.specs.declared.log.CallAnswer.{CallAnswer}
 use Rattle.fdb_history.specs.declared.register.Record.{Record}
+use Rattle.fdb_history.specs.Added.{AddsCall}
+use Rattle.fdb_replay.specs.Answering.{input_of}
 use Rattle.fdb_replay.specs.Outcome.{opening}
+use Rattle.fdb_replay.specs.declared.script.Act.{Act}
+use Rattle.fdb_replay.specs.declared.session.Session.{Session}
 use Rattle.fdb_replay.specs.Served.{AreServed}
 
 -- the events of the single client's calls
@@ -22,14 +26,25 @@ abbrev pub Climbs : ℕ → List Call → Type 0
 Climbs before [] = Unit {0}
 Climbs before (call ∷ calls) = (call.asked ≡ before) × (call.position ≡ advanced before call.answer) × Climbs call.position calls
 
--- the chain, the live record, the position and the calls of a session belong together
-pub record IsSession (core : Chain) (live : Record) (position : ℕ) (calls : List Call) : Type 0 where
-  pub one_proxy : core.proxies ≡ 1
-  pub answers : answers_in calls ≡ core.answers
-  pub all_fresh : fresh_answers calls ≡ core.answers
-  pub live_is : live ≡ register (opening core.recovery) (events_of calls)
-  pub position_is : position ≡ position_after_calls 0 calls
-  pub below : position ≤ live.version
-  pub climbs : Climbs 0 calls
-  pub legal : IsLegal (opening core.recovery) (events_of calls)
-  pub served : AreServed core.epoch_end core.recovery [] calls
+-- the chain with the answer that a call drew
+abbrev pub core_after : Chain → CallAnswer → Chain
+core_after core answer = record { epoch_end = core.epoch_end; recovery = core.recovery; proxies = core.proxies; answers = core.answers ++ answer_in answer }
+
+-- the parts of a session belong together
+pub record IsSession (session : Session) : Type 0 where
+  pub one_proxy : session.core.proxies ≡ 1
+  pub answers : answers_in session.calls ≡ session.core.answers
+  pub all_fresh : fresh_answers session.calls ≡ session.core.answers
+  pub live_is : session.live ≡ register (opening session.core.recovery) (events_of session.calls)
+  pub position_is : session.position ≡ position_after_calls 0 session.calls
+  pub below : session.position ≤ session.live.version
+  pub climbs : Climbs 0 session.calls
+  pub legal : IsLegal (opening session.core.recovery) (events_of session.calls)
+  pub served : AreServed session.core.epoch_end session.core.recovery [] session.calls
+
+-- the session has done what it was told, by one more call
+pub record Performs (old : Session) (act : Act) (new : Session) : Type 0 where
+  pub session : IsSession new
+  pub epoch_end : new.core.epoch_end ≡ old.core.epoch_end
+  pub recovery : new.core.recovery ≡ old.core.recovery
+  pub added : AddsCall old.calls (input_of old.calls act) new.calls

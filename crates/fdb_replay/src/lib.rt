@@ -4,6 +4,7 @@
 mod outcome;
 mod reader;
 mod script;
+mod session;
 
 pub use outcome::{Outcome, RunFault};
 pub use script::{Act, Command, MAX_COMMANDS, MAX_ROUNDS, Script, ScriptError};
