@@ -6,3 +6,4 @@ pub mod Explained
 pub mod Added
 pub mod Chain
 pub mod Answer
+pub mod Laws

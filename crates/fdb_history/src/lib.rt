@@ -10,6 +10,7 @@ mod event;
 mod fault;
 mod gate;
 mod grv;
+pub mod laws;
 mod log;
 mod register;
 mod sequence;
