@@ -14,6 +14,8 @@ pub mod laws;
 mod log;
 mod register;
 mod sequence;
+#[cfg(test)]
+mod tests;
 
 pub use chain::{Ask, Issued, MAX_STEP};
 pub use event::{Event, History, register_after};
