@@ -1,15 +1,14 @@
 -- The laws of answers: what is kept, and that requests make a chain.
-use Rattle.std.proofs.Common.{◌≡◌, ℕ, zero, suc, ◌+◌, ◌-◌, ◌<◌, ◌≤◌, Bool, true, false, cond, not, ◌&&◌, inl, inr, List, [], ◌∷◌, ◌++◌, reverse, length, take, slice_get, get_or, Option, Some, None, Result, Ok, Err, refl, sym, ap, ◌∙◌, subst, le_refl, arith, eqb, ltb, leb, eqb-true, find, add-one}
-use Rattle.std.proofs.lemmas.Bool.{cond-true, cond-false, eq-eqb, and_parts, and_from, cases_lt, lt-ltb, le-ltb, ltb-false, leb-true, leb-false, le-leb, not_from_true, not-false, false_from_ne_true}
+use Rattle.std.proofs.Common.{◌≡◌, ℕ, zero, suc, ◌+◌, ◌-◌, ◌<◌, ◌≤◌, Bool, true, false, cond, not, ◌&&◌, inl, inr, List, [], ◌∷◌, ◌++◌, reverse, length, take, slice_get, Option, Some, None, Ok, Err, refl, sym, ap, ◌∙◌, subst, le_refl, arith, eqb, ltb, leb, eqb-true, find}
+use Rattle.std.proofs.lemmas.Bool.{cond-true, cond-false, eq-eqb, and_parts, cases_lt, lt-ltb, le-ltb, ltb-false, leb-true, leb-false, le-leb, not_from_true, false_from_ne_true}
 use Rattle.std.proofs.lemmas.Option.{same_Some, none-some, slice_get_within, slice_get-get_or, get_or_from_slice_get}
 use Rattle.std.proofs.lemmas.List.{get_or-reverse, length-reverse, length_push, take-append-le, take_at, take_all, take-take}
 use Rattle.std.proofs.lemmas.List.Sums.{sum_by-cons}
 use Rattle.fdb_history.specs.Chain.{latest, IsNext, IsChain}
-use Rattle.fdb_history.specs.Answer.{Chain, kept_among, kept, next_answer, fresh_answer, kept_answer, answer_to, with_answer, chain_after, after_asks}
+use Rattle.fdb_history.specs.Answer.{Chain, kept_among, kept, next_answer, fresh_answer, kept_answer, answer_to, chain_after, after_asks}
 use Rattle.fdb_history.specs.declared.chain.Ask.{Ask}
 use Rattle.fdb_history.specs.declared.chain.Issued.{Issued}
-use Rattle.fdb_history.specs.declared.log.Refusal.{Refusal}
-use Rattle.fdb_history.specs.declared.log.Refusal.TheVariants.{UnknownProxy, Early, Forgotten, Exhausted}
+use Rattle.fdb_history.specs.declared.log.Refusal.TheVariants.{UnknownProxy, Early, Exhausted}
 use Rattle.fdb_history.specs.declared.register.TheConstants.{MAX_VERSION}
 
 -- whether an answer is the one of this proxy with this number

@@ -1,11 +1,9 @@
 -- The laws of chains: by places, since each answer of a chain is said by those before it.
-use Rattle.std.proofs.Common.{◌≡◌, ℕ, zero, suc, ◌+◌, ◌-◌, ◌*◌, ◌<◌, ◌≤◌, min, max, Bool, true, false, cond, ◌&&◌, ◌⊎◌, inl, inr, List, [], ◌∷◌, ◌++◌, reverse, length, take, slice_get, get_or, Option, Some, None, refl, sym, ap, ◌∙◌, le_refl, le_trans, arith, eqb, eqb-true, find, AllPairs, count_by, add-one}
-use Rattle.std.proofs.lemmas.Bool.{cond-true, cond-false, eq-eqb, and_parts, and_from, eqb-false, cases_lt, cases_order}
-use Rattle.std.proofs.lemmas.Option.{same_Some, none-some, slice_get_within, slice_get-get_or, get_or_from_slice_get}
-use Rattle.std.proofs.lemmas.List.{length-take-le, get_or-take, get_or-reverse, length-reverse, take-append-le, take_at}
-use Rattle.std.proofs.lemmas.List.Sums.{sum_by-cons}
-use Rattle.fdb_history.specs.Chain.{step, last_answer, prev_after, version_after, latest, IsNext, IsChain}
-use Rattle.fdb_history.specs.Answer.{kept_among, kept}
+use Rattle.std.proofs.Common.{◌≡◌, ℕ, zero, suc, ◌+◌, ◌-◌, ◌<◌, ◌≤◌, inl, inr, List, [], ◌∷◌, length, take, slice_get, get_or, Some, refl, sym, ap, ◌∙◌, arith, AllPairs, add-one}
+use Rattle.std.proofs.lemmas.Bool.{cases_lt}
+use Rattle.std.proofs.lemmas.Option.{same_Some, slice_get_within, slice_get-get_or}
+use Rattle.std.proofs.lemmas.List.{length-take-le}
+use Rattle.fdb_history.specs.Chain.{step, last_answer, prev_after, version_after, IsChain}
 use Rattle.fdb_history.specs.declared.chain.Issued.{Issued}
 
 -- the element at a place of a list that is cut after it

@@ -1,7 +1,7 @@
 -- Worked examples of the definitions: each is computed by them, so that a wrong definition fails here.
-use Rattle.std.proofs.Common.{◌≡◌, ℕ, ◌<◌, true, false, List, [], ◌∷◌, map, length, Some, None, Ok, Err, Result, refl}
+use Rattle.std.proofs.Common.{◌≡◌, ℕ, true, false, List, [], ◌∷◌, map, None, Ok, Err, Result, refl}
 use Rattle.fdb_history.specs.Event.{register, IsLegal, positions_from}
-use Rattle.fdb_history.specs.Answer.{Chain, kept, answer_to, chain_after, after_asks}
+use Rattle.fdb_history.specs.Answer.{Chain, answer_to, chain_after, after_asks}
 use Rattle.fdb_history.specs.declared.register.Record.{Record}
 use Rattle.fdb_history.specs.declared.event.Event.{Event}
 use Rattle.fdb_history.specs.declared.event.Event.TheVariants.{Report, Read}

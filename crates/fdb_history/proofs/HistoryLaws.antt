@@ -6,7 +6,7 @@ use Rattle.std.proofs.lemmas.Option.{cond_some, same_Some, none-some, slice_get_
 use Rattle.std.proofs.lemmas.List.Sums.{sum_by-cons}
 use Rattle.fdb_history.specs.Register.{raises, record_after}
 use Rattle.fdb_history.specs.Event.{after_event, register, IsTrueOf, IsLegal, is_raise, position_after, positions_from, raise_count}
-use Rattle.fdb_history.specs.Laws.{seen_version, seen_at, reported, reports_of}
+use Rattle.fdb_history.specs.Laws.{seen_version, seen_at, reports_of}
 use Rattle.fdb_history.specs.declared.register.Record.{Record}
 use Rattle.fdb_history.specs.declared.event.Event.{Event}
 use Rattle.fdb_history.specs.declared.event.Event.TheVariants.{Report, Read}

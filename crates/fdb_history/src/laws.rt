@@ -57,9 +57,9 @@ pub fn positions_below_versions()
 /// The register is the first record with the greatest version, of the start record and all that were reported.
 pub fn register_is_greatest()
     ensures greatest { (start : Record) (events : List Event)
-        → All (λ record'. record'.version ≤ (register start events).version) (start ∷ reports_of events) }
+        → All (λ rec. rec.version ≤ (register start events).version) (start ∷ reports_of events) }
     ensures first { (start : Record) (events : List Event)
-        → find (λ record'. record'.version == (register start events).version) (start ∷ reports_of events)
+        → find (λ rec. rec.version == (register start events).version) (start ∷ reports_of events)
         ≡ Some (register start events) }
 {}
 
