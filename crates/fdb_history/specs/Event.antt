@@ -1,5 +1,5 @@
 -- Events of the register, one after another.
-use Rattle.std.specs.Prelude.{◌≡◌, ℕ, ◌+◌, Bool, false, if◌then◌else◌, List, [], ◌∷◌, fold, count_by}
+use Rattle.std.specs.Prelude.{◌≡◌, ℕ, ◌+◌, Bool, false, if◌then◌else◌, List, [], ◌∷◌, map, fold, count_by}
 use Rattle.fdb_history.specs.Register.{raises, record_after}
 use Rattle.fdb_history.specs.declared.register.Record.{Record}
 use Rattle.fdb_history.specs.declared.event.Event.{Event}
@@ -45,6 +45,10 @@ pub record Placed : Type 0 where
 abbrev pub stamped : ℕ → List Event → List Placed
 stamped before [] = []
 stamped before (event ∷ events) = record { event = event; position = position_after before event } ∷ stamped (position_after before event) events
+
+-- the positions of the events
+abbrev pub positions_from : ℕ → List Event → List ℕ
+positions_from before events = map (λ p. p.position) (stamped before events)
 
 -- how many raises there are
 abbrev pub raise_count : List Event → ℕ

@@ -7,3 +7,4 @@ pub mod Added
 pub mod Chain
 pub mod Answer
 pub mod Text
+pub mod Laws

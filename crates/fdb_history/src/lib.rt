@@ -10,9 +10,12 @@ mod event;
 mod fault;
 mod gate;
 mod grv;
+pub mod laws;
 mod log;
 mod register;
 mod sequence;
+#[cfg(test)]
+mod tests;
 
 pub use chain::{Ask, Issued, MAX_STEP};
 pub use event::{Event, History, register_after};

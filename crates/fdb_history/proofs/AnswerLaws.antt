@@ -1,0 +1,234 @@
+-- The laws of answers: what is kept, and that requests make a chain.
+use Rattle.std.proofs.Common.{◌≡◌, ℕ, zero, suc, ◌+◌, ◌-◌, ◌<◌, ◌≤◌, Bool, true, false, cond, not, ◌&&◌, inl, inr, List, [], ◌∷◌, ◌++◌, reverse, length, take, slice_get, Option, Some, None, Ok, Err, refl, sym, ap, ◌∙◌, subst, le_refl, arith, eqb, ltb, leb, eqb-true, find}
+use Rattle.std.proofs.lemmas.Bool.{cond-true, cond-false, eq-eqb, and_parts, cases_lt, lt-ltb, le-ltb, ltb-false, leb-true, leb-false, le-leb, not_from_true, false_from_ne_true}
+use Rattle.std.proofs.lemmas.Option.{same_Some, none-some, slice_get_within, slice_get-get_or, get_or_from_slice_get}
+use Rattle.std.proofs.lemmas.List.{get_or-reverse, length-reverse, length_push, take-append-le, take_at, take_all, take-take}
+use Rattle.std.proofs.lemmas.List.Sums.{sum_by-cons}
+use Rattle.fdb_history.specs.Chain.{latest, IsNext, IsChain}
+use Rattle.fdb_history.specs.Answer.{Chain, kept_among, kept, next_answer, fresh_answer, kept_answer, answer_to, chain_after, after_asks}
+use Rattle.fdb_history.specs.declared.chain.Ask.{Ask}
+use Rattle.fdb_history.specs.declared.chain.Issued.{Issued}
+use Rattle.fdb_history.specs.declared.log.Refusal.TheVariants.{UnknownProxy, Early, Exhausted}
+use Rattle.fdb_history.specs.declared.register.TheConstants.{MAX_VERSION}
+
+-- whether an answer is the one of this proxy with this number
+abbrev pub is_for : ℕ → ℕ → Issued → Bool
+is_for proxy num answer = eqb answer.proxy proxy && eqb answer.num num
+
+-- What the search through the answers finds stands among them, and is what was looked for.
+pub record Found (proxy num : ℕ) (answers : List Issued) (answer : Issued) : Type 0 where
+  pub place : ℕ
+  pub at : slice_get answers place ≡ Some answer
+  pub is : is_for proxy num answer ≡ true
+
+found-later : {proxy num : ℕ} {older : List Issued} {answer : Issued} (first : Issued) → Found proxy num older answer → Found proxy num (first ∷ older) answer
+found-later first found = record { place = suc found.place; at = found.at; is = found.is }
+
+among-step : (proxy num : ℕ) (first answer : Issued) (older : List Issued) (hit processed : Bool) → is_for proxy num first ≡ hit → cond hit (Some first) (cond processed None (kept_among proxy num older)) ≡ Some answer → (kept_among proxy num older ≡ Some answer → Found proxy num older answer) → Found proxy num (first ∷ older) answer
+among-step proxy num first answer older true processed e found deeper =
+    let same = same_Some first answer found in
+    record { place = zero; at = found; is = ap (is_for proxy num) (sym same) ∙ e }
+among-step proxy num first answer older false true e found deeper = absurd (none-some answer found)
+among-step proxy num first answer older false false e found deeper = found-later first (deeper found)
+
+kept_among-found : (proxy num : ℕ) (answers : List Issued) (answer : Issued) → kept_among proxy num answers ≡ Some answer → Found proxy num answers answer
+kept_among-found proxy num [] answer found = absurd (none-some answer found)
+kept_among-found proxy num (first ∷ older) answer found =
+    among-step proxy num first answer older (is_for proxy num first) (eqb first.proxy proxy && leb num first.processed) refl found (kept_among-found proxy num older answer)
+
+-- The kept answer stands in the list, and is of the proxy with the number.
+pub kept-found : (proxy num : ℕ) (answers : List Issued) (answer : Issued) → kept proxy num answers ≡ Some answer → Found proxy num answers answer
+kept-found proxy num answers answer found =
+    let in' = kept_among-found proxy num (reverse answers) answer found in
+    let within = slice_get_within (reverse answers) in'.place answer in'.at in
+    let within' : in'.place < length answers = omega (arith, length-reverse answers) in
+    let is = sym (get_or_from_slice_get (reverse answers) in'.place answer answer in'.at) ∙ get_or-reverse answers in'.place answer within' in
+    record {
+      place = length answers - 1 - in'.place;
+      at = slice_get-get_or answers (length answers - 1 - in'.place) answer (omega arith) ∙ ap Some (sym is);
+      is = in'.is;
+    }
+
+pub kept-is : (answers : List Issued) (proxy num : ℕ) (answer : Issued) → kept proxy num answers ≡ Some answer → (answer.proxy ≡ proxy) × (answer.num ≡ num)
+kept-is answers proxy num answer found =
+    let both = and_parts (eqb answer.proxy proxy) (eqb answer.num num) (kept-found proxy num answers answer found).is in
+    (eqb-true answer.proxy proxy both.0, eqb-true answer.num num both.1)
+
+-- how many answers of a proxy one answer is
+abbrev one_of : ℕ → Issued → ℕ
+one_of proxy answer = cond (eqb answer.proxy proxy) 1 0
+
+latest-cons : (proxy : ℕ) (answer : Issued) (answers : List Issued) → latest proxy (answer ∷ answers) ≡ one_of proxy answer + latest proxy answers
+latest-cons proxy = sum_by-cons (one_of proxy)
+
+-- From an answer of a proxy on, there is one more of that proxy than before it.
+latest-beyond : (proxy : ℕ) (answers : List Issued) (j k : ℕ) (earlier : Issued) → slice_get answers j ≡ Some earlier → earlier.proxy ≡ proxy → j < k → latest proxy (take j answers) < latest proxy (take k answers)
+latest-beyond proxy [] j k earlier at is order = absurd (none-some earlier at)
+latest-beyond proxy (first ∷ answers) j zero earlier at is order = absurd (omega arith)
+latest-beyond proxy (first ∷ answers) zero (suc k) earlier at is order =
+    let same = ap (λ (a : Issued). a.proxy) (same_Some first earlier at) ∙ is in
+    let one : one_of proxy first ≡ 1 = cond-true (eqb first.proxy proxy) 1 0 (eq-eqb first.proxy proxy same) in
+    let count = latest-cons proxy first (take k answers) in
+    omega arith
+latest-beyond proxy (first ∷ answers) (suc j) (suc k) earlier at is order =
+    let order' : j < k = omega arith in
+    let deeper = latest-beyond proxy answers j k earlier at is order' in
+    let one = latest-cons proxy first (take j answers) in
+    let other = latest-cons proxy first (take k answers) in
+    omega arith
+
+-- the first element that passes a test
+find-first : {X : Type 0} (test : X → Bool) (xs : List X) (place : ℕ) (x : X) → slice_get xs place ≡ Some x → test x ≡ true → ((k : ℕ) (y : X) → k < place → slice_get xs k ≡ Some y → test y ≡ false) → find test xs ≡ Some x
+find-first test [] place x at passes none = absurd (none-some x at)
+find-first test (y ∷ ys) zero x at passes none =
+    cond-true (test y) (Some y) (find test ys) (ap test (same_Some y x at) ∙ passes) ∙ at
+find-first test (y ∷ ys) (suc place) x at passes none =
+    cond-false (test y) (Some y) (find test ys) (none zero y (omega arith) refl)
+    ∙ find-first test ys place x at passes (λ k z below here. none (suc k) z (omega arith) here)
+
+-- In a chain no answer before one of a proxy has its number.
+none-before : (epoch_end recovery : ℕ) (answers : List Issued) (proxy num : ℕ) (place : ℕ) (answer : Issued) → IsChain epoch_end recovery answers → slice_get answers place ≡ Some answer → answer.proxy ≡ proxy → answer.num ≡ num → (k : ℕ) (earlier : Issued) → k < place → slice_get answers k ≡ Some earlier → is_for proxy num earlier ≡ false
+none-before epoch_end recovery answers proxy num place answer chain at of' under k earlier order here =
+    false_from_ne_true (is_for proxy num earlier) (λ hit.
+    let both = and_parts (eqb earlier.proxy proxy) (eqb earlier.num num) hit in
+    let of'' = eqb-true earlier.proxy proxy both.0 in
+    let under' = eqb-true earlier.num num both.1 in
+    let own = (chain place answer at).num ∙ ap (λ p. latest p (take place answers) + 1) of' in
+    let its = (chain k earlier here).num ∙ ap (λ p. latest p (take k answers) + 1) of'' in
+    let more = latest-beyond proxy answers k place earlier here of'' order in
+    omega arith)
+
+pub kept-first : (epoch_end recovery : ℕ) (answers : List Issued) (proxy num : ℕ) (answer : Issued) → IsChain epoch_end recovery answers → kept proxy num answers ≡ Some answer → find (is_for proxy num) answers ≡ Some answer
+kept-first epoch_end recovery answers proxy num answer chain found =
+    let in' = kept-found proxy num answers answer found in
+    let is = kept-is answers proxy num answer found in
+    find-first (is_for proxy num) answers in'.place answer in'.at in'.is
+    (none-before epoch_end recovery answers proxy num in'.place answer chain in'.at is.0 is.1)
+
+-- A kept number is none beyond the latest one.
+kept-latest : (epoch_end recovery : ℕ) (answers : List Issued) (proxy num : ℕ) (answer : Issued) → IsChain epoch_end recovery answers → kept proxy num answers ≡ Some answer → num ≤ latest proxy answers
+kept-latest epoch_end recovery answers proxy num answer chain found =
+    let in' = kept-found proxy num answers answer found in
+    let is = kept-is answers proxy num answer found in
+    let own = (chain in'.place answer in'.at).num ∙ ap (λ p. latest p (take in'.place answers) + 1) is.0 in
+    let within = slice_get_within answers in'.place answer in'.at in
+    let more = latest-beyond proxy answers in'.place (length answers) answer in'.at is.0 within in
+    let all = ap (latest proxy) (take_all (length answers) answers (le_refl (length answers))) in
+    omega arith
+
+pub repeated-kept : (chain : Chain) (ask : Ask) (answer : Issued) → IsChain chain.epoch_end chain.recovery chain.answers → ask.proxy < chain.proxies → kept ask.proxy ask.num chain.answers ≡ Some answer → answer_to chain ask ≡ Ok (record answer { fresh = false })
+repeated-kept chain ask answer is known found =
+    let last = latest ask.proxy chain.answers in
+    let old = kept-latest chain.epoch_end chain.recovery chain.answers ask.proxy ask.num answer is found in
+    cond-false (not (ltb ask.proxy chain.proxies)) (Err UnknownProxy) (cond (ltb (last + 1) ask.num) (Err (Early (last + 1))) (cond (leb ask.num last) (kept_answer (kept ask.proxy ask.num chain.answers)) (fresh_answer chain ask)))
+    (not_from_true (ltb ask.proxy chain.proxies) (lt-ltb ask.proxy chain.proxies known))
+    ∙ cond-false (ltb (last + 1) ask.num) (Err (Early (last + 1))) (cond (leb ask.num last) (kept_answer (kept ask.proxy ask.num chain.answers)) (fresh_answer chain ask))
+    (le-ltb (last + 1) ask.num (omega arith))
+    ∙ cond-true (leb ask.num last) (kept_answer (kept ask.proxy ask.num chain.answers)) (fresh_answer chain ask) (le-leb ask.num last old)
+    ∙ ap kept_answer found
+
+slice_get-append : {X : Type 0} (xs ys : List X) (place : ℕ) → place < length xs → slice_get (xs ++ ys) place ≡ slice_get xs place
+slice_get-append [] ys place inside = absurd (omega arith)
+slice_get-append (x ∷ xs) ys zero inside = refl
+slice_get-append (x ∷ xs) ys (suc place) inside = let inside' : place < length xs = omega arith in slice_get-append xs ys place inside'
+
+slice_get-push : {X : Type 0} (xs : List X) (y : X) (place : ℕ) → length xs ≡ place → slice_get (xs ++ y ∷ []) place ≡ Some y
+slice_get-push [] y zero end = refl
+slice_get-push [] y (suc place) end = absurd (omega arith)
+slice_get-push (x ∷ xs) y zero end = absurd (omega arith)
+slice_get-push (x ∷ xs) y (suc place) end = let end' : length xs ≡ place = omega arith in slice_get-push xs y place end'
+
+-- A chain with one more answer, which is the next one, is a chain.
+pub IsChain-push : (epoch_end recovery : ℕ) (answers : List Issued) (next : Issued) → IsChain epoch_end recovery answers → IsNext epoch_end recovery answers next → IsChain epoch_end recovery (answers ++ next ∷ [])
+IsChain-push epoch_end recovery answers next chain is place answer at =
+    let within = slice_get_within (answers ++ next ∷ []) place answer at in
+    elim (cases_lt place (length answers)) [
+      | inl inside ↦
+          let here = sym (slice_get-append answers (next ∷ []) place inside) ∙ at in
+          rw (take-append-le place answers (next ∷ []) (omega arith)) (chain place answer here)
+      | inr past ↦
+          let end : length answers ≡ place = omega (arith, length_push answers next) in
+          let same = same_Some next answer (sym (slice_get-push answers next place end) ∙ at) in
+          rw (take_at answers (next ∷ []) place end) (subst (IsNext epoch_end recovery answers) same is)
+    ]
+
+-- the chain with one more answer
+abbrev with_next : Chain → Ask → Chain
+with_next chain ask = record chain { answers = chain.answers ++ next_answer chain ask ∷ [] }
+
+kept-leaves : (P : Chain → Type 0) (chain : Chain) (found : Option Issued) → P chain → P (chain_after chain (kept_answer found))
+kept-leaves P chain None is = is
+kept-leaves P chain (Some answer) is = is
+
+-- what a request leaves, by the tests that decide its answer
+leaves-by : (P : Chain → Type 0) (chain : Chain) (ask : Ask) (unknown early old room : Bool) → ltb (latest ask.proxy chain.answers + 1) ask.num ≡ early → leb ask.num (latest ask.proxy chain.answers) ≡ old → leb (next_answer chain ask).version MAX_VERSION ≡ room → P chain → (ask.num ≡ latest ask.proxy chain.answers + 1 → (next_answer chain ask).version ≤ MAX_VERSION → P (with_next chain ask)) → P (chain_after chain (cond unknown (Err UnknownProxy) (cond early (Err (Early (latest ask.proxy chain.answers + 1))) (cond old (kept_answer (kept ask.proxy ask.num chain.answers)) (cond room (Ok (next_answer chain ask)) (Err Exhausted))))))
+leaves-by P chain ask true early old room e o r is grows = is
+leaves-by P chain ask false true old room e o r is grows = is
+leaves-by P chain ask false false true room e o r is grows = kept-leaves P chain (kept ask.proxy ask.num chain.answers) is
+leaves-by P chain ask false false false false e o r is grows = is
+leaves-by P chain ask false false false true e o r is grows =
+    let not_early = ltb-false (latest ask.proxy chain.answers + 1) ask.num e in
+    let not_old = leb-false ask.num (latest ask.proxy chain.answers) o in
+    grows (omega arith) (leb-true (next_answer chain ask).version MAX_VERSION r)
+
+-- A request leaves the chain as it was, or with the next answer, which has the next number of its proxy and is in range.
+pub request-leaves : (P : Chain → Type 0) (chain : Chain) (ask : Ask) → P chain → (ask.num ≡ latest ask.proxy chain.answers + 1 → (next_answer chain ask).version ≤ MAX_VERSION → P (with_next chain ask)) → P (chain_after chain (answer_to chain ask))
+request-leaves P chain ask =
+    leaves-by P chain ask (not (ltb ask.proxy chain.proxies)) (ltb (latest ask.proxy chain.answers + 1) ask.num) (leb ask.num (latest ask.proxy chain.answers)) (leb (next_answer chain ask).version MAX_VERSION) refl refl refl
+
+pub IsChain-step : (chain : Chain) (ask : Ask) → IsChain chain.epoch_end chain.recovery chain.answers → IsChain chain.epoch_end chain.recovery (chain_after chain (answer_to chain ask)).answers
+IsChain-step chain ask is =
+    request-leaves (λ after. IsChain chain.epoch_end chain.recovery after.answers) chain ask is (λ num in_range.
+    IsChain-push chain.epoch_end chain.recovery chain.answers (next_answer chain ask) is
+    (record { fresh = refl; ordinal = refl; num = num; prev = refl; version = refl; in_range = in_range }))
+
+-- A request changes no more of a chain than its answers.
+step-stays : (chain : Chain) (ask : Ask) → chain_after chain (answer_to chain ask) ≡ record chain { answers = (chain_after chain (answer_to chain ask)).answers }
+step-stays chain ask = request-leaves (λ after. after ≡ record chain { answers = after.answers }) chain ask refl (λ num in_range. refl)
+
+pub asks-stay : (chain : Chain) (asks : List Ask) → after_asks chain asks ≡ record chain { answers = (after_asks chain asks).answers }
+asks-stay chain [] = refl
+asks-stay chain (ask ∷ asks) =
+    let after = chain_after chain (answer_to chain ask) in
+    asks-stay after asks ∙ ap (λ (c : Chain). record c { answers = (after_asks after asks).answers }) (step-stays chain ask)
+
+pub IsChain-asks : (chain : Chain) (asks : List Ask) → IsChain chain.epoch_end chain.recovery chain.answers → IsChain chain.epoch_end chain.recovery (after_asks chain asks).answers
+IsChain-asks chain [] is = is
+IsChain-asks chain (ask ∷ asks) is =
+    let after = chain_after chain (answer_to chain ask) in
+    let is' = subst (λ (c : Chain). IsChain c.epoch_end c.recovery after.answers) (sym (step-stays chain ask)) (IsChain-step chain ask is) in
+    subst (λ (c : Chain). IsChain c.epoch_end c.recovery (after_asks after asks).answers) (step-stays chain ask) (IsChain-asks after asks is')
+
+IsChain-nil : (epoch_end recovery : ℕ) → IsChain epoch_end recovery []
+IsChain-nil epoch_end recovery place answer at = absurd (none-some answer at)
+
+pub IsChain-from_nothing : (chain : Chain) (asks : List Ask) → chain.answers ≡ [] → IsChain chain.epoch_end chain.recovery (after_asks chain asks).answers
+IsChain-from_nothing chain asks none =
+    IsChain-asks chain asks (subst (IsChain chain.epoch_end chain.recovery) (sym none) (IsChain-nil chain.epoch_end chain.recovery))
+
+-- the one list begins with the other
+record BeginsWith (front all : List Issued) : Type 0 where
+  fits : length front ≤ length all
+  same : take (length front) all ≡ front
+
+BeginsWith-trans : (a b c : List Issued) → BeginsWith a b → BeginsWith b c → BeginsWith a c
+BeginsWith-trans a b c first second = record {
+  fits = omega arith;
+  same = sym (take-take (length a) (length b) c first.fits) ∙ (ap (take (length a)) second.same ∙ first.same);
+}
+
+BeginsWith-refl : (a : List Issued) → BeginsWith a a
+BeginsWith-refl a = record { fits = le_refl (length a); same = take_all (length a) a (le_refl (length a)) }
+
+asks-begin : (chain : Chain) (asks : List Ask) → BeginsWith chain.answers (after_asks chain asks).answers
+asks-begin chain [] = BeginsWith-refl chain.answers
+asks-begin chain (ask ∷ asks) =
+    let after = chain_after chain (answer_to chain ask) in
+    let step = request-leaves (λ c. BeginsWith chain.answers c.answers) chain ask (BeginsWith-refl chain.answers) (λ num in_range. record {
+      fits = omega (arith, length_push chain.answers (next_answer chain ask));
+      same = take_at chain.answers (next_answer chain ask ∷ []) (length chain.answers) refl;
+    }) in
+    BeginsWith-trans chain.answers after.answers (after_asks after asks).answers step (asks-begin after asks)
+
+pub asks-keep : (chain : Chain) (asks : List Ask) → take (length chain.answers) (after_asks chain asks).answers ≡ chain.answers
+asks-keep chain asks = (asks-begin chain asks).same

@@ -1,0 +1,146 @@
+-- Worked examples of the definitions: each is computed by them, so that a wrong definition fails here.
+use Rattle.std.proofs.Common.{◌≡◌, ℕ, true, false, List, [], ◌∷◌, map, None, Ok, Err, Result, refl}
+use Rattle.fdb_history.specs.Event.{register, IsLegal, positions_from}
+use Rattle.fdb_history.specs.Answer.{Chain, answer_to, chain_after, after_asks}
+use Rattle.fdb_history.specs.declared.register.Record.{Record}
+use Rattle.fdb_history.specs.declared.event.Event.{Event}
+use Rattle.fdb_history.specs.declared.event.Event.TheVariants.{Report, Read}
+use Rattle.fdb_history.specs.declared.chain.Ask.{Ask}
+use Rattle.fdb_history.specs.declared.chain.Issued.{Issued}
+use Rattle.fdb_history.specs.declared.log.Refusal.{Refusal}
+use Rattle.fdb_history.specs.declared.log.Refusal.TheVariants.{UnknownProxy, Early, Forgotten, Exhausted}
+
+-- an unlocked record with no metadata version
+abbrev plain : ℕ → Record
+plain version = record { version = version; locked = false; metadata = None }
+
+-- One client reads, reports version 100, reports version 2100 and reads again: the second report raises the register.
+abbrev one_client : List Event
+one_client = Read 0 0 (plain 100) ∷ Report 0 2 (plain 100) false ∷ Report 0 4 (plain 2100) true ∷ Read 0 5 (plain 2100) ∷ []
+
+-- Its replies are the register's.
+one_client-legal : IsLegal (plain 100) one_client
+one_client-legal = (refl, (refl, (refl, (refl, tt))))
+
+-- The position rises where the register does.
+one_client-positions : positions_from 0 one_client ≡ 0 ∷ 0 ∷ 1 ∷ 1 ∷ []
+one_client-positions = refl
+
+-- The register has what was reported last.
+one_client-register : register (plain 100) one_client ≡ plain 2100
+one_client-register = refl
+
+-- a sequencer for four proxies that has given no answer
+abbrev recruited : ℕ → Chain
+recruited recovery = record { epoch_end = 0; recovery = recovery; proxies = 4; answers = [] }
+
+-- requests of proxy 0, by number and moment: that has processed nothing, and that has processed up to a number
+abbrev ask : ℕ → ℕ → Ask
+ask num at = record { proxy = 0; num = num; processed = 0; at = at }
+
+abbrev ask_having : ℕ → ℕ → ℕ → Ask
+ask_having processed num at = record { proxy = 0; num = num; processed = processed; at = at }
+
+-- the versions that some requests draw
+abbrev drawn : List Ask → List ℕ
+drawn asks = map (λ answer. answer.version) (after_asks (recruited 100) asks).answers
+
+-- a sequencer that has answered numbers 1 and 2
+abbrev two : Chain
+two = after_asks (recruited 100) (ask 1 1000 ∷ ask 2 3000 ∷ [])
+
+-- number 2 once more: the answer that was kept
+abbrev second_again : Result Issued Refusal
+second_again = Ok (record { ordinal = 1; proxy = 0; num = 2; processed = 0; prev = 100; version = 2100; at = 3000; fresh = false })
+
+-- The first version is the recovery version, and the next one is a version further for each microsecond since.
+two-answers : two.answers ≡ record { ordinal = 0; proxy = 0; num = 1; processed = 0; prev = 0; version = 100; at = 1000; fresh = true } ∷ record { ordinal = 1; proxy = 0; num = 2; processed = 0; prev = 100; version = 2100; at = 3000; fresh = true } ∷ []
+two-answers = refl
+
+-- A repeated request gets the answer that was kept, with the moment of the first one.
+repeated : answer_to two (ask 2 9000) ≡ second_again
+repeated = refl
+
+-- It draws no version.
+repeated-stays : chain_after two (answer_to two (ask 2 9000)) ≡ two
+repeated-stays = refl
+
+-- So the next number goes on from there.
+after_repeated : answer_to (after_asks two (ask 2 9000 ∷ [])) (ask 3 3500) ≡ Ok (record { ordinal = 2; proxy = 0; num = 3; processed = 0; prev = 2100; version = 2600; at = 3500; fresh = true })
+after_repeated = refl
+
+-- A version is at least one above the last one, and at most five million.
+least_and_greatest_step : drawn (ask 1 1000 ∷ ask 2 1000 ∷ ask 3 20001000 ∷ []) ≡ 100 ∷ 101 ∷ 5000101 ∷ []
+least_and_greatest_step = refl
+
+-- A moment before the last one counts as no time, and the next one is measured from it.
+time_goes_back : drawn (ask 1 1000 ∷ ask 2 500 ∷ ask 3 1200 ∷ []) ≡ 100 ∷ 101 ∷ 801 ∷ []
+time_goes_back = refl
+
+-- after numbers 1 and 2, number 3 says that number 1 is processed
+abbrev one_processed : Chain
+one_processed = after_asks two (ask_having 1 3 3500 ∷ [])
+
+-- Number 1 is not kept any more.
+processed-forgotten : answer_to one_processed (ask 1 4000) ≡ Err Forgotten
+processed-forgotten = refl
+
+-- Number 2 is kept.
+unprocessed-kept : answer_to one_processed (ask 2 4000) ≡ second_again
+unprocessed-kept = refl
+
+-- A repeated request drops nothing, whatever it says that is processed.
+repeated-drops_nothing : answer_to one_processed (ask_having 2 2 4000) ≡ second_again
+repeated-drops_nothing = refl
+
+-- And again.
+repeated_again : answer_to (after_asks one_processed (ask_having 2 2 4000 ∷ [])) (ask 2 5000) ≡ second_again
+repeated_again = refl
+
+-- A number beyond the next one is early.
+beyond-early : answer_to two (ask 5 4000) ≡ Err (Early 3)
+beyond-early = refl
+
+-- There is no number 0.
+zero-forgotten : answer_to two (ask 0 4000) ≡ Err Forgotten
+zero-forgotten = refl
+
+-- Four proxies are 0 to 3.
+fourth-unknown : answer_to two (record { proxy = 4; num = 1; processed = 0; at = 4000 }) ≡ Err UnknownProxy
+fourth-unknown = refl
+
+-- Proxy 3 is the last one, and the versions of all proxies are one chain.
+third-known : answer_to two (record { proxy = 3; num = 1; processed = 0; at = 3001 }) ≡ Ok (record { ordinal = 2; proxy = 3; num = 1; processed = 0; prev = 2100; version = 2101; at = 3001; fresh = true })
+third-known = refl
+
+-- after number 1, number 2 says that all up to number 9 is processed
+abbrev all_processed : Chain
+all_processed = after_asks (recruited 100) (ask 1 1000 ∷ ask_having 9 2 3000 ∷ [])
+
+-- Number 1 is not kept.
+all_processed-forgotten : answer_to all_processed (ask 1 4000) ≡ Err Forgotten
+all_processed-forgotten = refl
+
+-- A request's own answer is kept, even where it says that it is processed.
+own-kept : answer_to all_processed (ask 2 4000) ≡ Ok (record { ordinal = 1; proxy = 0; num = 2; processed = 9; prev = 100; version = 2100; at = 3000; fresh = false })
+own-kept = refl
+
+-- a sequencer that has drawn the last two versions
+abbrev spent : Chain
+spent = after_asks (recruited 9223372036854775806) (ask 1 0 ∷ ask 2 0 ∷ [])
+
+-- They are 2^63 - 2 and 2^63 - 1.
+spent-versions : map (λ answer. answer.version) spent.answers ≡ 9223372036854775806 ∷ 9223372036854775807 ∷ []
+spent-versions = refl
+
+-- There is no next version.
+spent-exhausted : answer_to spent (ask 3 0) ≡ Err Exhausted
+spent-exhausted = refl
+
+-- The answers stay.
+spent-stays : chain_after spent (answer_to spent (ask 3 0)) ≡ spent
+spent-stays = refl
+
+-- Number 2 is still kept.
+spent-kept : answer_to (after_asks spent (ask 3 0 ∷ [])) (ask 2 0) ≡ Ok (record { ordinal = 1; proxy = 0; num = 2; processed = 0; prev = 9223372036854775806; version = 9223372036854775807; at = 0; fresh = false })
+spent-kept = refl

@@ -1,0 +1,4 @@
+pub mod HistoryLaws
+pub mod ChainLaws
+pub mod AnswerLaws
+mod Examples
