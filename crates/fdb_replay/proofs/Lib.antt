@@ -2,3 +2,5 @@ pub mod Arrays
 pub mod Within
 pub mod Sessions
 pub mod Numbers
+pub mod Order
+pub mod Single

@@ -16,9 +16,9 @@ use Rattle.fdb_history.specs.declared.log.Refusal.TheVariants as refusal
 use Rattle.fdb_history.specs.declared.register.TheConstants.{MAX_VERSION}
 use Rattle.fdb_history.specs.Chain.{latest}
 use Rattle.fdb_history.specs.Register.{raises, record_after}
-use Rattle.fdb_history.specs.Event.{register, IsLegal, after_event}
+use Rattle.fdb_history.specs.Event.{Placed, register, IsLegal, after_event}
 use Rattle.fdb_history.specs.declared.chain.Issued.{Issued}
-use Rattle.fdb_history.specs.Log.{Placed, placed_from, event_of_answer, answer_raises, position_after_calls, answer_in, answers_in, fresh_answers}
+use Rattle.fdb_history.specs.Log.{placed_from, event_of_answer, answer_raises, position_after_calls, answer_in, answers_in, fresh_answers}
 use Rattle.fdb_history.specs.declared.event.Event.{Event}
 use Rattle.fdb_history.specs.declared.log.Call.{Call}
 use Rattle.fdb_history.specs.declared.log.CallAnswer.{CallAnswer}
@@ -37,7 +37,7 @@ use Rattle.fdb_replay.specs.declared.session.Session.{Session}
 abbrev pub event_at : ℕ → CallAnswer → List Event
 event_at place answer = option_to_list (event_of_answer 0 place answer)
 
-abbrev events_from : ℕ → List Call → List Event
+abbrev pub events_from : ℕ → List Call → List Event
 events_from place calls = map (λ p. p.event) (placed_from 0 place calls)
 
 -- ---- one more call at the end
@@ -47,7 +47,7 @@ map_placed : (position : ℕ) (event : Option Event) (rest : List Placed)
 map_placed position None rest = refl
 map_placed position (Some event) rest = refl
 
-events-cons : (place : ℕ) (call : Call) (calls : List Call) → events_from place (call ∷ calls) ≡ event_at place call.answer ++ events_from (place + 1) calls
+pub events-cons : (place : ℕ) (call : Call) (calls : List Call) → events_from place (call ∷ calls) ≡ event_at place call.answer ++ events_from (place + 1) calls
 events-cons place call calls = map_placed call.position (event_of_answer 0 place call.answer) (placed_from 0 (place + 1) calls)
 
 events-push : (place : ℕ) (calls : List Call) (call : Call) → events_from place (calls ++ call ∷ []) ≡ events_from place calls ++ event_at (place + length calls) call.answer

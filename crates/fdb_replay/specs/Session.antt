@@ -8,7 +8,9 @@ use Rattle.fdb_history.specs.declared.log.Call.{Call}
 use Rattle.fdb_history.specs.declared.log.CallAnswer.{CallAnswer}
 use Rattle.fdb_history.specs.declared.register.Record.{Record}
 use Rattle.fdb_history.specs.Added.{AddsCall}
-use Rattle.fdb_replay.specs.Answering.{input_of}
+use Rattle.fdb_replay.specs.Answering.{input_of, AnswersCommand}
+use Rattle.std.specs.List.{FoldsTo}
+use Rattle.fdb_replay.specs.declared.script.Command.{Command}
 use Rattle.fdb_replay.specs.Outcome.{opening}
 use Rattle.fdb_replay.specs.declared.script.Act.{Act}
 use Rattle.fdb_replay.specs.declared.session.Session.{Session}
@@ -48,3 +50,10 @@ pub record Performs (old : Session) (act : Act) (new : Session) : Type 0 where
   pub epoch_end : new.core.epoch_end ≡ old.core.epoch_end
   pub recovery : new.core.recovery ≡ old.core.recovery
   pub added : AddsCall old.calls (input_of old.calls act) new.calls
+
+-- the session has done what it was told in a round, command by command
+pub record Plays (old : Session) (commands : List Command) (new : Session) : Type 0 where
+  pub session : IsSession new
+  pub epoch_end : new.core.epoch_end ≡ old.core.epoch_end
+  pub recovery : new.core.recovery ≡ old.core.recovery
+  pub answered : FoldsTo AnswersCommand old.calls commands new.calls

@@ -3,8 +3,10 @@
 
 mod outcome;
 mod reader;
+mod running;
 mod script;
 mod session;
 
 pub use outcome::{Outcome, RunFault};
+pub use running::run;
 pub use script::{Act, Command, MAX_COMMANDS, MAX_ROUNDS, Script, ScriptError};

@@ -1,0 +1,36 @@
+//! A run of a script.
+
+ghost use Rattle.std.specs.Prelude.{◌≡◌, ◌<◌, ◌≤◌, IfOk, IfErr};
+ghost use Rattle.fdb_replay.specs.Outcome.{IsRunOf};
+
+use crate::outcome::{Outcome, RunFault};
+use crate::script::Script;
+use crate::session::Session;
+use fdb_history::Gate;
+use std::alloc::Global;
+use std::sync::Wait;
+use std::thread::Threads;
+
+/// Plays a script, and answers what it leaves: the logs of its clients, the chain of commit versions, and the one
+/// history that explains them. The script's only client is served in the calling thread, so that the runtime, the
+/// number of GRV proxies and the gate are not used yet.
+///
+/// Fails only for want of memory.
+pub fn run<R: Threads + Wait + Sync, G: Gate>(
+    _rt: &R,
+    alloc: Global,
+    script: &Script,
+    _proxies: u32,
+    _gate: &G,
+) -> Result<Outcome, RunFault>
+    requires some_proxy { 0 < _proxies }
+    requires few_proxies { _proxies ≤ 16 }
+    ensures ok { IfOk result (IsRunOf script.now) }
+    ensures err { IfErr result (λ fault. fault ≡ RunFault.Memory) }
+{
+    let mut session = Session::new(alloc, script.epoch_end(), script.recovery())?;
+    for round in script.rounds() {
+        session = session.play(alloc, round.as_slice())?;
+    }
+    session.outcome(alloc)
+}
