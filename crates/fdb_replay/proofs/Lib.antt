@@ -4,3 +4,4 @@ pub mod Sessions
 pub mod Numbers
 pub mod Order
 pub mod Single
+pub mod Runs
