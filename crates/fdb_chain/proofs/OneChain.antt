@@ -1,4 +1,4 @@
--- A chain with one more answer, and when the definition's answer is the next one.
+-- A chain with one more answer, and the version of its last one.
 use Rattle.std.proofs.Common.{◌≡◌, ℕ, ◌-◌, ◌<◌, ◌≤◌, List, [], ◌∷◌, ◌++◌, length, take, Some, slice_get, inl, inr, ap, sym, ◌∙◌, arith, length-append}
 use Rattle.std.proofs.Math.Nat.{le_of_lt}
 use Rattle.std.proofs.Math.Seq.{take-append_seam}

@@ -209,17 +209,20 @@ fn versions_end(rt: HostRuntime) -> Result<(), Fail> {
 }
 
 #[test]
-fn members_out_of_range(rt: HostRuntime) {
+fn members_in_and_out_of_range(rt: HostRuntime) {
     let table = [
-        (0, 100, 0, ChainError::NoProxy),
-        (0, 100, 65, ChainError::NoProxy),
-        (0, 0, 4, ChainError::BadEpoch),
-        (100, 100, 0, ChainError::BadEpoch),
-        (0, 9_223_372_036_854_775_808, 4, ChainError::BadEpoch),
+        (0, 100, 1, None),
+        (0, 100, 64, None),
+        (0, 9_223_372_036_854_775_807, 4, None),
+        (0, 100, 0, Some(ChainError::NoProxy)),
+        (0, 100, 65, Some(ChainError::NoProxy)),
+        (0, 0, 4, Some(ChainError::BadEpoch)),
+        (100, 100, 0, Some(ChainError::BadEpoch)),
+        (0, 9_223_372_036_854_775_808, 4, Some(ChainError::BadEpoch)),
     ];
     for (epoch_end, recovery, proxies, cause) in table {
         let refusal = open(rt.alloc(), epoch_end, recovery, proxies).err();
-        assert_eq!(rt; refusal, Some(cause), "{epoch_end} {recovery} {proxies}");
+        assert_eq!(rt; refusal, cause, "{epoch_end} {recovery} {proxies}");
     }
 }
 
