@@ -1,4 +1,4 @@
 pub mod Lists
-pub mod Chains
-pub mod Replied
-pub mod Keeps
+pub mod OneChain
+pub mod KeptReplies
+pub mod Consistent

@@ -1,5 +1,5 @@
 -- The replies that are kept for one commit proxy.
-use Rattle.std.specs.Prelude.{◌≡◌, ℕ, ◌+◌, ◌-◌, ◌<◌, nat_le, min, max, List, [], ◌∷◌, ◌++◌, length, Option, None, slice_get, All, if◌then◌else◌}
+use Rattle.std.specs.Prelude.{◌≡◌, ℕ, ◌-◌, ◌<◌, nat_le, min, max, List, [], ◌∷◌, ◌++◌, length, Option, None, slice_get, All, if◌then◌else◌}
 use Rattle.std.specs.Option.{option_and_then}
 use Rattle.fdb_history.specs.Answer.{kept}
 use Rattle.fdb_history.specs.Chain.{latest}

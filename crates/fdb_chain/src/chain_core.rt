@@ -34,11 +34,11 @@ impl Model for ChainCore {
 
     ghost Value = { Chain };
 
-    ghost use Rattle.fdb_chain.specs.ChainCore.{IsKept};
+    ghost use Rattle.fdb_chain.specs.ChainCore.{IsConsistent};
 
     ghost view = { λ core. record { epoch_end = core.epoch_end; recovery = core.recovery; proxies = length core.replies.items; answers = core.answers.items } };
 
-    ghost invariant = { λ core. IsKept core.epoch_end core.recovery core.answers.items core.replies.items };
+    ghost invariant = { λ core. IsConsistent core.epoch_end core.recovery core.answers.items core.replies.items };
 }
 
 impl ChainCore {

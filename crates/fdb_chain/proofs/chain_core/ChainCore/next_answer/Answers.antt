@@ -1,4 +1,4 @@
-use Rattle.fdb_chain.proofs.Chains.{last-in_range}
+use Rattle.fdb_chain.proofs.OneChain.{last-in_range}
 use Rattle.fdb_chain.proofs.chain_core.ChainCore.next_answer.Goals as goal
 
 pub version-requires : goal.version-requires

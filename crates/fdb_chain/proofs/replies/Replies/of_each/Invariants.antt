@@ -1,4 +1,4 @@
-use Rattle.std.proofs.Common.{◌≡◌, ◌≤◌, length, All, vec_len, vec_capacity}
+use Rattle.std.proofs.Common.{◌≡◌, ◌≤◌, All, vec_len, vec_capacity}
 use Rattle.fdb_chain.specs.Replies.{no_replies}
 use Rattle.fdb_chain.proofs.replies.Replies.of_each.Given as goal
 

@@ -1,15 +1,15 @@
 -- What a chain keeps to, at its opening and after one more answer.
-use Rattle.std.proofs.Common.{◌≡◌, ℕ, ◌<◌, ◌⊎◌, List, [], ◌∷◌, ◌++◌, length, All, Option, Some, slice_get, get_or, set, ap, refl, sym, ◌∙◌, inl, inr, arith}
+use Rattle.std.proofs.Common.{◌≡◌, ℕ, ◌<◌, ◌⊎◌, List, [], ◌∷◌, ◌++◌, length, Some, slice_get, get_or, set, ap, refl, sym, ◌∙◌, inl, inr, arith}
 use Rattle.std.proofs.lemmas.Bool.{cases_eq}
 use Rattle.std.proofs.lemmas.List.{get_or-set_other, get_or-set_same, length-set}
 use Rattle.std.proofs.lemmas.List.Elements.{All-push}
 use Rattle.std.proofs.lemmas.Option.{get_or_from_slice_get, slice_get_read, slice_get_within}
 use Rattle.fdb_history.specs.Chain.{IsNext}
 use Rattle.fdb_history.specs.declared.chain.Issued.{Issued}
-use Rattle.fdb_chain.specs.ChainCore.{IsKept}
-use Rattle.fdb_chain.specs.Replies.{AreRepliesOf, KeptReplies, replies_after}
-use Rattle.fdb_chain.proofs.Chains.{IsChain-append}
-use Rattle.fdb_chain.proofs.Replied.{AreRepliesOf-other, AreRepliesOf-own}
+use Rattle.fdb_chain.specs.ChainCore.{IsConsistent}
+use Rattle.fdb_chain.specs.Replies.{KeptReplies, replies_after}
+use Rattle.fdb_chain.proofs.OneChain.{IsChain-append}
+use Rattle.fdb_chain.proofs.KeptReplies.{AreRepliesOf-other, AreRepliesOf-own}
 
 -- an item of a list of which one was replaced: the new one, or one that was there
 slice_get-set_cases : {X : Type 0} (xs : List X) (i j : ℕ) (y x : X) → i < length xs → slice_get (set xs i y) j ≡ Some x → ((j ≡ i) × (x ≡ y)) ⊎ ((j ≡ i → ⊥) × (slice_get xs j ≡ Some x))
@@ -22,8 +22,8 @@ slice_get-set_cases xs i j y x within found =
     ]
 
 -- a chain with its next answer, where the replies of the proxy that asked are brought up to date
-pub IsKept-append : (epoch_end recovery : ℕ) (answers : List Issued) (replies : List KeptReplies) (answer : Issued) (own : KeptReplies) → IsKept epoch_end recovery answers replies → IsNext epoch_end recovery answers answer → answer.proxy < length replies → own ≡ get_or replies answer.proxy own → IsKept epoch_end recovery (answers ++ answer ∷ []) (set replies answer.proxy (replies_after own answer.ordinal answer.processed))
-IsKept-append epoch_end recovery answers replies answer own kept next known own_is =
+pub IsConsistent-append : (epoch_end recovery : ℕ) (answers : List Issued) (replies : List KeptReplies) (answer : Issued) (own : KeptReplies) → IsConsistent epoch_end recovery answers replies → IsNext epoch_end recovery answers answer → answer.proxy < length replies → own ≡ get_or replies answer.proxy own → IsConsistent epoch_end recovery (answers ++ answer ∷ []) (set replies answer.proxy (replies_after own answer.ordinal answer.processed))
+IsConsistent-append epoch_end recovery answers replies answer own kept next known own_is =
     record {
       epoch = kept.epoch;
       proxies = rw (length-set replies answer.proxy (replies_after own answer.ordinal answer.processed)) kept.proxies;
