@@ -1,7 +1,7 @@
-use Rattle.std.proofs.Common.{[], ◌≤◌, length, ap, sym, ◌∙◌, subst, refl, drop, arith}
+use Rattle.std.proofs.Common.{◌≡◌, [], ◌∷◌, ◌<◌, ◌≤◌, length, get_or, ap, sym, ◌∙◌, subst, refl, drop, arith}
 use Rattle.std.specs.List.{FoldsTo}
 use Rattle.std.proofs.lemmas.List.{drop_all}
-use Rattle.fdb_replay.specs.Answering.{AnswersRound}
+use Rattle.fdb_replay.specs.Answering.{AnswersCommand, AnswersRound}
 use Rattle.fdb_replay.proofs.Runs.{one_round_more, run_of}
 use Rattle.fdb_replay.proofs.running.run.Goals as goal
 
@@ -9,17 +9,29 @@ pub loop-round-preserved : goal.loop-round-preserved
 loop-round-preserved g c =
     let before = c.loop-round.invariant in
     let after = c.in_ok-session-2.ensures.ok in
+    let rounds = c.args.script.now.rounds in
+    let place = c.loop-round.round-index in
+    let commands = c.round-item.result in
+    let same = c.rounds-round-items.ensures in
+    let within : place < length rounds = omega (arith, ap length same) in
+    let item : commands ≡ get_or rounds place commands = c.round-item.is ∙ ap (λ all. get_or all place commands) same in
+    let answered : FoldsTo AnswersCommand c.loop-round.session.calls commands c.in_ok-session-2.session.calls =
+      subst (λ own. FoldsTo AnswersCommand c.loop-round.session.calls own c.in_ok-session-2.session.calls) c.as_slice.ensures after.answered in
     record {
       plan = before.plan;
       session = after.session;
       epoch_end = after.epoch_end ∙ before.epoch_end;
       recovery = after.recovery ∙ before.recovery;
-      forwards = λ last rest. before.forwards last ?;
+      forwards = λ last rest. before.forwards last
+        (one_round_more c.args.script.now place commands c.loop-round.session.calls c.in_ok-session-2.session.calls last before.plan within item answered rest);
     }
 
 pub returns-clause-ok : goal.returns-clause-ok
 returns-clause-ok g c =
     let is = c.loop-round.invariant in
+    let rounds = c.args.script.now.rounds in
+    let logs = record { calls = c.loop-round.session.calls } ∷ [] in
+    let none_left : drop c.loop-round.round-index rounds ≡ [] = drop_all c.loop-round.round-index rounds (omega (arith, ap length c.rounds-round-items.ensures)) in
     run_of c.args.script.now c.loop-round.session c.outcome.result is.plan is.session is.epoch_end is.recovery
-    (is.forwards _ (rw drop_all refl))
+    (is.forwards logs (subst (λ left. FoldsTo AnswersRound logs left logs) (sym none_left) refl))
     c.outcome.ensures.one_chain c.outcome.ensures.drawn c.outcome.ensures.logs c.outcome.ensures.history
