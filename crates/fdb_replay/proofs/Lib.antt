@@ -5,3 +5,4 @@ pub mod Numbers
 pub mod Order
 pub mod Single
 pub mod Runs
+pub mod Input

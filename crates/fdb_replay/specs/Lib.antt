@@ -4,3 +4,5 @@ pub mod Answering
 pub mod Served
 pub mod Outcome
 pub mod Session
+pub mod Text
+pub mod Replay

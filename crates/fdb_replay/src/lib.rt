@@ -1,12 +1,17 @@
 //! A script of clients, replayed against the read-version service from the script's bytes to the printed lines.
 #![tactic(auto)]
 
+mod driving;
 mod outcome;
+mod printed;
 mod reader;
+mod replaying;
 mod running;
 mod script;
 mod session;
 
+pub use driving::{MAX_SCRIPT_BYTES, drive};
 pub use outcome::{Outcome, RunFault};
+pub use replaying::{ReplayFault, replay};
 pub use running::run;
 pub use script::{Act, Command, MAX_COMMANDS, MAX_ROUNDS, Script, ScriptError};

@@ -16,14 +16,14 @@ loop-round-preserved g c =
     let within : place < length rounds = omega (arith, ap length same) in
     let item : commands ≡ get_or rounds place commands = c.round-item.is ∙ ap (λ all. get_or all place commands) same in
     let answered : FoldsTo AnswersCommand c.loop-round.session.calls commands c.in_ok-session-2.session.calls =
-      subst (λ own. FoldsTo AnswersCommand c.loop-round.session.calls own c.in_ok-session-2.session.calls) c.as_slice.ensures after.answered in
+    subst (λ own. FoldsTo AnswersCommand c.loop-round.session.calls own c.in_ok-session-2.session.calls) c.as_slice.ensures after.answered in
     record {
       plan = before.plan;
       session = after.session;
       epoch_end = after.epoch_end ∙ before.epoch_end;
       recovery = after.recovery ∙ before.recovery;
       forwards = λ last rest. before.forwards last
-        (one_round_more c.args.script.now place commands c.loop-round.session.calls c.in_ok-session-2.session.calls last before.plan within item answered rest);
+          (one_round_more c.args.script.now place commands c.loop-round.session.calls c.in_ok-session-2.session.calls last before.plan within item answered rest);
     }
 
 pub returns-clause-ok : goal.returns-clause-ok

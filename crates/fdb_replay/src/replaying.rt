@@ -1,0 +1,68 @@
+//! From the bytes of a script to the printed lines.
+
+ghost use Rattle.std.specs.Prelude.{◌≡◌, ◌≢◌, ℕ, ◌<◌, ◌≤◌, List, OnOk, IfErr};
+ghost use Rattle.std.specs.Io.KnownBytes.{Appends};
+ghost use Rattle.fdb_replay.specs.Replay.{Replays, Refuses};
+
+use crate::outcome::RunFault;
+use crate::printed::text;
+use crate::reader::read_script;
+use crate::running::run;
+use crate::script::ScriptError;
+use fdb_history::Gate;
+use std::alloc::Global;
+use std::io::Write;
+use std::sync::Wait;
+use std::thread::Threads;
+use thiserror::Error;
+
+/// Why a replay failed.
+#[derive(Clone, Copy, Debug, PartialEq, Eq, Hash, Error)]
+pub enum ReplayFault {
+    /// The script was refused, or memory for its text.
+    #[error("script refused: {0}")]
+    Script(ScriptError),
+    /// The run was refused.
+    #[error("{0}")]
+    Run(RunFault),
+    /// The writer failed. Nothing is said of how much went out.
+    #[error("writing failed")]
+    Write,
+}
+
+/// Reads a script, plays it, and writes the replies, the audit line and, where it is wanted, the history.
+///
+/// Refuses a script that does not stand for one, then a run for want of memory, then a writer that fails.
+/// Nothing is written before the run is done.
+pub fn replay<R: Threads + Wait + Sync, G: Gate, W: Write>(
+    rt: &R,
+    alloc: Global,
+    bytes: &[u8],
+    proxies: u32,
+    with_history: bool,
+    gate: &G,
+    writer: &mut W,
+) -> Result<(), ReplayFault>
+    requires some_proxy { 0 < proxies }
+    requires few_proxies { proxies ≤ 16 }
+    ensures ok { OnOk result ((written : List ℕ) × Replays bytes.now with_history written
+        × Appends (W.contents writer.old) (W.contents writer.new) written) }
+    ensures err { IfErr result (Refuses bytes.now) }
+    ensures unwritten { IfErr result (λ fault. fault ≢ ReplayFault.Write → writer.new ≡ writer.old) }
+{
+    let script = match read_script(alloc, bytes) {
+        Ok(script) => script,
+        Err(error) => return Err(ReplayFault::Script(error)),
+    };
+    let outcome = match run(rt, alloc, &script, proxies, gate) {
+        Ok(outcome) => outcome,
+        Err(fault) => return Err(ReplayFault::Run(fault)),
+    };
+    let Ok(lines) = text(alloc, &script, &outcome, with_history) else {
+        return Err(ReplayFault::Script(ScriptError::Memory));
+    };
+    match writer.write_all(lines.as_bytes()) {
+        Ok(()) => Ok(()),
+        Err(_) => Err(ReplayFault::Write),
+    }
+}
