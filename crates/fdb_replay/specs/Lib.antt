@@ -4,3 +4,4 @@ pub mod Answering
 pub mod Served
 pub mod Outcome
 pub mod Session
+pub mod Text

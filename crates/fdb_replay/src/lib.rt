@@ -1,7 +1,9 @@
 //! A script of clients, replayed against the read-version service from the script's bytes to the printed lines.
 #![tactic(auto)]
 
+mod lines;
 mod outcome;
+mod printed;
 mod reader;
 mod script;
 mod session;
