@@ -1,5 +1,5 @@
 -- The printed text, as a function of the script, the outcome and whether the history is wanted. (this product's own)
-use Rattle.std.specs.Prelude.{ℕ, ◌+◌, ◌==◌, Bool, true, false, List, [], ◌∷◌, ◌++◌, length, map, filter, count_by, drop, codes, decimal, encode_utf8, if◌then◌else◌}
+use Rattle.std.specs.Prelude.{ℕ, ◌+◌, ◌==◌, Bool, true, false, List, [], ◌∷◌, ◌++◌, length, map, count_by, drop, codes, decimal, encode_utf8, if◌then◌else◌}
 use Rattle.std.specs.List.{flat_map}
 use Rattle.fdb_history.specs.Event.{raise_count}
 use Rattle.fdb_history.specs.Text.{record_text, refusal_text}

@@ -176,7 +176,10 @@ impl fmt::Display for AuditLine {
 
     fn fmt<W: fmt::Write>(&self, f: &mut fmt::Formatter<W>) -> fmt::Result {
         let (events, raised, versions) = (self.events, self.raised, self.versions);
-        write!(f, "audit ok events {events} raised {raised} versions {versions}")
+        write!(
+            f,
+            "audit ok events {events} raised {raised} versions {versions}"
+        )
     }
 }
 
@@ -208,7 +211,10 @@ impl fmt::Display for HistoryLine<'_> {
                 raised,
             } => {
                 let raised = raised_word(*raised);
-                write!(f, "history {number} client {client} call {call} report {rec} {raised}")
+                write!(
+                    f,
+                    "history {number} client {client} call {call} report {rec} {raised}"
+                )
             }
         }
     }
