@@ -1,8 +1,9 @@
 pub mod Arrays
-pub mod Within
-pub mod Sessions
+pub mod Input
 pub mod Numbers
 pub mod Order
-pub mod Single
 pub mod Runs
-pub mod Input
+pub mod Sessions
+pub mod Single
+pub mod Texts
+pub mod Within

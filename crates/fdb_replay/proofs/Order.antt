@@ -1,5 +1,5 @@
 -- Events in a row are the history of their own stamps: position by position they come back in their order.
-use Rattle.std.proofs.Common.{◌≡◌, ℕ, zero, suc, ◌+◌, ◌<◌, ◌≤◌, ◌==◌, ◌&&◌, not, Bool, true, false, cond, List, [], ◌∷◌, ◌++◌, map, filter, count_by, refl, ap, sym, ◌∙◌, subst, append_assoc, append-nil, inl, inr, arith, add-one, add-zero, zero-add}
+use Rattle.std.proofs.Common.{◌≡◌, ℕ, zero, suc, ◌+◌, ◌<◌, ◌≤◌, ◌==◌, ◌&&◌, not, Bool, true, false, cond, List, [], ◌∷◌, ◌++◌, filter, count_by, refl, ap, sym, ◌∙◌, append_assoc, inl, inr, arith, add-one, zero-add}
 use Rattle.std.proofs.lemmas.Bool.{eq-eqb, ne_eqb, cases_Bool}
 use Rattle.std.proofs.lemmas.List.Sums.{sum_by-cons}
 use Rattle.fdb_history.specs.Event.{Placed, stamped, position_after, is_raise, raise_count}

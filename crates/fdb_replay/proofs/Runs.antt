@@ -1,9 +1,8 @@
 -- A session that has played every round of a script leaves an outcome of it.
-use Rattle.std.proofs.Common.{◌≡◌, ℕ, zero, suc, ◌+◌, ◌<◌, ◌≤◌, ◌==◌, List, [], ◌∷◌, ◌++◌, Result, Ok, Err, length, drop, get_or, filter, replicate, refl, ap, sym, ◌∙◌, subst, arith, add-one, drop-cons}
-use Rattle.std.specs.List.{All, AllByRecursion, FoldsTo}
+use Rattle.std.proofs.Common.{◌≡◌, ℕ, zero, suc, ◌+◌, ◌<◌, List, [], ◌∷◌, Result, Ok, Err, length, drop, get_or, replicate, refl, ap, sym, ◌∙◌, subst, arith, add-one, drop-cons}
+use Rattle.std.specs.List.{AllByRecursion, FoldsTo}
 use Rattle.std.specs.Result.{IfOk}
 use Rattle.std.proofs.lemmas.Bool.{eq-eqb}
-use Rattle.std.proofs.lemmas.List.{drop_all}
 use Rattle.std.proofs.lemmas.List.Elements.{All-from_recursion, All-get_or}
 use Rattle.fdb_history.specs.Chain.{IsChain}
 use Rattle.fdb_history.specs.Log.{calls_of, fresh_answers}

@@ -1,12 +1,10 @@
 -- A session after one more call.
 use Rattle.std.proofs.Common.{◌≡◌, ℕ, ◌+◌, ◌<◌, ◌≤◌, Bool, true, false, ◌&&◌, List, [], ◌∷◌, ◌++◌, map, filter, Option, None, Some, Result, Ok, Err, cond, nat_lt, nat_le, ◌==◌, option_to_list, length, find, inl, inr, refl, ap, sym, ◌∙◌, subst, append_assoc, arith, add-zero, zero-add, append-nil}
 use Rattle.std.proofs.lemmas.List.Elements.{filter-append}
-use Rattle.fdb_history.specs.Added.{AddsCall, may_advance}
+use Rattle.fdb_history.specs.Added.{may_advance}
 use Rattle.fdb_history.specs.Answer.{Chain, answer_to, fresh_answer, next_answer, with_answer}
-use Rattle.std.specs.List.{All, AllByRecursion}
 use Rattle.std.specs.Result.{IfOk, OnErr}
 use Rattle.std.proofs.lemmas.Bool.{lt-ltb, le-ltb, lt-leb, ltb-true, cases_Bool}
-use Rattle.std.proofs.lemmas.List.Elements.{recursion_from_All}
 use Rattle.fdb_chain.specs.ChainCore.{IsAnswer}
 use Rattle.fdb_chain.specs.declared.error.ChainError.{ChainError}
 use Rattle.fdb_chain.specs.declared.error.ChainError.TheVariants.{BadEpoch, NoProxy, UnknownProxy, Early, Forgotten, Exhausted, Memory}
@@ -18,7 +16,7 @@ use Rattle.fdb_history.specs.Chain.{latest}
 use Rattle.fdb_history.specs.Register.{raises, record_after}
 use Rattle.fdb_history.specs.Event.{Placed, register, IsLegal, after_event}
 use Rattle.fdb_history.specs.declared.chain.Issued.{Issued}
-use Rattle.fdb_history.specs.Log.{placed_from, event_of_answer, answer_raises, position_after_calls, answer_in, answers_in, fresh_answers}
+use Rattle.fdb_history.specs.Log.{placed_from, event_of_answer, position_after_calls, answer_in, answers_in, fresh_answers}
 use Rattle.fdb_history.specs.declared.event.Event.{Event}
 use Rattle.fdb_history.specs.declared.log.Call.{Call}
 use Rattle.fdb_history.specs.declared.log.CallAnswer.{CallAnswer}

@@ -3,6 +3,6 @@ pub mod Reading
 pub mod Answering
 pub mod Served
 pub mod Outcome
-pub mod Session
 pub mod Text
 pub mod Replay
+pub mod Session

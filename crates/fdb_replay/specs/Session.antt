@@ -6,7 +6,6 @@ use Rattle.fdb_history.specs.Log.{placed_from, answer_raises, position_after_cal
 use Rattle.fdb_history.specs.declared.event.Event.{Event}
 use Rattle.fdb_history.specs.declared.log.Call.{Call}
 use Rattle.fdb_history.specs.declared.log.CallAnswer.{CallAnswer}
-use Rattle.fdb_history.specs.declared.register.Record.{Record}
 use Rattle.fdb_history.specs.Added.{AddsCall}
 use Rattle.fdb_replay.specs.Answering.{input_of, AnswersCommand}
 use Rattle.std.specs.List.{FoldsTo}

@@ -2,6 +2,7 @@
 #![tactic(auto)]
 
 mod driving;
+mod lines;
 mod outcome;
 mod printed;
 mod reader;

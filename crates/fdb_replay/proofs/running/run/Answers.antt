@@ -1,4 +1,4 @@
-use Rattle.std.proofs.Common.{◌≡◌, [], ◌∷◌, ◌<◌, ◌≤◌, length, get_or, ap, sym, ◌∙◌, subst, refl, drop, arith}
+use Rattle.std.proofs.Common.{◌≡◌, [], ◌∷◌, ◌<◌, length, get_or, ap, sym, ◌∙◌, subst, refl, drop, arith}
 use Rattle.std.specs.List.{FoldsTo}
 use Rattle.std.proofs.lemmas.List.{drop_all}
 use Rattle.fdb_replay.specs.Answering.{AnswersCommand, AnswersRound}

@@ -1,4 +1,4 @@
-use Rattle.std.proofs.Common.{◌≡◌, List, [], ◌∷◌, drop, replicate}
+use Rattle.std.proofs.Common.{◌≡◌, List, [], ◌∷◌, drop}
 use Rattle.std.specs.List.{FoldsTo}
 use Rattle.fdb_history.specs.declared.log.ClientLog.{ClientLog}
 use Rattle.fdb_replay.specs.Answering.{AnswersRound}

@@ -1,4 +1,4 @@
-use Rattle.std.proofs.Common.{◌≡◌, ℕ, length, refl, Err, Result}
+use Rattle.std.proofs.Common.{◌≡◌, refl}
 use Rattle.std.specs.Result.{IfOk}
 use Rattle.std.proofs.lemmas.Result.{IfOk-weaker}
 use Rattle.fdb_history.specs.Answer.{answer_to, fresh_answer}

@@ -1,6 +1,5 @@
 use Rattle.std.proofs.Common.{sym, ◌∙◌, subst}
 use Rattle.fdb_history.specs.Chain.{IsChain}
-use Rattle.fdb_replay.proofs.Single.{linear}
 use Rattle.fdb_replay.proofs.session.Session.outcome.Goals as goal
 
 pub returns-clause-one_chain : goal.returns-clause-one_chain

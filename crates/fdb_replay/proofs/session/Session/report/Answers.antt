@@ -1,7 +1,7 @@
-use Rattle.std.proofs.Common.{[], refl, false, None, sym, ap, ◌∙◌, ◌==◌, find}
+use Rattle.std.proofs.Common.{refl, false, None, sym, ap, ◌∙◌, ◌==◌, find}
 use Rattle.std.proofs.lemmas.Result.{IfOk-weaker}
 use Rattle.fdb_history.specs.declared.log.Call.{Call}
-use Rattle.fdb_history.specs.declared.log.CallAnswer.TheVariants.{Acked, Refused}
+use Rattle.fdb_history.specs.declared.log.CallAnswer.TheVariants.{Refused}
 use Rattle.fdb_history.specs.declared.log.Input.TheVariants as input
 use Rattle.fdb_history.specs.declared.log.Refusal.TheVariants.{NotIssued}
 use Rattle.fdb_replay.specs.declared.script.Act.TheVariants.{Report}
