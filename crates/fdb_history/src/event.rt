@@ -32,7 +32,7 @@ pub enum Event {
 }
 
 /// Events, one after another, that explain the replies of a run.
-#[derive(Debug, Drop, PartialEq, Eq)]
+#[derive(Clone, Debug, Drop, PartialEq, Eq)]
 pub struct History {
     /// The events, in order.
     pub events: Sequence<Event>,

@@ -8,7 +8,7 @@ use std::error::Error;
 use std::fmt;
 
 /// What a client called.
-#[derive(Debug, Drop, PartialEq, Eq)]
+#[derive(Clone, Debug, Drop, PartialEq, Eq)]
 pub enum Input {
     /// It read the read version.
     Grv(GrvOpts),
@@ -43,7 +43,7 @@ pub enum Input {
 }
 
 /// What a call was answered.
-#[derive(Debug, Drop, PartialEq, Eq)]
+#[derive(Clone, Debug, Drop, PartialEq, Eq)]
 pub enum CallAnswer {
     /// A read: the live record, and what throttles the tags of the request.
     Version {
@@ -132,7 +132,7 @@ impl fmt::Display for Refusal {
 impl Error for Refusal {}
 
 /// One call of a client. A position is the number of raises that had been seen.
-#[derive(Debug, Drop, PartialEq, Eq)]
+#[derive(Clone, Debug, Drop, PartialEq, Eq)]
 pub struct Call {
     /// What was called.
     pub input: Input,
@@ -145,7 +145,7 @@ pub struct Call {
 }
 
 /// The calls of one client, in its order.
-#[derive(Debug, Drop, PartialEq, Eq)]
+#[derive(Clone, Debug, Drop, PartialEq, Eq)]
 pub struct ClientLog {
     /// The calls.
     pub calls: Sequence<Call>,
