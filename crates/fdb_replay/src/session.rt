@@ -209,6 +209,7 @@ fn draw(core: &mut ChainCore, num: u64, processed: u64, at: u64) -> Result<CallA
     ensures fresh { IfOk result (λ answer. filter (λ issued. issued.fresh) (answer_in answer) ≡ answer_in answer) }
     ensures err { IfErr result (λ fault. fault ≡ RunFault.Memory) }
 {
+    // Looked at for the proof: all answers are this proxy's, so the next number is one more than they are.
     let _ = core.answers();
     logged(core.ask(Ask {
         proxy: 0,
@@ -248,6 +249,7 @@ fn issued_under(core: &ChainCore, num: u64) -> Option<Issued>
     answer_at(answers, num as usize - 1)
 }
 
+/// The answer at a place, if there is one.
 fn answer_at(answers: &[Issued], place: usize) -> Option<Issued>
     ensures { result ≡ slice_get answers.now place }
 {
