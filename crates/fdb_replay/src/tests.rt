@@ -7,7 +7,8 @@ use crate::{
     Act, Command, Outcome, ReplayFault, RunFault, Script, ScriptError, drive, replay, run,
 };
 use fdb_history::{
-    AuditFault, Call, CallAnswer, Event, GrvOpts, Input, Issued, OpenGate, Priority, Record, Sequence,
+    AuditFault, Call, CallAnswer, Event, GrvOpts, Input, Issued, OpenGate, Priority, Record,
+    Sequence,
 };
 use std::alloc::Global;
 use std::io::Read;
