@@ -11,6 +11,9 @@ from model import printed
 SOURCE = f"{ROOT}/tests/refuse.c"
 LARGE = [[("ask", 9 * it) for it in range(500)], [("report", it + 1) for it in range(500)], [("grv", None)] * 500]
 MOST_RUNS = 2_000
+# The tests that pass whichever single allocation is refused: of each crate those whose names have this word.
+BEARING = {"fdb_history": "", "fdb_chain": "", "fdb_replay": "refused_memory_is_borne"}
+PASSED = done(b"\ntest result: ok\n")
 
 
 def built(folder):
@@ -22,22 +25,23 @@ def built(folder):
     return made
 
 
-def run_refused(program, preloaded, number, goes_on, given):
-    """Runs the program with an allocation refused, and returns how it ended and whether it got that far."""
+def run_refused(words, preloaded, number, goes_on, given):
+    """Runs a program with an allocation refused, and returns how it ended and whether it got that far."""
     tells, told = os.pipe()
     env = {"LD_PRELOAD": preloaded, "REFUSE": str(number), "REFUSE_TELLS": str(told), "REFUSE_ON": str(int(goes_on))}
-    ran = run([program], given, env=env, pass_fds=[told])
+    ran = run(words, given, env=env, pass_fds=[told])
     os.close(told)
     with os.fdopen(tells, "rb") as it:
         return ran, it.read() != b""
 
 
-def swept(program, preloaded, given, wanted, goes_on, step):
-    """Refuses allocations until a run ends without one; `step` gives the next number."""
+def swept(words, preloaded, given, without, wanted, goes_on, step):
+    """Refuses allocations until a run ends without one; `step` gives the next number. A run is to end as `wanted`, and
+    as `without` where an allocation was refused."""
     number, got_there = 1, True
     for _ in range(MOST_RUNS):
-        ran, got_there = run_refused(program, preloaded, number, goes_on, given)
-        yield number, fault_of(ran, OUT_OF_MEMORY if got_there else wanted)
+        ran, got_there = run_refused(words, preloaded, number, goes_on, given)
+        yield number, fault_of(ran, without if got_there else wanted)
         if not got_there:
             return
         number = step(number)
@@ -59,5 +63,28 @@ def refused(program):
         for name, given, wanted, step in sweeps:
             for goes_on in (False, True):
                 what = f"{name}, from allocation" if goes_on else f"{name}, allocation"
-                for number, fault in swept(program, preloaded, given, wanted, goes_on, step):
+                for number, fault in swept([program], preloaded, given, OUT_OF_MEMORY, wanted, goes_on, step):
                     yield f"{what} {number}", fault
+
+
+def bearing_tests(tests, word):
+    """Names the tests of a built test program whose names have this word."""
+    listed = run([tests, "--list"]).out.decode().splitlines()
+    return [name for name, colon, what in (line.rpartition(": ") for line in listed) if what == "test" and word in name]
+
+
+def borne(_program):
+    """Each of the tests that rt left built passes while any one allocation is refused, and without that too."""
+    each = lambda at: at + 1
+    with tempfile.TemporaryDirectory(prefix="refuse-") as folder:
+        preloaded = built(folder)
+        for crate, word in BEARING.items():
+            tests = f"{ROOT}/crates/{crate}/out/{crate}_tests"
+            if not os.access(tests, os.X_OK):
+                yield crate, f"there is no {tests}: run rt ci, or rt test in the crate's folder"
+                continue
+            names = bearing_tests(tests, word)
+            yield f"{crate}'s tests", None if names else f"none has {word!r} in its name"
+            for name in names:
+                for number, fault in swept([tests, name], preloaded, b"", PASSED, PASSED, False, each):
+                    yield f"{crate} {name}, allocation {number}", fault

@@ -10,6 +10,8 @@ mod replaying;
 mod running;
 mod script;
 mod session;
+#[cfg(test)]
+mod tests;
 
 pub use driving::{MAX_SCRIPT_BYTES, drive};
 pub use outcome::{Outcome, RunFault};
