@@ -3,22 +3,22 @@ use Rattle.std.specs.Prelude.{◌≡◌, Bool, true, false, List, [], ◌∷◌,
 use Rattle.fdb_history.specs.Log.{position_after_calls}
 use Rattle.fdb_history.specs.declared.log.Call.{Call}
 use Rattle.fdb_history.specs.declared.log.CallAnswer.{CallAnswer}
-use Rattle.fdb_history.specs.declared.log.CallAnswer.TheVariants.{Version, Answered, Acked, Told, Refused}
+use Rattle.fdb_history.specs.declared.log.CallAnswer.TheVariants.{Version, Acked}
 use Rattle.fdb_history.specs.declared.log.Input.{Input}
+use Rattle.fdb_history.specs.declared.log.Input.TheVariants.{Grv, Report}
 
--- whether a client may have seen more after a call with this answer than before it
-abbrev pub may_advance : CallAnswer → Bool
-may_advance (Version rec limits locked_out) = true
-may_advance (Acked rec raised) = true
-may_advance (Answered issued) = false
-may_advance Told = false
-may_advance (Refused cause) = false
+-- whether a client may have seen more after a call than before it: a read that was answered, or a report that
+-- was acknowledged
+abbrev pub may_advance : Input → CallAnswer → Bool
+may_advance (Grv opts) (Version rec limits locked_out) = true
+may_advance (Report num locked metadata) (Acked rec raised) = true
+may_advance _ _ = false
 
 -- The log has one more call than before, with this input. The call begins at the position that the log had
--- come to, and ends there too unless the register was asked.
+-- come to, and ends there too unless the register answered it.
 pub record AddsCall (before : List Call) (wanted : Input) (after : List Call) : Type 0 where
   pub call : Call
   pub added : after ≡ before ++ call ∷ []
   pub input : call.input ≡ wanted
   pub asked : call.asked ≡ position_after_calls 0 before
-  pub stays : may_advance call.answer ≡ false → call.position ≡ call.asked
+  pub stays : may_advance call.input call.answer ≡ false → call.position ≡ call.asked

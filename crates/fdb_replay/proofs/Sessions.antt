@@ -20,7 +20,7 @@ use Rattle.fdb_history.specs.Log.{placed_from, event_of_answer, position_after_c
 use Rattle.fdb_history.specs.declared.event.Event.{Event}
 use Rattle.fdb_history.specs.declared.log.Call.{Call}
 use Rattle.fdb_history.specs.declared.log.CallAnswer.{CallAnswer}
-use Rattle.fdb_history.specs.declared.log.CallAnswer.TheVariants.{Version, Answered, Acked, Told, Refused}
+use Rattle.fdb_history.specs.declared.log.CallAnswer.TheVariants.{Answered, Acked, Refused}
 use Rattle.fdb_history.specs.declared.register.Record.{Record}
 use Rattle.fdb_replay.specs.Answering.{input_of}
 use Rattle.fdb_replay.specs.Outcome.{opening}
@@ -85,19 +85,12 @@ AreServed-push epoch_end recovery before [] call served bears = (rw append-nil a
 AreServed-push epoch_end recovery before (first ∷ calls) call served bears =
     (served.0, AreServed-push epoch_end recovery (before ++ first ∷ []) calls call served.1 (rw append_assoc bears))
 
--- a call that only answers ends where it began
-stays_at : (before : ℕ) (answer : CallAnswer) → may_advance answer ≡ false → advanced before answer ≡ before
-stays_at before (Version rec limits locked_out) e = refl
-stays_at before (Acked rec raised) e = absurd cc
-stays_at before (Answered issued) e = refl
-stays_at before Told e = refl
-stays_at before (Refused cause) e = refl
-
 -- what a call has to be, so that the session goes on
 pub record GoesOn (old : Session) (act : Act) (call : Call) (live : Record) : Type 0 where
   pub wanted : call.input ≡ input_of old.calls act
   pub asked : call.asked ≡ old.position
   pub position : call.position ≡ advanced old.position call.answer
+  pub stays : may_advance call.input call.answer ≡ false → advanced old.position call.answer ≡ old.position
   pub fresh : filter (λ issued. issued.fresh) (answer_in call.answer) ≡ answer_in call.answer
   pub legal : (place : ℕ) → IsLegal old.live (event_at place call.answer)
   pub live_is : (place : ℕ) → live ≡ register old.live (event_at place call.answer)
@@ -134,7 +127,7 @@ performs old act call live is goes =
         added = refl;
         input = goes.wanted;
         asked = goes.asked ∙ position;
-        stays = λ still. goes.position ∙ stays_at old.position call.answer still ∙ sym goes.asked;
+        stays = λ still. goes.position ∙ goes.stays still ∙ sym goes.asked;
       };
     }
 
@@ -241,8 +234,8 @@ ask_goes_by old processed at reply is drawn fresh =
     ap logged_answer (drawn ∙ ap (λ core. answer_to core (asked_of old processed at)) (sym (chain_of_is old is))) in
     elim reply as (λ r. filter (λ issued. issued.fresh) (answer_in (logged_answer r)) ≡ answer_in (logged_answer r)
     → logged_answer r ≡ logged_answer (answer_to (chain_of old.core.epoch_end old.core.recovery old.calls) (asked_of old processed at)) → IsDrawn old processed at (logged_answer r)) [
-      | Ok issued ↦ λ fresh bears. record { wanted = wanted; asked = refl; position = refl; fresh = fresh; legal = λ place. tt; live_is = λ place. refl; bears = bears; below = is.below }
-      | Err cause ↦ λ fresh bears. record { wanted = wanted; asked = refl; position = refl; fresh = fresh; legal = λ place. tt; live_is = λ place. refl; bears = bears; below = is.below }
+      | Ok issued ↦ λ fresh bears. record { wanted = wanted; asked = refl; position = refl; stays = λ still. refl; fresh = fresh; legal = λ place. tt; live_is = λ place. refl; bears = bears; below = is.below }
+      | Err cause ↦ λ fresh bears. record { wanted = wanted; asked = refl; position = refl; stays = λ still. refl; fresh = fresh; legal = λ place. tt; live_is = λ place. refl; bears = bears; below = is.below }
     ] fresh bears
 
 -- a session that has asked
@@ -284,6 +277,7 @@ reports old num issued new is found parts =
       wanted = refl;
       asked = refl;
       position = refl;
+      stays = λ still. absurd cc;
       fresh = refl;
       legal = λ place. (refl, tt);
       live_is = λ place. refl;

@@ -1,7 +1,6 @@
 -- The script that a text stands for, over the JSON value that `serde_json` reads from its bytes.
-use Rattle.std.specs.Prelude.{◌≡◌, ℕ, ◌+◌, ◌==◌, ◌&&◌, nat_lt, nat_le, nat_eq, List, [], ◌∷◌, length, sum_by, Option, None, Some, option_and_then, Result, Ok, Err, codes, if◌then◌else◌}
+use Rattle.std.specs.Prelude.{◌≡◌, ℕ, Bool, IsUtf8, ◌+◌, ◌==◌, ◌&&◌, nat_lt, nat_le, nat_eq, List, [], ◌∷◌, length, sum_by, Option, None, Some, option_and_then, Result, Ok, Err, codes, if◌then◌else◌}
 use Rattle.std.specs.Option.{option_map}
-use Rattle.std.specs.Prelude.{Bool, IsUtf8}
 use Rattle.serde_json.specs.Read.{read}
 use Rattle.std.specs.Cmp.Lexicographic.{pointwise}
 use Rattle.fdb_history.specs.declared.register.TheConstants.{MAX_VERSION}

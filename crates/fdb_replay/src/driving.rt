@@ -1,6 +1,6 @@
 //! The program, over a reader and two writers.
 
-ghost use Rattle.std.specs.Prelude.{◌≡◌, ◌<◌, ◌≤◌, ℕ, List, IfOk, IfSome, OnOk, false, vec_len};
+ghost use Rattle.std.specs.Prelude.{◌≡◌, ◌≢◌, ◌<◌, ◌≤◌, ℕ, List, IfOk, IfErr, IfSome, OnOk, false, length, vec_len};
 ghost use Rattle.std.specs.Io.KnownBytes.{Appends};
 ghost use Rattle.fdb_replay.specs.Replay.{Replays};
 ghost use Rattle.fdb_replay.specs.declared.driving.TheConstants.{MAX_SCRIPT_BYTES};
@@ -36,7 +36,8 @@ enum Fault {
 impl Fault {
     /// The status that the program ends with.
     fn status(self) -> u8
-        ensures { 0 < result }
+        ensures fault { 0 < result }
+        ensures writing { self ≡ Fault.Writing → result ≡ 5 }
     {
         match self {
             Fault::Script(_) => 1,
@@ -48,6 +49,11 @@ impl Fault {
 }
 
 impl From<ReplayFault> for Fault {
+    ghost use Rattle.fdb_replay.specs.declared.driving.Fault.TheVariants.{Writing};
+    ghost use Rattle.fdb_replay.specs.declared.replaying.ReplayFault.TheVariants.{Write};
+
+    ghost from_gives = { λ fault f. fault ≡ Write → f ≡ Writing };
+
     fn from(fault: ReplayFault) -> Self {
         match fault {
             ReplayFault::Script(ScriptError::Memory) | ReplayFault::Run(RunFault::Memory) => {
@@ -71,8 +77,10 @@ pub fn drive<R: Threads + Wait + Sync, I: Read, O: Write, E: Write>(
     out: &mut O,
     err: &mut E,
 ) -> u8
-    ensures { result ≡ 0 → IfSome (I.remaining input.old) (λ bytes. (written : List ℕ)
-        × Replays bytes false written × Appends (O.contents out.old) (O.contents out.new) written) }
+    ensures done { result ≡ 0 → IfSome (I.remaining input.old) (λ bytes. (length bytes ≤ MAX_SCRIPT_BYTES)
+        × (written : List ℕ) × Replays bytes false written × Appends (O.contents out.old) (O.contents out.new) written) }
+    ensures quiet { result ≡ 0 → err.new ≡ err.old }
+    ensures unwritten { result ≢ 0 → result ≢ 5 → out.new ≡ out.old }
 {
     match replay_input(rt, alloc, input, out) {
         Ok(()) => 0,
@@ -90,8 +98,9 @@ fn replay_input<R: Threads + Wait + Sync, I: Read, O: Write>(
     input: &mut I,
     out: &mut O,
 ) -> Result<(), Fault>
-    ensures { OnOk result (IfSome (I.remaining input.old) (λ bytes. (written : List ℕ)
-        × Replays bytes false written × Appends (O.contents out.old) (O.contents out.new) written)) }
+    ensures ok { OnOk result (IfSome (I.remaining input.old) (λ bytes. (length bytes ≤ MAX_SCRIPT_BYTES)
+        × (written : List ℕ) × Replays bytes false written × Appends (O.contents out.old) (O.contents out.new) written)) }
+    ensures unwritten { IfErr result (λ fault. fault ≢ Fault.Writing → out.new ≡ out.old) }
 {
     let bytes = read_all(alloc, input)?;
     replay(rt, alloc, &bytes, 1, false, &OpenGate, out)?;

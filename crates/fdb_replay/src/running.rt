@@ -17,17 +17,21 @@ use std::thread::Threads;
 ///
 /// Fails only for want of memory.
 pub fn run<R: Threads + Wait + Sync, G: Gate>(
-    _rt: &R,
+    rt: &R,
     alloc: Global,
     script: &Script,
-    _proxies: u32,
-    _gate: &G,
+    proxies: u32,
+    gate: &G,
 ) -> Result<Outcome, RunFault>
-    requires some_proxy { 0 < _proxies }
-    requires few_proxies { _proxies ≤ 16 }
+    requires some_proxy { 0 < proxies }
+    requires few_proxies { proxies ≤ 16 }
     ensures ok { IfOk result (IsRunOf script.now) }
     ensures err { IfErr result (λ fault. fault ≡ RunFault.Memory) }
 {
+    // A single client is served here and now.
+    let _ = rt;
+    let _ = proxies;
+    let _ = gate;
     let mut session = Session::new(alloc, script.epoch_end(), script.recovery())?;
     for round in script.rounds() {
         session = session.play(alloc, round.as_slice())?;

@@ -25,9 +25,13 @@ use std::alloc::{AllocError, Global};
 /// The service and the log of a single client.
 #[derive(Drop)]
 pub(crate) struct Session {
+    /// The commit versions.
     core: ChainCore,
+    /// The live record.
     live: Record,
+    /// How many reports have raised it.
     position: u64,
+    /// The client's log.
     calls: Sequence<Call>,
 }
 
@@ -44,7 +48,8 @@ impl Session {
     {
         let core = match ChainCore::new(alloc, epoch_end, recovery, 1) {
             Ok(core) => core,
-            Err(_) => return Err(RunFault::Memory),
+            Err(ChainError::Memory) => return Err(RunFault::Memory),
+            Err(_) => unreachable!(),
         };
         Ok(Session {
             core,
@@ -200,7 +205,7 @@ impl Session {
     }
 }
 
-/// Asks the only commit proxy's next request, and logs the answer.
+/// Makes the only commit proxy's next request, and answers what is to be logged.
 fn draw(core: &mut ChainCore, num: u64, processed: u64, at: u64) -> Result<CallAnswer, RunFault>
     requires one_proxy { core.old.proxies ≡ 1 }
     requires next { num ≡ length core.old.answers + 1 }

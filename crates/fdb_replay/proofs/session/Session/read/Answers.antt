@@ -17,6 +17,7 @@ returns-clause-ok c =
       wanted = refl;
       asked = refl;
       position = refl;
+      stays = λ still. refl;
       fresh = refl;
       legal = λ place. (refl, tt);
       live_is = λ place. refl;

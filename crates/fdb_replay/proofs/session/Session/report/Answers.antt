@@ -17,6 +17,7 @@ returns-in_default-clause-ok c =
       wanted = refl;
       asked = refl;
       position = refl;
+      stays = λ still. refl;
       fresh = refl;
       legal = λ place. tt;
       live_is = λ place. refl;
