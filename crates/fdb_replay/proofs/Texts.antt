@@ -4,7 +4,7 @@ use Rattle.std.proofs.lemmas.Bool.{eq-eqb, ne_eqb}
 use Rattle.std.proofs.lemmas.List.{drop_more, drop-set-lt, get_or-map, length-map, map-set, take_more_set}
 use Rattle.std.proofs.lemmas.List.Sums.{sum_by-cons}
 use Rattle.fdb_history.specs.declared.log.Call.{Call}
-use Rattle.fdb_replay.specs.Text.{calls_after, client_lines, line, reply_text, round_lines}
+use Rattle.fdb_replay.specs.Text.{calls_after, client_lines, line, replies_of, reply_text, round_lines}
 use Rattle.fdb_replay.specs.declared.script.Command.{Command}
 
 -- a part is written of all that is to come
@@ -69,21 +69,21 @@ replied round client number commands call calls default within own =
 
 -- the calls that are left of each client
 abbrev pub calls_in : List (Bor (List Call)) → List (List Call)
-calls_in left = map (λ calls. calls.now) left
+calls_in left = map (λ calls. replies_of calls.now) left
 
 -- the replies to a client's commands come before those to the others', and so do the calls after them
 pub client_replied : (round client : ℕ) (commands : List Command) (left : List (Bor (List Call))) (here after : Bor (List Call)) → client < length left → here ≡ get_or left client here
-    → after.now ≡ drop (own_count client commands) here.now
-    → (round_lines round client commands (drop client (calls_in left)) ≡ client_lines round client 0 commands here.now ++ round_lines round (client + 1) commands (drop (client + 1) (calls_in (set left client after))))
+    → replies_of after.now ≡ drop (own_count client commands) (replies_of here.now)
+    → (round_lines round client commands (drop client (calls_in left)) ≡ client_lines round client 0 commands (replies_of here.now) ++ round_lines round (client + 1) commands (drop (client + 1) (calls_in (set left client after))))
     × (take client (calls_in left) ++ calls_after client commands (drop client (calls_in left))
     ≡ take (client + 1) (calls_in (set left client after)) ++ calls_after (client + 1) commands (drop (client + 1) (calls_in (set left client after))))
 client_replied round client commands left here after within is_here is_after =
     let logs = calls_in left in
-    let within_logs : client < length logs = rw (length-map left (λ (calls : Bor (List Call)). calls.now)) within in
-    let found : get_or logs client here.now ≡ here.now = get_or-map (λ (calls : Bor (List Call)). calls.now) left client here here.now within ∙ ap (λ (calls : Bor (List Call)). calls.now) (sym is_here) in
-    let now : calls_in (set left client after) ≡ set logs client after.now = map-set (λ (calls : Bor (List Call)). calls.now) left client after in
-    let others : drop (client + 1) (set logs client after.now) ≡ drop (client + 1) logs = drop-set-lt (client + 1) logs client after.now (omega arith) in
-    rw (now, others, take_more_set logs client after.now within_logs, drop_more logs client here.now within_logs, found, is_after) (
+    let within_logs : client < length logs = rw (length-map left (λ (calls : Bor (List Call)). replies_of calls.now)) within in
+    let found : get_or logs client (replies_of here.now) ≡ replies_of here.now = get_or-map (λ (calls : Bor (List Call)). replies_of calls.now) left client here (replies_of here.now) within ∙ ap (λ (calls : Bor (List Call)). replies_of calls.now) (sym is_here) in
+    let now : calls_in (set left client after) ≡ set logs client (replies_of after.now) = map-set (λ (calls : Bor (List Call)). replies_of calls.now) left client after in
+    let others : drop (client + 1) (set logs client (replies_of after.now)) ≡ drop (client + 1) logs = drop-set-lt (client + 1) logs client (replies_of after.now) (omega arith) in
+    rw (now, others, take_more_set logs client (replies_of after.now) within_logs, drop_more logs client (replies_of here.now) within_logs, found, is_after) (
       refl,
-      sym (append_assoc (take client logs) (drop (own_count client commands) here.now ∷ []) (calls_after (client + 1) commands (drop (client + 1) logs))),
+      sym (append_assoc (take client logs) (drop (own_count client commands) (replies_of here.now) ∷ []) (calls_after (client + 1) commands (drop (client + 1) logs))),
     )

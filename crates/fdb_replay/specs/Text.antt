@@ -1,5 +1,5 @@
 -- The printed text, as a function of the script, the outcome and whether the history is wanted. (this product's own)
-use Rattle.std.specs.Prelude.{ℕ, ◌+◌, ◌==◌, Bool, true, false, List, [], ◌∷◌, ◌++◌, length, map, count_by, drop, codes, decimal, encode_utf8, if◌then◌else◌}
+use Rattle.std.specs.Prelude.{ℕ, ◌+◌, ◌==◌, Bool, true, false, List, [], ◌∷◌, ◌++◌, length, map, filter, not, count_by, drop, codes, decimal, encode_utf8, if◌then◌else◌}
 use Rattle.std.specs.List.{flat_map}
 use Rattle.fdb_history.specs.Event.{raise_count}
 use Rattle.fdb_history.specs.Text.{record_text, refusal_text}
@@ -63,6 +63,18 @@ abbrev pub reply_text : ℕ → ℕ → ℕ → Act → Call → List ℕ
 reply_text round client number act call =
     decimal round ++ codes " " ++ decimal client ++ codes " " ++ decimal number ++ codes " " ++ act_text act ++ codes " " ++ answer_text call.input call.position call.answer
 
+-- whether a call learnt what another client had seen, which nobody commands
+abbrev pub is_learn : Input → Bool
+is_learn (input.Grv opts) = false
+is_learn (input.Ask num processed at) = false
+is_learn (input.Report num locked metadata) = false
+is_learn (input.Tell to) = false
+is_learn (input.Learn from) = true
+
+-- the calls that answer commands
+abbrev pub replies_of : List Call → List Call
+replies_of calls = filter (λ call. not (is_learn call.input)) calls
+
 -- the replies to a client's commands among those of a round, from this number on; its calls are the answers, in order
 abbrev pub client_lines : ℕ → ℕ → ℕ → List Command → List Call → List ℕ
 client_lines round client number [] calls = []
@@ -109,5 +121,5 @@ history_lines number (event ∷ events) = line (history_text number event) ++ hi
 -- The whole text: the replies by round, client and command, the audit line, and the history where it is wanted.
 abbrev pub text : Plan → Outcome → Bool → List ℕ
 text plan outcome with_history =
-    reply_lines 0 plan.rounds (map (λ log. log.calls) outcome.logs.items) ++ line (audit_text outcome)
+    reply_lines 0 plan.rounds (map (λ log. replies_of log.calls) outcome.logs.items) ++ line (audit_text outcome)
     ++ (if with_history then history_lines 0 outcome.history.events else [])

@@ -1,13 +1,13 @@
 //! The printed text: the replies by round, client and command, the audit line, and the history where it is wanted.
 
-ghost use Rattle.std.specs.Prelude.{◌≡◌, ◌++◌, ◌==◌, IfOk, OnOk, count_by, drop, map, string_bytes};
+ghost use Rattle.std.specs.Prelude.{◌≡◌, ◌++◌, ◌∷◌, [], ◌==◌, MatchOption, IfOk, OnOk, count_by, drop, map, string_bytes};
 ghost use Rattle.fdb_history.specs.Event.{is_raise, raise_count};
-ghost use Rattle.fdb_replay.specs.Text.{audit_text, calls_after, client_lines, history_lines, line, reply_lines, round_lines, text};
+ghost use Rattle.fdb_replay.specs.Text.{audit_text, calls_after, client_lines, is_learn, replies_of, history_lines, line, reply_lines, round_lines, text};
 
 use crate::lines::{AuditLine, HistoryLine, ReplyLine};
 use crate::outcome::Outcome;
 use crate::script::{Command, Script};
-use fdb_history::{Call, ClientLog, Event, Sequence};
+use fdb_history::{Call, ClientLog, Event, Input, Sequence};
 use std::alloc::{AllocError, Global};
 use std::fmt::Write;
 
@@ -32,7 +32,7 @@ pub(crate) fn text(
 
 /// The calls of each log.
 fn logged_calls(alloc: Global, logs: &[ClientLog]) -> Result<Vec<&[Call]>, AllocError>
-    ensures { IfOk result (λ all. map (λ calls. calls.now) all.items ≡ map (λ log. log.calls) logs.now) }
+    ensures { IfOk result (λ all. map (λ calls. replies_of calls.now) all.items ≡ map (λ log. replies_of log.calls) logs.now) }
 {
     let mut all = Vec::new(alloc);
     for log in logs {
@@ -47,7 +47,7 @@ fn push_replies(
     rounds: &[Sequence<Command>],
     left: &mut [&[Call]],
 ) -> Result<(), AllocError>
-    ensures { OnOk result (string_bytes printed.new ≡ string_bytes printed.old ++ reply_lines 0 rounds.now (map (λ calls. calls.now) left.old)) }
+    ensures { OnOk result (string_bytes printed.new ≡ string_bytes printed.old ++ reply_lines 0 rounds.now (map (λ calls. replies_of calls.now) left.old)) }
 {
     for (round, commands) in rounds.iter().enumerate() {
         push_round(printed, round as u64, commands.as_slice(), left)?;
@@ -62,8 +62,8 @@ fn push_round(
     commands: &[Command],
     left: &mut [&[Call]],
 ) -> Result<(), AllocError>
-    ensures lines { OnOk result (string_bytes printed.new ≡ string_bytes printed.old ++ round_lines round 0 commands.now (map (λ calls. calls.now) left.old)) }
-    ensures left { OnOk result (map (λ calls. calls.now) left.new ≡ calls_after 0 commands.now (map (λ calls. calls.now) left.old)) }
+    ensures lines { OnOk result (string_bytes printed.new ≡ string_bytes printed.old ++ round_lines round 0 commands.now (map (λ calls. replies_of calls.now) left.old)) }
+    ensures left { OnOk result (map (λ calls. replies_of calls.now) left.new ≡ calls_after 0 commands.now (map (λ calls. replies_of calls.now) left.old)) }
 {
     for client in 0..left.len() {
         left[client] = push_client(printed, round, client as u64, commands, left[client])?;
@@ -79,15 +79,15 @@ fn push_client<'a>(
     commands: &[Command],
     calls: &'a [Call],
 ) -> Result<&'a [Call], AllocError>
-    ensures lines { OnOk result (string_bytes printed.new ≡ string_bytes printed.old ++ client_lines round client 0 commands.now calls.now) }
-    ensures left { IfOk result (λ left. left.now ≡ drop (count_by (λ command. command.client == client) commands.now) calls.now) }
+    ensures lines { OnOk result (string_bytes printed.new ≡ string_bytes printed.old ++ client_lines round client 0 commands.now (replies_of calls.now)) }
+    ensures left { IfOk result (λ left. replies_of left.now ≡ drop (count_by (λ command. command.client == client) commands.now) (replies_of calls.now)) }
 {
     let mut left = calls;
     for (number, command) in commands.iter().enumerate() {
         if u64::from(command.client) != client {
             continue;
         }
-        let Some((call, others)) = left.split_first() else {
+        let Some((call, others)) = next_reply(left) else {
             return Ok(left);
         };
         let line = ReplyLine {
@@ -101,6 +101,27 @@ fn push_client<'a>(
         left = others;
     }
     Ok(left)
+}
+
+/// The next call that answers a command, and the calls after it.
+fn next_reply(calls: &[Call]) -> Option<(&Call, &[Call])>
+    ensures { MatchOption result (replies_of calls.now ≡ []) (λ found. replies_of calls.now ≡ found.0.now ∷ replies_of found.1.now) }
+{
+    let mut left = calls;
+    while let Some((call, others)) = left.split_first() {
+        if !is_learn(&call.input) {
+            return Some((call, others));
+        }
+        left = others;
+    }
+    None
+}
+
+/// Whether a call learnt what another client had seen, which nobody commands.
+fn is_learn(input: &Input) -> bool
+    ensures { result ≡ is_learn input.now }
+{
+    matches!(input, Input::Learn { .. })
 }
 
 /// Appends the line that counts.
