@@ -1,8 +1,9 @@
 //! The program, over a reader and two writers.
 
-ghost use Rattle.std.specs.Prelude.{◌≡◌, ◌<◌, ◌≤◌, ℕ, List, IfOk, IfSome, OnOk, false, vec_len};
+ghost use Rattle.std.specs.Prelude.{◌≡◌, ◌≢◌, ◌<◌, ◌≤◌, ℕ, List, IfOk, IfErr, IfSome, OnOk, false, vec_len};
 ghost use Rattle.std.specs.Io.KnownBytes.{Appends};
-ghost use Rattle.fdb_replay.specs.Replay.{Replays};
+ghost use Rattle.fdb_replay.specs.Replay.{Replays, IsRefused};
+ghost use Rattle.fdb_replay.specs.declared.script.ScriptError.{ScriptError};
 ghost use Rattle.fdb_replay.specs.declared.driving.TheConstants.{MAX_SCRIPT_BYTES};
 
 use crate::outcome::RunFault;
@@ -36,7 +37,8 @@ enum Fault {
 impl Fault {
     /// The status that the program ends with.
     fn status(self) -> u8
-        ensures { 0 < result }
+        ensures fault { 0 < result }
+        ensures refused { result ≡ 1 → (error : ScriptError) × (self ≡ Fault.Script error) }
     {
         match self {
             Fault::Script(_) => 1,
@@ -48,6 +50,14 @@ impl Fault {
 }
 
 impl From<ReplayFault> for Fault {
+    ghost use Rattle.std.specs.Prelude.{◌≢◌};
+    ghost use Rattle.fdb_replay.specs.declared.script.ScriptError.{ScriptError};
+    ghost use Rattle.fdb_replay.specs.declared.script.ScriptError.TheVariants.{Memory};
+    ghost use Rattle.fdb_replay.specs.declared.driving.Fault.TheVariants.{Script};
+    ghost use Rattle.fdb_replay.specs.declared.replaying.ReplayFault.TheVariants as replay;
+
+    ghost from_gives = { λ cause fault. (error : ScriptError) → fault ≡ Script error → (cause ≡ replay.Script error) × (error ≢ Memory) };
+
     fn from(fault: ReplayFault) -> Self {
         match fault {
             ReplayFault::Script(ScriptError::Memory) | ReplayFault::Run(RunFault::Memory) => {
@@ -71,8 +81,11 @@ pub fn drive<R: Threads + Wait + Sync, I: Read, O: Write, E: Write>(
     out: &mut O,
     err: &mut E,
 ) -> u8
-    ensures { result ≡ 0 → IfSome (I.remaining input.old) (λ bytes. (written : List ℕ)
+    ensures done { result ≡ 0 → IfSome (I.remaining input.old) (λ bytes. (written : List ℕ)
         × Replays bytes false written × Appends (O.contents out.old) (O.contents out.new) written) }
+    ensures quiet { result ≡ 0 → err.new ≡ err.old }
+    ensures refused { result ≡ 1 → IfSome (I.remaining input.old) IsRefused }
+    ensures unwritten { result ≡ 1 → out.new ≡ out.old }
 {
     match replay_input(rt, alloc, input, out) {
         Ok(()) => 0,
@@ -90,8 +103,10 @@ fn replay_input<R: Threads + Wait + Sync, I: Read, O: Write>(
     input: &mut I,
     out: &mut O,
 ) -> Result<(), Fault>
-    ensures { OnOk result (IfSome (I.remaining input.old) (λ bytes. (written : List ℕ)
+    ensures ok { OnOk result (IfSome (I.remaining input.old) (λ bytes. (written : List ℕ)
         × Replays bytes false written × Appends (O.contents out.old) (O.contents out.new) written)) }
+    ensures refused { IfErr result (λ fault. (error : ScriptError) → fault ≡ Fault.Script error → IfSome (I.remaining input.old) IsRefused) }
+    ensures unwritten { IfErr result (λ fault. (error : ScriptError) → fault ≡ Fault.Script error → out.new ≡ out.old) }
 {
     let bytes = read_all(alloc, input)?;
     replay(rt, alloc, &bytes, 1, false, &OpenGate, out)?;
@@ -105,6 +120,7 @@ fn replay_input<R: Threads + Wait + Sync, I: Read, O: Write>(
 fn read_all<I: Read>(alloc: Global, input: &mut I) -> Result<Vec<u8>, Fault>
     ensures all { IfOk result (λ bytes. IfSome (I.remaining input.old) (λ all. all ≡ bytes.items)) }
     ensures in_range { IfOk result (λ bytes. vec_len bytes ≤ MAX_SCRIPT_BYTES) }
+    ensures err { IfErr result (λ fault. (error : ScriptError) → fault ≢ Fault.Script error) }
 {
     let mut bytes = Vec::new(alloc);
     let mut limited = input.take(MAX_SCRIPT_BYTES as u64 + 1);

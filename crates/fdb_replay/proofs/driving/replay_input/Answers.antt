@@ -5,8 +5,8 @@ use Rattle.fdb_replay.specs.Replay.{Replays}
 use Rattle.fdb_replay.proofs.Input.{of_input}
 use Rattle.fdb_replay.proofs.driving.replay_input.Goals as goal
 
-pub returns-in-Ok : goal.returns-in-Ok
-returns-in-Ok g c =
+pub returns-in-Ok-clause-ok : goal.returns-in-Ok-clause-ok
+returns-in-Ok-clause-ok g c =
     let done = c.in_ok-replay.ensures.ok in
     let old = g.O.Write.contents c.args.out.now in
     let new = g.O.Write.contents c.flush.new.self in
