@@ -2,7 +2,8 @@
 
 ghost use Rattle.std.specs.Prelude.{◌≡◌, ◌≢◌, ◌<◌, ◌≤◌, ℕ, List, IfOk, IfErr, IfSome, OnOk, false, length, vec_len};
 ghost use Rattle.std.specs.Io.KnownBytes.{Appends};
-ghost use Rattle.fdb_replay.specs.Replay.{Replays};
+ghost use Rattle.fdb_replay.specs.Replay.{Replays, IsRefused};
+ghost use Rattle.fdb_replay.specs.declared.script.ScriptError.{ScriptError};
 ghost use Rattle.fdb_replay.specs.declared.driving.TheConstants.{MAX_SCRIPT_BYTES};
 
 use crate::outcome::RunFault;
@@ -38,6 +39,7 @@ impl Fault {
     fn status(self) -> u8
         ensures fault { 0 < result }
         ensures writing { self ≡ Fault.Writing → result ≡ 5 }
+        ensures refused { result ≡ 1 → (error : ScriptError) × (self ≡ Fault.Script error) }
     {
         match self {
             Fault::Script(_) => 1,
@@ -49,10 +51,14 @@ impl Fault {
 }
 
 impl From<ReplayFault> for Fault {
-    ghost use Rattle.fdb_replay.specs.declared.driving.Fault.TheVariants.{Writing};
-    ghost use Rattle.fdb_replay.specs.declared.replaying.ReplayFault.TheVariants.{Write};
+    ghost use Rattle.std.specs.Prelude.{◌≢◌};
+    ghost use Rattle.fdb_replay.specs.declared.driving.Fault.TheVariants.{Script, Writing};
+    ghost use Rattle.fdb_replay.specs.declared.replaying.ReplayFault.TheVariants as replay;
+    ghost use Rattle.fdb_replay.specs.declared.script.ScriptError.{ScriptError};
+    ghost use Rattle.fdb_replay.specs.declared.script.ScriptError.TheVariants.{Memory};
 
-    ghost from_gives = { λ fault f. fault ≡ Write → f ≡ Writing };
+    ghost from_gives = { λ cause fault. (cause ≡ replay.Write → fault ≡ Writing)
+        × ((error : ScriptError) → fault ≡ Script error → (cause ≡ replay.Script error) × (error ≢ Memory)) };
 
     fn from(fault: ReplayFault) -> Self {
         match fault {
@@ -81,6 +87,7 @@ pub fn drive<R: Threads + Wait + Sync, I: Read, O: Write, E: Write>(
         × (written : List ℕ) × Replays bytes false written × Appends (O.contents out.old) (O.contents out.new) written) }
     ensures quiet { result ≡ 0 → err.new ≡ err.old }
     ensures unwritten { result ≢ 0 → result ≢ 5 → out.new ≡ out.old }
+    ensures refused { result ≡ 1 → IfSome (I.remaining input.old) IsRefused }
 {
     match replay_input(rt, alloc, input, out) {
         Ok(()) => 0,
@@ -101,6 +108,7 @@ fn replay_input<R: Threads + Wait + Sync, I: Read, O: Write>(
     ensures ok { OnOk result (IfSome (I.remaining input.old) (λ bytes. (length bytes ≤ MAX_SCRIPT_BYTES)
         × (written : List ℕ) × Replays bytes false written × Appends (O.contents out.old) (O.contents out.new) written)) }
     ensures unwritten { IfErr result (λ fault. fault ≢ Fault.Writing → out.new ≡ out.old) }
+    ensures refused { IfErr result (λ fault. (error : ScriptError) → fault ≡ Fault.Script error → IfSome (I.remaining input.old) IsRefused) }
 {
     let bytes = read_all(alloc, input)?;
     replay(rt, alloc, &bytes, 1, false, &OpenGate, out)?;
@@ -114,6 +122,7 @@ fn replay_input<R: Threads + Wait + Sync, I: Read, O: Write>(
 fn read_all<I: Read>(alloc: Global, input: &mut I) -> Result<Vec<u8>, Fault>
     ensures all { IfOk result (λ bytes. IfSome (I.remaining input.old) (λ all. all ≡ bytes.items)) }
     ensures in_range { IfOk result (λ bytes. vec_len bytes ≤ MAX_SCRIPT_BYTES) }
+    ensures err { IfErr result (λ fault. (error : ScriptError) → fault ≢ Fault.Script error) }
 {
     let mut bytes = Vec::new(alloc);
     let mut limited = input.take(MAX_SCRIPT_BYTES as u64 + 1);
