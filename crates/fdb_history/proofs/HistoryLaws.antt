@@ -58,10 +58,10 @@ seen_at-in_order start (event ∷ events) (suc j) (suc k) earlier later legal or
     seen_at-in_order (after_event start event) events j k earlier later legal.1 order' e f
 
 -- how much an event adds to the position
-abbrev added : Event → ℕ
+abbrev pub added : Event → ℕ
 added event = cond (is_raise event) 1 0
 
-raise_count-cons : (event : Event) (events : List Event) → raise_count (event ∷ events) ≡ added event + raise_count events
+pub raise_count-cons : (event : Event) (events : List Event) → raise_count (event ∷ events) ≡ added event + raise_count events
 raise_count-cons = sum_by-cons added
 
 position_after-is : (before : ℕ) (event : Event) → position_after before event ≡ before + added event

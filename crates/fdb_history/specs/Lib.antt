@@ -8,3 +8,4 @@ pub mod Chain
 pub mod Answer
 pub mod Text
 pub mod Laws
+pub mod Faults

@@ -3,12 +3,20 @@
 //! Each is the contract of a function that does nothing, so that the check proves it. It holds of every list
 //! that the definitions speak of, and so of each that the service makes.
 
-ghost use Rattle.std.specs.Prelude.{◌≡◌, ℕ, ◌+◌, ◌<◌, ◌≤◌, ◌≢◌, ◌==◌, ◌&&◌, [], ◌∷◌, ◌++◌, List, length, take, slice_get, false, Some, Ok};
+ghost use Rattle.std.specs.Prelude.{◌≡◌, ℕ, Bool, ◌+◌, ◌<◌, ◌≤◌, ◌≢◌, ◌==◌, ◌&&◌, [], ◌∷◌, ◌++◌, List, length, take, slice_get, false, Some, Ok};
 ghost use Rattle.std.specs.List.{All, AllPairs, find};
 ghost use Rattle.fdb_history.specs.Answer.{Chain, kept, answer_to, chain_after, after_asks};
 ghost use Rattle.fdb_history.specs.Chain.{IsChain};
 ghost use Rattle.fdb_history.specs.Event.{IsLegal, register, raise_count, positions_from};
+ghost use Rattle.fdb_history.specs.Explained.{explained};
+ghost use Rattle.fdb_history.specs.Faults.{IsFaultless};
 ghost use Rattle.fdb_history.specs.Laws.{seen_at, reports_of};
+ghost use Rattle.fdb_history.specs.Linear.{IsLinear};
+ghost use Rattle.fdb_history.specs.Log.{calls_of};
+ghost use Rattle.fdb_history.specs.declared.grv.TagLimit.{TagLimit};
+ghost use Rattle.fdb_history.specs.declared.log.Call.{Call};
+ghost use Rattle.fdb_history.specs.declared.log.CallAnswer.TheVariants.{Acked, Version};
+ghost use Rattle.fdb_history.specs.declared.log.ClientLog.{ClientLog};
 ghost use Rattle.fdb_history.specs.declared.chain.Ask.{Ask};
 ghost use Rattle.fdb_history.specs.declared.chain.Issued.{Issued};
 ghost use Rattle.fdb_history.specs.declared.event.Event.{Event};
@@ -87,4 +95,40 @@ pub fn asks_make_a_chain()
         → take (length chain.answers) (after_asks chain asks).answers ≡ chain.answers }
     ensures stays { (chain : Chain) (asks : List Ask)
         → after_asks chain asks ≡ record chain { answers = (after_asks chain asks).answers } }
+{}
+
+/// Logs that a history explains have no fault of the history: where a linear history exists, no call is answered
+/// from before what its client had seen, no two raises share a position, no position that is reached lacks its raise,
+/// and each read and report is answered as the register at its position would.
+pub fn explained_logs_are_faultless()
+    ensures { (start : Record) (logs : List ClientLog) (history : List Event) → IsLinear start logs history → IsFaultless start logs }
+{}
+
+/// Logs without a fault of the history are explained by their events in the fixed order.
+pub fn faultless_logs_are_explained()
+    ensures { (start : Record) (logs : List ClientLog) → IsFaultless start logs → IsLinear start logs (explained logs) }
+{}
+
+/// A read never misses a commit that its client knows of: its version is at least that of each report that was
+/// acknowledged before it in its own log, or up to a position that its client had come to, by a learn or otherwise.
+pub fn reads_see_what_was_acknowledged()
+    ensures known { (start : Record) (logs : List ClientLog) (history : List Event) (writer reader committed place : ℕ)
+        (commit read : Call) (reported seen : Record) (raised locked_out : Bool) (limits : List TagLimit)
+        → IsLinear start logs history
+        → slice_get (calls_of logs writer) committed ≡ Some commit → commit.answer ≡ Acked reported raised
+        → slice_get (calls_of logs reader) place ≡ Some read → read.answer ≡ Version seen limits locked_out
+        → commit.position ≤ read.asked → reported.version ≤ seen.version }
+    ensures own { (start : Record) (logs : List ClientLog) (history : List Event) (client committed place : ℕ)
+        (commit read : Call) (reported seen : Record) (raised locked_out : Bool) (limits : List TagLimit)
+        → IsLinear start logs history
+        → slice_get (calls_of logs client) committed ≡ Some commit → commit.answer ≡ Acked reported raised
+        → slice_get (calls_of logs client) place ≡ Some read → read.answer ≡ Version seen limits locked_out
+        → committed < place → reported.version ≤ seen.version }
+    ensures learnt { (start : Record) (logs : List ClientLog) (history : List Event) (writer reader committed told place : ℕ)
+        (commit learn read : Call) (reported seen : Record) (raised locked_out : Bool) (limits : List TagLimit)
+        → IsLinear start logs history
+        → slice_get (calls_of logs writer) committed ≡ Some commit → commit.answer ≡ Acked reported raised
+        → slice_get (calls_of logs reader) told ≡ Some learn → commit.position ≤ learn.position
+        → slice_get (calls_of logs reader) place ≡ Some read → read.answer ≡ Version seen limits locked_out
+        → told < place → reported.version ≤ seen.version }
 {}

@@ -1,0 +1,165 @@
+-- Where each event is answered as the register at its position would, the events in the fixed order are legal.
+use Rattle.std.proofs.Common.{◌≡◌, ◌≢◌, ℕ, zero, suc, ◌-◌, ◌<◌, ◌≤◌, ◌⊎◌, ◌==◌, not, Bool, true, false, ltb, List, [], ◌∷◌, ◌++◌, filter, flat_map, Option, Some, None, refl, ap, sym, subst, ◌∙◌, append_assoc, append-nil, inl, inr, arith, le_refl}
+use Rattle.std.specs.List.{AllByRecursion}
+use Rattle.std.proofs.lemmas.Bool.{cond-false, and_parts, not-true, eqb-true, le-ltb, lt-ltb, cases_eq, cases_lt, cases_Bool, true≢false, false≢true}
+use Rattle.std.proofs.lemmas.List.{nil_from_length}
+use Rattle.std.proofs.lemmas.Option.{same_Some, none-some}
+use Rattle.fdb_history.specs.Register.{raises}
+use Rattle.fdb_history.specs.Event.{Placed, IsLegal, is_raise}
+use Rattle.fdb_history.specs.Explained.{events_at, events_up_to}
+use Rattle.fdb_history.specs.Faults.{after_raises, register_at, IsWrongAnswer}
+use Rattle.fdb_history.specs.declared.register.Record.{Record}
+use Rattle.fdb_history.specs.declared.event.Event.{Event}
+use Rattle.fdb_history.specs.declared.event.Event.TheVariants.{Report, Read}
+use Rattle.fdb_history.specs.declared.log.CallAnswer.TheVariants.{Version, Answered, Acked, Told, Refused}
+use Rattle.fdb_history.specs.declared.log.ClientLog.{ClientLog}
+use Rattle.fdb_history.proofs.FaultlessBlocks.{is_raise_at, is_other_at, kept, left_out}
+use Rattle.fdb_history.proofs.FaultlessRaises.{raises_here, one_raise, events_of}
+use Rattle.fdb_history.proofs.FaultlessLogs.{raise_of, raise_of_event, Passes}
+
+-- ---- two records are one or not
+
+-- one or not
+abbrev OneOrNot : {X : Type 0} → X → X → Type 0
+OneOrNot x y = (x ≡ y) ⊎ (x ≡ y → ⊥)
+
+-- two tests are one or not
+decide_Bool : (x y : Bool) → OneOrNot x y
+decide_Bool true true = inl refl
+decide_Bool true false = inr true≢false
+decide_Bool false true = inr false≢true
+decide_Bool false false = inl refl
+
+-- and so are two metadata versions
+decide_Option : (x y : Option ℕ) → OneOrNot x y
+decide_Option None None = inl refl
+decide_Option None (Some n) = inr (λ e. none-some n e)
+decide_Option (Some m) None = inr (λ e. none-some m (sym e))
+decide_Option (Some m) (Some n) = elim (cases_eq m n) [ inl same ↦ inl (ap Some same) | inr apart ↦ inr (λ e. apart (same_Some m n e)) ]
+
+-- records that are not apart are one
+pub same_record : (x y : Record) → (x ≢ y → ⊥) → x ≡ y
+same_record x y close =
+    elim (cases_eq x.version y.version) [
+      | inr apart ↦ absurd (close (λ e. apart (ap (λ (r : Record). r.version) e)))
+      | inl a ↦ elim (decide_Bool x.locked y.locked) [
+        | inr apart ↦ absurd (close (λ e. apart (ap (λ (r : Record). r.locked) e)))
+        | inl b ↦ elim (decide_Option x.metadata y.metadata) [
+          | inr apart ↦ absurd (close (λ e. apart (ap (λ (r : Record). r.metadata) e)))
+          | inl c ↦
+              let first : x ≡ record x { version = y.version } = ap (λ n. record x { version = n }) a in
+              let second : record x { version = y.version } ≡ record x { version = y.version; locked = y.locked } = ap (λ l. record x { version = y.version; locked = l }) b in
+              let third : record x { version = y.version; locked = y.locked } ≡ y = ap (λ m. record x { version = y.version; locked = y.locked; metadata = m }) c in
+              first ∙ second ∙ third
+        ]
+      ]
+    ]
+
+-- ---- right answers
+
+-- answered as the register at its position would, given the register at each position
+abbrev pub IsRightAt : (ℕ → Record) → ℕ → Event → Type 0
+IsRightAt reg at (Report client call rec true) = (reg (at - 1)).version < rec.version
+IsRightAt reg at (Report client call rec false) = rec.version ≤ (reg at).version
+IsRightAt reg at (Read client call rec) = rec ≡ reg at
+
+-- the same of an event with its position
+abbrev pub IsRight : (ℕ → Record) → Placed → Type 0
+IsRight reg p = IsRightAt reg p.position p.event
+
+-- an event of a call that is not answered wrong is right
+pub passes_right : (start : Record) (logs : List ClientLog) → Passes (λ position answer. IsWrongAnswer start logs position answer → ⊥) (IsRight (register_at start logs))
+passes_right start logs client place position (Version rec limits locked_out) fine = (same_record rec (register_at start logs position) fine, tt)
+passes_right start logs client place position (Acked rec true) fine =
+    (elim (cases_lt (register_at start logs (position - 1)).version rec.version) [ inl more ↦ more | inr less ↦ absurd (fine less) ], tt)
+passes_right start logs client place position (Acked rec false) fine =
+    (elim (cases_lt (register_at start logs position).version rec.version) [ inl more ↦ absurd (fine more) | inr less ↦ less ], tt)
+passes_right start logs client place position (Answered issued) fine = tt
+passes_right start logs client place position Told fine = tt
+passes_right start logs client place position (Refused cause) fine = tt
+
+-- ---- legal, position by position
+
+-- an event that does not raise is true of the register at its position, and changes nothing
+other_legal : (reg : ℕ → Record) (at : ℕ) (event : Event) (more : List Event) → is_raise event ≡ false → IsRightAt reg at event → IsLegal (reg at) more → IsLegal (reg at) (event ∷ more)
+other_legal reg at (Report client call rec true) more down right legal = absurd (true≢false down)
+other_legal reg at (Report client call rec false) more down right legal =
+    let test : ltb (reg at).version rec.version ≡ false = le-ltb (reg at).version rec.version right in
+    (sym test, let P : Record → Type 0 = λ r. IsLegal r more in subst P (sym (cond-false (raises (reg at) rec) rec (reg at) test)) legal)
+other_legal reg at (Read client call rec) more down right legal = (right, legal)
+
+-- what does not raise at a position is legal from the register there
+others_legal : (reg : ℕ → Record) (position : ℕ) (all : List Placed) (more : List Event) → AllByRecursion (IsRight reg) all → IsLegal (reg position) more
+    → IsLegal (reg position) (events_of (filter (is_other_at position) all) ++ more)
+others_legal reg position [] more right legal = legal
+others_legal reg position (p ∷ all) more right legal =
+    let rest = others_legal reg position all more right.1 legal in
+    let others = filter (is_other_at position) all in
+    let P : List Placed → Type 0 = λ l. IsLegal (reg position) (events_of l ++ more) in
+    elim (cases_Bool (is_other_at position p)) [
+      | inl here ↦
+          let parts = and_parts (p.position == position) (not (is_raise p.event)) here in
+          let same = eqb-true p.position position parts.0 in
+          let right_here : IsRightAt reg position p.event = let Q : ℕ → Type 0 = λ at. IsRightAt reg at p.event in subst Q same right.0 in
+          subst P (sym (kept (is_other_at position) p all here))
+          (other_legal reg position p.event (events_of others ++ more) (not-true (is_raise p.event) parts.1) right_here rest)
+      | inr not_here ↦ subst P (sym (left_out (is_other_at position) p all not_here)) rest
+    ]
+
+-- a raise is true of the register one position before, and makes that at its own
+raise_legal : (reg : ℕ → Record) (n : ℕ) (event : Event) (more : List Event) → is_raise event ≡ true → IsRightAt reg (suc n) event
+    → reg (suc n) ≡ after_raises (reg n) (raise_of_event (suc n) event) → IsLegal (reg (suc n)) more → IsLegal (reg n) (event ∷ more)
+raise_legal reg n (Report client call rec true) more up right step legal =
+    let before : suc n - 1 ≡ n = omega arith in
+    let higher : (reg n).version < rec.version = let Q : ℕ → Type 0 = λ k. (reg k).version < rec.version in subst Q before right in
+    (sym (lt-ltb (reg n).version rec.version higher), let P : Record → Type 0 = λ r. IsLegal r more in subst P step legal)
+raise_legal reg n (Report client call rec false) more up right step legal = absurd (false≢true up)
+raise_legal reg n (Read client call rec) more up right step legal = absurd (false≢true up)
+
+-- what is so of all is so of those that pass
+right-filter : (reg : ℕ → Record) (test : Placed → Bool) (all : List Placed) → AllByRecursion (IsRight reg) all → AllByRecursion (IsRight reg) (filter test all)
+right-filter reg test [] right = tt
+right-filter reg test (p ∷ all) right =
+    let rest = right-filter reg test all right.1 in
+    let P : List Placed → Type 0 = λ l. AllByRecursion (IsRight reg) l in
+    elim (cases_Bool (test p)) [
+      | inl here ↦ subst P (sym (kept test p all here)) (right.0, rest)
+      | inr not_here ↦ subst P (sym (left_out test p all not_here)) rest
+    ]
+
+-- the register goes on by the raises at each position
+abbrev pub GoesOn : (ℕ → Record) → List Placed → Type 0
+GoesOn reg all = (n : ℕ) → reg (suc n) ≡ after_raises (reg n) (flat_map raise_of (filter (is_raise_at (suc n)) all))
+
+-- a block is legal from the register one position before
+block_legal : (reg : ℕ → Record) (n : ℕ) (all : List Placed) (more : List Event) → GoesOn reg all → raises_here (suc n) all ≡ 1 → AllByRecursion (IsRight reg) all
+    → IsLegal (reg (suc n)) more → IsLegal (reg n) (events_at (suc n) all ++ more)
+block_legal reg n all more goes one right legal =
+    let raise = one_raise (suc n) all one in
+    let others = filter (is_other_at (suc n)) all in
+    let R : List Placed → Type 0 = λ l. AllByRecursion (IsRight reg) l in
+    let right_here = (subst R raise.1 (right-filter reg (is_raise_at (suc n)) all right)).0 in
+    let step = goes n ∙ ap (λ l. after_raises (reg n) (flat_map raise_of l)) raise.1 ∙ ap (after_raises (reg n)) (append-nil (raise_of_event (suc n) raise.0)) in
+    let P : List Placed → Type 0 = λ l. IsLegal (reg n) ((events_of l ++ events_of others) ++ more) in
+    subst P (sym raise.1) (raise_legal reg n raise.0 (events_of others ++ more) raise.2 right_here step (others_legal reg (suc n) all more right legal))
+
+-- the blocks up to n, and then what is legal from the register at n
+up_to_legal : (reg : ℕ → Record) (n : ℕ) (all : List Placed) (more : List Event) → GoesOn reg all → raises_here 0 all ≡ 0
+    → ((position : ℕ) → 1 ≤ position → position ≤ n → raises_here position all ≡ 1) → AllByRecursion (IsRight reg) all
+    → IsLegal (reg n) more → IsLegal (reg 0) (events_up_to n all ++ more)
+up_to_legal reg zero all more goes none filled right legal =
+    let P : List Placed → Type 0 = λ l. IsLegal (reg 0) ((events_of l ++ events_of (filter (is_other_at 0) all)) ++ more) in
+    subst P (sym (nil_from_length (filter (is_raise_at 0) all) none)) (others_legal reg 0 all more right legal)
+up_to_legal reg (suc n) all more goes none filled right legal =
+    let P : List Event → Type 0 = λ l. IsLegal (reg 0) l in
+    subst P (sym (append_assoc (events_up_to n all) (events_at (suc n) all) more))
+    (up_to_legal reg n all (events_at (suc n) all ++ more) goes none (λ position least most. filled position least (omega arith)) right
+    (block_legal reg n all more goes (filled (suc n) (omega arith) (le_refl (suc n))) right legal))
+
+-- the events up to n are legal from the register at 0
+pub legal_up_to : (reg : ℕ → Record) (n : ℕ) (all : List Placed) → GoesOn reg all → raises_here 0 all ≡ 0
+    → ((position : ℕ) → 1 ≤ position → position ≤ n → raises_here position all ≡ 1) → AllByRecursion (IsRight reg) all
+    → IsLegal (reg 0) (events_up_to n all)
+legal_up_to reg n all goes none filled right =
+    let P : List Event → Type 0 = λ l. IsLegal (reg 0) l in
+    subst P (append-nil (events_up_to n all)) (up_to_legal reg n all [] goes none filled right tt)

@@ -1,0 +1,298 @@
+-- The raises of some events at their positions: where no position has two and each that is reached has one, they
+-- stand at the positions 1 up to their number, and the blocks' positions are the stamps of their events.
+use Rattle.std.proofs.Common.{◌≡◌, ℕ, zero, suc, ◌+◌, ◌≤◌, ◌==◌, ◌&&◌, not, Bool, true, false, leb, List, [], ◌∷◌, ◌++◌, map, length, filter, refl, ap, sym, ◌∙◌, append_assoc, append-nil, inl, inr, arith, le_refl, zero-le, add-one}
+use Rattle.std.specs.List.{AllByRecursion}
+use Rattle.std.proofs.lemmas.Bool.{cond-true, cond-false, and_parts, and_left, and_right, and_from, not-true, eqb-true, eq-eqb, ne_eqb, le-leb, lt-leb, cases_eq, cases_order, cases_lt, cases_Bool}
+use Rattle.std.proofs.lemmas.List.{nil_from_length}
+use Rattle.std.proofs.lemmas.List.Sums.{sum_by-append}
+use Rattle.fdb_history.specs.Event.{Placed, stamped, position_after, is_raise, raise_count}
+use Rattle.fdb_history.specs.Explained.{events_at, events_up_to}
+use Rattle.fdb_history.specs.declared.event.Event.{Event}
+use Rattle.fdb_history.proofs.HistoryLaws.{added, raise_count-cons}
+use Rattle.fdb_history.proofs.FaultlessBlocks.{is_raise_at, is_other_at, is_up_to, block, blocks_up_to, kept, left_out}
+
+-- ---- how many raises there are
+
+-- how many raises there are at a position
+abbrev pub raises_here : ℕ → List Placed → ℕ
+raises_here position all = length (filter (is_raise_at position) all)
+
+-- whether an event is a raise at this position or below
+abbrev is_raise_up_to : ℕ → Placed → Bool
+is_raise_up_to position p = is_up_to position p && is_raise p.event
+
+-- how many raises there are up to a position
+abbrev raises_until : ℕ → List Placed → ℕ
+raises_until position all = length (filter (is_raise_up_to position) all)
+
+-- how many raises there are
+abbrev pub raises_among : List Placed → ℕ
+raises_among all = length (filter (λ p. is_raise p.event) all)
+
+-- one more for a test that the first passes
+length-kept : (test : Placed → Bool) (p : Placed) (all : List Placed) → test p ≡ true → length (filter test (p ∷ all)) ≡ suc (length (filter test all))
+length-kept test p all e = ap length (kept test p all e)
+
+-- as many for a test that the first does not pass
+length-left_out : (test : Placed → Bool) (p : Placed) (all : List Placed) → test p ≡ false → length (filter test (p ∷ all)) ≡ length (filter test all)
+length-left_out test p all e = ap length (left_out test p all e)
+
+-- up to 0 there are the raises at 0
+until-zero : (all : List Placed) → raises_until 0 all ≡ raises_here 0 all
+until-zero [] = refl
+until-zero (p ∷ all) =
+    let rest = until-zero all in
+    let raise = is_raise p.event in
+    elim (cases_Bool (is_raise p.event)) [
+      | inr down ↦ length-left_out (is_raise_up_to 0) p all (and_right (leb p.position 0) raise down) ∙ rest
+          ∙ sym (length-left_out (is_raise_at 0) p all (and_right (p.position == 0) raise down))
+      | inl up ↦ elim (cases_eq p.position 0) [
+        | inl same ↦ length-kept (is_raise_up_to 0) p all (and_from (leb p.position 0) raise (le-leb p.position 0 (omega arith)) up) ∙ ap suc rest
+            ∙ sym (length-kept (is_raise_at 0) p all (and_from (p.position == 0) raise (eq-eqb p.position 0 same) up))
+        | inr apart ↦ length-left_out (is_raise_up_to 0) p all (and_left (leb p.position 0) raise (lt-leb p.position 0 (omega arith))) ∙ rest
+            ∙ sym (length-left_out (is_raise_at 0) p all (and_left (p.position == 0) raise (ne_eqb p.position 0 apart)))
+      ]
+    ]
+
+-- up to one more position there are those at it too
+until-step : (n : ℕ) (all : List Placed) → raises_until (suc n) all ≡ raises_until n all + raises_here (suc n) all
+until-step n [] = refl
+until-step n (p ∷ all) =
+    let rest = until-step n all in
+    let raise = is_raise p.event in
+    elim (cases_Bool (is_raise p.event)) [
+      | inr down ↦
+          let a = length-left_out (is_raise_up_to (suc n)) p all (and_right (leb p.position (suc n)) raise down) in
+          let b = length-left_out (is_raise_up_to n) p all (and_right (leb p.position n) raise down) in
+          let c = length-left_out (is_raise_at (suc n)) p all (and_right (p.position == suc n) raise down) in
+          added_up a b c rest
+      | inl up ↦ elim (cases_order p.position (suc n)) [
+        | inl same ↦
+            let a = length-kept (is_raise_up_to (suc n)) p all (and_from (leb p.position (suc n)) raise (le-leb p.position (suc n) (omega arith)) up) in
+            let b = length-left_out (is_raise_up_to n) p all (and_left (leb p.position n) raise (lt-leb p.position n (omega arith))) in
+            let c = length-kept (is_raise_at (suc n)) p all (and_from (p.position == suc n) raise (eq-eqb p.position (suc n) same) up) in
+            added_here a b c rest
+        | inr (inl below) ↦
+            let a = length-kept (is_raise_up_to (suc n)) p all (and_from (leb p.position (suc n)) raise (le-leb p.position (suc n) (omega arith)) up) in
+            let b = length-kept (is_raise_up_to n) p all (and_from (leb p.position n) raise (le-leb p.position n (omega arith)) up) in
+            let c = length-left_out (is_raise_at (suc n)) p all (and_left (p.position == suc n) raise (ne_eqb p.position (suc n) (λ same. absurd (omega arith)))) in
+            added_before a b c rest
+        | inr (inr above) ↦
+            let a = length-left_out (is_raise_up_to (suc n)) p all (and_left (leb p.position (suc n)) raise (lt-leb p.position (suc n) (omega arith))) in
+            let b = length-left_out (is_raise_up_to n) p all (and_left (leb p.position n) raise (lt-leb p.position n (omega arith))) in
+            let c = length-left_out (is_raise_at (suc n)) p all (and_left (p.position == suc n) raise (ne_eqb p.position (suc n) (λ same. absurd (omega arith)))) in
+            added_up a b c rest
+      ]
+    ]
+  where
+    added_up : {x y z u v w : ℕ} → u ≡ x → v ≡ y → w ≡ z → x ≡ y + z → u ≡ v + w
+    added_up a b c e = omega arith
+
+    added_here : {x y z u v w : ℕ} → u ≡ suc x → v ≡ y → w ≡ suc z → x ≡ y + z → u ≡ v + w
+    added_here a b c e = omega arith
+
+    added_before : {x y z u v w : ℕ} → u ≡ suc x → v ≡ suc y → w ≡ z → x ≡ y + z → u ≡ v + w
+    added_before a b c e = omega arith
+
+-- no more raises stand up to a position than there are
+until-most : (n : ℕ) (all : List Placed) → raises_until n all ≤ raises_among all
+until-most n [] = le_refl 0
+until-most n (p ∷ all) =
+    let rest = until-most n all in
+    let raise = is_raise p.event in
+    elim (cases_Bool (is_raise p.event)) [
+      | inr down ↦
+          same_way (length-left_out (is_raise_up_to n) p all (and_right (leb p.position n) raise down)) (length-left_out (λ q. is_raise q.event) p all down) rest
+      | inl up ↦
+          let whole = length-kept (λ q. is_raise q.event) p all up in
+          elim (cases_lt n p.position) [
+            | inl above ↦ one_way (length-left_out (is_raise_up_to n) p all (and_left (leb p.position n) raise (lt-leb p.position n above))) whole rest
+            | inr below ↦ both_ways (length-kept (is_raise_up_to n) p all (and_from (leb p.position n) raise (le-leb p.position n below) up)) whole rest
+          ]
+    ]
+  where
+    same_way : {x y u v : ℕ} → u ≡ x → v ≡ y → x ≤ y → u ≤ v
+    same_way a b e = omega arith
+
+    one_way : {x y u v : ℕ} → u ≡ x → v ≡ suc y → x ≤ y → u ≤ v
+    one_way a b e = omega arith
+
+    both_ways : {x y u v : ℕ} → u ≡ suc x → v ≡ suc y → x ≤ y → u ≤ v
+    both_ways a b e = omega arith
+
+-- where all stand up to a position, all raises do
+until-all : (n : ℕ) (all : List Placed) → AllByRecursion (λ p. p.position ≤ n) all → raises_until n all ≡ raises_among all
+until-all n [] within = refl
+until-all n (p ∷ all) within =
+    let rest = until-all n all within.1 in
+    let raise = is_raise p.event in
+    elim (cases_Bool (is_raise p.event)) [
+      | inr down ↦ length-left_out (is_raise_up_to n) p all (and_right (leb p.position n) raise down) ∙ rest ∙ sym (length-left_out (λ q. is_raise q.event) p all down)
+      | inl up ↦ length-kept (is_raise_up_to n) p all (and_from (leb p.position n) raise (le-leb p.position n within.0) up) ∙ ap suc rest
+          ∙ sym (length-kept (λ q. is_raise q.event) p all up)
+    ]
+
+-- ---- one raise at each position
+
+-- no position has more than one raise, and 0 has none
+abbrev pub IsSpread : List Placed → Type 0
+IsSpread all = ((position : ℕ) → raises_here position all ≤ 1) × (raises_here 0 all ≡ 0)
+
+-- at most one raise at each position makes at most n up to n
+until-bound : (n : ℕ) (all : List Placed) → IsSpread all → raises_until n all ≤ n
+until-bound zero all spread = let e = until-zero all in let z = spread.1 in omega arith
+until-bound (suc n) all spread =
+    let e = until-step n all in
+    let once = spread.0 (suc n) in
+    let rest = until-bound n all spread in
+    omega arith
+
+-- Where each position up to n has a raise, there are n of them at least.
+until-filled : (n : ℕ) (all : List Placed) → ((position : ℕ) → 1 ≤ position → position ≤ n → 1 ≤ raises_here position all) → n ≤ raises_until n all
+until-filled zero all filled = zero-le
+until-filled (suc n) all filled =
+    let e = until-step n all in
+    let here = filled (suc n) (omega arith) (le_refl (suc n)) in
+    let rest = until-filled n all (λ position least most. filled position least (omega arith)) in
+    omega arith
+
+-- where each position up to n has a raise, there are at least n raises
+pub reached_at_most : (n : ℕ) (all : List Placed) → ((position : ℕ) → 1 ≤ position → position ≤ n → 1 ≤ raises_here position all) → n ≤ raises_among all
+reached_at_most n all filled = let a = until-filled n all filled in let b = until-most n all in omega arith
+
+-- where n raises stand up to n, each position has one
+all_filled : (n : ℕ) (all : List Placed) → IsSpread all → raises_until n all ≡ n → (position : ℕ) → 1 ≤ position → position ≤ n → raises_here position all ≡ 1
+all_filled zero all spread count position least most = absurd (omega arith)
+all_filled (suc n) all spread count position least most =
+    let e = until-step n all in
+    let once = spread.0 (suc n) in
+    let rest = until-bound n all spread in
+    let here : raises_here (suc n) all ≡ 1 = omega arith in
+    let before : raises_until n all ≡ n = omega arith in
+    elim (cases_eq position (suc n)) [
+      | inl same ↦ ap (λ k. raises_here k all) same ∙ here
+      | inr apart ↦ all_filled n all spread before position least (omega arith)
+    ]
+
+-- where no position is above the number of raises, each up to it has one raise
+pub each_filled : (all : List Placed) → IsSpread all → AllByRecursion (λ p. p.position ≤ raises_among all) all → (position : ℕ) → 1 ≤ position → position ≤ raises_among all → raises_here position all ≡ 1
+each_filled all spread within = all_filled (raises_among all) all spread (until-all (raises_among all) all within)
+
+-- ---- stamps
+
+-- the only raise at a position
+pub one_raise : (position : ℕ) (all : List Placed) → raises_here position all ≡ 1
+    → (event : Event) × (filter (is_raise_at position) all ≡ record { event = event; position = position } ∷ []) × (is_raise event ≡ true)
+one_raise position [] one = absurd (omega arith)
+one_raise position (p ∷ all) one =
+    elim (cases_Bool (is_raise_at position p)) [
+      | inl here ↦
+          let parts = and_parts (p.position == position) (is_raise p.event) here in
+          let same = eqb-true p.position position parts.0 in
+          let none : raises_here position all ≡ 0 = let l = length-kept (is_raise_at position) p all here in omega arith in (
+            p.event,
+            kept (is_raise_at position) p all here ∙ ap (λ l. p ∷ l) (nil_from_length (filter (is_raise_at position) all) none)
+                ∙ ap (λ at. record { event = p.event; position = at } ∷ []) same,
+            parts.1,
+          )
+      | inr not_here ↦
+          let rest = one_raise position all (sym (length-left_out (is_raise_at position) p all not_here) ∙ one) in
+          (rest.0, left_out (is_raise_at position) p all not_here ∙ rest.1, rest.2)
+    ]
+
+-- the events alone
+abbrev pub events_of : List Placed → List Event
+events_of all = map (λ p. p.event) all
+
+-- the others at a position keep it
+stamped-others : (position : ℕ) (all : List Placed) (more : List Event)
+    → stamped position (events_of (filter (is_other_at position) all) ++ more) ≡ filter (is_other_at position) all ++ stamped position more
+stamped-others position [] more = refl
+stamped-others position (p ∷ all) more =
+    let rest = stamped-others position all more in
+    let others = filter (is_other_at position) all in
+    elim (cases_Bool (is_other_at position p)) [
+      | inl here ↦
+          let parts = and_parts (p.position == position) (not (is_raise p.event)) here in
+          let same = eqb-true p.position position parts.0 in
+          let at : position_after position p.event ≡ position = cond-false (is_raise p.event) (position + 1) position (not-true (is_raise p.event) parts.1) in
+          let is = kept (is_other_at position) p all here in
+          ap (λ l. stamped position (events_of l ++ more)) is
+          ∙ ap (λ n. record { event = p.event; position = n } ∷ stamped n (events_of others ++ more)) at
+          ∙ ap (λ l. record { event = p.event; position = position } ∷ l) rest
+          ∙ ap (λ n. record { event = p.event; position = n } ∷ (others ++ stamped position more)) (sym same)
+          ∙ sym (ap (λ l. l ++ stamped position more) is)
+      | inr not_here ↦
+          let is = left_out (is_other_at position) p all not_here in
+          ap (λ l. stamped position (events_of l ++ more)) is ∙ rest ∙ sym (ap (λ l. l ++ stamped position more) is)
+    ]
+
+-- a block that begins with its one raise
+stamped-block : (n : ℕ) (all : List Placed) (more : List Event) → raises_here (suc n) all ≡ 1 → stamped n (events_at (suc n) all ++ more) ≡ block (suc n) all ++ stamped (suc n) more
+stamped-block n all more one =
+    let raise = one_raise (suc n) all one in
+    let event = raise.0 in
+    let others = filter (is_other_at (suc n)) all in
+    let at : position_after n event ≡ suc n = cond-true (is_raise event) (n + 1) n raise.2 ∙ add-one n in
+    ap (λ l. stamped n ((events_of l ++ events_of others) ++ more)) raise.1
+    ∙ ap (λ k. record { event = event; position = k } ∷ stamped k (events_of others ++ more)) at
+    ∙ ap (λ l. record { event = event; position = suc n } ∷ l) (stamped-others (suc n) all more)
+    ∙ sym (ap (λ l. (l ++ others) ++ stamped (suc n) more) raise.1)
+
+-- the blocks up to n are the stamps of their events
+stamped-blocks : (n : ℕ) (all : List Placed) (more : List Event) → raises_here 0 all ≡ 0 → ((position : ℕ) → 1 ≤ position → position ≤ n → raises_here position all ≡ 1)
+    → stamped 0 (events_up_to n all ++ more) ≡ blocks_up_to n all ++ stamped n more
+stamped-blocks zero all more none filled =
+    let is = nil_from_length (filter (is_raise_at 0) all) none in
+    ap (λ l. stamped 0 ((events_of l ++ events_of (filter (is_other_at 0) all)) ++ more)) is
+    ∙ stamped-others 0 all more
+    ∙ sym (ap (λ l. (l ++ filter (is_other_at 0) all) ++ stamped 0 more) is)
+stamped-blocks (suc n) all more none filled =
+    ap (stamped 0) (append_assoc (events_up_to n all) (events_at (suc n) all) more)
+    ∙ stamped-blocks n all (events_at (suc n) all ++ more) none (λ position least most. filled position least (omega arith))
+    ∙ ap (λ l. blocks_up_to n all ++ l) (stamped-block n all more (filled (suc n) (omega arith) (le_refl (suc n))))
+    ∙ sym (append_assoc (blocks_up_to n all) (block (suc n) all) (stamped (suc n) more))
+
+-- the stamps of the events up to n are the blocks up to n
+pub stamped-up_to : (n : ℕ) (all : List Placed) → raises_here 0 all ≡ 0 → ((position : ℕ) → 1 ≤ position → position ≤ n → raises_here position all ≡ 1)
+    → stamped 0 (events_up_to n all) ≡ blocks_up_to n all
+stamped-up_to n all none filled =
+    ap (stamped 0) (sym (append-nil (events_up_to n all))) ∙ stamped-blocks n all [] none filled ∙ append-nil (blocks_up_to n all)
+
+-- ---- the number of raises in the history
+
+-- the others raise nothing
+raise_count-others : (position : ℕ) (all : List Placed) → raise_count (events_of (filter (is_other_at position) all)) ≡ 0
+raise_count-others position [] = refl
+raise_count-others position (p ∷ all) =
+    let rest = raise_count-others position all in
+    let others = filter (is_other_at position) all in
+    elim (cases_Bool (is_other_at position p)) [
+      | inl here ↦
+          let parts = and_parts (p.position == position) (not (is_raise p.event)) here in
+          ap (λ l. raise_count (events_of l)) (kept (is_other_at position) p all here)
+          ∙ raise_count-cons p.event (events_of others)
+          ∙ ap (λ n. n + raise_count (events_of others)) (cond-false (is_raise p.event) 1 0 (not-true (is_raise p.event) parts.1))
+          ∙ ap (λ n. 0 + n) rest
+      | inr not_here ↦ ap (λ l. raise_count (events_of l)) (left_out (is_other_at position) p all not_here) ∙ rest
+    ]
+
+-- a block with one raise counts one
+raise_count-block : (position : ℕ) (all : List Placed) → raises_here position all ≡ 1 → raise_count (events_at position all) ≡ 1
+raise_count-block position all one =
+    let raise = one_raise position all one in
+    let others = filter (is_other_at position) all in
+    ap (λ l. raise_count (events_of l ++ events_of others)) raise.1
+    ∙ raise_count-cons raise.0 (events_of others)
+    ∙ ap (λ n. n + raise_count (events_of others)) (cond-true (is_raise raise.0) 1 0 raise.2)
+    ∙ ap (λ n. 1 + n) (raise_count-others position all)
+
+-- the events up to n have n raises
+pub raise_count-up_to : (n : ℕ) (all : List Placed) → raises_here 0 all ≡ 0 → ((position : ℕ) → 1 ≤ position → position ≤ n → raises_here position all ≡ 1)
+    → raise_count (events_up_to n all) ≡ n
+raise_count-up_to zero all none filled =
+    ap (λ l. raise_count (events_of l ++ events_of (filter (is_other_at 0) all))) (nil_from_length (filter (is_raise_at 0) all) none) ∙ raise_count-others 0 all
+raise_count-up_to (suc n) all none filled =
+    sum_by-append added (events_up_to n all) (events_at (suc n) all)
+    ∙ ap (λ k. k + raise_count (events_at (suc n) all)) (raise_count-up_to n all none (λ position least most. filled position least (omega arith)))
+    ∙ ap (λ k. n + k) (raise_count-block (suc n) all (filled (suc n) (omega arith) (le_refl (suc n)))) ∙ add-one n

@@ -1,0 +1,146 @@
+-- A read never misses a commit that its client knows of.
+use Rattle.std.proofs.Common.{◌≡◌, ℕ, zero, suc, ◌<◌, ◌≤◌, ◌==◌, Bool, true, false, IsTrue, List, [], ◌∷◌, filter, flat_map, Some, slice_get, refl, ap, sym, ◌∙◌, subst, inl, inr, arith, le_refl, le_trans}
+use Rattle.std.specs.List.{AllByRecursion}
+use Rattle.std.proofs.lemmas.Bool.{cases_Bool, cases_lt, eq-eqb, false≢true}
+use Rattle.std.proofs.lemmas.Option.{same_Some, none-some}
+use Rattle.fdb_history.specs.Faults.{Raise, raise_in, raises_in, raises_at, after_raises, register_at, IsWrongAnswer, IsFaultless}
+use Rattle.fdb_history.specs.Linear.{IsLinear, NeverGoesBack}
+use Rattle.fdb_history.specs.Log.{calls_of, answer_raises}
+use Rattle.fdb_history.specs.Register.{record_after}
+use Rattle.fdb_history.specs.declared.event.Event.{Event}
+use Rattle.fdb_history.specs.declared.grv.TagLimit.{TagLimit}
+use Rattle.fdb_history.specs.declared.log.Call.{Call}
+use Rattle.fdb_history.specs.declared.log.CallAnswer.TheVariants.{Version, Acked}
+use Rattle.fdb_history.specs.declared.log.ClientLog.{ClientLog}
+use Rattle.fdb_history.specs.declared.register.Record.{Record}
+use Rattle.fdb_history.proofs.HistoryLaws.{record_after-at_least}
+use Rattle.fdb_history.proofs.ExplainedFaultless.{all_parts, all_at, of_client, faultless}
+use Rattle.fdb_history.proofs.FaultlessBlocks.{kept, left_out}
+use Rattle.fdb_history.proofs.FaultlessLegal.{same_record}
+
+-- ---- of lists
+
+-- what holds of each element of the parts in a row holds of each element of each part
+all_flat : {X Y : Type 0} (P : Y → Type 0) (parts : X → List Y) (xs : List X) → AllByRecursion P (flat_map parts xs) → AllByRecursion (λ x. AllByRecursion P (parts x)) xs
+all_flat P parts [] all = tt
+all_flat P parts (x ∷ xs) all = let both = all_parts P (parts x) (flat_map parts xs) all in (both.0, all_flat P parts xs both.1)
+
+-- what holds of each element that is kept holds of each one that passes
+all_passing : {X : Type 0} (P : X → Type 0) (keep : X → Bool) (xs : List X) → AllByRecursion P (filter keep xs) → AllByRecursion (λ x. keep x ≡ true → P x) xs
+all_passing P keep [] all = tt
+all_passing P keep (x ∷ xs) all =
+    elim (cases_Bool (keep x)) [
+      | inl passes ↦ let both = subst (AllByRecursion P) (kept keep x xs passes) all in (λ again. both.0, all_passing P keep xs both.1)
+      | inr fails ↦ (λ passes. absurd (false≢true (sym fails ∙ passes)), all_passing P keep xs (subst (AllByRecursion P) (left_out keep x xs fails) all))
+    ]
+
+-- ---- the register at a position
+
+-- raises leave at least the version that they found
+after_raises-at_least : (current : Record) (raises : List Raise) → current.version ≤ (after_raises current raises).version
+after_raises-at_least current [] = le_refl current.version
+after_raises-at_least current (raise ∷ raises) =
+    le_trans (record_after-at_least current raise.rec).0 (after_raises-at_least (record_after current raise.rec) raises)
+
+-- and at least the version of each
+each_at_most : (current : Record) (raises : List Raise) → AllByRecursion (λ raise. raise.rec.version ≤ (after_raises current raises).version) raises
+each_at_most current [] = tt
+each_at_most current (raise ∷ raises) =
+    (le_trans (record_after-at_least current raise.rec).1 (after_raises-at_least (record_after current raise.rec) raises), each_at_most (record_after current raise.rec) raises)
+
+-- the register's version does not fall from a position to a later one
+register_at-in_order : (start : Record) (logs : List ClientLog) (earlier later : ℕ) → earlier ≤ later → (register_at start logs earlier).version ≤ (register_at start logs later).version
+register_at-in_order start logs zero zero order = le_refl start.version
+register_at-in_order start logs (suc earlier) zero order = absurd (omega arith)
+register_at-in_order start logs earlier (suc later) order =
+    elim (cases_lt later earlier) [
+      | inl beyond ↦ let same : earlier ≡ suc later = omega arith in subst (λ p. (register_at start logs earlier).version ≤ (register_at start logs p).version) same (le_refl (register_at start logs earlier).version)
+      | inr within ↦ le_trans (register_at-in_order start logs earlier later within) (after_raises-at_least (register_at start logs later) (raises_at logs (suc later)))
+    ]
+
+-- what holds of each raise at a position holds of each acknowledgement in the logs that raised there
+of_raise : (P : Raise → Type 0) (logs : List ClientLog) (client place : ℕ) (call : Call) (rec : Record) → AllByRecursion P (raises_at logs call.position)
+    → slice_get (calls_of logs client) place ≡ Some call → call.answer ≡ Acked rec true → P (record { position = call.position; rec = rec })
+of_raise P logs client place call rec all at is =
+    let Q : Raise → Type 0 = λ raise. (raise.position == call.position) ≡ true → P raise in
+    let each = all_flat Q (λ log. flat_map (λ c. raise_in c.position c.answer) log.calls) logs (all_passing P (λ raise. raise.position == call.position) (raises_in logs) all) in
+    let own = of_client (λ calls. AllByRecursion Q (flat_map (λ c. raise_in c.position c.answer) calls)) tt logs client each in
+    let here = all_at (λ c. AllByRecursion Q (raise_in c.position c.answer)) (calls_of logs client) place call (all_flat Q (λ c. raise_in c.position c.answer) (calls_of logs client) own) at in
+    (subst (λ answer. AllByRecursion Q (raise_in call.position answer)) is here).0 (eq-eqb call.position call.position refl)
+
+-- each raise at a position is at most the register there
+below_register : (start : Record) (logs : List ClientLog) (position : ℕ) → 1 ≤ position
+    → AllByRecursion (λ raise. raise.rec.version ≤ (register_at start logs position).version) (raises_at logs position)
+below_register start logs zero least = absurd (omega arith)
+below_register start logs (suc position) least = each_at_most (register_at start logs position) (raises_at logs (suc position))
+
+-- ---- the order of a log
+
+-- a call of a log begins at least where the log did
+begins : (before : ℕ) (calls : List Call) (place : ℕ) (call : Call) → NeverGoesBack before calls → slice_get calls place ≡ Some call → before ≤ call.asked
+begins before [] place call forward at = absurd (none-some call at)
+begins before (first ∷ calls) zero call forward at = subst (λ (c : Call). before ≤ c.asked) (same_Some first call at) forward.0
+begins before (first ∷ calls) (suc place) call forward at =
+    let rest = begins first.position calls place call forward.3 at in let least = forward.0 in let most = forward.1 in omega arith
+
+-- a call begins at least where each earlier one ended
+follows : (before : ℕ) (calls : List Call) (earlier later : ℕ) (one other : Call) → NeverGoesBack before calls
+    → slice_get calls earlier ≡ Some one → slice_get calls later ≡ Some other → earlier < later → one.position ≤ other.asked
+follows before [] earlier later one other forward at_one at_other order = absurd (none-some one at_one)
+follows before (first ∷ calls) zero zero one other forward at_one at_other order = absurd (omega arith)
+follows before (first ∷ calls) zero (suc later) one other forward at_one at_other order =
+    subst (λ (c : Call). c.position ≤ other.asked) (same_Some first one at_one) (begins first.position calls later other forward.3 at_other)
+follows before (first ∷ calls) (suc earlier) zero one other forward at_one at_other order = absurd (omega arith)
+follows before (first ∷ calls) (suc earlier) (suc later) one other forward at_one at_other order =
+    follows first.position calls earlier later one other forward.3 at_one at_other (omega arith)
+
+-- the same of a client's calls, where a history explains the logs
+pub follows_in : (start : Record) (logs : List ClientLog) (history : List Event) → IsLinear start logs history → (client earlier later : ℕ) (one other : Call)
+    → slice_get (calls_of logs client) earlier ≡ Some one → slice_get (calls_of logs client) later ≡ Some other → earlier < later → one.position ≤ other.asked
+follows_in start logs history linear client earlier later one other =
+    follows 0 (calls_of logs client) earlier later one other (of_client (NeverGoesBack 0) tt logs client linear.ordered)
+
+-- ---- commits that a client knows of
+
+-- no call ends before it began
+ends_later : (start : Record) (logs : List ClientLog) → IsFaultless start logs → (client place : ℕ) (call : Call) → slice_get (calls_of logs client) place ≡ Some call → call.asked ≤ call.position
+ends_later start logs fine client place call at =
+    elim (cases_lt call.position call.asked) [
+      | inl short ↦ absurd (fine.order client place (call, at, inr (inl short)))
+      | inr enough ↦ enough
+    ]
+
+-- the register at an acknowledgement's position has at least the version that was reported
+acknowledged : (start : Record) (logs : List ClientLog) → IsFaultless start logs → (client place : ℕ) (call : Call) (rec : Record) (raised : Bool)
+    → slice_get (calls_of logs client) place ≡ Some call → call.answer ≡ Acked rec raised → rec.version ≤ (register_at start logs call.position).version
+acknowledged start logs fine client place call rec true at is =
+    let ends = ends_later start logs fine client place call at in
+    let raises : IsTrue (answer_raises call.answer) = subst (λ answer. IsTrue (answer_raises answer)) (sym is) refl in
+    elim (cases_lt 0 call.position) [
+      | inl beyond ↦
+          of_raise (λ raise. raise.rec.version ≤ (register_at start logs call.position).version) logs client place call rec (below_register start logs call.position beyond) at is
+      | inr none ↦ absurd (fine.order client place (call, at, inr (inr (raises, omega arith))))
+    ]
+acknowledged start logs fine client place call rec false at is =
+    elim (cases_lt (register_at start logs call.position).version rec.version) [
+      | inl above ↦ absurd (fine.wrong client place (call, at, subst (IsWrongAnswer start logs call.position) (sym is) above))
+      | inr below ↦ below
+    ]
+
+-- a read is of the register at its position
+read_there : (start : Record) (logs : List ClientLog) → IsFaultless start logs → (client place : ℕ) (call : Call) (rec : Record) (limits : List TagLimit) (locked_out : Bool)
+    → slice_get (calls_of logs client) place ≡ Some call → call.answer ≡ Version rec limits locked_out → rec ≡ register_at start logs call.position
+read_there start logs fine client place call rec limits locked_out at is =
+    same_record rec (register_at start logs call.position) (λ apart. fine.wrong client place (call, at, subst (IsWrongAnswer start logs call.position) (sym is) apart))
+
+-- a read that begins at least where a commit was acknowledged has at least its version
+pub known : (start : Record) (logs : List ClientLog) (history : List Event) (writer reader committed place : ℕ) (commit read : Call) (reported seen : Record) (raised locked_out : Bool) (limits : List TagLimit)
+    → IsLinear start logs history → slice_get (calls_of logs writer) committed ≡ Some commit → commit.answer ≡ Acked reported raised
+    → slice_get (calls_of logs reader) place ≡ Some read → read.answer ≡ Version seen limits locked_out → commit.position ≤ read.asked → reported.version ≤ seen.version
+known start logs history writer reader committed place commit read reported seen raised locked_out limits linear at_commit is_commit at_read is_read order =
+    let fine = faultless start logs history linear in
+    let least = acknowledged start logs fine writer committed commit reported raised at_commit is_commit in
+    let ends = ends_later start logs fine reader place read at_read in
+    let risen = register_at-in_order start logs commit.position read.position (omega arith) in
+    let same = ap (λ (r : Record). r.version) (read_there start logs fine reader place read seen limits locked_out at_read is_read) in
+    omega arith

@@ -1,0 +1,107 @@
+-- What can be wrong with the logs of a run, and where. A call is named by its client, which is the place of its
+-- log, and by its place in the log. (all of this is this product's own)
+use Rattle.std.specs.Prelude.{◌≡◌, ◌≢◌, ◌⊎◌, ℕ, zero, suc, ◌-◌, ◌<◌, ◌≤◌, ◌==◌, true, false, IsTrue, List, [], ◌∷◌, length, take, filter, Some, slice_get}
+use Rattle.std.specs.List.{flat_map}
+use Rattle.fdb_history.specs.Log.{calls_of, position_after_calls, answer_raises}
+use Rattle.fdb_history.specs.Register.{record_after}
+use Rattle.fdb_history.specs.declared.log.Call.{Call}
+use Rattle.fdb_history.specs.declared.log.CallAnswer.{CallAnswer}
+use Rattle.fdb_history.specs.declared.log.CallAnswer.TheVariants.{Version, Answered, Acked, Told, Refused}
+use Rattle.fdb_history.specs.declared.log.ClientLog.{ClientLog}
+use Rattle.fdb_history.specs.declared.register.Record.{Record}
+
+-- ---- the raises
+
+-- a report that raised the register, and its position
+pub record Raise : Type 0 where
+  pub position : ℕ
+  pub rec : Record
+
+abbrev pub raise_in : ℕ → CallAnswer → List Raise
+raise_in position (Version rec limits locked_out) = []
+raise_in position (Acked rec true) = record { position = position; rec = rec } ∷ []
+raise_in position (Acked rec false) = []
+raise_in position (Answered issued) = []
+raise_in position Told = []
+raise_in position (Refused cause) = []
+
+-- the raises in the logs
+abbrev pub raises_in : List ClientLog → List Raise
+raises_in logs = flat_map (λ log. flat_map (λ call. raise_in call.position call.answer) log.calls) logs
+
+-- those at a position
+abbrev pub raises_at : List ClientLog → ℕ → List Raise
+raises_at logs position = filter (λ raise. raise.position == position) (raises_in logs)
+
+-- The register after the raises at the positions 1 up to this one, in that order, by the rule that only a greater
+-- version replaces it.
+abbrev pub after_raises : Record → List Raise → Record
+after_raises current [] = current
+after_raises current (raise ∷ raises) = after_raises (record_after current raise.rec) raises
+
+abbrev pub register_at : Record → List ClientLog → ℕ → Record
+register_at start logs zero = start
+register_at start logs (suc position) = after_raises (register_at start logs position) (raises_at logs (suc position))
+
+-- ---- faults of the history
+
+-- a call is answered from before what its client had seen, or a raise is not new to its client
+abbrev pub IsOutOfOrder : List Call → Call → Type 0
+IsOutOfOrder before call = (call.asked < position_after_calls 0 before) ⊎ ((call.position < call.asked) ⊎ (IsTrue (answer_raises call.answer) × (call.position ≡ call.asked)))
+
+-- two raises have one position
+abbrev pub IsClash : List ClientLog → ℕ → Type 0
+IsClash logs position = 1 < length (raises_at logs position)
+
+-- some call has seen at least so much
+abbrev pub IsReached : List ClientLog → ℕ → Type 0
+IsReached logs position = (client place : ℕ) × (call : Call) × (slice_get (calls_of logs client) place ≡ Some call) × (position ≤ call.position)
+
+-- a position that some call has reached has no raise
+abbrev pub IsGap : List ClientLog → ℕ → Type 0
+IsGap logs position = (1 ≤ position) × (raises_at logs position ≡ []) × IsReached logs position
+
+-- the register would not have answered so at the call's position
+abbrev pub IsWrongAnswer : Record → List ClientLog → ℕ → CallAnswer → Type 0
+IsWrongAnswer start logs position (Version rec limits locked_out) = rec ≢ register_at start logs position
+IsWrongAnswer start logs position (Acked rec true) = rec.version ≤ (register_at start logs (position - 1)).version
+IsWrongAnswer start logs position (Acked rec false) = (register_at start logs position).version < rec.version
+IsWrongAnswer start logs position (Answered issued) = ⊥
+IsWrongAnswer start logs position Told = ⊥
+IsWrongAnswer start logs position (Refused cause) = ⊥
+
+-- ---- where a fault stands
+
+-- a fault of a call: given the calls before it in its log
+abbrev pub StandsAt : (List Call → Call → Type 0) → List ClientLog → ℕ → ℕ → Type 0
+StandsAt Fault logs client place = (call : Call) × (slice_get (calls_of logs client) place ≡ Some call) × Fault (take place (calls_of logs client)) call
+
+-- a place comes before another: by client, and then by call
+abbrev pub ComesBefore : ℕ → ℕ → ℕ → ℕ → Type 0
+ComesBefore client place other_client other_place = (client < other_client) ⊎ ((client ≡ other_client) × (place < other_place))
+
+-- the first place at which something stands
+pub record IsFirst (Stands : ℕ → ℕ → Type 0) (client place : ℕ) : Type 0 where
+  pub stands : Stands client place
+  pub none_before : (c p : ℕ) → ComesBefore c p client place → Stands c p → ⊥
+
+-- the least position at which something stands
+pub record IsLeast (Stands : ℕ → Type 0) (position : ℕ) : Type 0 where
+  pub stands : Stands position
+  pub none_below : (p : ℕ) → p < position → Stands p → ⊥
+
+-- it stands nowhere
+abbrev pub Nowhere : (ℕ → ℕ → Type 0) → Type 0
+Nowhere Stands = (client place : ℕ) → Stands client place → ⊥
+
+abbrev pub AtNoPosition : (ℕ → Type 0) → Type 0
+AtNoPosition Stands = (position : ℕ) → Stands position → ⊥
+
+-- ---- the whole
+
+-- No fault of the history stands anywhere in the logs.
+pub record IsFaultless (start : Record) (logs : List ClientLog) : Type 0 where
+  pub order : Nowhere (StandsAt IsOutOfOrder logs)
+  pub clash : AtNoPosition (IsClash logs)
+  pub gap : AtNoPosition (IsGap logs)
+  pub wrong : Nowhere (StandsAt (λ before call. IsWrongAnswer start logs call.position call.answer) logs)
