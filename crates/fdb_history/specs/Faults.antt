@@ -30,8 +30,11 @@ abbrev pub raises_in : List ClientLog → List Raise
 raises_in logs = flat_map (λ log. flat_map (λ call. raise_in call.position call.answer) log.calls) logs
 
 -- those at a position
+abbrev pub at_position : ℕ → List Raise → List Raise
+at_position position raises = filter (λ raise. raise.position == position) raises
+
 abbrev pub raises_at : List ClientLog → ℕ → List Raise
-raises_at logs position = filter (λ raise. raise.position == position) (raises_in logs)
+raises_at logs position = at_position position (raises_in logs)
 
 -- The register after the raises at the positions 1 up to this one, in that order, by the rule that only a greater
 -- version replaces it.
@@ -61,14 +64,17 @@ IsReached logs position = (client place : ℕ) × (call : Call) × (slice_get (c
 abbrev pub IsGap : List ClientLog → ℕ → Type 0
 IsGap logs position = (1 ≤ position) × (raises_at logs position ≡ []) × IsReached logs position
 
--- the register would not have answered so at the call's position
+-- The register would not have answered so at the call's position, given the register at each position.
+abbrev pub IsWrongBy : (ℕ → Record) → ℕ → CallAnswer → Type 0
+IsWrongBy register position (Version rec limits locked_out) = rec ≢ register position
+IsWrongBy register position (Acked rec true) = rec.version ≤ (register (position - 1)).version
+IsWrongBy register position (Acked rec false) = (register position).version < rec.version
+IsWrongBy register position (Answered issued) = ⊥
+IsWrongBy register position Told = ⊥
+IsWrongBy register position (Refused cause) = ⊥
+
 abbrev pub IsWrongAnswer : Record → List ClientLog → ℕ → CallAnswer → Type 0
-IsWrongAnswer start logs position (Version rec limits locked_out) = rec ≢ register_at start logs position
-IsWrongAnswer start logs position (Acked rec true) = rec.version ≤ (register_at start logs (position - 1)).version
-IsWrongAnswer start logs position (Acked rec false) = (register_at start logs position).version < rec.version
-IsWrongAnswer start logs position (Answered issued) = ⊥
-IsWrongAnswer start logs position Told = ⊥
-IsWrongAnswer start logs position (Refused cause) = ⊥
+IsWrongAnswer start logs = IsWrongBy (register_at start logs)
 
 -- ---- where a fault stands
 

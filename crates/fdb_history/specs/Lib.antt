@@ -9,3 +9,6 @@ pub mod Answer
 pub mod Text
 pub mod Laws
 pub mod Faults
+pub mod Strays
+pub mod Audit
+pub mod Auditing

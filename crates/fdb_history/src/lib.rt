@@ -5,6 +5,7 @@
 //! history of the logs is (`Linear`), and how commit versions follow one another (`Chain`, `Answer`).
 #![tactic(auto)]
 
+mod auditing;
 mod chain;
 mod event;
 mod fault;

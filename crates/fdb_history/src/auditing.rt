@@ -1,0 +1,4 @@
+//! The audit of a run's logs.
+
+mod found;
+mod registers;
