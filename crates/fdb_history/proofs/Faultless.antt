@@ -4,6 +4,7 @@ use Rattle.std.specs.List.{AllByRecursion}
 use Rattle.std.proofs.lemmas.Bool.{cond-true, cond-false, and_parts, eqb-true, false_from_ne_true, cases_lt, cases_order, cases_Bool}
 use Rattle.std.proofs.lemmas.List.{map-append, nil_from_length}
 use Rattle.std.proofs.lemmas.List.Sums.{length-filter}
+use Rattle.fdb_history.specs.Auditing.{IsWithin}
 use Rattle.fdb_history.specs.Event.{Placed, is_raise, raise_count}
 use Rattle.fdb_history.specs.Explained.{placed_in, events_at, events_up_to, explained}
 use Rattle.fdb_history.specs.Faults.{raises_at, register_at, after_raises, IsWrongAnswer, IsFaultless}
@@ -134,3 +135,9 @@ pub linear : (start : Record) (logs : List ClientLog) → IsFaultless start logs
 linear start logs fine =
     let P : ℕ → Type 0 = λ n. IsLinear start logs (events_up_to n (all_of logs)) in
     subst P (length-filter (λ p. is_raise p.event) (all_of logs)) (linear_up_to start logs fine)
+
+-- no event stands above the number of raises
+pub all_events_within : (start : Record) (logs : List ClientLog) → IsFaultless start logs → IsWithin logs
+all_events_within start logs fine =
+    let P : ℕ → Type 0 = λ n. AllByRecursion (λ p. p.position ≤ n) (all_of logs) in
+    subst P (length-filter (λ p. is_raise p.event) (all_of logs)) (all_within start logs fine)

@@ -12,3 +12,6 @@ pub mod FaultlessLegal
 pub mod Faultless
 pub mod KnownCommits
 mod Examples
+pub mod FirstCalls
+pub mod ByTable
+pub mod Audited

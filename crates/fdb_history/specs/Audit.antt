@@ -4,7 +4,7 @@ use Rattle.fdb_history.specs.Explained.{explained}
 use Rattle.fdb_history.specs.Faults.{IsFaultless, IsOutOfOrder, IsClash, IsGap, IsWrongAnswer, StandsAt, IsFirst, IsLeast, Nowhere, AtNoPosition, register_at}
 use Rattle.fdb_history.specs.Strays.{IsStray}
 use Rattle.fdb_history.specs.declared.chain.Issued.{Issued}
-use Rattle.fdb_history.specs.declared.event.Event.{Event}
+use Rattle.fdb_history.specs.declared.event.History.{History}
 use Rattle.fdb_history.specs.declared.fault.AuditFault.{AuditFault}
 use Rattle.fdb_history.specs.declared.fault.AuditFault.TheVariants.{Order, Clash, Gap, Wrong, Stray, NotAbove, Memory}
 use Rattle.fdb_history.specs.declared.log.Call.{Call}
@@ -45,7 +45,7 @@ IsFirstFault start chain logs (NotAbove client call) = IsFaultless start logs ×
 IsFirstFault start chain logs Memory = Unit {0}
 
 -- Where no fault stands, the answer is the one history of the logs.
-abbrev pub IsAudited : Record → List Issued → List ClientLog → Result (List Event) AuditFault → Type 0
+abbrev pub IsAudited : Record → List Issued → List ClientLog → Result History AuditFault → Type 0
 IsAudited start chain logs (Ok history) =
-    IsFaultless start logs × Nowhere (IsStray chain logs) × Nowhere (Low start logs) × (history ≡ explained logs)
+    IsFaultless start logs × Nowhere (IsStray chain logs) × Nowhere (Low start logs) × (history.events ≡ explained logs)
 IsAudited start chain logs (Err fault) = IsFirstFault start chain logs fault

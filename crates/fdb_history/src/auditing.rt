@@ -1,4 +1,101 @@
-//! The audit of a run's logs.
+//! The audit of a run's logs: their one history, or the first fault that stands.
 
+ghost use Rattle.std.specs.Prelude.{◌≡◌, ◌≤◌, ◌⊎◌, length, List, OnOk, IfOk, IfErr, Ok, Err};
+ghost use Rattle.fdb_history.specs.Audit.{IsAudited, IsFirstFault, Low};
+ghost use Rattle.fdb_history.specs.Auditing.{AreRegisters};
+ghost use Rattle.fdb_history.specs.Faults.{IsFaultless, Nowhere};
+ghost use Rattle.fdb_history.specs.Linear.{IsLinear};
+ghost use Rattle.fdb_history.specs.Strays.{IsStray};
+ghost use Rattle.fdb_history.specs.declared.chain.Issued.{Issued};
+ghost use Rattle.fdb_history.specs.declared.event.Event.{Event};
+
+mod answers;
+mod explaining;
 mod found;
+mod order;
 mod registers;
+mod stray;
+
+use crate::chain::Issued;
+use crate::event::History;
+use crate::fault::AuditFault;
+use crate::log::ClientLog;
+use crate::register::Record;
+use found::CallName;
+use registers::Registers;
+use std::alloc::{AllocError, Global};
+
+/// The one history of the logs of a run, or the first fault that stands in them or in the chain of commit versions
+/// that was issued to them. The log at a place of `logs` is the client's of that number, and `start` is the record
+/// that the register began with.
+///
+/// The faults are looked for in the order of [`AuditFault`], each kind in all logs before the next: the least client
+/// and in it the least call, or the least position, is named. Memory may be refused at any time. It takes time in
+/// proportion to the calls and to the chain, up to a sort of the calls by position.
+pub fn audit(
+    alloc: Global,
+    start: Record,
+    chain: &[Issued],
+    logs: &[ClientLog],
+) -> Result<History, AuditFault>
+    requires { length logs.now ≤ 64 }
+    ensures audited { IsAudited start chain.now logs.now result }
+    ensures linear { IfOk result (λ history. IsLinear start logs.now history.events) }
+    ensures complete { (history : List Event) → IsLinear start logs.now history → Nowhere (IsStray chain.now logs.now) → Nowhere (Low start logs.now)
+        → IfErr result (λ fault. fault ≡ AuditFault.Memory) }
+{
+    history_or_fault(alloc, start, chain, logs)
+}
+
+/// The history, or the first fault.
+fn history_or_fault(
+    alloc: Global,
+    start: Record,
+    chain: &[Issued],
+    logs: &[ClientLog],
+) -> Result<History, AuditFault>
+    requires { length logs.now ≤ 64 }
+    ensures { IsAudited start chain.now logs.now result }
+{
+    let registers = faultless_registers(alloc, start, logs)?;
+    if let Some(CallName { client, call }) = stray::first_stray(alloc, chain, logs)? {
+        return Err(AuditFault::Stray { client, call });
+    }
+    if let Some(CallName { client, call }) = answers::first_low(&registers, logs) {
+        return Err(AuditFault::NotAbove { client, call });
+    }
+    Ok(explaining::explain(alloc, logs)?)
+}
+
+/// The register at each position that a call has reached, or the first fault of the history.
+fn faultless_registers(
+    alloc: Global,
+    start: Record,
+    logs: &[ClientLog],
+) -> Result<Registers, AuditFault>
+    requires { length logs.now ≤ 64 }
+    ensures faultless { OnOk result (IsFaultless start logs.now) }
+    ensures begins { IfOk result (λ registers. registers.start ≡ start) }
+    ensures right { IfOk result (λ registers. AreRegisters start logs.now registers) }
+    ensures err { IfErr result (λ fault. (chain : List Issued) → IsFirstFault start chain logs.now fault) }
+{
+    if let Some(CallName { client, call }) = order::first_out_of_order(logs) {
+        return Err(AuditFault::Order { client, call });
+    }
+    let registers = registers::registers_of(alloc, start, logs)?;
+    if let Some(CallName { client, call }) = answers::first_wrong(&registers, logs) {
+        return Err(AuditFault::Wrong { client, call });
+    }
+    Ok(registers)
+}
+
+impl From<AllocError> for AuditFault {
+    ghost use Rattle.std.specs.Prelude.{◌≡◌};
+    ghost use Rattle.fdb_history.specs.declared.fault.AuditFault.TheVariants.{Memory};
+
+    ghost from_gives = { λ _ fault. fault ≡ Memory };
+
+    fn from(_refused: AllocError) -> Self {
+        AuditFault::Memory
+    }
+}
