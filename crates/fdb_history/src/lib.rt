@@ -18,6 +18,7 @@ mod sequence;
 #[cfg(test)]
 mod tests;
 
+pub use auditing::audit;
 pub use chain::{Ask, Issued, MAX_STEP};
 pub use event::{Event, History, register_after};
 pub use fault::AuditFault;

@@ -1,5 +1,11 @@
 //! What no clause says: values from outside, the printed text, and that a call can succeed.
 
+mod faults;
+mod histories;
+mod logs;
+mod strays;
+mod versions;
+
 use crate::{AuditFault, Event, Gate, OpenGate, Place, Record, Refusal, Sequence, register_after};
 use std::alloc::{AllocError, Global};
 use std::fmt::Display;

@@ -30,8 +30,13 @@ impl Registers {
         }
     }
 }
-pub fn registers_of(alloc: Global, start: Record, logs: &[ClientLog]) -> Result<Registers, AuditFault>
-    requires { Nowhere (OutOfOrder logs.now) }                     // specs/Audit.antt
+
+pub fn registers_of(
+    alloc: Global,
+    start: Record,
+    logs: &[ClientLog],
+) -> Result<Registers, AuditFault>
+    requires { Nowhere (OutOfOrder logs.now) } // specs/Audit.antt
     ensures no_clash { OnOk result (AtNoPosition (IsClash logs.now)) }
     ensures no_gap { OnOk result (AtNoPosition (IsGap logs.now)) }
     ensures begins { IfOk result (λ registers. registers.start ≡ start) }
@@ -39,5 +44,8 @@ pub fn registers_of(alloc: Global, start: Record, logs: &[ClientLog]) -> Result<
     ensures err { IfErr result (IsRaiseFault logs.now) }
 {
     let _ = logs;
-    Ok(Registers { start, table: Vec::new(alloc) })
+    Ok(Registers {
+        start,
+        table: Vec::new(alloc),
+    })
 }
