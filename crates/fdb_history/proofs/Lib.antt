@@ -10,5 +10,7 @@ pub mod FaultlessRaises
 pub mod FaultlessLogs
 pub mod FaultlessLegal
 pub mod Faultless
+pub mod Grouped
+pub mod Explaining
 pub mod KnownCommits
 mod Examples

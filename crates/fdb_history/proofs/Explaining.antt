@@ -1,0 +1,122 @@
+-- The events of the logs, sorted by position and each raise before the others there, are the blocks of the positions.
+use Rattle.std.proofs.Common.{◌≡◌, ℕ, zero, suc, ◌+◌, ◌<◌, ◌≤◌, ◌==◌, ◌&&◌, not, Bool, true, false, ltb, leb, List, [], ◌∷◌, ◌++◌, length, filter, map, None, Ordering, Less, Equal, Greater, is_lt, nat_cmp, refl, ap, sym, ◌∙◌, append_assoc, inl, inr, arith}
+use Rattle.std.specs.Cmp.{ranked}
+use Rattle.std.specs.List.{AllByRecursion, All}
+use Rattle.std.specs.List.Sorted.{IsSortedByKey, IsStableByKey, IsPermutation}
+use Rattle.std.specs.Ordering.{MatchOrdering, bool_cmp, ordering_then}
+use Rattle.std.proofs.lemmas.Bool.{lt-ltb, le-ltb, le-leb, lt-leb, eq-eqb, ne_eqb, and_from, and_left, and_right, cases_eq}
+use Rattle.std.proofs.lemmas.List.Elements.{filter_agree}
+use Rattle.fdb_history.specs.Event.{Placed, is_raise}
+use Rattle.fdb_history.proofs.FaultlessBlocks.{is_raise_at, is_other_at, block, blocks_up_to}
+use Rattle.fdb_history.proofs.Grouped.{one_more_group, same_group}
+
+-- a number for each position and kind, in the order of the sort
+abbrev rank : ℕ → Bool → ℕ
+rank position true = position + position
+rank position false = position + position + 1
+
+rank-least : (position : ℕ) (raised : Bool) → position + position ≤ rank position raised
+rank-least position true = omega arith
+rank-least position false = omega arith
+
+rank-most : (position : ℕ) (raised : Bool) → rank position raised ≤ position + position + 1
+rank-most position true = omega arith
+rank-most position false = omega arith
+
+-- the order of the sort, of a position and of whether it is no raise
+abbrev pub pair_order : ℕ × Bool → ℕ × Bool → Ordering
+pair_order x y = ordering_then (nat_cmp x.0 y.0) (bool_cmp x.1 y.1)
+
+-- what the sort goes by
+abbrev pub sort_key : Placed → ℕ × Bool
+sort_key p = (p.position, not (is_raise p.event))
+
+-- it is that of the ranks
+less : (o : Ordering) (m n : ℕ) (a b : Bool) → MatchOrdering o (m < n) (m ≡ n) (n < m)
+    → is_lt (ordering_then o (bool_cmp (not a) (not b))) ≡ ltb (rank m a) (rank n b)
+less Less m n a b below =
+    let most = rank-most m a in
+    let least = rank-least n b in
+    sym (lt-ltb (rank m a) (rank n b) (omega arith))
+less Greater m n a b above =
+    let most = rank-most n b in
+    let least = rank-least m a in
+    sym (le-ltb (rank m a) (rank n b) (omega arith))
+less Equal m n true true same = sym (le-ltb (rank m true) (rank n true) (omega arith))
+less Equal m n true false same = sym (lt-ltb (rank m true) (rank n false) (omega arith))
+less Equal m n false true same = sym (le-ltb (rank m false) (rank n true) (omega arith))
+less Equal m n false false same = sym (le-ltb (rank m false) (rank n false) (omega arith))
+
+-- the test of the sort, by ranks
+abbrev rank_of : Placed → ℕ
+rank_of p = rank p.position (is_raise p.event)
+
+by_rank : (x y : Placed) → is_lt (pair_order (sort_key x) (sort_key y)) ≡ ltb (rank_of x) (rank_of y)
+by_rank x y = less (nat_cmp x.position y.position) x.position y.position (is_raise x.event) (is_raise y.event) (ranked x.position y.position (nat_cmp x.position y.position) refl)
+
+-- ---- the blocks, by ranks
+
+-- the raises at a position have a rank of their own
+raise_rank : (m position : ℕ) (raised : Bool) → (m == position && raised) ≡ (rank m raised == position + position)
+raise_rank m position true =
+    elim (cases_eq m position) [
+      | inl same ↦ and_from (m == position) true (eq-eqb m position same) refl ∙ sym (eq-eqb (rank m true) (position + position) (omega arith))
+      | inr apart ↦ and_left (m == position) true (ne_eqb m position apart) ∙ sym (ne_eqb (rank m true) (position + position) (λ same. absurd (omega arith)))
+    ]
+raise_rank m position false = and_right (m == position) false refl ∙ sym (ne_eqb (rank m false) (position + position) (λ same. absurd (omega arith)))
+
+-- and so have the others
+other_rank : (m position : ℕ) (raised : Bool) → (m == position && not raised) ≡ (rank m raised == position + position + 1)
+other_rank m position false =
+    elim (cases_eq m position) [
+      | inl same ↦ and_from (m == position) true (eq-eqb m position same) refl ∙ sym (eq-eqb (rank m false) (position + position + 1) (omega arith))
+      | inr apart ↦ and_left (m == position) true (ne_eqb m position apart) ∙ sym (ne_eqb (rank m false) (position + position + 1) (λ same. absurd (omega arith)))
+    ]
+other_rank m position true = and_right (m == position) false refl ∙ sym (ne_eqb (rank m true) (position + position + 1) (λ same. absurd (omega arith)))
+
+-- the events of a rank, and those of a rank and below
+abbrev of_rank : ℕ → List Placed → List Placed
+of_rank k all = filter (λ p. rank_of p == k) all
+
+abbrev to_rank : ℕ → List Placed → List Placed
+to_rank k all = filter (λ p. leb (rank_of p) k) all
+
+block-rank : (position : ℕ) (all : List Placed) → block position all ≡ of_rank (position + position) all ++ of_rank (position + position + 1) all
+block-rank position all =
+    ap (λ l. l ++ filter (is_other_at position) all) (filter_agree (is_raise_at position) (λ p. rank_of p == position + position) (λ p. raise_rank p.position position (is_raise p.event)) all)
+    ∙ ap (λ l. of_rank (position + position) all ++ l) (filter_agree (is_other_at position) (λ p. rank_of p == position + position + 1) (λ p. other_rank p.position position (is_raise p.event)) all)
+
+-- ---- what the sort leaves
+
+-- the list is in the order of the sort
+abbrev pub IsInOrder : List Placed → Type 0
+IsInOrder = IsSortedByKey sort_key pair_order
+
+-- one more block is two more ranks
+two_more : (j position : ℕ) (ys : List Placed) → position + position ≡ suc j → IsInOrder ys → to_rank (position + position + 1) ys ≡ to_rank j ys ++ block position ys
+two_more j position ys next sorted =
+    let lt = λ (x y : Placed). is_lt (pair_order (sort_key x) (sort_key y)) in
+    one_more_group rank_of lt by_rank (position + position) (position + position + 1) ys (omega arith) sorted
+    ∙ ap (λ l. l ++ of_rank (position + position + 1) ys) (one_more_group rank_of lt by_rank j (position + position) ys next sorted)
+    ∙ append_assoc (to_rank j ys) (of_rank (position + position) ys) (of_rank (position + position + 1) ys)
+    ∙ ap (λ l. to_rank j ys ++ l) (sym (block-rank position ys))
+
+-- ranks 0 and 1 are the first block
+first_two : (ys : List Placed) → IsInOrder ys → to_rank 1 ys ≡ block 0 ys
+first_two ys sorted =
+    let lt = λ (x y : Placed). is_lt (pair_order (sort_key x) (sort_key y)) in
+    one_more_group rank_of lt by_rank 0 1 ys refl sorted
+    ∙ ap (λ l. l ++ of_rank 1 ys) (filter_agree (λ p. leb (rank_of p) 0) (λ p. rank_of p == 0) (λ p. at_zero (rank_of p)) ys)
+    ∙ sym (block-rank 0 ys)
+  where
+    at_zero : (k : ℕ) → leb k 0 ≡ (k == 0)
+    at_zero k = elim (cases_eq k 0) [
+      | inl same ↦ le-leb k 0 (omega arith) ∙ sym (eq-eqb k 0 same)
+      | inr apart ↦ lt-leb k 0 (omega arith) ∙ sym (ne_eqb k 0 apart)
+    ]
+
+-- a list in order is the blocks of its own, as far as they go
+in_blocks : (count : ℕ) (ys : List Placed) → IsInOrder ys → to_rank (count + count + 1) ys ≡ blocks_up_to count ys
+in_blocks zero ys sorted = first_two ys sorted
+in_blocks (suc count) ys sorted =
+    two_more (count + count + 1) (suc count) ys (omega arith) sorted ∙ ap (λ l. l ++ block (suc count) ys) (in_blocks count ys sorted)
