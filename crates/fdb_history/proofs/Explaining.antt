@@ -1,13 +1,20 @@
 -- The events of the logs, sorted by position and each raise before the others there, are the blocks of the positions.
-use Rattle.std.proofs.Common.{◌≡◌, ℕ, zero, suc, ◌+◌, ◌<◌, ◌≤◌, ◌==◌, ◌&&◌, not, Bool, true, false, ltb, leb, List, [], ◌∷◌, ◌++◌, length, filter, map, None, Ordering, Less, Equal, Greater, is_lt, nat_cmp, refl, ap, sym, ◌∙◌, append_assoc, inl, inr, arith}
+use Rattle.std.proofs.Common.{◌≡◌, ℕ, zero, suc, ◌+◌, ◌<◌, ◌≤◌, ◌==◌, ◌&&◌, not, Bool, true, false, ltb, leb, List, [], ◌∷◌, ◌++◌, length, filter, map, count_by, None, Ordering, Less, Equal, Greater, is_lt, nat_cmp, refl, ap, sym, subst, ◌∙◌, append_assoc, inl, inr, arith}
 use Rattle.std.specs.Cmp.{ranked}
 use Rattle.std.specs.List.{AllByRecursion, All}
 use Rattle.std.specs.List.Sorted.{IsSortedByKey, IsStableByKey, IsPermutation}
 use Rattle.std.specs.Ordering.{MatchOrdering, bool_cmp, ordering_then}
 use Rattle.std.proofs.lemmas.Bool.{lt-ltb, le-ltb, le-leb, lt-leb, eq-eqb, ne_eqb, and_from, and_left, and_right, cases_eq}
-use Rattle.std.proofs.lemmas.List.Elements.{filter_agree}
+use Rattle.std.proofs.lemmas.List.Elements.{filter_agree, All-from_recursion}
+use Rattle.std.proofs.lemmas.List.Sorted.{All-permutation}
+use Rattle.fdb_history.specs.Auditing.{IsWithin}
 use Rattle.fdb_history.specs.Event.{Placed, is_raise}
-use Rattle.fdb_history.proofs.FaultlessBlocks.{is_raise_at, is_other_at, block, blocks_up_to}
+use Rattle.fdb_history.specs.Explained.{placed_in, explained}
+use Rattle.fdb_history.specs.declared.event.Event.TheVariants.{Report, Read}
+use Rattle.fdb_history.specs.declared.log.ClientLog.{ClientLog}
+use Rattle.fdb_history.specs.declared.register.Record.{Record}
+use Rattle.fdb_history.proofs.Faultless.{events-blocks}
+use Rattle.fdb_history.proofs.FaultlessBlocks.{is_raise_at, is_other_at, block, blocks_up_to, kept}
 use Rattle.fdb_history.proofs.Grouped.{one_more_group, same_group}
 
 -- a number for each position and kind, in the order of the sort
@@ -120,3 +127,63 @@ in_blocks : (count : ℕ) (ys : List Placed) → IsInOrder ys → to_rank (count
 in_blocks zero ys sorted = first_two ys sorted
 in_blocks (suc count) ys sorted =
     two_more (count + count + 1) (suc count) ys (omega arith) sorted ∙ ap (λ l. l ++ block (suc count) ys) (in_blocks count ys sorted)
+
+-- ---- what a stable sort leaves as it was
+
+-- a record, of which only the place in an event counts
+abbrev blank : Record
+blank = record { version = 0; locked = false; metadata = None }
+
+-- a raise at a position, and another event there
+abbrev a_raise : ℕ → Placed
+a_raise position = record { event = Report 0 0 blank true; position = position }
+
+abbrev an_other : ℕ → Placed
+an_other position = record { event = Read 0 0 blank; position = position }
+
+-- the list has been sorted from this one
+abbrev pub IsFrom : List Placed → List Placed → Type 0
+IsFrom all ys = IsStableByKey sort_key pair_order all ys
+
+-- the sort leaves each block as it was
+same_block : (position : ℕ) (all ys : List Placed) → IsFrom all ys → block position ys ≡ block position all
+same_block position all ys stable =
+    let lt = λ (x y : Placed). is_lt (pair_order (sort_key x) (sort_key y)) in
+    let raises : of_rank (position + position) ys ≡ of_rank (position + position) all = same_group rank_of lt by_rank all ys stable (a_raise position) in
+    let others : of_rank (position + position + 1) ys ≡ of_rank (position + position + 1) all = same_group rank_of lt by_rank all ys stable (an_other position) in
+    block-rank position ys
+    ∙ ap (λ l. l ++ of_rank (position + position + 1) ys) raises
+    ∙ ap (λ l. of_rank (position + position) all ++ l) others
+    ∙ sym (block-rank position all)
+
+-- and so all blocks
+same_blocks : (count : ℕ) (all ys : List Placed) → IsFrom all ys → blocks_up_to count ys ≡ blocks_up_to count all
+same_blocks zero all ys stable = same_block 0 all ys stable
+same_blocks (suc count) all ys stable =
+    ap (λ l. l ++ block (suc count) ys) (same_blocks count all ys stable) ∙ ap (λ l. blocks_up_to count all ++ l) (same_block (suc count) all ys stable)
+
+-- ---- the whole
+
+-- where no position is above a number, no rank is above its two
+all_to_rank : (count : ℕ) (ys : List Placed) → All (λ p. p.position ≤ count) ys → to_rank (count + count + 1) ys ≡ ys
+all_to_rank count [] within = refl
+all_to_rank count (p ∷ ys) within =
+    let most = rank-most p.position (is_raise p.event) in
+    let here : p.position ≤ count = within 0 p (omega arith) in
+    kept (λ q. leb (rank_of q) (count + count + 1)) p ys (le-leb (rank_of p) (count + count + 1) (omega arith))
+    ∙ ap (λ l. p ∷ l) (all_to_rank count ys (λ k d below. within (suc k) d (omega arith)))
+
+-- the sorted events are the blocks of the unsorted
+pub sorted_blocks : (count : ℕ) (all ys : List Placed) → IsPermutation all ys → IsInOrder ys → IsFrom all ys → AllByRecursion (λ p. p.position ≤ count) all → ys ≡ blocks_up_to count all
+sorted_blocks count all ys moved sorted stable within =
+    sym (all_to_rank count ys (All-permutation (λ p. p.position ≤ count) all ys moved (All-from_recursion (λ p. p.position ≤ count) all within)))
+    ∙ in_blocks count ys sorted ∙ same_blocks count all ys stable
+
+-- their events are the history
+pub sorted_explained : (logs : List ClientLog) (all ys : List Placed) → all ≡ placed_in 0 logs → IsWithin logs → IsPermutation all ys → IsInOrder ys → IsFrom all ys
+    → map (λ p. p.event) ys ≡ explained logs
+sorted_explained logs all ys is within moved sorted stable =
+    let count = count_by (λ p. is_raise p.event) (placed_in 0 logs) in
+    let P : List Placed → Type 0 = λ l. AllByRecursion (λ p. p.position ≤ count) l in
+    ap (map (λ p. p.event)) (sorted_blocks count all ys moved sorted stable (subst P (sym is) within) ∙ ap (blocks_up_to count) is)
+    ∙ sym (events-blocks count (placed_in 0 logs))

@@ -1,6 +1,6 @@
 //! The history of the logs, in its fixed order.
 
-ghost use Rattle.std.specs.Prelude.{◌≡◌, ◌≤◌, ◌++◌, length, OnOk, IfOk};
+ghost use Rattle.std.specs.Prelude.{◌≡◌, ◌≤◌, ◌++◌, map, length, OnOk, IfOk};
 ghost use Rattle.fdb_history.specs.Auditing.{IsWithin};
 ghost use Rattle.fdb_history.specs.Explained.{explained, placed_in};
 ghost use Rattle.fdb_history.specs.Log.{event_of_answer, placed_from};
@@ -19,7 +19,7 @@ pub fn explain(alloc: Global, logs: &[ClientLog]) -> Result<History, AllocError>
     let mut all = placed_events(alloc, logs)?;
     // Each raise before the others at its position. The sort is stable, so the rest stays by client and by call.
     all.sort_by_key(|p| (p.position, !p.event.is_raise()))?;
-    let events: Vec<Event> = all.iter().map(|p| p.event).collect(alloc)?;
+    let events = events_alone(alloc, all.as_slice())?;
     Ok(History {
         events: Sequence::from(events),
     })
@@ -68,4 +68,11 @@ fn event_of(client: u32, call: u64, answer: &CallAnswer) -> Option<Event>
         }),
         CallAnswer::Answered(_) | CallAnswer::Told | CallAnswer::Refused(_) => None,
     }
+}
+
+/// The events without their positions.
+fn events_alone(alloc: Global, all: &[Placed]) -> Result<Vec<Event>, AllocError>
+    ensures { IfOk result (λ events. events.items ≡ map (λ p. p.event) all.now) }
+{
+    all.iter().map(|p| p.event).collect(alloc)
 }
