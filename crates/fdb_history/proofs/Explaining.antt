@@ -17,6 +17,8 @@ use Rattle.fdb_history.proofs.Faultless.{events-blocks}
 use Rattle.fdb_history.proofs.FaultlessBlocks.{is_raise_at, is_other_at, block, blocks_up_to, kept}
 use Rattle.fdb_history.proofs.Grouped.{one_more_group, same_group}
 
+-- ---- the sort, by ranks
+
 -- a number for each position and kind, in the order of the sort
 abbrev rank : ℕ → Bool → ℕ
 rank position true = position + position
@@ -38,7 +40,7 @@ pair_order x y = ordering_then (nat_cmp x.0 y.0) (bool_cmp x.1 y.1)
 abbrev pub sort_key : Placed → ℕ × Bool
 sort_key p = (p.position, not (is_raise p.event))
 
--- it is that of the ranks
+-- the order of the sort is that of the ranks
 less : (o : Ordering) (m n : ℕ) (a b : Bool) → MatchOrdering o (m < n) (m ≡ n) (n < m)
     → is_lt (ordering_then o (bool_cmp (not a) (not b))) ≡ ltb (rank m a) (rank n b)
 less Less m n a b below =
@@ -54,11 +56,16 @@ less Equal m n true false same = sym (lt-ltb (rank m true) (rank n false) (omega
 less Equal m n false true same = sym (le-ltb (rank m false) (rank n true) (omega arith))
 less Equal m n false false same = sym (le-ltb (rank m false) (rank n false) (omega arith))
 
--- the test of the sort, by ranks
+-- the rank of an event
 abbrev rank_of : Placed → ℕ
 rank_of p = rank p.position (is_raise p.event)
 
-by_rank : (x y : Placed) → is_lt (pair_order (sort_key x) (sort_key y)) ≡ ltb (rank_of x) (rank_of y)
+-- whether the sort puts one before another
+abbrev is_before : Placed → Placed → Bool
+is_before x y = is_lt (pair_order (sort_key x) (sort_key y))
+
+-- it does so by the ranks
+by_rank : (x y : Placed) → is_before x y ≡ ltb (rank_of x) (rank_of y)
 by_rank x y = less (nat_cmp x.position y.position) x.position y.position (is_raise x.event) (is_raise y.event) (ranked x.position y.position (nat_cmp x.position y.position) refl)
 
 -- ---- the blocks, by ranks
@@ -102,17 +109,15 @@ IsInOrder = IsSortedByKey sort_key pair_order
 -- one more block is two more ranks
 two_more : (j position : ℕ) (ys : List Placed) → position + position ≡ suc j → IsInOrder ys → to_rank (position + position + 1) ys ≡ to_rank j ys ++ block position ys
 two_more j position ys next sorted =
-    let lt = λ (x y : Placed). is_lt (pair_order (sort_key x) (sort_key y)) in
-    one_more_group rank_of lt by_rank (position + position) (position + position + 1) ys (omega arith) sorted
-    ∙ ap (λ l. l ++ of_rank (position + position + 1) ys) (one_more_group rank_of lt by_rank j (position + position) ys next sorted)
+    one_more_group rank_of is_before by_rank (position + position) (position + position + 1) ys (omega arith) sorted
+    ∙ ap (λ l. l ++ of_rank (position + position + 1) ys) (one_more_group rank_of is_before by_rank j (position + position) ys next sorted)
     ∙ append_assoc (to_rank j ys) (of_rank (position + position) ys) (of_rank (position + position + 1) ys)
     ∙ ap (λ l. to_rank j ys ++ l) (sym (block-rank position ys))
 
 -- ranks 0 and 1 are the first block
 first_two : (ys : List Placed) → IsInOrder ys → to_rank 1 ys ≡ block 0 ys
 first_two ys sorted =
-    let lt = λ (x y : Placed). is_lt (pair_order (sort_key x) (sort_key y)) in
-    one_more_group rank_of lt by_rank 0 1 ys refl sorted
+    one_more_group rank_of is_before by_rank 0 1 ys refl sorted
     ∙ ap (λ l. l ++ of_rank 1 ys) (filter_agree (λ p. leb (rank_of p) 0) (λ p. rank_of p == 0) (λ p. at_zero (rank_of p)) ys)
     ∙ sym (block-rank 0 ys)
   where
@@ -148,9 +153,8 @@ IsFrom all ys = IsStableByKey sort_key pair_order all ys
 -- the sort leaves each block as it was
 same_block : (position : ℕ) (all ys : List Placed) → IsFrom all ys → block position ys ≡ block position all
 same_block position all ys stable =
-    let lt = λ (x y : Placed). is_lt (pair_order (sort_key x) (sort_key y)) in
-    let raises : of_rank (position + position) ys ≡ of_rank (position + position) all = same_group rank_of lt by_rank all ys stable (a_raise position) in
-    let others : of_rank (position + position + 1) ys ≡ of_rank (position + position + 1) all = same_group rank_of lt by_rank all ys stable (an_other position) in
+    let raises : of_rank (position + position) ys ≡ of_rank (position + position) all = same_group rank_of is_before by_rank all ys stable (a_raise position) in
+    let others : of_rank (position + position + 1) ys ≡ of_rank (position + position + 1) all = same_group rank_of is_before by_rank all ys stable (an_other position) in
     block-rank position ys
     ∙ ap (λ l. l ++ of_rank (position + position + 1) ys) raises
     ∙ ap (λ l. of_rank (position + position) all ++ l) others
@@ -174,7 +178,7 @@ all_to_rank count (p ∷ ys) within =
     ∙ ap (λ l. p ∷ l) (all_to_rank count ys (λ k d below. within (suc k) d (omega arith)))
 
 -- the sorted events are the blocks of the unsorted
-pub sorted_blocks : (count : ℕ) (all ys : List Placed) → IsPermutation all ys → IsInOrder ys → IsFrom all ys → AllByRecursion (λ p. p.position ≤ count) all → ys ≡ blocks_up_to count all
+sorted_blocks : (count : ℕ) (all ys : List Placed) → IsPermutation all ys → IsInOrder ys → IsFrom all ys → AllByRecursion (λ p. p.position ≤ count) all → ys ≡ blocks_up_to count all
 sorted_blocks count all ys moved sorted stable within =
     sym (all_to_rank count ys (All-permutation (λ p. p.position ≤ count) all ys moved (All-from_recursion (λ p. p.position ≤ count) all within)))
     ∙ in_blocks count ys sorted ∙ same_blocks count all ys stable

@@ -31,7 +31,7 @@ pub enum Event {
     },
 }
 
-/// An event, and its position: the number of raises up to and including it.
+/// An event and its position.
 #[derive(Clone, Copy)]
 pub struct Placed {
     /// The event.
@@ -49,7 +49,7 @@ pub struct History {
 
 impl Event {
     /// Whether it is a report that raised the register.
-    pub fn is_raise(&self) -> bool
+    pub(crate) fn is_raise(&self) -> bool
         ensures { result ≡ is_raise self.now }
     {
         matches!(self, Event::Report { raised: true, .. })

@@ -17,9 +17,9 @@ pub fn explain(alloc: Global, logs: &[ClientLog]) -> Result<History, AllocError>
     ensures { IfOk result (λ history. history.events ≡ explained logs.now) }
 {
     let mut all = placed_events(alloc, logs)?;
-    // Each raise before the others at its position. The sort is stable, so the rest stays by client and by call.
+    // At each position the raise comes first, and the sort is stable: the others stay by client and by call.
     all.sort_by_key(|p| (p.position, !p.event.is_raise()))?;
-    let events = events_alone(alloc, all.as_slice())?;
+    let events = events_of(alloc, all.as_slice())?;
     Ok(History {
         events: Sequence::from(events),
     })
@@ -43,8 +43,10 @@ fn add_events(all: &mut Vec<Placed>, client: u32, calls: &[Call]) -> Result<(), 
 {
     for (place, call) in calls.iter().enumerate() {
         if let Some(event) = event_of(client, place as u64, &call.answer) {
-            let position = call.position;
-            all.push(Placed { event, position })?;
+            all.push(Placed {
+                event,
+                position: call.position,
+            })?;
         }
     }
     Ok(())
@@ -70,8 +72,8 @@ fn event_of(client: u32, call: u64, answer: &CallAnswer) -> Option<Event>
     }
 }
 
-/// The events without their positions.
-fn events_alone(alloc: Global, all: &[Placed]) -> Result<Vec<Event>, AllocError>
+/// The events, without their positions.
+fn events_of(alloc: Global, all: &[Placed]) -> Result<Vec<Event>, AllocError>
     ensures { IfOk result (λ events. events.items ≡ map (λ p. p.event) all.now) }
 {
     all.iter().map(|p| p.event).collect(alloc)
