@@ -1,6 +1,6 @@
 -- Lists that a stable sort has put in the order of a number: those of one number stand as they stood before the sort,
 -- and the list is its groups, one number after another.
-use Rattle.std.proofs.Common.{◌≡◌, ℕ, suc, ◌+◌, ◌<◌, ◌≤◌, ◌==◌, ◌&&◌, not, Bool, true, false, ltb, leb, List, [], ◌∷◌, ◌++◌, length, slice_index_or, filter, refl, ap, sym, ◌∙◌, inl, inr, arith}
+use Rattle.std.proofs.Common.{◌≡◌, ℕ, suc, ◌+◌, ◌<◌, ◌≤◌, ◌==◌, ◌&&◌, not, Bool, ltb, leb, List, [], ◌∷◌, ◌++◌, length, slice_index_or, filter, refl, ap, sym, ◌∙◌, inl, inr, arith}
 use Rattle.std.specs.List.Sorted.{IsSortedBy, IsStableBy, IsNonDecreasingBy, ties}
 use Rattle.std.proofs.lemmas.Bool.{and_left, and_right, and_from, not_from_true, not_from_false, ltb-false, lt-ltb, le-ltb, le-leb, lt-leb, eq-eqb, ne_eqb, cases_order}
 use Rattle.std.proofs.lemmas.List.Elements.{filter_agree}
