@@ -92,7 +92,7 @@ own_blocks start logs fine client =
     ∙ back_in_order count (placed_from client 0 calls) (climbing client 0 0 calls (client_in_order logs fine.order client)) most
 
 -- the events of the blocks are the history
-events-blocks : (n : ℕ) (all : List Placed) → events_up_to n all ≡ events_of (blocks_up_to n all)
+pub events-blocks : (n : ℕ) (all : List Placed) → events_up_to n all ≡ events_of (blocks_up_to n all)
 events-blocks zero all = sym (map-append (λ p. p.event) (filter (is_raise_at 0) all) (filter (is_other_at 0) all))
 events-blocks (suc n) all =
     ap (λ l. l ++ events_at (suc n) all) (events-blocks n all)

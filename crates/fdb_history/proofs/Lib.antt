@@ -10,6 +10,8 @@ pub mod FaultlessRaises
 pub mod FaultlessLogs
 pub mod FaultlessLegal
 pub mod Faultless
+pub mod Grouped
+pub mod Explaining
 pub mod KnownCommits
 mod Examples
 pub mod FirstCalls

@@ -1,7 +1,7 @@
 //! The events of a history: what the register was told, and what it answered.
 
 ghost use Rattle.std.specs.Prelude.{◌≡◌};
-ghost use Rattle.fdb_history.specs.Event.{register};
+ghost use Rattle.fdb_history.specs.Event.{register, is_raise};
 
 use crate::register::Record;
 use crate::sequence::Sequence;
@@ -31,11 +31,29 @@ pub enum Event {
     },
 }
 
+/// An event and its position.
+#[derive(Clone, Copy)]
+pub struct Placed {
+    /// The event.
+    pub event: Event,
+    /// Its position.
+    pub position: u64,
+}
+
 /// Events, one after another, that explain the replies of a run.
 #[derive(Clone, Debug, Drop, PartialEq, Eq)]
 pub struct History {
     /// The events, in order.
     pub events: Sequence<Event>,
+}
+
+impl Event {
+    /// Whether it is a report that raised the register.
+    pub(crate) fn is_raise(&self) -> bool
+        ensures { result ≡ is_raise self.now }
+    {
+        matches!(self, Event::Report { raised: true, .. })
+    }
 }
 
 /// The record after the events. Each report of a greater version replaces the whole record; reads change nothing.

@@ -1,0 +1,193 @@
+-- The events of the logs, sorted by position and each raise before the others there, are the blocks of the positions.
+use Rattle.std.proofs.Common.{◌≡◌, ℕ, zero, suc, ◌+◌, ◌<◌, ◌≤◌, ◌==◌, ◌&&◌, not, Bool, true, false, ltb, leb, List, [], ◌∷◌, ◌++◌, filter, map, count_by, None, Ordering, Less, Equal, Greater, is_lt, nat_cmp, refl, ap, sym, subst, ◌∙◌, append_assoc, inl, inr, arith}
+use Rattle.std.specs.Cmp.{ranked}
+use Rattle.std.specs.List.{AllByRecursion, All}
+use Rattle.std.specs.List.Sorted.{IsSortedByKey, IsStableByKey, IsPermutation}
+use Rattle.std.specs.Ordering.{MatchOrdering, bool_cmp, ordering_then}
+use Rattle.std.proofs.lemmas.Bool.{lt-ltb, le-ltb, le-leb, lt-leb, eq-eqb, ne_eqb, and_from, and_left, and_right, cases_eq}
+use Rattle.std.proofs.lemmas.List.Elements.{filter_agree, All-from_recursion}
+use Rattle.std.proofs.lemmas.List.Sorted.{All-permutation}
+use Rattle.fdb_history.specs.Auditing.{IsWithin}
+use Rattle.fdb_history.specs.Event.{Placed, is_raise}
+use Rattle.fdb_history.specs.Explained.{placed_in, explained}
+use Rattle.fdb_history.specs.declared.event.Event.TheVariants.{Report, Read}
+use Rattle.fdb_history.specs.declared.log.ClientLog.{ClientLog}
+use Rattle.fdb_history.specs.declared.register.Record.{Record}
+use Rattle.fdb_history.proofs.Faultless.{events-blocks}
+use Rattle.fdb_history.proofs.FaultlessBlocks.{is_raise_at, is_other_at, block, blocks_up_to, kept}
+use Rattle.fdb_history.proofs.Grouped.{one_more_group, same_group}
+
+-- ---- the sort, by ranks
+
+-- a number for each position and kind, in the order of the sort
+abbrev rank : ℕ → Bool → ℕ
+rank position true = position + position
+rank position false = position + position + 1
+
+rank-least : (position : ℕ) (raised : Bool) → position + position ≤ rank position raised
+rank-least position true = omega arith
+rank-least position false = omega arith
+
+rank-most : (position : ℕ) (raised : Bool) → rank position raised ≤ position + position + 1
+rank-most position true = omega arith
+rank-most position false = omega arith
+
+-- the order of the sort, of a position and of whether it is no raise
+abbrev pub pair_order : ℕ × Bool → ℕ × Bool → Ordering
+pair_order x y = ordering_then (nat_cmp x.0 y.0) (bool_cmp x.1 y.1)
+
+-- what the sort goes by
+abbrev pub sort_key : Placed → ℕ × Bool
+sort_key p = (p.position, not (is_raise p.event))
+
+-- the order of the sort is that of the ranks
+less : (o : Ordering) (m n : ℕ) (a b : Bool) → MatchOrdering o (m < n) (m ≡ n) (n < m)
+    → is_lt (ordering_then o (bool_cmp (not a) (not b))) ≡ ltb (rank m a) (rank n b)
+less Less m n a b below =
+    let most = rank-most m a in
+    let least = rank-least n b in
+    sym (lt-ltb (rank m a) (rank n b) (omega arith))
+less Greater m n a b above =
+    let most = rank-most n b in
+    let least = rank-least m a in
+    sym (le-ltb (rank m a) (rank n b) (omega arith))
+less Equal m n true true same = sym (le-ltb (rank m true) (rank n true) (omega arith))
+less Equal m n true false same = sym (lt-ltb (rank m true) (rank n false) (omega arith))
+less Equal m n false true same = sym (le-ltb (rank m false) (rank n true) (omega arith))
+less Equal m n false false same = sym (le-ltb (rank m false) (rank n false) (omega arith))
+
+-- the rank of an event
+abbrev rank_of : Placed → ℕ
+rank_of p = rank p.position (is_raise p.event)
+
+-- whether the sort puts one before another
+abbrev is_before : Placed → Placed → Bool
+is_before x y = is_lt (pair_order (sort_key x) (sort_key y))
+
+-- it does so by the ranks
+by_rank : (x y : Placed) → is_before x y ≡ ltb (rank_of x) (rank_of y)
+by_rank x y = less (nat_cmp x.position y.position) x.position y.position (is_raise x.event) (is_raise y.event) (ranked x.position y.position (nat_cmp x.position y.position) refl)
+
+-- ---- the blocks, by ranks
+
+-- the raises at a position have a rank of their own
+raise_rank : (m position : ℕ) (raised : Bool) → (m == position && raised) ≡ (rank m raised == position + position)
+raise_rank m position true =
+    elim (cases_eq m position) [
+      | inl same ↦ and_from (m == position) true (eq-eqb m position same) refl ∙ sym (eq-eqb (rank m true) (position + position) (omega arith))
+      | inr apart ↦ and_left (m == position) true (ne_eqb m position apart) ∙ sym (ne_eqb (rank m true) (position + position) (λ same. absurd (omega arith)))
+    ]
+raise_rank m position false = and_right (m == position) false refl ∙ sym (ne_eqb (rank m false) (position + position) (λ same. absurd (omega arith)))
+
+-- and so have the others
+other_rank : (m position : ℕ) (raised : Bool) → (m == position && not raised) ≡ (rank m raised == position + position + 1)
+other_rank m position false =
+    elim (cases_eq m position) [
+      | inl same ↦ and_from (m == position) true (eq-eqb m position same) refl ∙ sym (eq-eqb (rank m false) (position + position + 1) (omega arith))
+      | inr apart ↦ and_left (m == position) true (ne_eqb m position apart) ∙ sym (ne_eqb (rank m false) (position + position + 1) (λ same. absurd (omega arith)))
+    ]
+other_rank m position true = and_right (m == position) false refl ∙ sym (ne_eqb (rank m true) (position + position + 1) (λ same. absurd (omega arith)))
+
+-- the events of a rank, and those of a rank and below
+abbrev of_rank : ℕ → List Placed → List Placed
+of_rank k all = filter (λ p. rank_of p == k) all
+
+abbrev to_rank : ℕ → List Placed → List Placed
+to_rank k all = filter (λ p. leb (rank_of p) k) all
+
+block-rank : (position : ℕ) (all : List Placed) → block position all ≡ of_rank (position + position) all ++ of_rank (position + position + 1) all
+block-rank position all =
+    ap (λ l. l ++ filter (is_other_at position) all) (filter_agree (is_raise_at position) (λ p. rank_of p == position + position) (λ p. raise_rank p.position position (is_raise p.event)) all)
+    ∙ ap (λ l. of_rank (position + position) all ++ l) (filter_agree (is_other_at position) (λ p. rank_of p == position + position + 1) (λ p. other_rank p.position position (is_raise p.event)) all)
+
+-- ---- what the sort leaves
+
+-- the list is in the order of the sort
+abbrev pub IsInOrder : List Placed → Type 0
+IsInOrder = IsSortedByKey sort_key pair_order
+
+-- one more block is two more ranks
+two_more : (j position : ℕ) (ys : List Placed) → position + position ≡ suc j → IsInOrder ys → to_rank (position + position + 1) ys ≡ to_rank j ys ++ block position ys
+two_more j position ys next sorted =
+    one_more_group rank_of is_before by_rank (position + position) (position + position + 1) ys (omega arith) sorted
+    ∙ ap (λ l. l ++ of_rank (position + position + 1) ys) (one_more_group rank_of is_before by_rank j (position + position) ys next sorted)
+    ∙ append_assoc (to_rank j ys) (of_rank (position + position) ys) (of_rank (position + position + 1) ys)
+    ∙ ap (λ l. to_rank j ys ++ l) (sym (block-rank position ys))
+
+-- ranks 0 and 1 are the first block
+first_two : (ys : List Placed) → IsInOrder ys → to_rank 1 ys ≡ block 0 ys
+first_two ys sorted =
+    one_more_group rank_of is_before by_rank 0 1 ys refl sorted
+    ∙ ap (λ l. l ++ of_rank 1 ys) (filter_agree (λ p. leb (rank_of p) 0) (λ p. rank_of p == 0) (λ p. at_zero (rank_of p)) ys)
+    ∙ sym (block-rank 0 ys)
+  where
+    at_zero : (k : ℕ) → leb k 0 ≡ (k == 0)
+    at_zero k = elim (cases_eq k 0) [
+      | inl same ↦ le-leb k 0 (omega arith) ∙ sym (eq-eqb k 0 same)
+      | inr apart ↦ lt-leb k 0 (omega arith) ∙ sym (ne_eqb k 0 apart)
+    ]
+
+-- a list in order is the blocks of its own, as far as they go
+in_blocks : (count : ℕ) (ys : List Placed) → IsInOrder ys → to_rank (count + count + 1) ys ≡ blocks_up_to count ys
+in_blocks zero ys sorted = first_two ys sorted
+in_blocks (suc count) ys sorted =
+    two_more (count + count + 1) (suc count) ys (omega arith) sorted ∙ ap (λ l. l ++ block (suc count) ys) (in_blocks count ys sorted)
+
+-- ---- what a stable sort leaves as it was
+
+-- a record, of which only the place in an event counts
+abbrev blank : Record
+blank = record { version = 0; locked = false; metadata = None }
+
+-- a raise at a position, and another event there
+abbrev a_raise : ℕ → Placed
+a_raise position = record { event = Report 0 0 blank true; position = position }
+
+abbrev an_other : ℕ → Placed
+an_other position = record { event = Read 0 0 blank; position = position }
+
+-- the list has been sorted from this one
+abbrev pub IsFrom : List Placed → List Placed → Type 0
+IsFrom all ys = IsStableByKey sort_key pair_order all ys
+
+-- the sort leaves each block as it was
+same_block : (position : ℕ) (all ys : List Placed) → IsFrom all ys → block position ys ≡ block position all
+same_block position all ys stable =
+    let raises : of_rank (position + position) ys ≡ of_rank (position + position) all = same_group rank_of is_before by_rank all ys stable (a_raise position) in
+    let others : of_rank (position + position + 1) ys ≡ of_rank (position + position + 1) all = same_group rank_of is_before by_rank all ys stable (an_other position) in
+    block-rank position ys
+    ∙ ap (λ l. l ++ of_rank (position + position + 1) ys) raises
+    ∙ ap (λ l. of_rank (position + position) all ++ l) others
+    ∙ sym (block-rank position all)
+
+-- and so all blocks
+same_blocks : (count : ℕ) (all ys : List Placed) → IsFrom all ys → blocks_up_to count ys ≡ blocks_up_to count all
+same_blocks zero all ys stable = same_block 0 all ys stable
+same_blocks (suc count) all ys stable =
+    ap (λ l. l ++ block (suc count) ys) (same_blocks count all ys stable) ∙ ap (λ l. blocks_up_to count all ++ l) (same_block (suc count) all ys stable)
+
+-- ---- the whole
+
+-- where no position is above a number, no rank is above its two
+all_to_rank : (count : ℕ) (ys : List Placed) → All (λ p. p.position ≤ count) ys → to_rank (count + count + 1) ys ≡ ys
+all_to_rank count [] within = refl
+all_to_rank count (p ∷ ys) within =
+    let most = rank-most p.position (is_raise p.event) in
+    let here : p.position ≤ count = within 0 p (omega arith) in
+    kept (λ q. leb (rank_of q) (count + count + 1)) p ys (le-leb (rank_of p) (count + count + 1) (omega arith))
+    ∙ ap (λ l. p ∷ l) (all_to_rank count ys (λ k d below. within (suc k) d (omega arith)))
+
+-- the sorted events are the blocks of the unsorted
+sorted_blocks : (count : ℕ) (all ys : List Placed) → IsPermutation all ys → IsInOrder ys → IsFrom all ys → AllByRecursion (λ p. p.position ≤ count) all → ys ≡ blocks_up_to count all
+sorted_blocks count all ys moved sorted stable within =
+    sym (all_to_rank count ys (All-permutation (λ p. p.position ≤ count) all ys moved (All-from_recursion (λ p. p.position ≤ count) all within)))
+    ∙ in_blocks count ys sorted ∙ same_blocks count all ys stable
+
+-- their events are the history
+pub sorted_explained : (logs : List ClientLog) (all ys : List Placed) → all ≡ placed_in 0 logs → IsWithin logs → IsPermutation all ys → IsInOrder ys → IsFrom all ys
+    → map (λ p. p.event) ys ≡ explained logs
+sorted_explained logs all ys is within moved sorted stable =
+    let count = count_by (λ p. is_raise p.event) (placed_in 0 logs) in
+    let P : List Placed → Type 0 = λ l. AllByRecursion (λ p. p.position ≤ count) l in
+    ap (map (λ p. p.event)) (sorted_blocks count all ys moved sorted stable (subst P (sym is) within) ∙ ap (blocks_up_to count) is)
+    ∙ sym (events-blocks count (placed_in 0 logs))
