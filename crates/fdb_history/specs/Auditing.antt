@@ -26,6 +26,11 @@ abbrev pub IsFirstOf : (List Call → Call → Type 0) → List Call → Option 
 IsFirstOf Fault calls None = (p : ℕ) (call : Call) → slice_get calls p ≡ Some call → Fault (take p calls) call → ⊥
 IsFirstOf Fault calls (Some place) = ((call : Call) × (slice_get calls place ≡ Some call) × Fault (take place calls) call) × NoneBefore Fault calls place
 
+-- the least position at which something stands, if it stands at any
+abbrev pub IsLeastIfAny : (ℕ → Type 0) → Option ℕ → Type 0
+IsLeastIfAny Stands None = AtNoPosition Stands
+IsLeastIfAny Stands (Some position) = IsLeast Stands position
+
 -- the register at a position, by a table
 abbrev pub by_table : Registers → ℕ → Record
 by_table registers position = slice_index_or registers.table.items position registers.start

@@ -1,0 +1,89 @@
+//! The raises in the logs, by their positions.
+
+ghost use Rattle.std.specs.Prelude.{◌≡◌, ◌+◌, ◌<◌, ◌≤◌, ◌++◌, ℕ, [], length, slice_get, Some, IfOk, OnOk};
+ghost use Rattle.std.specs.List.{flat_map};
+ghost use Rattle.std.specs.List.Sorted.{IsNonDecreasingBy};
+ghost use Rattle.fdb_history.specs.Auditing.{IsLeastIfAny};
+ghost use Rattle.fdb_history.specs.Faults.{AtNoPosition, raise_in, raises_in, raises_at, at_position};
+
+use crate::log::{Call, CallAnswer, ClientLog};
+use crate::register::Record;
+use std::alloc::{AllocError, Global};
+
+/// A report that raised the register, and its position.
+#[derive(Clone, Copy, Debug, PartialEq, Eq)]
+pub struct Raise {
+    /// The position.
+    pub position: u64,
+    /// What was reported.
+    pub rec: Record,
+}
+
+/// The raises in the logs, by their positions.
+pub fn raises_by_position(alloc: Global, logs: &[ClientLog]) -> Result<Vec<Raise>, AllocError>
+    ensures sorted { IfOk result (λ raises. IsNonDecreasingBy (λ raise. raise.position) raises.items) }
+    ensures same { IfOk result (λ raises. (position : ℕ) → at_position position raises.items ≡ raises_at logs.now position) }
+{
+    let mut raises = all_raises(alloc, logs)?;
+    raises.sort_by_key(|raise| raise.position)?;
+    Ok(raises)
+}
+
+/// The raises in the logs, log by log.
+fn all_raises(alloc: Global, logs: &[ClientLog]) -> Result<Vec<Raise>, AllocError>
+    ensures { IfOk result (λ raises. raises.items ≡ raises_in logs.now) }
+{
+    let mut raises = Vec::new(alloc);
+    for log in logs {
+        push_raises(&mut raises, log.calls.as_slice())?;
+    }
+    Ok(raises)
+}
+
+/// Adds the raises of a log.
+fn push_raises(raises: &mut Vec<Raise>, calls: &[Call]) -> Result<(), AllocError>
+    ensures { OnOk result (raises.new.items ≡ raises.old.items ++ flat_map (λ call. raise_in call.position call.answer) calls.now) }
+{
+    for call in calls {
+        if let CallAnswer::Acked { rec, raised: true } = &call.answer {
+            raises.push(Raise {
+                position: call.position,
+                rec: *rec,
+            })?;
+        }
+    }
+    Ok(())
+}
+
+/// The least position of two raises.
+pub fn first_clash(raises: &[Raise]) -> Option<u64>
+    requires { IsNonDecreasingBy (λ raise. raise.position) raises.now }
+    ensures { IsLeastIfAny (λ position. 1 < length (at_position position raises.now)) result }
+{
+    let mut previous: Option<u64> = None;
+    for raise in raises {
+        if previous == Some(raise.position) {
+            return previous;
+        }
+        previous = Some(raise.position);
+    }
+    None
+}
+
+/// The least position, from 1 on, of no raise.
+pub fn first_missing(raises: &[Raise]) -> u64
+    requires sorted { IsNonDecreasingBy (λ raise. raise.position) raises.now }
+    requires least { at_position 0 raises.now ≡ [] }
+    requires once { AtNoPosition (λ position. 1 < length (at_position position raises.now)) }
+    ensures none { at_position result raises.now ≡ [] }
+    ensures one { (place : ℕ) (raise : Raise) → place + 1 < result → slice_get raises.now place ≡ Some raise → raise.position ≡ place + 1 }
+    ensures within { result ≤ length raises.now + 1 }
+{
+    for (place, raise) in raises.iter().enumerate() {
+        let position = place as u64 + 1;
+        if raise.position != position {
+            return position;
+        }
+    }
+    raises.len() as u64 + 1
+}
