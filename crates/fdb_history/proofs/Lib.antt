@@ -11,4 +11,5 @@ pub mod FaultlessLogs
 pub mod FaultlessLegal
 pub mod Faultless
 pub mod KnownCommits
+pub mod SortedRaises
 mod Examples

@@ -1,10 +1,11 @@
 -- How the parts of an audit answer one another.
-use Rattle.std.specs.Prelude.{◌≡◌, ◌<◌, ℕ, ◌≤◌, List, take, Option, None, Some, slice_get, slice_index_or, count_by}
+use Rattle.std.specs.Prelude.{◌≡◌, ℕ, ◌+◌, ◌<◌, ◌≤◌, List, length, take, Option, None, Some, slice_get, slice_index_or, count_by}
 use Rattle.std.specs.List.{AllByRecursion}
 use Rattle.fdb_history.specs.Event.{is_raise}
 use Rattle.fdb_history.specs.Explained.{placed_in}
 use Rattle.fdb_history.specs.Faults.{IsClash, IsGap, IsFirst, IsLeast, IsReached, Nowhere, AtNoPosition, register_at}
 use Rattle.fdb_history.specs.declared.auditing.found.CallName.{CallName}
+use Rattle.fdb_history.specs.declared.auditing.raises.Raise.{Raise}
 use Rattle.fdb_history.specs.declared.auditing.registers.Registers.{Registers}
 use Rattle.fdb_history.specs.declared.fault.AuditFault.{AuditFault}
 use Rattle.fdb_history.specs.declared.fault.AuditFault.TheVariants.{Order, Clash, Gap, Wrong, Stray, NotAbove, Memory}
@@ -30,6 +31,10 @@ IsFirstOf Fault calls (Some place) = ((call : Call) × (slice_get calls place �
 abbrev pub IsLeastIfAny : (ℕ → Type 0) → Option ℕ → Type 0
 IsLeastIfAny Stands None = AtNoPosition Stands
 IsLeastIfAny Stands (Some position) = IsLeast Stands position
+
+-- the raises before a position stand at 1, 2 and so on
+abbrev pub StandInTurn : ℕ → List Raise → Type 0
+StandInTurn position raises = (place : ℕ) (d : Raise) → place + 1 < position → (place < length raises) × ((slice_index_or raises place d).position ≡ place + 1)
 
 -- the register at a position, by a table
 abbrev pub by_table : Registers → ℕ → Record

@@ -3,7 +3,7 @@
 ghost use Rattle.std.specs.Prelude.{◌≡◌, ◌+◌, ◌<◌, ◌≤◌, ◌++◌, ℕ, [], length, slice_get, Some, IfOk, OnOk};
 ghost use Rattle.std.specs.List.{flat_map};
 ghost use Rattle.std.specs.List.Sorted.{IsNonDecreasingBy};
-ghost use Rattle.fdb_history.specs.Auditing.{IsLeastIfAny};
+ghost use Rattle.fdb_history.specs.Auditing.{IsLeastIfAny, StandInTurn};
 ghost use Rattle.fdb_history.specs.Faults.{AtNoPosition, raise_in, raises_in, raises_at, at_position};
 
 use crate::log::{Call, CallAnswer, ClientLog};
@@ -55,29 +55,26 @@ fn push_raises(raises: &mut Vec<Raise>, calls: &[Call]) -> Result<(), AllocError
     Ok(())
 }
 
-/// The least position of two raises.
+/// The least position that two raises have.
 pub fn first_clash(raises: &[Raise]) -> Option<u64>
     requires { IsNonDecreasingBy (λ raise. raise.position) raises.now }
     ensures { IsLeastIfAny (λ position. 1 < length (at_position position raises.now)) result }
 {
-    let mut previous: Option<u64> = None;
-    for raise in raises {
-        if previous == Some(raise.position) {
-            return previous;
+    for place in 1..raises.len() {
+        if raises[place - 1].position == raises[place].position {
+            return Some(raises[place].position);
         }
-        previous = Some(raise.position);
     }
     None
 }
 
-/// The least position, from 1 on, of no raise.
+/// The least position, from 1 on, that no raise has. The raises before it have each position in turn.
 pub fn first_missing(raises: &[Raise]) -> u64
     requires sorted { IsNonDecreasingBy (λ raise. raise.position) raises.now }
-    requires least { at_position 0 raises.now ≡ [] }
+    requires from_one { at_position 0 raises.now ≡ [] }
     requires once { AtNoPosition (λ position. 1 < length (at_position position raises.now)) }
-    ensures none { at_position result raises.now ≡ [] }
-    ensures one { (place : ℕ) (raise : Raise) → place + 1 < result → slice_get raises.now place ≡ Some raise → raise.position ≡ place + 1 }
-    ensures within { result ≤ length raises.now + 1 }
+    ensures missing { (1 ≤ result) × (at_position result raises.now ≡ []) }
+    ensures in_turn { StandInTurn result raises.now }
 {
     for (place, raise) in raises.iter().enumerate() {
         let position = place as u64 + 1;
