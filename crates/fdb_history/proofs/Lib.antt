@@ -12,4 +12,6 @@ pub mod FaultlessLegal
 pub mod Faultless
 pub mod KnownCommits
 pub mod SortedRaises
+pub mod RegisterTable
+pub mod ReachedPositions
 mod Examples

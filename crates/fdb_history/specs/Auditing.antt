@@ -3,7 +3,7 @@ use Rattle.std.specs.Prelude.{◌≡◌, ℕ, ◌+◌, ◌<◌, ◌≤◌, List,
 use Rattle.std.specs.List.{AllByRecursion}
 use Rattle.fdb_history.specs.Event.{is_raise}
 use Rattle.fdb_history.specs.Explained.{placed_in}
-use Rattle.fdb_history.specs.Faults.{IsClash, IsGap, IsFirst, IsLeast, IsReached, Nowhere, AtNoPosition, register_at}
+use Rattle.fdb_history.specs.Faults.{IsClash, IsGap, IsFirst, IsLeast, IsReached, Nowhere, AtNoPosition, register_at, after_raises}
 use Rattle.fdb_history.specs.declared.auditing.found.CallName.{CallName}
 use Rattle.fdb_history.specs.declared.auditing.raises.Raise.{Raise}
 use Rattle.fdb_history.specs.declared.auditing.registers.Registers.{Registers}
@@ -35,6 +35,10 @@ IsLeastIfAny Stands (Some position) = IsLeast Stands position
 -- the raises before a position stand at 1, 2 and so on
 abbrev pub StandInTurn : ℕ → List Raise → Type 0
 StandInTurn position raises = (place : ℕ) (d : Raise) → place + 1 < position → (place < length raises) × ((slice_index_or raises place d).position ≡ place + 1)
+
+-- the register before any raise, and then after each raise in turn
+abbrev pub IsTable : Record → List Raise → List Record → Type 0
+IsTable start raises table = (count : ℕ) (d : Record) → count ≤ length raises → slice_index_or table count d ≡ after_raises start (take count raises)
 
 -- the register at a position, by a table
 abbrev pub by_table : Registers → ℕ → Record
