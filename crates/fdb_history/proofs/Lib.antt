@@ -14,4 +14,5 @@ pub mod KnownCommits
 pub mod SortedRaises
 pub mod RegisterTable
 pub mod ReachedPositions
+pub mod RaiseFaults
 mod Examples

@@ -2,7 +2,7 @@
 use Rattle.std.proofs.Common.{◌≡◌, ℕ, zero, suc, ◌+◌, ◌<◌, ◌≤◌, List, [], ◌∷◌, ◌++◌, length, take, get_or, refl, sym, ap, ◌∙◌, arith, inl, inr, length-append}
 use Rattle.std.proofs.lemmas.Bool.{cases_lt, cases_eq}
 use Rattle.std.proofs.lemmas.List.{take_more, get_or_append_left, get_or_push}
-use Rattle.fdb_history.specs.Auditing.{StandInTurn}
+use Rattle.fdb_history.specs.Auditing.{StandInTurn, IsTable}
 use Rattle.fdb_history.specs.Faults.{raises_at, at_position, register_at, after_raises, IsClash, AtNoPosition}
 use Rattle.fdb_history.specs.Register.{record_after}
 use Rattle.fdb_history.specs.declared.auditing.raises.Raise.{Raise}
@@ -76,3 +76,13 @@ register-after start logs raises missing same once turn (suc position) below =
     let next : position + 1 ≡ suc position = omega arith in
     ap (after_raises (register_at start logs position)) only ∙ ap (λ r. record_after r (get_or raises position d).rec) earlier
     ∙ sym more ∙ ap (λ k. after_raises start (take k raises)) next
+
+-- So the table has it.
+pub table-right : (start : Record) (logs : List ClientLog) (raises : List Raise) (table : List Record) (missing : ℕ) → ((position : ℕ) → at_position position raises ≡ raises_at logs position)
+    → AtNoPosition (IsClash logs) → StandInTurn missing raises → IsTable start raises table → (position : ℕ) → position < missing → get_or table position start ≡ register_at start logs position
+table-right start logs raises table missing same once turn right position below =
+    right position start (turn_length position below) ∙ sym (register-after start logs raises missing same once turn position below)
+  where
+    turn_length : (count : ℕ) → count < missing → count ≤ length raises
+    turn_length zero less = omega arith
+    turn_length (suc count) less = let here = turn count (record { position = 0; rec = start }) (omega arith) in omega arith
