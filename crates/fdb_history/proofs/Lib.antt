@@ -11,8 +11,9 @@ pub mod FaultlessLogs
 pub mod FaultlessLegal
 pub mod Faultless
 pub mod KnownCommits
+mod Examples
+pub mod FirstCalls
 pub mod SortedRaises
 pub mod RegisterTable
 pub mod ReachedPositions
 pub mod RaiseFaults
-mod Examples

@@ -1,11 +1,11 @@
 -- What the raises by position say of the raises in the logs: none stands at 0, and which clash and which gap is first.
-use Rattle.std.proofs.Common.{◌≡◌, ℕ, zero, suc, ◌+◌, ◌<◌, ◌≤◌, ◌==◌, true, false, IsTrue, List, [], ◌∷◌, ◌++◌, length, get_or, filter, flat_map, slice_get, Some, refl, sym, ap, ◌∙◌, arith, inl, inr}
+use Rattle.std.proofs.Common.{◌≡◌, ℕ, zero, suc, ◌<◌, ◌≤◌, ◌==◌, true, false, IsTrue, List, [], ◌∷◌, ◌++◌, length, flat_map, refl, sym, ap, ◌∙◌, arith, inl, inr}
 use Rattle.std.specs.List.{AllByRecursion}
 use Rattle.std.proofs.lemmas.Bool.{cases_order, ne_eqb}
 use Rattle.std.proofs.lemmas.List.Elements.{filter-append}
 use Rattle.fdb_history.specs.Auditing.{StandInTurn}
 use Rattle.fdb_history.specs.Faults.{raise_in, raises_in, raises_at, at_position, IsOutOfOrder, IsClash, IsGap, IsReached, IsLeast, StandsAt, Nowhere, AtNoPosition}
-use Rattle.fdb_history.specs.Log.{calls_of, answer_raises}
+use Rattle.fdb_history.specs.Log.{answer_raises}
 use Rattle.fdb_history.specs.declared.auditing.raises.Raise.{Raise}
 use Rattle.fdb_history.specs.declared.log.Call.{Call}
 use Rattle.fdb_history.specs.declared.log.CallAnswer.{CallAnswer}
@@ -13,7 +13,7 @@ use Rattle.fdb_history.specs.declared.log.CallAnswer.TheVariants.{Version, Answe
 use Rattle.fdb_history.specs.declared.log.ClientLog.{ClientLog}
 use Rattle.fdb_history.proofs.FaultlessBlocks.{left_out}
 use Rattle.fdb_history.proofs.FaultlessLogs.{every_call}
-use Rattle.fdb_history.proofs.SortedRaises.{at-some}
+use Rattle.fdb_history.proofs.SortedRaises.{at-some, AreRaisesOf}
 
 -- ---- none stands at 0
 
@@ -59,10 +59,6 @@ none-at-zero logs order =
     ]))
 
 -- ---- the first gap
-
--- the raises of a list are those of the logs, at each position
-abbrev pub AreRaisesOf : List ClientLog → List Raise → Type 0
-AreRaisesOf logs raises = (position : ℕ) → at_position position raises ≡ raises_at logs position
 
 -- a list with the raises of the logs has two at one position only where the logs have
 pub no-clash : (logs : List ClientLog) (raises : List Raise) → AreRaisesOf logs raises → AtNoPosition (λ position. 1 < length (at_position position raises)) → AtNoPosition (IsClash logs)

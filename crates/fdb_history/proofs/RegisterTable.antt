@@ -3,12 +3,12 @@ use Rattle.std.proofs.Common.{◌≡◌, ℕ, zero, suc, ◌+◌, ◌<◌, ◌�
 use Rattle.std.proofs.lemmas.Bool.{cases_lt, cases_eq}
 use Rattle.std.proofs.lemmas.List.{take_more, get_or_append_left, get_or_push}
 use Rattle.fdb_history.specs.Auditing.{StandInTurn, IsTable}
-use Rattle.fdb_history.specs.Faults.{raises_at, at_position, register_at, after_raises, IsClash, AtNoPosition}
+use Rattle.fdb_history.specs.Faults.{at_position, register_at, after_raises, IsClash, AtNoPosition}
 use Rattle.fdb_history.specs.Register.{record_after}
 use Rattle.fdb_history.specs.declared.auditing.raises.Raise.{Raise}
 use Rattle.fdb_history.specs.declared.log.ClientLog.{ClientLog}
 use Rattle.fdb_history.specs.declared.register.Record.{Record}
-use Rattle.fdb_history.proofs.SortedRaises.{at-only}
+use Rattle.fdb_history.proofs.SortedRaises.{at-only, AreRaisesOf}
 
 -- ---- the table
 
@@ -59,7 +59,7 @@ table-more {i} {start} {raises} {table} {current} so_far d next below is =
 -- ---- the register at a position
 
 -- Up to the first position that is missing, the register is what it is after as many raises.
-pub register-after : (start : Record) (logs : List ClientLog) (raises : List Raise) (missing : ℕ) → ((position : ℕ) → at_position position raises ≡ raises_at logs position)
+pub register-after : (start : Record) (logs : List ClientLog) (raises : List Raise) (missing : ℕ) → AreRaisesOf logs raises
     → AtNoPosition (IsClash logs) → StandInTurn missing raises → (position : ℕ) → position < missing → register_at start logs position ≡ after_raises start (take position raises)
 register-after start logs raises missing same once turn zero below = refl
 register-after start logs raises missing same once turn (suc position) below =
@@ -78,7 +78,7 @@ register-after start logs raises missing same once turn (suc position) below =
     ∙ sym more ∙ ap (λ k. after_raises start (take k raises)) next
 
 -- So the table has it.
-pub table-right : (start : Record) (logs : List ClientLog) (raises : List Raise) (table : List Record) (missing : ℕ) → ((position : ℕ) → at_position position raises ≡ raises_at logs position)
+pub table-right : (start : Record) (logs : List ClientLog) (raises : List Raise) (table : List Record) (missing : ℕ) → AreRaisesOf logs raises
     → AtNoPosition (IsClash logs) → StandInTurn missing raises → IsTable start raises table → (position : ℕ) → position < missing → get_or table position start ≡ register_at start logs position
 table-right start logs raises table missing same once turn right position below =
     right position start (turn_length position below) ∙ sym (register-after start logs raises missing same once turn position below)

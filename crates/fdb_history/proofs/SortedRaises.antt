@@ -1,12 +1,13 @@
 -- Raises in the order of their positions.
-use Rattle.std.proofs.Common.{◌≡◌, ℕ, zero, suc, ◌+◌, ◌-◌, ◌<◌, ◌≤◌, ◌⊎◌, ◌==◌, Bool, true, false, cond, List, [], ◌∷◌, length, get_or, filter, nat_cmp, is_lt, refl, sym, ap, ◌∙◌, arith, inl, inr}
+use Rattle.std.proofs.Common.{◌≡◌, ℕ, zero, suc, ◌+◌, ◌-◌, ◌<◌, ◌≤◌, ◌⊎◌, ◌==◌, Bool, true, List, [], ◌∷◌, length, get_or, filter, nat_cmp, is_lt, refl, sym, ap, ◌∙◌, arith, inl, inr}
 use Rattle.std.specs.List.Sorted.{ties, IsNonDecreasingBy, IsStableByKey}
-use Rattle.std.proofs.lemmas.Bool.{cond-true, cond-false, cases_Bool, cases_lt, cases_eq, eqb-true, eq-eqb, ne_eqb}
+use Rattle.std.proofs.lemmas.Bool.{cond-false, cases_Bool, cases_lt, cases_eq, eqb-true, eq-eqb, ne_eqb}
 use Rattle.std.proofs.lemmas.List.{nil_from_length, get_or_default}
 use Rattle.std.proofs.lemmas.Bool.Decides.{nat_tests}
 use Rattle.std.proofs.lemmas.List.Elements.{filter_agree}
-use Rattle.fdb_history.specs.Faults.{at_position, AtNoPosition, IsLeast}
+use Rattle.fdb_history.specs.Faults.{raises_at, at_position, AtNoPosition, IsLeast}
 use Rattle.fdb_history.specs.declared.auditing.raises.Raise.{Raise}
+use Rattle.fdb_history.specs.declared.log.ClientLog.{ClientLog}
 use Rattle.fdb_history.proofs.FaultlessBlocks.{kept, left_out}
 
 -- ---- what a stable sort keeps
@@ -127,6 +128,10 @@ at-only position (raise ∷ raises) (suc k) d once below same =
           let later = at-later position raise raises in
           is ∙ at-only position raises k d (omega arith) (omega arith) same
     ]
+
+-- the raises of a list are those of the logs, at each position
+abbrev pub AreRaisesOf : List ClientLog → List Raise → Type 0
+AreRaisesOf logs raises = (position : ℕ) → at_position position raises ≡ raises_at logs position
 
 -- ---- the first clash
 

@@ -1,6 +1,5 @@
 //! What an audit can find.
 
-use std::alloc::AllocError;
 use thiserror::Error;
 
 /// Why the logs of a run, with the chain of its commit versions, have no explanation. Clients are places in the
@@ -54,15 +53,4 @@ pub enum AuditFault {
     /// Memory was refused.
     #[error("want of memory")]
     Memory,
-}
-
-impl From<AllocError> for AuditFault {
-    ghost use Rattle.std.specs.Prelude.{◌≡◌};
-    ghost use Rattle.fdb_history.specs.declared.fault.AuditFault.TheVariants.{Memory};
-
-    ghost from_gives = { λ _ fault. fault ≡ Memory };
-
-    fn from(_refused: AllocError) -> Self {
-        AuditFault::Memory
-    }
 }

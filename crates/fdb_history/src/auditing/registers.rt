@@ -43,6 +43,7 @@ pub fn registers_of(
     requires { Nowhere (OutOfOrder logs.now) }
     ensures no_clash { OnOk result (AtNoPosition (IsClash logs.now)) }
     ensures no_gap { OnOk result (AtNoPosition (IsGap logs.now)) }
+    ensures begins { IfOk result (λ registers. registers.start ≡ start) }
     ensures ok { IfOk result (λ registers. AreRegisters start logs.now registers) }
     ensures err { IfErr result (IsRaiseFault logs.now) }
 {

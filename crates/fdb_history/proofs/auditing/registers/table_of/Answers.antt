@@ -1,5 +1,5 @@
-use Rattle.std.proofs.Common.{arith, sym, subst}
-use Rattle.fdb_history.proofs.RegisterTable.{IsTableUpTo, table-begins, table-more}
+use Rattle.std.proofs.Common.{arith}
+use Rattle.fdb_history.proofs.RegisterTable.{table-begins, table-more}
 use Rattle.fdb_history.proofs.auditing.registers.table_of.Goals as goal
 
 pub loop-raise-init : goal.loop-raise-init
