@@ -13,7 +13,9 @@ pub mod Faultless
 pub mod KnownCommits
 mod Examples
 pub mod FirstCalls
-pub mod SortedRaises
+pub mod RaisesAt
+pub mod FirstClash
+pub mod FirstMissing
 pub mod RegisterTable
 pub mod ReachedPositions
 pub mod RaiseFaults

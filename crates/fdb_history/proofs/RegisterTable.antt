@@ -8,7 +8,7 @@ use Rattle.fdb_history.specs.Register.{record_after}
 use Rattle.fdb_history.specs.declared.auditing.raises.Raise.{Raise}
 use Rattle.fdb_history.specs.declared.log.ClientLog.{ClientLog}
 use Rattle.fdb_history.specs.declared.register.Record.{Record}
-use Rattle.fdb_history.proofs.SortedRaises.{at-only, AreRaisesOf}
+use Rattle.fdb_history.proofs.RaisesAt.{at-only, AreRaisesOf}
 
 -- ---- the table
 

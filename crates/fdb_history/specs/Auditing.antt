@@ -1,9 +1,10 @@
 -- How the parts of an audit answer one another.
 use Rattle.std.specs.Prelude.{◌≡◌, ℕ, ◌+◌, ◌<◌, ◌≤◌, List, length, take, Option, None, Some, slice_get, slice_index_or, count_by}
 use Rattle.std.specs.List.{AllByRecursion}
+use Rattle.std.specs.List.Sorted.{IsNonDecreasingBy}
 use Rattle.fdb_history.specs.Event.{is_raise}
 use Rattle.fdb_history.specs.Explained.{placed_in}
-use Rattle.fdb_history.specs.Faults.{IsClash, IsGap, IsFirst, IsLeast, IsReached, Nowhere, AtNoPosition, register_at, after_raises}
+use Rattle.fdb_history.specs.Faults.{IsClash, IsGap, IsFirst, IsLeast, IsReached, Nowhere, AtNoPosition, at_position, register_at, after_raises}
 use Rattle.fdb_history.specs.declared.auditing.found.CallName.{CallName}
 use Rattle.fdb_history.specs.declared.auditing.raises.Raise.{Raise}
 use Rattle.fdb_history.specs.declared.auditing.registers.Registers.{Registers}
@@ -31,6 +32,14 @@ IsFirstOf Fault calls (Some place) = ((call : Call) × (slice_get calls place �
 abbrev pub IsLeastIfAny : (ℕ → Type 0) → Option ℕ → Type 0
 IsLeastIfAny Stands None = AtNoPosition Stands
 IsLeastIfAny Stands (Some position) = IsLeast Stands position
+
+-- the raises stand in the order of their positions
+abbrev pub AreByPosition : List Raise → Type 0
+AreByPosition raises = IsNonDecreasingBy (λ (raise : Raise). raise.position) raises
+
+-- two raises have a position
+abbrev pub AreTwoAt : List Raise → ℕ → Type 0
+AreTwoAt raises position = 1 < length (at_position position raises)
 
 -- the raises before a position stand at 1, 2 and so on
 abbrev pub StandInTurn : ℕ → List Raise → Type 0

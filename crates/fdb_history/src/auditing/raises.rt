@@ -1,9 +1,8 @@
 //! The raises in the logs, by their positions.
 
-ghost use Rattle.std.specs.Prelude.{◌≡◌, ◌+◌, ◌<◌, ◌≤◌, ◌++◌, ℕ, [], length, slice_get, Some, IfOk, OnOk};
+ghost use Rattle.std.specs.Prelude.{◌≡◌, ◌≤◌, ◌++◌, ℕ, [], IfOk, OnOk};
 ghost use Rattle.std.specs.List.{flat_map};
-ghost use Rattle.std.specs.List.Sorted.{IsNonDecreasingBy};
-ghost use Rattle.fdb_history.specs.Auditing.{IsLeastIfAny, StandInTurn};
+ghost use Rattle.fdb_history.specs.Auditing.{AreByPosition, AreTwoAt, IsLeastIfAny, StandInTurn};
 ghost use Rattle.fdb_history.specs.Faults.{AtNoPosition, raise_in, raises_in, raises_at, at_position};
 
 use crate::log::{Call, CallAnswer, ClientLog};
@@ -21,7 +20,7 @@ pub struct Raise {
 
 /// The raises in the logs, by their positions.
 pub fn raises_by_position(alloc: Global, logs: &[ClientLog]) -> Result<Vec<Raise>, AllocError>
-    ensures sorted { IfOk result (λ raises. IsNonDecreasingBy (λ raise. raise.position) raises.items) }
+    ensures sorted { IfOk result (λ raises. AreByPosition raises.items) }
     ensures same { IfOk result (λ raises. (position : ℕ) → at_position position raises.items ≡ raises_at logs.now position) }
 {
     let mut raises = all_raises(alloc, logs)?;
@@ -57,8 +56,8 @@ fn push_raises(raises: &mut Vec<Raise>, calls: &[Call]) -> Result<(), AllocError
 
 /// The least position that two raises have.
 pub fn first_clash(raises: &[Raise]) -> Option<u64>
-    requires { IsNonDecreasingBy (λ raise. raise.position) raises.now }
-    ensures { IsLeastIfAny (λ position. 1 < length (at_position position raises.now)) result }
+    requires { AreByPosition raises.now }
+    ensures { IsLeastIfAny (AreTwoAt raises.now) result }
 {
     for place in 1..raises.len() {
         if raises[place - 1].position == raises[place].position {
@@ -70,9 +69,9 @@ pub fn first_clash(raises: &[Raise]) -> Option<u64>
 
 /// The least position, from 1 on, that no raise has. The raises before it have each position in turn.
 pub fn first_missing(raises: &[Raise]) -> u64
-    requires sorted { IsNonDecreasingBy (λ raise. raise.position) raises.now }
+    requires sorted { AreByPosition raises.now }
     requires from_one { at_position 0 raises.now ≡ [] }
-    requires once { AtNoPosition (λ position. 1 < length (at_position position raises.now)) }
+    requires once { AtNoPosition (AreTwoAt raises.now) }
     ensures missing { (1 ≤ result) × (at_position result raises.now ≡ []) }
     ensures in_turn { StandInTurn result raises.now }
 {

@@ -1,5 +1,5 @@
 use Rattle.std.proofs.Common.{arith}
-use Rattle.fdb_history.proofs.SortedRaises.{clash-none, clash-at}
+use Rattle.fdb_history.proofs.FirstClash.{clash-none, clash-at}
 use Rattle.fdb_history.proofs.auditing.raises.first_clash.Goals as goal
 
 pub returns-then-raises-place : goal.returns-then-raises-place

@@ -1,5 +1,5 @@
 use Rattle.std.proofs.Common.{arith}
-use Rattle.fdb_history.proofs.SortedRaises.{missing-here, missing-after}
+use Rattle.fdb_history.proofs.FirstMissing.{missing-here, missing-after}
 use Rattle.fdb_history.proofs.auditing.raises.first_missing.Goals as goal
 
 pub returns-then-raise-position-clause-missing : goal.returns-then-raise-position-clause-missing

@@ -1,7 +1,7 @@
 use Rattle.std.proofs.Common.{rules, ap, ◌∙◌}
 use Rattle.std.proofs.lemmas.List.Sorted.{answers_always, IsNonDecreasingBy-from_sort}
 use Rattle.fdb_history.specs.Faults.{at_position}
-use Rattle.fdb_history.proofs.SortedRaises.{at-sorted}
+use Rattle.fdb_history.proofs.RaisesAt.{at-sorted}
 use Rattle.fdb_history.proofs.auditing.raises.raises_by_position.Goals as goal
 
 pub returns-clause-sorted : goal.returns-clause-sorted

@@ -1,11 +1,12 @@
--- Raises in the order of their positions.
-use Rattle.std.proofs.Common.{◌≡◌, ℕ, zero, suc, ◌+◌, ◌-◌, ◌<◌, ◌≤◌, ◌⊎◌, ◌==◌, Bool, true, List, [], ◌∷◌, length, get_or, filter, nat_cmp, is_lt, refl, sym, ap, ◌∙◌, arith, inl, inr}
-use Rattle.std.specs.List.Sorted.{ties, IsNonDecreasingBy, IsStableByKey}
-use Rattle.std.proofs.lemmas.Bool.{cond-false, cases_Bool, cases_lt, cases_eq, eqb-true, eq-eqb, ne_eqb}
-use Rattle.std.proofs.lemmas.List.{nil_from_length, get_or_default}
+-- What stands at a position: by a stable sort the same as before, and what a list by places has there.
+use Rattle.std.proofs.Common.{◌≡◌, ℕ, zero, suc, ◌<◌, ◌≤◌, ◌⊎◌, ◌==◌, Bool, List, [], ◌∷◌, length, get_or, filter, nat_cmp, is_lt, refl, sym, ap, ◌∙◌, arith, inl, inr}
+use Rattle.std.specs.List.Sorted.{ties, IsStableByKey}
+use Rattle.std.proofs.lemmas.Bool.{cond-false, cases_Bool, eqb-true, eq-eqb, ne_eqb}
 use Rattle.std.proofs.lemmas.Bool.Decides.{nat_tests}
+use Rattle.std.proofs.lemmas.List.{nil_from_length}
 use Rattle.std.proofs.lemmas.List.Elements.{filter_agree}
-use Rattle.fdb_history.specs.Faults.{raises_at, at_position, AtNoPosition, IsLeast}
+use Rattle.fdb_history.specs.Auditing.{AreTwoAt}
+use Rattle.fdb_history.specs.Faults.{raises_at, at_position}
 use Rattle.fdb_history.specs.declared.auditing.raises.Raise.{Raise}
 use Rattle.fdb_history.specs.declared.log.ClientLog.{ClientLog}
 use Rattle.fdb_history.proofs.FaultlessBlocks.{kept, left_out}
@@ -63,12 +64,9 @@ at-none position (raise ∷ raises) never =
 at-later : (position : ℕ) (raise : Raise) (raises : List Raise) → length (at_position position raises) ≤ length (at_position position (raise ∷ raises))
 at-later position raise raises =
     elim (cases_Bool (raise.position == position)) [
-      | inl here ↦ let is = ap length (left_in here) in omega arith
+      | inl here ↦ let is = ap length (kept (λ (x : Raise). x.position == position) raise raises here) in omega arith
       | inr not_here ↦ let is = ap length (left_out (λ (x : Raise). x.position == position) raise raises not_here) in omega arith
     ]
-  where
-    left_in : (raise.position == position) ≡ true → at_position position (raise ∷ raises) ≡ raise ∷ at_position position raises
-    left_in here = kept (λ (x : Raise). x.position == position) raise raises here
 
 -- a raise that has the position stands there
 pub at-some : (position : ℕ) (raises : List Raise) (k : ℕ) (d : Raise) → k < length raises → (get_or raises k d).position ≡ position → 1 ≤ length (at_position position raises)
@@ -82,7 +80,7 @@ at-some position (raise ∷ raises) (suc k) d below same =
 
 -- two neighbours that have the position both stand there
 pub at-two : (position : ℕ) (raises : List Raise) (k : ℕ) (d : Raise) → suc k < length raises → (get_or raises k d).position ≡ position → (get_or raises (suc k) d).position ≡ position
-    → 1 < length (at_position position raises)
+    → AreTwoAt raises position
 at-two position [] k d below one other = absurd (omega arith)
 at-two position (raise ∷ raises) zero d below one other =
     let is = ap length (kept (λ (x : Raise). x.position == position) raise raises (eq-eqb raise.position position one)) in
@@ -132,92 +130,3 @@ at-only position (raise ∷ raises) (suc k) d once below same =
 -- the raises of a list are those of the logs, at each position
 abbrev pub AreRaisesOf : List ClientLog → List Raise → Type 0
 AreRaisesOf logs raises = (position : ℕ) → at_position position raises ≡ raises_at logs position
-
--- ---- the first clash
-
--- the positions of the raises before a place rise
-abbrev pub RisesBelow : ℕ → List Raise → Type 0
-RisesBelow place raises = (k : ℕ) (d : Raise) → suc k < place → (get_or raises k d).position < (get_or raises (suc k) d).position
-
--- of two of them the later has the greater position
-rises : (place : ℕ) (raises : List Raise) → place ≤ length raises → IsNonDecreasingBy (λ (raise : Raise). raise.position) raises → RisesBelow place raises
-    → (i j : ℕ) (d : Raise) → i < j → j < place → (get_or raises i d).position < (get_or raises j d).position
-rises place raises within sorted rising i j d before below =
-    let first = rising i d (omega arith) in
-    let then = sorted (suc i) j d (omega arith) (omega arith) in
-    omega arith
-
--- where all positions rise, no two raises have one
-pub clash-none : (raises : List Raise) → IsNonDecreasingBy (λ (raise : Raise). raise.position) raises → RisesBelow (length raises) raises → AtNoPosition (λ position. 1 < length (at_position position raises))
-clash-none raises sorted rising position two =
-    let once = at-most_one position raises (λ i j d before below one other.
-    let apart = rises (length raises) raises (omega arith) sorted rising i j d before below in
-    absurd (omega arith)) in
-    absurd (omega arith)
-
--- where they rise up to two neighbours that have one, it is the least that two raises have
-pub clash-least : (raises : List Raise) (place : ℕ) (e : Raise) → IsNonDecreasingBy (λ (raise : Raise). raise.position) raises → RisesBelow (suc place) raises → suc place < length raises
-    → (get_or raises place e).position ≡ (get_or raises (suc place) e).position → IsLeast (λ position. 1 < length (at_position position raises)) (get_or raises (suc place) e).position
-clash-least raises place e sorted rising below same = record {
-  stands = at-two (get_or raises (suc place) e).position raises place e below same refl;
-  none_below = λ position less two.
-      let once = at-most_one position raises (λ i j d before within one other.
-      elim (cases_lt j (suc place)) [
-        | inl early ↦ let apart = rises (suc place) raises (omega arith) sorted rising i j d before early in absurd (omega arith)
-        | inr late ↦
-            let above = sorted (suc place) j e late within in
-            let is = ap (λ (raise : Raise). raise.position) (get_or_default raises j d e within) in
-            absurd (omega arith)
-      ]) in
-      absurd (omega arith);
-}
-
--- the same, where the place of the later is known
-pub clash-at : (raises : List Raise) (place : ℕ) (e : Raise) → 1 ≤ place → IsNonDecreasingBy (λ (raise : Raise). raise.position) raises → RisesBelow place raises → place < length raises
-    → (get_or raises (place - 1) e).position ≡ (get_or raises place e).position → IsLeast (λ position. 1 < length (at_position position raises)) (get_or raises place e).position
-clash-at raises zero e least sorted rising below same = absurd (omega arith)
-clash-at raises (suc place) e least sorted rising below same =
-    let before : suc place - 1 ≡ place = omega arith in
-    clash-least raises place e sorted rising below (sym (ap (λ (k : ℕ). (get_or raises k e).position) before) ∙ same)
-
--- ---- the first position that is missing
-
--- the raises before a place stand at 1, 2 and so on
-abbrev pub InTurnBelow : ℕ → List Raise → Type 0
-InTurnBelow place raises = (k : ℕ) (d : Raise) → k < place → (get_or raises k d).position ≡ k + 1
-
--- after such raises the next stands at its number or above it
-next-above : (raises : List Raise) (place : ℕ) (e : Raise) → IsNonDecreasingBy (λ (raise : Raise). raise.position) raises → at_position 0 raises ≡ []
-    → AtNoPosition (λ position. 1 < length (at_position position raises)) → InTurnBelow place raises → place < length raises → place < (get_or raises place e).position
-next-above raises zero e sorted from_one once turn below =
-    elim (cases_eq (get_or raises 0 e).position 0) [
-      | inl same ↦ let some = at-some 0 raises 0 e below same in let none = ap length from_one in absurd (omega arith)
-      | inr apart ↦ omega arith
-    ]
-next-above raises (suc place) e sorted from_one once turn below =
-    let before = turn place e (omega arith) in
-    let order = sorted place (suc place) e (omega arith) below in
-    elim (cases_eq (get_or raises (suc place) e).position (suc place)) [
-      | inl same ↦ absurd (once (suc place) (at-two (suc place) raises place e below (omega arith) same))
-      | inr apart ↦ omega arith
-    ]
-
--- Where the next does not stand at its number, no raise does.
-pub missing-here : (raises : List Raise) (place : ℕ) (e : Raise) → IsNonDecreasingBy (λ (raise : Raise). raise.position) raises → at_position 0 raises ≡ []
-    → AtNoPosition (λ position. 1 < length (at_position position raises)) → InTurnBelow place raises → place < length raises
-    → ((get_or raises place e).position ≡ place + 1 → ⊥) → at_position (place + 1) raises ≡ []
-missing-here raises place e sorted from_one once turn below apart =
-    let above = next-above raises place e sorted from_one once turn below in
-    at-none (place + 1) raises (λ k d within same.
-    elim (cases_lt k place) [
-      | inl early ↦ let other = turn k d early in absurd (omega arith)
-      | inr late ↦
-          let order = sorted place k d late within in
-          let is = ap (λ (raise : Raise). raise.position) (get_or_default raises place d e below) in
-          apart (omega arith)
-    ])
-
--- Where all stand at their numbers, none stands at the next number.
-pub missing-after : (raises : List Raise) → InTurnBelow (length raises) raises → at_position (length raises + 1) raises ≡ []
-missing-after raises turn =
-    at-none (length raises + 1) raises (λ k d within same. let is = turn k d within in absurd (omega arith))
