@@ -6,10 +6,11 @@ use Rattle.std.proofs.lemmas.List.{map-append}
 use Rattle.std.proofs.lemmas.List.Elements.{filter-append}
 use Rattle.fdb_history.specs.Event.{Placed, stamped, is_raise, IsLegal, after_event}
 use Rattle.fdb_history.specs.Explained.{placed_in}
-use Rattle.fdb_history.specs.Faults.{Raise, raise_in, raises_in, raises_at, after_raises}
+use Rattle.fdb_history.specs.Faults.{raise_in, raises_in, raises_at, after_raises}
 use Rattle.fdb_history.specs.Linear.{IsLinear}
 use Rattle.fdb_history.specs.Log.{placed_from}
 use Rattle.fdb_history.specs.Register.{raises, record_after}
+use Rattle.fdb_history.specs.declared.auditing.raises.Raise.{Raise}
 use Rattle.fdb_history.specs.declared.event.Event.{Event}
 use Rattle.fdb_history.specs.declared.event.Event.TheVariants.{Report, Read}
 use Rattle.fdb_history.specs.declared.log.Call.{Call}

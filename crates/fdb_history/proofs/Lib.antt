@@ -17,3 +17,9 @@ mod Examples
 pub mod FirstCalls
 pub mod ByTable
 pub mod Audited
+pub mod RaisesAt
+pub mod FirstClash
+pub mod FirstMissing
+pub mod RegisterTable
+pub mod ReachedPositions
+pub mod RaiseFaults

@@ -1,10 +1,12 @@
 -- How the parts of an audit answer one another.
-use Rattle.std.specs.Prelude.{◌≡◌, ◌<◌, ℕ, ◌≤◌, List, take, Option, None, Some, slice_get, slice_index_or, count_by}
+use Rattle.std.specs.Prelude.{◌≡◌, ℕ, ◌+◌, ◌<◌, ◌≤◌, List, length, take, Option, None, Some, slice_get, slice_index_or, count_by}
 use Rattle.std.specs.List.{AllByRecursion}
+use Rattle.std.specs.List.Sorted.{IsNonDecreasingBy}
 use Rattle.fdb_history.specs.Event.{is_raise}
 use Rattle.fdb_history.specs.Explained.{placed_in}
-use Rattle.fdb_history.specs.Faults.{IsClash, IsGap, IsFirst, IsLeast, IsReached, Nowhere, AtNoPosition, register_at}
+use Rattle.fdb_history.specs.Faults.{IsClash, IsGap, IsFirst, IsLeast, IsReached, Nowhere, AtNoPosition, at_position, register_at, after_raises}
 use Rattle.fdb_history.specs.declared.auditing.found.CallName.{CallName}
+use Rattle.fdb_history.specs.declared.auditing.raises.Raise.{Raise}
 use Rattle.fdb_history.specs.declared.auditing.registers.Registers.{Registers}
 use Rattle.fdb_history.specs.declared.fault.AuditFault.{AuditFault}
 use Rattle.fdb_history.specs.declared.fault.AuditFault.TheVariants.{Order, Clash, Gap, Wrong, Stray, NotAbove, Memory}
@@ -25,6 +27,27 @@ NoneBefore Fault calls place = (p : ℕ) (call : Call) → p < place → slice_g
 abbrev pub IsFirstOf : (List Call → Call → Type 0) → List Call → Option ℕ → Type 0
 IsFirstOf Fault calls None = (p : ℕ) (call : Call) → slice_get calls p ≡ Some call → Fault (take p calls) call → ⊥
 IsFirstOf Fault calls (Some place) = ((call : Call) × (slice_get calls place ≡ Some call) × Fault (take place calls) call) × NoneBefore Fault calls place
+
+-- the least position at which something stands, if it stands at any
+abbrev pub IsLeastIfAny : (ℕ → Type 0) → Option ℕ → Type 0
+IsLeastIfAny Stands None = AtNoPosition Stands
+IsLeastIfAny Stands (Some position) = IsLeast Stands position
+
+-- the raises stand in the order of their positions
+abbrev pub AreByPosition : List Raise → Type 0
+AreByPosition raises = IsNonDecreasingBy (λ (raise : Raise). raise.position) raises
+
+-- two raises have a position
+abbrev pub AreTwoAt : List Raise → ℕ → Type 0
+AreTwoAt raises position = 1 < length (at_position position raises)
+
+-- the raises before a position stand at 1, 2 and so on
+abbrev pub StandInTurn : ℕ → List Raise → Type 0
+StandInTurn position raises = (place : ℕ) (d : Raise) → place + 1 < position → (place < length raises) × ((slice_index_or raises place d).position ≡ place + 1)
+
+-- the register before any raise, and then after each raise in turn
+abbrev pub IsTable : Record → List Raise → List Record → Type 0
+IsTable start raises table = (count : ℕ) (d : Record) → count ≤ length raises → slice_index_or table count d ≡ after_raises start (take count raises)
 
 -- the register at a position, by a table
 abbrev pub by_table : Registers → ℕ → Record

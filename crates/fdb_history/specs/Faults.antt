@@ -4,6 +4,7 @@ use Rattle.std.specs.Prelude.{◌≡◌, ◌≢◌, ◌⊎◌, ℕ, zero, suc, �
 use Rattle.std.specs.List.{flat_map}
 use Rattle.fdb_history.specs.Log.{calls_of, position_after_calls, answer_raises}
 use Rattle.fdb_history.specs.Register.{record_after}
+use Rattle.fdb_history.specs.declared.auditing.raises.Raise.{Raise}
 use Rattle.fdb_history.specs.declared.log.Call.{Call}
 use Rattle.fdb_history.specs.declared.log.CallAnswer.{CallAnswer}
 use Rattle.fdb_history.specs.declared.log.CallAnswer.TheVariants.{Version, Answered, Acked, Told, Refused}
@@ -11,11 +12,6 @@ use Rattle.fdb_history.specs.declared.log.ClientLog.{ClientLog}
 use Rattle.fdb_history.specs.declared.register.Record.{Record}
 
 -- ---- the raises
-
--- a report that raised the register, and its position
-pub record Raise : Type 0 where
-  pub position : ℕ
-  pub rec : Record
 
 abbrev pub raise_in : ℕ → CallAnswer → List Raise
 raise_in position (Version rec limits locked_out) = []

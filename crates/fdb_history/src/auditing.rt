@@ -13,6 +13,7 @@ mod answers;
 mod explaining;
 mod found;
 mod order;
+mod raises;
 mod registers;
 mod stray;
 

@@ -1,14 +1,16 @@
 //! The register at each position, by the raises in the logs.
 
-ghost use Rattle.std.specs.Prelude.{◌≡◌, OnOk, IfOk, IfErr};
+ghost use Rattle.std.specs.Prelude.{◌≡◌, ◌≤◌, ℕ, slice_get, Some, IfOk, OnOk, IfErr};
 ghost use Rattle.fdb_history.specs.Audit.{OutOfOrder};
-ghost use Rattle.fdb_history.specs.Auditing.{by_table, AreRegisters, IsRaiseFault};
-ghost use Rattle.fdb_history.specs.Faults.{Nowhere, AtNoPosition, IsClash, IsGap};
+ghost use Rattle.fdb_history.specs.Auditing.{AreRegisters, IsRaiseFault, IsTable, by_table};
+ghost use Rattle.fdb_history.specs.Faults.{IsClash, IsGap, IsReached, AtNoPosition, Nowhere};
+ghost use Rattle.fdb_history.specs.declared.log.Call.{Call};
 
+use crate::auditing::raises::{Raise, first_clash, first_missing, raises_by_position};
 use crate::fault::AuditFault;
-use crate::log::ClientLog;
+use crate::log::{Call, ClientLog};
 use crate::register::Record;
-use std::alloc::Global;
+use std::alloc::{AllocError, Global};
 
 /// The register at each position that a call has reached.
 #[derive(Drop)]
@@ -31,21 +33,62 @@ impl Registers {
     }
 }
 
+/// The register at each position that a call has reached, or the first fault of the raises: two at one position, or
+/// none where one is owed.
 pub fn registers_of(
     alloc: Global,
     start: Record,
     logs: &[ClientLog],
 ) -> Result<Registers, AuditFault>
-    requires { Nowhere (OutOfOrder logs.now) } // specs/Audit.antt
+    requires { Nowhere (OutOfOrder logs.now) }
     ensures no_clash { OnOk result (AtNoPosition (IsClash logs.now)) }
     ensures no_gap { OnOk result (AtNoPosition (IsGap logs.now)) }
     ensures begins { IfOk result (λ registers. registers.start ≡ start) }
     ensures ok { IfOk result (λ registers. AreRegisters start logs.now registers) }
     ensures err { IfErr result (IsRaiseFault logs.now) }
 {
-    let _ = logs;
-    Ok(Registers {
-        start,
-        table: Vec::new(alloc),
-    })
+    let raises = raises_by_position(alloc, logs)?;
+    if let Some(position) = first_clash(&raises) {
+        return Err(AuditFault::Clash { position });
+    }
+    let position = first_missing(&raises);
+    if position <= greatest_position(logs) {
+        return Err(AuditFault::Gap { position });
+    }
+    let table = table_of(alloc, start, &raises)?;
+    Ok(Registers { start, table })
+}
+
+/// The register before any raise, and then after each raise in turn.
+fn table_of(alloc: Global, start: Record, raises: &[Raise]) -> Result<Vec<Record>, AllocError>
+    ensures { IfOk result (λ table. IsTable start raises.now table.items) }
+{
+    let mut table = Vec::new(alloc);
+    let mut current = start;
+    table.push(current)?;
+    for raise in raises {
+        current = current.after_report(raise.rec);
+        table.push(current)?;
+    }
+    Ok(table)
+}
+
+/// The greatest position of a call, or 0 where there is no call.
+fn greatest_position(logs: &[ClientLog]) -> u64
+    ensures above { (position : ℕ) → IsReached logs.now position → position ≤ result }
+    ensures reached { (position : ℕ) → 1 ≤ position → position ≤ result → IsReached logs.now position }
+{
+    let mut greatest = 0;
+    for log in logs {
+        greatest = greatest.max(greatest_in(log.calls.as_slice()));
+    }
+    greatest
+}
+
+/// The greatest position of a log's calls, or 0 where there is none.
+fn greatest_in(calls: &[Call]) -> u64
+    ensures above { (place : ℕ) (call : Call) → slice_get calls.now place ≡ Some call → call.position ≤ result }
+    ensures reached { 1 ≤ result → (place : ℕ) × (call : Call) × (slice_get calls.now place ≡ Some call) × (result ≤ call.position) }
+{
+    calls.iter().map(|call| call.position).max().unwrap_or(0)
 }

@@ -1,0 +1,6 @@
+use Rattle.fdb_history.proofs.RegisterTable.{IsTableUpTo}
+use Rattle.fdb_history.proofs.auditing.registers.table_of.Given as goal
+
+-- the register after each of the raises so far is in the table
+abbrev pub invariant-loop-raise : goal.invariant-loop-raise
+invariant-loop-raise l = IsTableUpTo l.raise-index l.fn.start l.raises l.table.items l.current
