@@ -11,4 +11,6 @@ pub mod FaultlessLogs
 pub mod FaultlessLegal
 pub mod Faultless
 pub mod KnownCommits
+pub mod Lists
+pub mod KeptReplies
 mod Examples

@@ -6,6 +6,7 @@ pub mod Explained
 pub mod Added
 pub mod Chain
 pub mod Answer
+pub mod Replies
 pub mod Text
 pub mod Laws
 pub mod Faults

@@ -10,8 +10,8 @@ use Rattle.std.proofs.lemmas.Option.{slice_get_cases, slice_get_past}
 use Rattle.fdb_history.specs.Answer.{kept, kept_among}
 use Rattle.fdb_history.specs.Chain.{latest}
 use Rattle.fdb_history.specs.declared.chain.Issued.{Issued}
-use Rattle.fdb_chain.specs.Replies.{KeptReplies, AreRepliesOf, no_replies, place_of, reply, replies_after}
-use Rattle.fdb_chain.proofs.Lists.{slice_get-append_left, slice_get-append_seam}
+use Rattle.fdb_history.specs.Replies.{KeptReplies, AreRepliesOf, no_replies, place_of, reply, replies_after}
+use Rattle.fdb_history.proofs.Lists.{slice_get-append_left, slice_get-append_seam}
 
 -- a proxy that has got no answer
 pub AreRepliesOf-none : (proxy : ℕ) (replies : KeptReplies) → replies ≡ no_replies → AreRepliesOf proxy [] replies

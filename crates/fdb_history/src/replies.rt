@@ -1,7 +1,7 @@
 //! The replies that are kept for one commit proxy.
 
 ghost use Rattle.std.specs.Prelude.{◌≡◌, ◌<◌, ◌^◌, length, All, OnOk, OnErr, IfOk};
-ghost use Rattle.fdb_chain.specs.Replies.{no_replies, place_of, replies_after};
+ghost use Rattle.fdb_history.specs.Replies.{no_replies, place_of, replies_after};
 
 use std::alloc::{AllocError, Global};
 use std::marker::Model;
@@ -17,7 +17,7 @@ pub struct Replies {
 }
 
 impl Model for Replies {
-    ghost use Rattle.fdb_chain.specs.Replies.{KeptReplies};
+    ghost use Rattle.fdb_history.specs.Replies.{KeptReplies};
 
     ghost Value = { KeptReplies };
 
