@@ -13,4 +13,5 @@ pub mod Faultless
 pub mod KnownCommits
 pub mod Lists
 pub mod KeptReplies
+pub mod SameIssued
 mod Examples

@@ -1,4 +1,5 @@
 //! The audit of a run's logs.
 
+mod bearing;
 mod found;
 mod registers;
