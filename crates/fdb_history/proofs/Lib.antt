@@ -14,4 +14,6 @@ pub mod KnownCommits
 pub mod Lists
 pub mod KeptReplies
 pub mod SameIssued
+pub mod Counting
+pub mod Own
 mod Examples

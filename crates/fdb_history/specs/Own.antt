@@ -3,7 +3,7 @@ use Rattle.std.specs.Prelude.{◌≡◌, ◌≢◌, ℕ, ◌+◌, ◌-◌, ◌�
 use Rattle.std.specs.Option.{option_and_then}
 use Rattle.fdb_history.specs.Answer.{kept, kept_answer}
 use Rattle.fdb_history.specs.Chain.{latest}
-use Rattle.fdb_history.specs.Replies.{KeptReplies, drawn_place, reply}
+use Rattle.fdb_history.specs.Replies.{KeptReplies, drawn_place, replies_after, reply}
 use Rattle.fdb_history.specs.Strays.{goes_with, IsRightlyLockedOut, IsOfChain, IsFreshAnswer, logged_as}
 use Rattle.fdb_history.specs.declared.chain.Issued.{Issued}
 use Rattle.fdb_history.specs.declared.log.Call.{Call}
@@ -34,6 +34,14 @@ IsOfIssuedBy chain own (input.Report num locked metadata) (Acked rec raised) =
     ((entry : Issued) × (drawn chain own num ≡ Some entry) × (rec.version ≡ entry.version)) × (rec.locked ≡ locked) × (rec.metadata ≡ metadata)
 IsOfIssuedBy chain own (input.Report num locked metadata) (Refused NotIssued) = drawn chain own num ≡ None
 IsOfIssuedBy _ _ _ _ = Unit {0}
+
+-- what a client has drawn, after a call's answer
+abbrev pub own_after : KeptReplies → CallAnswer → KeptReplies
+own_after own (Answered issued) = if issued.fresh then replies_after own issued.ordinal issued.processed else own
+own_after own (Version rec limits locked_out) = own
+own_after own (Acked rec raised) = own
+own_after own Told = own
+own_after own (Refused cause) = own
 
 -- a call's answer is borne out, by what its client has drawn
 pub record IsBorneOutBy (chain : List Issued) (client : ℕ) (own : KeptReplies) (call : Call) : Type 0 where

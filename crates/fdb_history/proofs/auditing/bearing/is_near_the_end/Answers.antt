@@ -1,0 +1,1 @@
+use Rattle.fdb_history.proofs.Own.{AreOwn-none}
