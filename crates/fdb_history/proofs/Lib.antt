@@ -16,4 +16,5 @@ pub mod KeptReplies
 pub mod SameIssued
 pub mod Counting
 pub mod Own
+pub mod OwnCalls
 mod Examples

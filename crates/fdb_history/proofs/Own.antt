@@ -76,7 +76,7 @@ AreOwn-none chain client =
 
 -- ---- one more answer
 
-length-places : {chain : List Issued} {client : ℕ} {answers fresh : List Issued} {own : KeptReplies} → AreOwn chain client answers fresh own → length own.places ≡ length fresh
+pub length-places : {chain : List Issued} {client : ℕ} {answers fresh : List Issued} {own : KeptReplies} → AreOwn chain client answers fresh own → length own.places ≡ length fresh
 length-places {chain} {client} {answers} {fresh} {own} are = ap length are.places ∙ length-map fresh ordinal_of
 
 -- an answer at a place of a longer list was there before, or is the new one
@@ -112,10 +112,13 @@ drawn-new chain own place processed num entry new at =
     ∙ (ap (option_and_then (slice_get chain)) is ∙ at)
 
 -- an element of the mapped list is that of an element of the list
-map-at : {X Y : Type 0} (v : X → Y) (xs : List X) (k : ℕ) (y : Y) → slice_get (map v xs) k ≡ Some y → (x : X) × (slice_get xs k ≡ Some x) × (v x ≡ y)
+pub map-at : {X Y : Type 0} (v : X → Y) (xs : List X) (k : ℕ) (y : Y) → slice_get (map v xs) k ≡ Some y → (x : X) × (slice_get xs k ≡ Some x) × (v x ≡ y)
 map-at v [] k y at = absurd (none-some y at)
 map-at v (x ∷ xs) zero y at = (x, refl, same_Some (v x) y at)
 map-at v (x ∷ xs) (suc k) y at = map-at v xs k y at
+
+same_fresh : (a b x y : Issued) → a ≡ as_fresh x → b ≡ as_fresh y → x ≡ y → a ≡ b
+same_fresh a b x y ax by xy = ax ∙ (ap as_fresh xy ∙ sym by)
 
 -- a new answer has an ordinal of its own, since the answer at its ordinal has one number
 ordinal-new : (chain : List Issued) (client : ℕ) (answers fresh : List Issued) (own : KeptReplies) (answer : Issued) → AreOwn chain client answers fresh own → IsDrawnUnder chain client (length fresh + 1) answer → is_taken own.places answer.ordinal ≡ false
@@ -125,7 +128,8 @@ ordinal-new chain client answers fresh own answer are new =
     let was = map-at ordinal_of fresh old.0 answer.ordinal (ap (λ places. slice_get places old.0) (sym are.places) ∙ old.1) in
     let it = are.each old.0 was.0 was.1 in
     let entries : it.entry ≡ new.entry = same_Some it.entry new.entry (sym it.at ∙ (ap (slice_get chain) was.2 ∙ new.at)) in
-    let nums : was.0.num ≡ answer.num = ap (λ (a : Issued). a.num) (it.same ∙ (ap as_fresh entries ∙ sym new.same)) in
+    let same : was.0 ≡ answer = same_fresh was.0 answer it.entry new.entry it.same new.same entries in
+    let nums : was.0.num ≡ answer.num = ap (λ (a : Issued). a.num) same in
     let within = slice_get_within fresh old.0 was.0 was.1 in
     let under = it.under in
     let under' = new.under in

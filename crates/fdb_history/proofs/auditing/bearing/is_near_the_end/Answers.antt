@@ -1,1 +1,1 @@
-use Rattle.fdb_history.proofs.Own.{AreOwn-none}
+use Rattle.fdb_history.proofs.OwnCalls.{borne_out-by}
