@@ -17,4 +17,5 @@ pub mod SameIssued
 pub mod Counting
 pub mod Own
 pub mod OwnCalls
+pub mod FirstStray
 mod Examples

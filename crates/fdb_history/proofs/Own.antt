@@ -117,6 +117,11 @@ map-at v [] k y at = absurd (none-some y at)
 map-at v (x ∷ xs) zero y at = (x, refl, same_Some (v x) y at)
 map-at v (x ∷ xs) (suc k) y at = map-at v xs k y at
 
+pub at-map : {X Y : Type 0} (v : X → Y) (xs : List X) (k : ℕ) (x : X) → slice_get xs k ≡ Some x → slice_get (map v xs) k ≡ Some (v x)
+at-map v [] k x at = absurd (none-some x at)
+at-map v (y ∷ ys) zero x at = ap (λ z. Some (v z)) (same_Some y x at)
+at-map v (y ∷ ys) (suc k) x at = at-map v ys k x at
+
 same_fresh : (a b x y : Issued) → a ≡ as_fresh x → b ≡ as_fresh y → x ≡ y → a ≡ b
 same_fresh a b x y ax by xy = ax ∙ (ap as_fresh xy ∙ sym by)
 

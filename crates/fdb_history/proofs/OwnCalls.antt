@@ -151,6 +151,9 @@ due-by chain clients client before own (input.Ask num processed at) answer known
 
 -- ---- what was issued
 
+version-fresh : (a x y : Issued) → a ≡ as_fresh x → x ≡ y → a.version ≡ y.version
+version-fresh a x y ax xy = ap (λ (b : Issued). b.version) ax ∙ ap (λ (b : Issued). b.version) xy
+
 -- what was drawn under a number has an answer of that number
 drawn-issued : (chain : List Issued) (client : ℕ) (answers fresh : List Issued) (own : KeptReplies) (num : ℕ) (entry : Issued) → AreOwn chain client answers fresh own → drawn chain own num ≡ Some entry → (issued : Issued) × IsAmong answers num issued × (issued.version ≡ entry.version)
 drawn-issued chain client answers fresh own num entry are is =
@@ -166,7 +169,7 @@ drawn-issued chain client answers fresh own num entry are is =
           let entries : it.entry ≡ entry = same_Some it.entry entry (sym it.at ∙ (ap (slice_get chain) was.2 ∙ f)) in
           let some = z.1 in
           let num_is : num - 1 + 1 ≡ num = omega arith in
-          (was.0, (in'.0, in'.1, in'.2 ∙ num_is), ap (λ (a : Issued). a.version) (it.same ∙ ap as_fresh entries)))
+          (was.0, (in'.0, in'.1, in'.2 ∙ num_is), version-fresh was.0 it.entry entry it.same entries))
     ]
 
 none-drawn : (o : Option Issued) → ((entry : Issued) → o ≡ Some entry → ⊥) → o ≡ None

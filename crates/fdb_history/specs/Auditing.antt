@@ -47,3 +47,8 @@ IsRaiseFault logs (NotAbove client call) = ⊥
 -- no register call has a position above the number of raises
 abbrev pub IsWithin : List ClientLog → Type 0
 IsWithin logs = AllByRecursion (λ p. p.position ≤ count_by (λ q. is_raise q.event) (placed_in 0 logs)) (placed_in 0 logs)
+
+-- the least position at which something stands, if it stands at any
+abbrev pub IsFirstPosition : (ℕ → Type 0) → Option ℕ → Type 0
+IsFirstPosition Stands None = AtNoPosition Stands
+IsFirstPosition Stands (Some position) = IsLeast Stands position

@@ -3,3 +3,4 @@
 mod bearing;
 mod found;
 mod registers;
+mod stray;

@@ -1,1 +1,1 @@
-use Rattle.fdb_history.proofs.OwnCalls.{borne_out-by}
+use Rattle.fdb_history.proofs.FirstStray.{first-nowhere}
