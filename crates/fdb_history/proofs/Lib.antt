@@ -18,4 +18,5 @@ pub mod Counting
 pub mod Own
 pub mod OwnCalls
 pub mod FirstStray
+pub mod NoLog
 mod Examples

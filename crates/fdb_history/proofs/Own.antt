@@ -80,13 +80,13 @@ pub length-places : {chain : List Issued} {client : ℕ} {answers fresh : List I
 length-places {chain} {client} {answers} {fresh} {own} are = ap length are.places ∙ length-map fresh ordinal_of
 
 -- an answer at a place of a longer list was there before, or is the new one
-at_push : {X : Type 0} (xs : List X) (y : X) (place : ℕ) (x : X) → slice_get (xs ++ y ∷ []) place ≡ Some x → ((slice_get xs place ≡ Some x)) ⊎ ((place ≡ length xs) × (y ≡ x))
+pub at_push : {X : Type 0} (xs : List X) (y : X) (place : ℕ) (x : X) → slice_get (xs ++ y ∷ []) place ≡ Some x → ((slice_get xs place ≡ Some x)) ⊎ ((place ≡ length xs) × (y ≡ x))
 at_push [] y zero x at = inr (refl, same_Some y x at)
 at_push [] y (suc place) x at = absurd (none-some x at)
 at_push (z ∷ zs) y zero x at = inl at
 at_push (z ∷ zs) y (suc place) x at = elim (at_push zs y place x at) [ inl before ↦ inl before | inr new ↦ inr (ap suc new.0, new.1) ]
 
-at_left : {X : Type 0} (xs : List X) (y : X) (place : ℕ) (x : X) → slice_get xs place ≡ Some x → slice_get (xs ++ y ∷ []) place ≡ Some x
+pub at_left : {X : Type 0} (xs : List X) (y : X) (place : ℕ) (x : X) → slice_get xs place ≡ Some x → slice_get (xs ++ y ∷ []) place ≡ Some x
 at_left xs y place x at = slice_get-append_left xs (y ∷ []) place (slice_get_within xs place x at) ∙ at
 
 among-push : (answers : List Issued) (answer : Issued) (num : ℕ) (issued : Issued) → IsAmong answers num issued → IsAmong (answers ++ answer ∷ []) num issued

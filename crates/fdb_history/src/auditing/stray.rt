@@ -35,7 +35,10 @@ pub fn first_stray(
             }));
         }
     }
-    Ok(first_without_log(chain, logs).map(|client| CallName { client, call: 0 }))
+    let Some(client) = first_without_log(chain, logs) else {
+        return Ok(None);
+    };
+    Ok(Some(CallName { client, call: 0 }))
 }
 
 /// How many entries of the chain each of so many clients has.
@@ -101,8 +104,14 @@ fn keep_drawn(own: &mut Replies, answer: &CallAnswer) -> Result<(), AllocError>
 fn first_without_log(chain: &[Issued], logs: &[ClientLog]) -> Option<u32>
     ensures { IsFirstPosition (HasNoLog chain.now logs.now) result }
 {
-    let clients = chain.iter().map(|entry| entry.proxy);
-    clients
-        .filter(|client| *client as usize >= logs.len())
-        .min()
+    let mut least = None;
+    for entry in chain {
+        if entry.proxy as usize >= logs.len() {
+            least = Some(match least {
+                Some(client) => entry.proxy.min(client),
+                None => entry.proxy,
+            });
+        }
+    }
+    least
 }

@@ -1,1 +1,0 @@
-use Rattle.fdb_history.proofs.FirstStray.{first-nowhere}
