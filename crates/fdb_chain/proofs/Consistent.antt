@@ -7,9 +7,9 @@ use Rattle.std.proofs.lemmas.Option.{get_or_from_slice_get, slice_get_read, slic
 use Rattle.fdb_history.specs.Chain.{IsNext}
 use Rattle.fdb_history.specs.declared.chain.Issued.{Issued}
 use Rattle.fdb_chain.specs.ChainCore.{IsConsistent}
-use Rattle.fdb_chain.specs.Replies.{KeptReplies, replies_after}
+use Rattle.fdb_history.specs.Replies.{KeptReplies, replies_after}
 use Rattle.fdb_chain.proofs.OneChain.{IsChain-append}
-use Rattle.fdb_chain.proofs.KeptReplies.{AreRepliesOf-other, AreRepliesOf-own}
+use Rattle.fdb_history.proofs.KeptReplies.{AreRepliesOf-other, AreRepliesOf-own}
 
 -- an item of a list of which one was replaced: the new one, or one that was there
 slice_get-set_cases : {X : Type 0} (xs : List X) (i j : ℕ) (y x : X) → i < length xs → slice_get (set xs i y) j ≡ Some x → ((j ≡ i) × (x ≡ y)) ⊎ ((j ≡ i → ⊥) × (slice_get xs j ≡ Some x))

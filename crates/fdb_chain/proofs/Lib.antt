@@ -1,4 +1,2 @@
-pub mod Lists
 pub mod OneChain
-pub mod KeptReplies
 pub mod Consistent

@@ -8,7 +8,7 @@ use Rattle.std.proofs.lemmas.Option.{slice_get_within, same_Some}
 use Rattle.fdb_history.specs.Chain.{IsChain, IsNext, last_answer}
 use Rattle.fdb_history.specs.declared.chain.Issued.{Issued}
 use Rattle.fdb_history.specs.declared.register.TheConstants.{MAX_VERSION}
-use Rattle.fdb_chain.proofs.Lists.{slice_get-append_left, slice_get-append_seam}
+use Rattle.fdb_history.proofs.Lists.{slice_get-append_left, slice_get-append_seam}
 
 -- the answer at the end of a longer chain is the next one
 IsChain-at_end : (epoch_end recovery : ℕ) (answers : List Issued) (answer found : Issued) → IsNext epoch_end recovery answers answer → (place : ℕ) → place ≡ length answers → slice_get (answers ++ answer ∷ []) place ≡ Some found → IsNext epoch_end recovery (take place (answers ++ answer ∷ [])) found

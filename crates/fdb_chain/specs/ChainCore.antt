@@ -9,7 +9,7 @@ use Rattle.fdb_history.specs.declared.register.TheConstants.{MAX_VERSION}
 use Rattle.fdb_chain.specs.declared.chain_core.TheConstants.{MAX_PROXIES}
 use Rattle.fdb_chain.specs.declared.error.ChainError.{ChainError}
 use Rattle.fdb_chain.specs.declared.error.ChainError.TheVariants.{BadEpoch, NoProxy, UnknownProxy, Early, Forgotten, Exhausted, Memory}
-use Rattle.fdb_chain.specs.Replies.{KeptReplies, AreRepliesOf}
+use Rattle.fdb_history.specs.Replies.{KeptReplies, AreRepliesOf}
 
 -- The recovery version is a version, above the end of the epoch before.
 pub record IsEpoch (epoch_end recovery : ℕ) : Type 0 where

@@ -6,9 +6,8 @@ ghost use Rattle.fdb_history.specs.Chain.{IsChain, IsNext, latest};
 ghost use Rattle.fdb_chain.specs.ChainCore.{IsAnswer, IsEpoch, IsProxyCount, new_chain};
 
 use crate::error::ChainError;
-use crate::replies::Replies;
 use crate::version;
-use fdb_history::{Ask, Issued, MAX_VERSION};
+use fdb_history::{Ask, Issued, MAX_VERSION, Replies};
 use std::alloc::{AllocError, Global};
 use std::marker::Model;
 

@@ -7,7 +7,6 @@
 
 mod chain_core;
 mod error;
-mod replies;
 mod version;
 
 pub use chain_core::{ChainCore, MAX_PROXIES};

@@ -13,6 +13,14 @@ pub mod Faultless
 pub mod Grouped
 pub mod Explaining
 pub mod KnownCommits
+pub mod Lists
+pub mod KeptReplies
+pub mod SameIssued
+pub mod Counting
+pub mod Own
+pub mod OwnCalls
+pub mod FirstStray
+pub mod NoLog
 mod Examples
 pub mod FirstCalls
 pub mod ByTable

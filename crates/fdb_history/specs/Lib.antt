@@ -6,9 +6,11 @@ pub mod Explained
 pub mod Added
 pub mod Chain
 pub mod Answer
+pub mod Replies
 pub mod Text
 pub mod Laws
 pub mod Faults
 pub mod Strays
+pub mod Own
 pub mod Audit
 pub mod Auditing

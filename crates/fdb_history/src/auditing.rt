@@ -10,6 +10,7 @@ ghost use Rattle.fdb_history.specs.declared.chain.Issued.{Issued};
 ghost use Rattle.fdb_history.specs.declared.event.Event.{Event};
 
 mod answers;
+mod bearing;
 mod explaining;
 mod found;
 mod order;

@@ -14,6 +14,7 @@ mod grv;
 pub mod laws;
 mod log;
 mod register;
+mod replies;
 mod sequence;
 #[cfg(test)]
 mod tests;
@@ -26,4 +27,5 @@ pub use gate::{Gate, OpenGate, Place};
 pub use grv::{GrvOpts, Priority, Tag, TagLimit};
 pub use log::{Call, CallAnswer, ClientLog, Input, Refusal};
 pub use register::{MAX_VERSION, Record};
+pub use replies::Replies;
 pub use sequence::Sequence;

@@ -1,5 +1,5 @@
 -- The replies that are kept for one commit proxy.
-use Rattle.std.specs.Prelude.{◌≡◌, ℕ, ◌-◌, ◌<◌, nat_le, min, max, List, [], ◌∷◌, ◌++◌, length, Option, None, slice_get, All, if◌then◌else◌}
+use Rattle.std.specs.Prelude.{◌≡◌, ℕ, ◌-◌, ◌<◌, ◌==◌, nat_le, min, max, List, [], ◌∷◌, ◌++◌, length, Option, None, slice_get, All, if◌then◌else◌}
 use Rattle.std.specs.Option.{option_and_then}
 use Rattle.fdb_history.specs.Answer.{kept}
 use Rattle.fdb_history.specs.Chain.{latest}
@@ -17,6 +17,10 @@ no_replies = record { places = []; erased = 0 }
 -- The place of the answer under a number, if it is kept.
 abbrev pub place_of : KeptReplies → ℕ → Option ℕ
 place_of replies num = if nat_le num replies.erased then None else slice_get replies.places (num - 1)
+
+-- The place of the answer under a number, whether it is still kept or not.
+abbrev pub drawn_place : KeptReplies → ℕ → Option ℕ
+drawn_place replies num = if num == 0 then None else slice_get replies.places (num - 1)
 
 -- The replies after one more answer of the proxy, at this place. Those that it has processed are erased, but not
 -- the new one.

@@ -1,6 +1,6 @@
 use Rattle.std.proofs.Common.{◌≡◌, ◌≤◌, All, vec_len, vec_capacity}
-use Rattle.fdb_chain.specs.Replies.{no_replies}
-use Rattle.fdb_chain.proofs.replies.Replies.of_each.Given as goal
+use Rattle.fdb_history.specs.Replies.{no_replies}
+use Rattle.fdb_history.proofs.replies.Replies.of_each.Given as goal
 
 abbrev pub invariant-loop : goal.invariant-loop
 invariant-loop l =

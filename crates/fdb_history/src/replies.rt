@@ -1,7 +1,7 @@
 //! The replies that are kept for one commit proxy.
 
 ghost use Rattle.std.specs.Prelude.{◌≡◌, ◌<◌, ◌^◌, length, All, OnOk, OnErr, IfOk};
-ghost use Rattle.fdb_chain.specs.Replies.{no_replies, place_of, replies_after};
+ghost use Rattle.fdb_history.specs.Replies.{drawn_place, no_replies, place_of, replies_after};
 
 use std::alloc::{AllocError, Global};
 use std::marker::Model;
@@ -17,7 +17,7 @@ pub struct Replies {
 }
 
 impl Model for Replies {
-    ghost use Rattle.fdb_chain.specs.Replies.{KeptReplies};
+    ghost use Rattle.fdb_history.specs.Replies.{KeptReplies};
 
     ghost Value = { KeptReplies };
 
@@ -60,6 +60,16 @@ impl Replies {
         ensures { result ≡ place_of self.now num }
     {
         if num <= self.erased {
+            return None;
+        }
+        self.places.get((num - 1) as usize).copied()
+    }
+
+    /// The place of the answer under a number, whether it is still kept or not.
+    pub fn drawn_place(&self, num: u64) -> Option<usize>
+        ensures { result ≡ drawn_place self.now num }
+    {
+        if num == 0 {
             return None;
         }
         self.places.get((num - 1) as usize).copied()

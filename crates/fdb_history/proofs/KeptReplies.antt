@@ -10,8 +10,8 @@ use Rattle.std.proofs.lemmas.Option.{slice_get_cases, slice_get_past}
 use Rattle.fdb_history.specs.Answer.{kept, kept_among}
 use Rattle.fdb_history.specs.Chain.{latest}
 use Rattle.fdb_history.specs.declared.chain.Issued.{Issued}
-use Rattle.fdb_chain.specs.Replies.{KeptReplies, AreRepliesOf, no_replies, place_of, reply, replies_after}
-use Rattle.fdb_chain.proofs.Lists.{slice_get-append_left, slice_get-append_seam}
+use Rattle.fdb_history.specs.Replies.{KeptReplies, AreRepliesOf, no_replies, place_of, reply, replies_after}
+use Rattle.fdb_history.proofs.Lists.{slice_get-append_left, slice_get-append_seam}
 
 -- a proxy that has got no answer
 pub AreRepliesOf-none : (proxy : ℕ) (replies : KeptReplies) → replies ≡ no_replies → AreRepliesOf proxy [] replies
@@ -24,26 +24,26 @@ kept-append proxy num answers answer = ap (kept_among proxy num) (reverse-append
 kept-append_other : (proxy num : ℕ) (answers : List Issued) (answer : Issued) → (answer.proxy ≡ proxy → ⊥) → kept proxy num (answers ++ answer ∷ []) ≡ kept proxy num answers
 kept-append_other proxy num answers answer other = rw (kept-append proxy num answers answer) (grind (arith, nat_tests))
 
-kept-append_new : (num : ℕ) (answers : List Issued) (answer : Issued) → answer.num ≡ num → kept answer.proxy num (answers ++ answer ∷ []) ≡ Some answer
+pub kept-append_new : (num : ℕ) (answers : List Issued) (answer : Issued) → answer.num ≡ num → kept answer.proxy num (answers ++ answer ∷ []) ≡ Some answer
 kept-append_new num answers answer new = rw (kept-append answer.proxy num answers answer) (grind (arith, nat_tests))
 
-kept-append_erased : (num : ℕ) (answers : List Issued) (answer : Issued) → (answer.num ≡ num → ⊥) → num ≤ answer.processed → kept answer.proxy num (answers ++ answer ∷ []) ≡ None
+pub kept-append_erased : (num : ℕ) (answers : List Issued) (answer : Issued) → (answer.num ≡ num → ⊥) → num ≤ answer.processed → kept answer.proxy num (answers ++ answer ∷ []) ≡ None
 kept-append_erased num answers answer old erased = rw (kept-append answer.proxy num answers answer) (grind (arith, nat_tests))
 
-kept-append_old : (num : ℕ) (answers : List Issued) (answer : Issued) → (answer.num ≡ num → ⊥) → answer.processed < num → kept answer.proxy num (answers ++ answer ∷ []) ≡ kept answer.proxy num answers
+pub kept-append_old : (num : ℕ) (answers : List Issued) (answer : Issued) → (answer.num ≡ num → ⊥) → answer.processed < num → kept answer.proxy num (answers ++ answer ∷ []) ≡ kept answer.proxy num answers
 kept-append_old num answers answer old wanted = rw (kept-append answer.proxy num answers answer) (grind (arith, nat_tests))
 
-latest-append : (proxy : ℕ) (answers : List Issued) (answer : Issued) → latest proxy (answers ++ answer ∷ []) ≡ latest proxy answers + cond (answer.proxy == proxy) 1 0
+pub latest-append : (proxy : ℕ) (answers : List Issued) (answer : Issued) → latest proxy (answers ++ answer ∷ []) ≡ latest proxy answers + cond (answer.proxy == proxy) 1 0
 latest-append proxy answers answer = sum_by_push (λ old. cond (old.proxy == proxy) 1 0) answers answer
 
 -- the place under each number, after one more answer of the proxy
-place_of-new : (replies : KeptReplies) (place processed num : ℕ) → length replies.places + 1 ≡ num → place_of (replies_after replies place processed) num ≡ Some place
+pub place_of-new : (replies : KeptReplies) (place processed num : ℕ) → length replies.places + 1 ≡ num → place_of (replies_after replies place processed) num ≡ Some place
 place_of-new replies place processed num new =
     let e : num - 1 ≡ length replies.places = omega arith in
     let at_end : slice_get (replies.places ++ place ∷ []) (num - 1) ≡ Some place = rw e (slice_get-append_seam replies.places place) in
     grind (arith, nat_tests)
 
-place_of-erased : (replies : KeptReplies) (place processed num : ℕ) → (length replies.places + 1 ≡ num → ⊥) → num ≤ processed → place_of (replies_after replies place processed) num ≡ None
+pub place_of-erased : (replies : KeptReplies) (place processed num : ℕ) → (length replies.places + 1 ≡ num → ⊥) → num ≤ processed → place_of (replies_after replies place processed) num ≡ None
 place_of-erased replies place processed num old erased =
     elim (cases_lt num (length replies.places + 1)) [
       | inl before ↦ grind (arith, nat_tests)
@@ -52,7 +52,7 @@ place_of-erased replies place processed num old erased =
           grind (arith, nat_tests)
     ]
 
-place_of-old : (replies : KeptReplies) (place processed num : ℕ) → (length replies.places + 1 ≡ num → ⊥) → processed < num → place_of (replies_after replies place processed) num ≡ place_of replies num
+pub place_of-old : (replies : KeptReplies) (place processed num : ℕ) → (length replies.places + 1 ≡ num → ⊥) → processed < num → place_of (replies_after replies place processed) num ≡ place_of replies num
 place_of-old replies place processed num old wanted =
     elim (cases_lt num (length replies.places + 1)) [
       | inl before ↦
