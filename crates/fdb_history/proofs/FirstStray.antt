@@ -24,11 +24,16 @@ undrawn-fewer chain logs client own are fewer =
     let len = length-places are in
     let counted = are.counted in
     let one = some_missing (is_of client) own.places 0 chain (omega arith) in
-    let of_client : one.1.proxy ≡ client = eqb-true one.1.proxy client one.3 in
-    (one.0, one.1, one.2, of_client, λ drawn.
-    let at : slice_get (fresh_answers (calls_of logs client)) drawn.0 ≡ Some drawn.1 = ap (λ c. slice_get (fresh_answers (calls_of logs c)) drawn.0) (sym of_client) ∙ drawn.2 in
-    let at_places : slice_get own.places drawn.0 ≡ Some one.0 = ap (λ places. slice_get places drawn.0) are.places ∙ (at-map ordinal_of (fresh_answers (calls_of logs client)) drawn.0 drawn.1 at ∙ ap Some drawn.3) in
-    both_ways (is_taken own.places one.0) (ap (is_taken own.places) (sym (zero-add one.0)) ∙ one.4) (at-is_taken own.places one.0 drawn.0 at_places))
+    let of_client : one.1.proxy ≡ client = eqb-true one.1.proxy client one.3 in (
+      one.0,
+      one.1,
+      one.2,
+      of_client,
+      λ drawn.
+          let at : slice_get (fresh_answers (calls_of logs client)) drawn.0 ≡ Some drawn.1 = ap (λ c. slice_get (fresh_answers (calls_of logs c)) drawn.0) (sym of_client) ∙ drawn.2 in
+          let at_places : slice_get own.places drawn.0 ≡ Some one.0 = ap (λ places. slice_get places drawn.0) are.places ∙ (at-map ordinal_of (fresh_answers (calls_of logs client)) drawn.0 drawn.1 at ∙ ap Some drawn.3) in
+          both_ways (is_taken own.places one.0) (ap (is_taken own.places) (sym (zero-add one.0)) ∙ one.4) (at-is_taken own.places one.0 drawn.0 at_places),
+    )
 
 same_entry : (chain : List Issued) (i j : ℕ) (x y : Issued) → i ≡ j → slice_get chain i ≡ Some x → slice_get chain j ≡ Some y → x ≡ y
 same_entry chain i j x y e at_i at_j = same_Some x y (sym at_i ∙ (ap (slice_get chain) e ∙ at_j))
@@ -73,9 +78,9 @@ first-at_call chain logs client place call known before at astray =
     record {
       stands = inl (call, at, astray);
       none_below =
-        λ p below stray. stray-in_log chain logs client p ⊥ known stray
-        (λ earlier here not_borne_out. not_borne_out (before p earlier below here))
-        (λ ends undrawn. let within = slice_get_within (calls_of logs client) place call at in absurd (omega arith));
+          λ p below stray. stray-in_log chain logs client p ⊥ known stray
+          (λ earlier here not_borne_out. not_borne_out (before p earlier below here))
+          (λ ends undrawn. let within = slice_get_within (calls_of logs client) place call at in absurd (omega arith));
     }
 
 -- all calls are borne out, and an entry was not drawn
@@ -85,9 +90,9 @@ first-at_end chain logs client known before undrawn =
     record {
       stands = inr (inl (known, refl, undrawn));
       none_below =
-        λ p below stray. stray-in_log chain logs client p ⊥ known stray
-        (λ earlier here not_borne_out. not_borne_out (before p earlier below here))
-        (λ ends _. absurd (omega arith));
+          λ p below stray. stray-in_log chain logs client p ⊥ known stray
+          (λ earlier here not_borne_out. not_borne_out (before p earlier below here))
+          (λ ends _. absurd (omega arith));
     }
 
 -- all calls are borne out, and all entries were drawn

@@ -94,16 +94,16 @@ least-more before entry logs least first beyond =
           let is : min entry.proxy least ≡ entry.proxy = omega arith in
           rw is
           (record {
-             stands = (length before, entry, slice_get-append_seam before entry, refl, beyond);
-             none_below = λ client below has. elim (no_log-push before entry logs client has) [ inl earlier ↦ first.none_below client (omega arith) earlier | inr new ↦ absurd (omega (arith, new.0)) ];
-           })
+            stands = (length before, entry, slice_get-append_seam before entry, refl, beyond);
+            none_below = λ client below has. elim (no_log-push before entry logs client has) [ inl earlier ↦ first.none_below client (omega arith) earlier | inr new ↦ absurd (omega (arith, new.0)) ];
+          })
       | inr most ↦
           let is : min entry.proxy least ≡ least = omega arith in
           rw is
           (record {
-             stands = no_log-left before entry logs least first.stands;
-             none_below = λ client below has. elim (no_log-push before entry logs client has) [ inl earlier ↦ first.none_below client below earlier | inr new ↦ absurd (omega (arith, new.0)) ];
-           })
+            stands = no_log-left before entry logs least first.stands;
+            none_below = λ client below has. elim (no_log-push before entry logs client has) [ inl earlier ↦ first.none_below client below earlier | inr new ↦ absurd (omega (arith, new.0)) ];
+          })
     ]
 
 -- ---- all clients

@@ -187,27 +187,27 @@ AreOwn-fresh chain client answers fresh own answer are new =
     record {
       places = ap (λ places. places ++ answer.ordinal ∷ []) are.places ∙ sym (map-append ordinal_of fresh (answer ∷ []));
       each =
-        λ place issued at. elim (at_push fresh answer place issued at) [
-          | inl before ↦ are.each place issued before
-          | inr last ↦ rw (last.0, ← last.1) new
-        ];
+          λ place issued at. elim (at_push fresh answer place issued at) [
+            | inl before ↦ are.each place issued before
+            | inr last ↦ rw (last.0, ← last.1) new
+          ];
       among =
-        λ place issued at. elim (at_push fresh answer place issued at) [
-          | inl before ↦ among-push answers answer (place + 1) issued (are.among place issued before)
-          | inr last ↦ (length answers, slice_get-append_seam answers answer ∙ ap Some last.1, ap (λ (a : Issued). a.num) (sym last.1) ∙ (new.under ∙ ap (λ n. n + 1) (sym last.0)))
-        ];
+          λ place issued at. elim (at_push fresh answer place issued at) [
+            | inl before ↦ among-push answers answer (place + 1) issued (are.among place issued before)
+            | inr last ↦ (length answers, slice_get-append_seam answers answer ∙ ap Some last.1, ap (λ (a : Issued). a.num) (sym last.1) ∙ (new.under ∙ ap (λ n. n + 1) (sym last.0)))
+          ];
       look_up = λ num. ap (λ p. kept p num (fresh ++ answer ∷ [])) (sym new.of_client) ∙ look_up-fresh chain client answers fresh own answer are new num;
       count =
-        let one = cond-true {A = ℕ} (eqb answer.proxy client) 1 0 (eq-eqb answer.proxy client new.of_client) in
-        let more = latest-append client fresh answer in
-        let count = are.count in
-        omega (arith, length-append fresh (answer ∷ []));
+          let one = cond-true {A = ℕ} (eqb answer.proxy client) 1 0 (eq-eqb answer.proxy client new.of_client) in
+          let more = latest-append client fresh answer in
+          let count = are.count in
+          omega (arith, length-append fresh (answer ∷ []));
       versions = versions-fresh chain client answers fresh own answer are new;
       counted =
-        let of_client : new.entry.proxy ≡ client = ap (λ (a : Issued). a.proxy) (sym new.same) ∙ new.of_client in
-        let less = missing-push (is_of client) own.places answer.ordinal 0 chain answer.ordinal new.entry new.at (zero-add answer.ordinal) (eq-eqb new.entry.proxy client of_client) (ordinal-new chain client answers fresh own answer are new) in
-        let counted = are.counted in
-        omega (arith, length-append fresh (answer ∷ []));
+          let of_client : new.entry.proxy ≡ client = ap (λ (a : Issued). a.proxy) (sym new.same) ∙ new.of_client in
+          let less = missing-push (is_of client) own.places answer.ordinal 0 chain answer.ordinal new.entry new.at (zero-add answer.ordinal) (eq-eqb new.entry.proxy client of_client) (ordinal-new chain client answers fresh own answer are new) in
+          let counted = are.counted in
+          omega (arith, length-append fresh (answer ∷ []));
     }
 
 -- after an answer that was given again
@@ -221,9 +221,9 @@ AreOwn-again chain client answers fresh own answer are version =
       look_up = are.look_up;
       count = are.count;
       versions =
-        λ num issued among. elim (at_push answers answer among.0 issued among.1) [
-          | inl before ↦ are.versions num issued (among.0, before, among.2)
-          | inr last ↦ rw (← among.2, ← last.1) version
-        ];
+          λ num issued among. elim (at_push answers answer among.0 issued among.1) [
+            | inl before ↦ are.versions num issued (among.0, before, among.2)
+            | inr last ↦ rw (← among.2, ← last.1) version
+          ];
       counted = are.counted;
     }

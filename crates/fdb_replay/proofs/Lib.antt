@@ -1,7 +1,6 @@
 pub mod Arrays
 pub mod Input
 pub mod Numbers
-pub mod Order
 pub mod Runs
 pub mod Sessions
 pub mod Single

@@ -1,9 +1,9 @@
 -- A session that has played every round of a script leaves an outcome of it.
 use Rattle.std.proofs.Common.{◌≡◌, ℕ, zero, suc, ◌+◌, ◌<◌, List, [], ◌∷◌, Result, Ok, Err, length, drop, get_or, replicate, refl, ap, sym, ◌∙◌, subst, arith, add-one, drop-cons}
 use Rattle.std.specs.List.{AllByRecursion, FoldsTo}
-use Rattle.std.specs.Result.{IfOk}
 use Rattle.std.proofs.lemmas.Bool.{eq-eqb}
 use Rattle.std.proofs.lemmas.List.Elements.{All-from_recursion, All-get_or}
+use Rattle.fdb_history.specs.Audit.{IsAudited}
 use Rattle.fdb_history.specs.Chain.{IsChain}
 use Rattle.fdb_history.specs.Log.{calls_of, fresh_answers}
 use Rattle.fdb_history.specs.declared.log.Call.{Call}
@@ -11,14 +11,12 @@ use Rattle.fdb_history.specs.declared.log.ClientLog.{ClientLog}
 use Rattle.fdb_replay.specs.Answering.{AnswersCommand, AnswersRound, Answers, commands_of}
 use Rattle.fdb_replay.specs.Outcome.{IsRunOf, opening}
 use Rattle.fdb_replay.specs.Plan.{Plan, IsPlan}
-use Rattle.fdb_replay.specs.Session.{IsSession, events_of}
+use Rattle.fdb_replay.specs.Session.{IsSession}
 use Rattle.fdb_replay.specs.Served.{AreServed}
 use Rattle.fdb_history.specs.Linear.{IsLinear}
 use Rattle.fdb_replay.specs.declared.outcome.Outcome.{Outcome}
-use Rattle.fdb_replay.specs.declared.outcome.RunFault.{RunFault}
 use Rattle.fdb_replay.specs.declared.script.Command.{Command}
 use Rattle.fdb_replay.specs.declared.session.Session.{Session}
-use Rattle.fdb_replay.proofs.Single.{linear, in_fixed_order}
 
 abbrev log_of : List Call → List ClientLog
 log_of calls = record { calls = calls } ∷ []
@@ -54,22 +52,22 @@ one_round_more plan place commands before after last is within item answered res
     drop-cons plan.rounds place commands within ∙ ap (λ first. first ∷ drop (suc place) plan.rounds) (sym item) ∙ ap (λ n. commands ∷ drop n plan.rounds) (sym (add-one place)) in
     subst (λ rounds. FoldsTo AnswersRound (log_of before) rounds last) (sym split) (log_of after, round_answered before after commands known_one answered, rest)
 
--- the outcome of a session that has played all rounds
-pub run_of : (plan : Plan) (session : Session) (result : Result Outcome RunFault) → IsPlan plan → IsSession session
+-- the outcome of a session that has played all rounds, and was audited
+pub run_of : (plan : Plan) (session : Session) (outcome : Outcome) → IsPlan plan → IsSession session
     → session.core.epoch_end ≡ plan.epoch_end → session.core.recovery ≡ plan.recovery → FoldsTo AnswersRound (log_of []) plan.rounds (log_of session.calls)
-    → IfOk result (λ outcome. IsChain session.core.epoch_end session.core.recovery outcome.chain.items) → IfOk result (λ outcome. outcome.chain.items ≡ fresh_answers session.calls)
-    → IfOk result (λ outcome. outcome.logs.items ≡ log_of session.calls) → IfOk result (λ outcome. outcome.history.events ≡ events_of session.calls) → IfOk result (IsRunOf plan)
-run_of plan session (Err fault) is_plan is epoch_end recovery answered chain drawn logs history = tt
-run_of plan session (Ok outcome) is_plan is epoch_end recovery answered chain drawn logs history =
+    → IsChain session.core.epoch_end session.core.recovery outcome.chain.items → outcome.chain.items ≡ fresh_answers session.calls → outcome.logs.items ≡ log_of session.calls
+    → IsAudited (opening plan.recovery) outcome.chain.items outcome.logs.items (Ok outcome.history) → IsLinear (opening plan.recovery) outcome.logs.items outcome.history.events
+    → IsRunOf plan outcome
+run_of plan session outcome is_plan is epoch_end recovery answered chain drawn logs audited linear =
     let calls : calls_of outcome.logs.items 0 ≡ session.calls = ap (λ all. calls_of all 0) logs in
     let answers : Answers plan (log_of session.calls) = subst (λ n. FoldsTo AnswersRound (replicate n (record { calls = [] })) plan.rounds (log_of session.calls)) (sym is_plan.one_client) answered in
-    let explains : IsLinear (opening plan.recovery) (log_of session.calls) (events_of session.calls) =
-    subst (λ version. IsLinear (opening version) (log_of session.calls) (events_of session.calls)) recovery (linear (opening session.core.recovery) session.calls is.climbs is.legal) in
     record {
       answers = subst (Answers plan) (sym logs) answers;
       one_chain = subst (λ e. IsChain e plan.recovery outcome.chain.items) epoch_end (subst (λ r. IsChain session.core.epoch_end r outcome.chain.items) recovery chain);
-      linear = rw (logs, history) explains;
-      in_order = rw (logs, history) (in_fixed_order session.calls is.climbs);
+      linear = linear;
+      in_order = audited.3;
+      none_astray = audited.1;
+      none_low = audited.2;
       served = rw calls (subst (λ e. AreServed e plan.recovery [] session.calls) epoch_end (subst (λ r. AreServed session.core.epoch_end r [] session.calls) recovery is.served));
       drawn = rw calls drawn;
     }

@@ -148,9 +148,3 @@ linear start calls climbs legal =
       ordered = (never_back 0 calls climbs, tt);
       bounded = (all_bounded (raise_count (events_of calls)) 0 0 calls climbs (omega arith), tt);
     }
-
--- and they are in the fixed order
-pub in_fixed_order : (calls : List Call) → Climbs 0 calls → events_of calls ≡ explained (logs_of calls)
-in_fixed_order calls climbs =
-    sym (in_order (events_of calls))
-    ∙ ap (λ all. events_up_to (count_by (λ p. is_raise p.event) all) all) (stamped-climbs 0 0 calls climbs ∙ sym (append-nil (placed_from 0 0 calls)))

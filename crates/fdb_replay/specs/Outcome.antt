@@ -1,12 +1,19 @@
 -- What a run promises of its outcome.
 use Rattle.std.specs.Prelude.{◌≡◌, ℕ, false, None, []}
+use Rattle.fdb_history.specs.Audit.{Low}
 use Rattle.fdb_history.specs.Chain.{IsChain}
 use Rattle.fdb_history.specs.Explained.{explained}
+use Rattle.fdb_history.specs.Faults.{Nowhere}
 use Rattle.fdb_history.specs.Linear.{IsLinear}
 use Rattle.fdb_history.specs.Log.{calls_of, fresh_answers}
+use Rattle.fdb_history.specs.Strays.{IsStray}
+use Rattle.fdb_history.specs.declared.fault.AuditFault.{AuditFault}
+use Rattle.fdb_history.specs.declared.fault.AuditFault.TheVariants as audit
 use Rattle.fdb_history.specs.declared.register.Record.{Record}
 use Rattle.fdb_replay.specs.Answering.{Answers}
 use Rattle.fdb_replay.specs.declared.outcome.Outcome.{Outcome}
+use Rattle.fdb_replay.specs.declared.outcome.RunFault.{RunFault}
+use Rattle.fdb_replay.specs.declared.outcome.RunFault.TheVariants.{Memory, Audit}
 use Rattle.fdb_replay.specs.Plan.{Plan}
 use Rattle.fdb_replay.specs.Served.{AreServed}
 
@@ -24,7 +31,16 @@ pub record IsRunOf (plan : Plan) (outcome : Outcome) : Type 0 where
   pub linear : IsLinear (opening plan.recovery) outcome.logs.items outcome.history.events
   -- the history is in the fixed order
   pub in_order : outcome.history.events ≡ explained outcome.logs.items
+  -- each answer is borne out by its input, the chain and its client's own log, and each commit version was drawn by a call
+  pub none_astray : Nowhere (IsStray outcome.chain.items outcome.logs.items)
+  -- each commit version that was drawn, but for the first, is above the register that its asker had seen
+  pub none_low : Nowhere (Low (opening plan.recovery) outcome.logs.items)
   -- each request got the answer after those before it, and each report was of the version that was issued
   pub served : AreServed plan.epoch_end plan.recovery [] (calls_of outcome.logs.items 0)
   -- the chain has the answers that the client got, and no others
   pub drawn : outcome.chain.items ≡ fresh_answers (calls_of outcome.logs.items 0)
+
+-- how a run is refused by its audit: want of memory is its own
+abbrev pub run_fault : AuditFault → RunFault
+run_fault audit.Memory = Memory
+run_fault fault = Audit fault

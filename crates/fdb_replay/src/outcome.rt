@@ -47,3 +47,16 @@ impl<T: Drop> From<AllocFailed<T>> for RunFault {
         RunFault::Memory
     }
 }
+
+impl From<AuditFault> for RunFault {
+    ghost use Rattle.fdb_replay.specs.Outcome.{run_fault};
+
+    ghost from_gives = { λ fault run. run ≡ run_fault fault };
+
+    fn from(fault: AuditFault) -> Self {
+        match fault {
+            AuditFault::Memory => RunFault::Memory,
+            fault => RunFault::Audit(fault),
+        }
+    }
+}

@@ -1,26 +1,34 @@
 //! A session of a single client, served call by call.
 
-ghost use Rattle.std.specs.Prelude.{◌≡◌, ◌<◌, ◌≤◌, ◌+◌, ◌==◌, [], ◌∷◌, ◌++◌, IfOk, IfErr, length, find, filter, slice_get, Result, IsTrue, OnOk, ◌^◌, ◌≢◌, if◌then◌else◌};
+ghost use Rattle.std.specs.Prelude.{◌≡◌, All, ◌<◌, ◌≤◌, ◌+◌, ◌==◌, [], ◌∷◌, ◌++◌, IfOk, IfErr, length, find, filter, slice_get, Result, IsTrue, OnOk, ◌^◌, ◌≢◌, if◌then◌else◌};
 ghost use Rattle.fdb_history.specs.Added.{AddsCall};
 ghost use Rattle.fdb_history.specs.declared.register.TheConstants.{MAX_VERSION};
 ghost use Rattle.fdb_replay.specs.Answering.{input_of, plain_read};
-ghost use Rattle.fdb_replay.specs.Session.{IsSession, Performs, Plays, core_after, events_of};
+ghost use Rattle.fdb_replay.specs.Session.{IsSession, Performs, Plays, core_after};
 ghost use Rattle.fdb_replay.specs.Served.{logged_answer};
 ghost use Rattle.fdb_history.specs.Answer.{answer_to};
-ghost use Rattle.fdb_history.specs.Log.{answer_in, event_of_answer, fresh_answers};
+ghost use Rattle.fdb_history.specs.Log.{answer_in, fresh_answers};
 ghost use Rattle.fdb_history.specs.Chain.{IsChain};
 ghost use Rattle.fdb_history.specs.declared.chain.Issued.{Issued};
 ghost use Rattle.fdb_history.specs.declared.log.Refusal.{Refusal};
 ghost use Rattle.fdb_chain.specs.ChainCore.{IsAnswer};
 
-use crate::outcome::{Outcome, RunFault};
+use crate::outcome::RunFault;
 use crate::script::{Act, Command};
 use fdb_chain::{ChainCore, ChainError};
 use fdb_history::{
-    Ask, Call, CallAnswer, ClientLog, Event, GrvOpts, History, Input, Issued, Priority, Record,
-    Refusal, Sequence,
+    Ask, Call, CallAnswer, ClientLog, GrvOpts, Input, Issued, Priority, Record, Refusal, Sequence,
 };
-use std::alloc::{AllocError, Global};
+use std::alloc::Global;
+
+/// What the clients and the sequencer leave, before it is audited.
+#[derive(Drop)]
+pub(crate) struct Played {
+    /// The fresh commit version answers, in order.
+    pub(crate) chain: Vec<Issued>,
+    /// The log of each client, by its number.
+    pub(crate) logs: Vec<ClientLog>,
+}
 
 /// The service and the log of a single client.
 #[derive(Drop)]
@@ -165,23 +173,18 @@ impl Session {
     }
 
     /// What the session leaves.
-    pub(crate) fn outcome(self, alloc: Global) -> Result<Outcome, RunFault>
+    pub(crate) fn finish(self, alloc: Global) -> Result<Played, RunFault>
         requires { IsSession self }
-        ensures one_chain { IfOk result (λ outcome. IsChain self.core.epoch_end self.core.recovery outcome.chain.items) }
-        ensures drawn { IfOk result (λ outcome. outcome.chain.items ≡ fresh_answers self.calls) }
-        ensures logs { IfOk result (λ outcome. outcome.logs.items ≡ record { calls = self.calls } ∷ []) }
-        ensures history { IfOk result (λ outcome. outcome.history.events ≡ events_of self.calls) }
+        ensures one_chain { IfOk result (λ played. IsChain self.core.epoch_end self.core.recovery played.chain.items) }
+        ensures asked { IfOk result (λ played. All (λ answer. answer.proxy < 1) played.chain.items) }
+        ensures drawn { IfOk result (λ played. played.chain.items ≡ fresh_answers self.calls) }
+        ensures logs { IfOk result (λ played. played.logs.items ≡ record { calls = self.calls } ∷ []) }
         ensures err { IfErr result (λ fault. fault ≡ RunFault.Memory) }
     {
         let chain = Vec::from_slice(alloc, self.core.answers())?;
-        let events = events_of(alloc, self.calls.as_slice())?;
         let mut logs = Vec::new(alloc);
         logs.push(ClientLog { calls: self.calls })?;
-        Ok(Outcome {
-            chain,
-            logs,
-            history: History { events },
-        })
+        Ok(Played { chain, logs })
     }
 
     /// The session after a call, with this live record.
@@ -279,38 +282,5 @@ fn plain_read(alloc: Global) -> GrvOpts
         tags: Sequence::new(alloc),
         lock_aware: false,
         at: 0,
-    }
-}
-
-/// The events of the only client's calls, in order.
-fn events_of(alloc: Global, calls: &[Call]) -> Result<Sequence<Event>, AllocError>
-    ensures { IfOk result (λ events. events ≡ events_of calls.now) }
-{
-    let mut events = Sequence::new(alloc);
-    for (place, call) in calls.iter().enumerate() {
-        if let Some(event) = event_of(place as u64, &call.answer) {
-            events.push(event)?;
-        }
-    }
-    Ok(events)
-}
-
-/// The event of an answer, if it is the register's.
-fn event_of(place: u64, answer: &CallAnswer) -> Option<Event>
-    ensures { result ≡ event_of_answer 0 place answer.now }
-{
-    match answer {
-        CallAnswer::Version { rec, .. } => Some(Event::Read {
-            client: 0,
-            call: place,
-            rec: *rec,
-        }),
-        CallAnswer::Acked { rec, raised } => Some(Event::Report {
-            client: 0,
-            call: place,
-            rec: *rec,
-            raised: *raised,
-        }),
-        CallAnswer::Answered(_) | CallAnswer::Told | CallAnswer::Refused(_) => None,
     }
 }
