@@ -19,6 +19,8 @@ struct PlacedEvent {
 }
 
 /// The history of the logs: position by position, at each the raise and then the others, by client and then by call.
+///
+/// Linear in the calls up to one sort of the events. An error only where memory is refused.
 pub fn explain(alloc: Global, logs: &[ClientLog]) -> Result<History, AllocError>
     requires clients { length logs.now ≤ 64 }
     requires within { IsWithin logs.now }
