@@ -4,7 +4,6 @@ use Rattle.fdb_history.specs.Register.{raises, record_after}
 use Rattle.fdb_history.specs.declared.register.Record.{Record}
 use Rattle.fdb_history.specs.declared.event.Event.{Event}
 use Rattle.fdb_history.specs.declared.event.Event.TheVariants.{Report, Read}
-pub use Rattle.fdb_history.specs.declared.event.Placed.{Placed}
 
 -- The register after one event. A read changes nothing.
 abbrev pub after_event : Record → Event → Record
@@ -36,6 +35,11 @@ is_raise (Read client call rec) = false
 -- The position after an event, from the position before it: positions count the raises. (this product's own)
 abbrev pub position_after : ℕ → Event → ℕ
 position_after before event = if is_raise event then before + 1 else before
+
+-- an event and a position
+pub record Placed : Type 0 where
+  pub event : Event
+  pub position : ℕ
 
 -- Each event with its position: the number of raises up to and including it, over a position before them all.
 abbrev pub stamped : ℕ → List Event → List Placed

@@ -3,6 +3,7 @@ pub mod Event
 pub mod Log
 pub mod Linear
 pub mod Explained
+pub mod Explaining
 pub mod Added
 pub mod Chain
 pub mod Answer

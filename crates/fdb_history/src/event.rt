@@ -1,7 +1,7 @@
 //! The events of a history: what the register was told, and what it answered.
 
 ghost use Rattle.std.specs.Prelude.{◌≡◌};
-ghost use Rattle.fdb_history.specs.Event.{register, is_raise};
+ghost use Rattle.fdb_history.specs.Event.{is_raise, register};
 
 use crate::register::Record;
 use crate::sequence::Sequence;
@@ -29,15 +29,6 @@ pub enum Event {
         /// What was read.
         rec: Record,
     },
-}
-
-/// An event and its position.
-#[derive(Clone, Copy)]
-pub struct Placed {
-    /// The event.
-    pub event: Event,
-    /// Its position.
-    pub position: u64,
 }
 
 /// Events, one after another, that explain the replies of a run.

@@ -3,14 +3,24 @@
 ghost use Rattle.std.specs.Prelude.{◌≡◌, ◌≤◌, ◌++◌, map, length, OnOk, IfOk};
 ghost use Rattle.fdb_history.specs.Auditing.{IsWithin};
 ghost use Rattle.fdb_history.specs.Explained.{explained, placed_in};
+ghost use Rattle.fdb_history.specs.Explaining.{placed};
 ghost use Rattle.fdb_history.specs.Log.{event_of_answer, placed_from};
 
-use crate::event::{Event, History, Placed};
+use crate::event::{Event, History};
 use crate::log::{Call, CallAnswer, ClientLog};
 use crate::sequence::Sequence;
 use std::alloc::{AllocError, Global};
 
+/// An event and its position.
+#[derive(Clone, Copy)]
+struct PlacedEvent {
+    event: Event,
+    position: u64,
+}
+
 /// The history of the logs: position by position, at each the raise and then the others, by client and then by call.
+///
+/// Linear in the calls up to one sort of the events. An error only where memory is refused.
 pub fn explain(alloc: Global, logs: &[ClientLog]) -> Result<History, AllocError>
     requires clients { length logs.now ≤ 64 }
     requires within { IsWithin logs.now }
@@ -26,9 +36,9 @@ pub fn explain(alloc: Global, logs: &[ClientLog]) -> Result<History, AllocError>
 }
 
 /// The register's events in the logs with their positions, by client and then by call.
-fn placed_events(alloc: Global, logs: &[ClientLog]) -> Result<Vec<Placed>, AllocError>
+fn placed_events(alloc: Global, logs: &[ClientLog]) -> Result<Vec<PlacedEvent>, AllocError>
     requires { length logs.now ≤ 64 }
-    ensures { IfOk result (λ all. all.items ≡ placed_in 0 logs.now) }
+    ensures { IfOk result (λ all. placed all.items ≡ placed_in 0 logs.now) }
 {
     let mut all = Vec::new(alloc);
     for (client, log) in logs.iter().enumerate() {
@@ -38,12 +48,12 @@ fn placed_events(alloc: Global, logs: &[ClientLog]) -> Result<Vec<Placed>, Alloc
 }
 
 /// Adds the register's events in one client's calls, in their order.
-fn add_events(all: &mut Vec<Placed>, client: u32, calls: &[Call]) -> Result<(), AllocError>
-    ensures { OnOk result (all.new.items ≡ all.old.items ++ placed_from client 0 calls.now) }
+fn add_events(all: &mut Vec<PlacedEvent>, client: u32, calls: &[Call]) -> Result<(), AllocError>
+    ensures { OnOk result (placed all.new.items ≡ placed all.old.items ++ placed_from client 0 calls.now) }
 {
     for (place, call) in calls.iter().enumerate() {
         if let Some(event) = event_of(client, place as u64, &call.answer) {
-            all.push(Placed {
+            all.push(PlacedEvent {
                 event,
                 position: call.position,
             })?;
@@ -73,7 +83,7 @@ fn event_of(client: u32, call: u64, answer: &CallAnswer) -> Option<Event>
 }
 
 /// The events, without their positions.
-fn events_of(alloc: Global, all: &[Placed]) -> Result<Vec<Event>, AllocError>
+fn events_of(alloc: Global, all: &[PlacedEvent]) -> Result<Vec<Event>, AllocError>
     ensures { IfOk result (λ events. events.items ≡ map (λ p. p.event) all.now) }
 {
     all.iter().map(|p| p.event).collect(alloc)
