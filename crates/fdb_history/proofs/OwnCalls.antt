@@ -9,7 +9,7 @@ use Rattle.std.proofs.lemmas.Option.{same_Some, none-some, slice_get_within, opt
 use Rattle.fdb_history.specs.Answer.{kept, kept_answer, answer_to}
 use Rattle.fdb_history.specs.Chain.{latest}
 use Rattle.fdb_history.specs.Log.{answer_in, answers_in, fresh_answers}
-use Rattle.fdb_history.specs.Own.{IsBorneOutBy, IsDueBy, IsOfIssuedBy, drawn, due_again, own_after}
+use Rattle.fdb_history.specs.Bearing.{IsBorneOutBy, IsDueBy, IsOfIssuedBy, drawn, due_again, own_after}
 use Rattle.fdb_history.specs.Replies.{KeptReplies, drawn_place, no_replies, place_of, replies_after, reply}
 use Rattle.fdb_history.specs.Strays.{IsBorneOut, IsDue, IsFreshAnswer, IsIssued, IsOfChain, IsOfIssued, goes_with, logged_as, own_chain}
 use Rattle.fdb_history.specs.declared.chain.Ask.{Ask}
@@ -20,7 +20,8 @@ use Rattle.fdb_history.specs.declared.log.CallAnswer.TheVariants.{Version, Answe
 use Rattle.fdb_history.specs.declared.log.Input.{Input}
 use Rattle.fdb_history.specs.declared.log.Input.TheVariants as input
 use Rattle.fdb_history.specs.declared.log.Refusal.TheVariants.{Early, Forgotten, UnknownProxy, Exhausted, BadCount, BatchThrottled, Full, ProxyClosed, NotIssued, Stranger, TooLarge, Behind}
-use Rattle.fdb_history.proofs.Own.{AreOwn, AreOwn-again, AreOwn-fresh, IsAmong, IsDrawnUnder, IsVersionOf, as_fresh, length-places, map-at, ordinal_of}
+use Rattle.fdb_history.proofs.Own.{AreOwn, AreOwn-again, AreOwn-fresh, IsAmong, IsDrawnUnder, IsVersionOf, as_fresh, length-places, ordinal_of}
+use Rattle.fdb_history.proofs.Lists.{map-at}
 
 -- the replies of a client after some calls
 abbrev pub OwnAfter : List Issued → ℕ → List Call → KeptReplies → Type 0
