@@ -1,21 +1,21 @@
 -- The first stray answer: of one log, and of all.
-use Rattle.std.proofs.Common.{◌≡◌, ◌⊎◌, ℕ, zero, suc, ◌+◌, ◌<◌, ◌≤◌, true, false, List, [], ◌∷◌, ◌++◌, length, take, slice_get, get_or, Option, Some, None, refl, ap, sym, ◌∙◌, subst, inl, inr, arith, eqb-true, zero-add}
+use Rattle.std.proofs.Common.{◌≡◌, ℕ, ◌+◌, ◌<◌, ◌≤◌, List, [], ◌∷◌, ◌++◌, length, take, slice_get, get_or, Some, refl, ap, sym, ◌∙◌, subst, inl, inr, arith, eqb-true, zero-add}
 use Rattle.std.proofs.lemmas.Bool.{both_ways, cases_lt, eq-eqb}
 use Rattle.std.proofs.lemmas.List.{take_all, take_more}
-use Rattle.std.proofs.lemmas.Option.{same_Some, none-some, get_or_from_slice_get, slice_get_read, slice_get_within, slice_get_past}
+use Rattle.std.proofs.lemmas.Option.{same_Some, get_or_from_slice_get, slice_get_within}
 use Rattle.fdb_history.specs.Chain.{latest}
-use Rattle.fdb_history.specs.Faults.{AtNoPosition, ComesBefore, IsFirst, IsLeast, Nowhere, StandsAt}
+use Rattle.fdb_history.specs.Faults.{AtNoPosition, IsLeast}
 use Rattle.fdb_history.specs.Log.{calls_of, fresh_answers}
 use Rattle.fdb_history.specs.Bearing.{IsBorneOutBy, own_after}
 use Rattle.fdb_history.specs.Replies.{KeptReplies}
-use Rattle.fdb_history.specs.Strays.{HasNoLog, HasUndrawn, IsBorneOut, IsDrawn, IsStray}
+use Rattle.fdb_history.specs.Strays.{HasUndrawn, IsBorneOut, IsStray}
 use Rattle.fdb_history.specs.declared.chain.Issued.{Issued}
 use Rattle.fdb_history.specs.declared.log.Call.{Call}
 use Rattle.fdb_history.specs.declared.log.ClientLog.{ClientLog}
 use Rattle.fdb_history.proofs.Counting.{is_taken, is_taken-at, at-is_taken, none_missing, some_missing}
 use Rattle.fdb_history.proofs.FirstCalls.{calls-at}
 use Rattle.fdb_history.proofs.Lists.{at-map, map-at}
-use Rattle.fdb_history.proofs.Own.{AreOwn, as_fresh, is_of, length-places, ordinal_of}
+use Rattle.fdb_history.proofs.Own.{as_fresh, is_of, length-places, ordinal_of}
 use Rattle.fdb_history.proofs.OwnCalls.{OwnAfter, OwnAfter-call, borne_out-by}
 
 -- ---- entries that were not drawn
@@ -26,11 +26,16 @@ undrawn-fewer chain logs client own are fewer =
     let len = length-places are in
     let counted = are.counted in
     let one = some_missing (is_of client) own.places 0 chain (omega arith) in
-    let of_client : one.1.proxy ≡ client = eqb-true one.1.proxy client one.3 in
-    (one.0, one.1, one.2, of_client, λ drawn.
-    let at : slice_get (fresh_answers (calls_of logs client)) drawn.0 ≡ Some drawn.1 = ap (λ c. slice_get (fresh_answers (calls_of logs c)) drawn.0) (sym of_client) ∙ drawn.2 in
-    let at_places : slice_get own.places drawn.0 ≡ Some one.0 = ap (λ places. slice_get places drawn.0) are.places ∙ (at-map ordinal_of (fresh_answers (calls_of logs client)) drawn.0 drawn.1 at ∙ ap Some drawn.3) in
-    both_ways (is_taken own.places one.0) (ap (is_taken own.places) (sym (zero-add one.0)) ∙ one.4) (at-is_taken own.places one.0 drawn.0 at_places))
+    let of_client : one.1.proxy ≡ client = eqb-true one.1.proxy client one.3 in (
+      one.0,
+      one.1,
+      one.2,
+      of_client,
+      λ drawn.
+          let at : slice_get (fresh_answers (calls_of logs client)) drawn.0 ≡ Some drawn.1 = ap (λ c. slice_get (fresh_answers (calls_of logs c)) drawn.0) (sym of_client) ∙ drawn.2 in
+          let at_places : slice_get own.places drawn.0 ≡ Some one.0 = ap (λ places. slice_get places drawn.0) are.places ∙ (at-map ordinal_of (fresh_answers (calls_of logs client)) drawn.0 drawn.1 at ∙ ap Some drawn.3) in
+          both_ways (is_taken own.places one.0) (ap (is_taken own.places) (sym (zero-add one.0)) ∙ one.4) (at-is_taken own.places one.0 drawn.0 at_places),
+    )
 
 same_entry : (chain : List Issued) (i j : ℕ) (x y : Issued) → i ≡ j → slice_get chain i ≡ Some x → slice_get chain j ≡ Some y → x ≡ y
 same_entry chain i j x y e at_i at_j = same_Some x y (sym at_i ∙ (ap (slice_get chain) e ∙ at_j))
@@ -75,9 +80,9 @@ first-at_call chain logs client place call known before at astray =
     record {
       stands = inl (call, at, astray);
       none_below =
-        λ p below stray. stray-in_log chain logs client p ⊥ known stray
-        (λ earlier here not_borne_out. not_borne_out (before p earlier below here))
-        (λ ends undrawn. let within = slice_get_within (calls_of logs client) place call at in absurd (omega arith));
+          λ p below stray. stray-in_log chain logs client p ⊥ known stray
+          (λ earlier here not_borne_out. not_borne_out (before p earlier below here))
+          (λ ends undrawn. let within = slice_get_within (calls_of logs client) place call at in absurd (omega arith));
     }
 
 -- all calls are borne out, and an entry was not drawn
@@ -87,9 +92,9 @@ first-at_end chain logs client known before undrawn =
     record {
       stands = inr (inl (known, refl, undrawn));
       none_below =
-        λ p below stray. stray-in_log chain logs client p ⊥ known stray
-        (λ earlier here not_borne_out. not_borne_out (before p earlier below here))
-        (λ ends _. absurd (omega arith));
+          λ p below stray. stray-in_log chain logs client p ⊥ known stray
+          (λ earlier here not_borne_out. not_borne_out (before p earlier below here))
+          (λ ends _. absurd (omega arith));
     }
 
 -- all calls are borne out, and all entries were drawn

@@ -1,13 +1,12 @@
 -- Clients that have an entry of the chain: how many, and the least of them that has no log.
-use Rattle.std.proofs.Common.{◌≡◌, ◌⊎◌, ℕ, zero, suc, ◌+◌, ◌<◌, ◌≤◌, false, cond, min, List, [], ◌∷◌, ◌++◌, length, take, get_or, set, slice_get, Option, Some, None, refl, ap, sym, ◌∙◌, subst, inl, inr, arith, eqb, get_or-set_same, get_or-set_other}
+use Rattle.std.proofs.Common.{◌≡◌, ◌⊎◌, ℕ, ◌+◌, ◌<◌, ◌≤◌, false, cond, min, List, [], ◌∷◌, ◌++◌, length, take, get_or, set, slice_get, Option, Some, None, refl, ap, sym, ◌∙◌, subst, inl, inr, arith, eqb, get_or-set_same, get_or-set_other}
 use Rattle.std.proofs.lemmas.Bool.{cases_eq, cases_lt, eq-eqb, ne_eqb, cond-true, cond-false}
 use Rattle.std.proofs.lemmas.List.{get_or_default, take_more, length-take}
 use Rattle.std.proofs.lemmas.List.Sums.{count_by-le-length}
-use Rattle.std.proofs.lemmas.Option.{none-some, slice_get_past}
+use Rattle.std.proofs.lemmas.Option.{none-some}
 use Rattle.fdb_history.specs.Auditing.{IsLeastIfAny}
 use Rattle.fdb_history.specs.Chain.{latest}
 use Rattle.fdb_history.specs.Faults.{AtNoPosition, ComesBefore, IsFirst, IsLeast, Nowhere}
-use Rattle.fdb_history.specs.Log.{calls_of}
 use Rattle.fdb_history.specs.Strays.{HasNoLog, IsStray}
 use Rattle.fdb_history.specs.declared.chain.Issued.{Issued}
 use Rattle.fdb_history.specs.declared.log.ClientLog.{ClientLog}
@@ -94,16 +93,16 @@ least-more before entry logs least first beyond =
           let is : min entry.proxy least ≡ entry.proxy = omega arith in
           rw is
           (record {
-             stands = (length before, entry, slice_get-append_seam before entry, refl, beyond);
-             none_below = λ client below has. elim (no_log-push before entry logs client has) [ inl earlier ↦ first.none_below client (omega arith) earlier | inr new ↦ absurd (omega (arith, new.0)) ];
-           })
+            stands = (length before, entry, slice_get-append_seam before entry, refl, beyond);
+            none_below = λ client below has. elim (no_log-push before entry logs client has) [ inl earlier ↦ first.none_below client (omega arith) earlier | inr new ↦ absurd (omega (arith, new.0)) ];
+          })
       | inr most ↦
           let is : min entry.proxy least ≡ least = omega arith in
           rw is
           (record {
-             stands = no_log-left before entry logs least first.stands;
-             none_below = λ client below has. elim (no_log-push before entry logs client has) [ inl earlier ↦ first.none_below client below earlier | inr new ↦ absurd (omega (arith, new.0)) ];
-           })
+            stands = no_log-left before entry logs least first.stands;
+            none_below = λ client below has. elim (no_log-push before entry logs client has) [ inl earlier ↦ first.none_below client below earlier | inr new ↦ absurd (omega (arith, new.0)) ];
+          })
     ]
 
 -- ---- all clients

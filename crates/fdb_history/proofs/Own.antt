@@ -1,28 +1,15 @@
 -- What a client has drawn, call by call.
-use Rattle.std.proofs.Common.{◌≡◌, ◌↔◌, ◌≢◌, ℕ, zero, suc, ◌+◌, ◌-◌, ◌<◌, ◌≤◌, ◌==◌, Bool, true, false, cond, not, List, [], ◌∷◌, ◌++◌, map, filter, flat_map, length, take, slice_get, Option, Some, None, Ok, Err, refl, ap, sym, ◌∙◌, subst, inl, inr, arith, eqb, leb, add-zero, zero-add, append-nil, length-append, All, IfSome, ◌⊎◌}
+use Rattle.std.proofs.Common.{◌≡◌, ℕ, ◌+◌, ◌-◌, Bool, true, false, cond, List, [], ◌∷◌, ◌++◌, map, length, slice_get, Some, None, refl, ap, sym, ◌∙◌, inl, inr, arith, eqb, add-zero, zero-add, length-append}
 use Rattle.std.specs.Option.{option_map, option_and_then}
-use Rattle.std.proofs.lemmas.Bool.{cond-true, cond-false, cases_eq, cases_lt, eq-eqb, eqb-true, ne_eqb, cases_Bool, both_ways, false_from_ne_true}
-use Rattle.std.proofs.lemmas.Bool.Decides.{leb_tells, eqb_tells, nat_tests}
-use Rattle.std.proofs.lemmas.Grind.{common_steps}
+use Rattle.std.proofs.lemmas.Bool.{cond-true, cases_eq, cases_lt, eq-eqb, ne_eqb, false_from_ne_true}
+use Rattle.std.proofs.lemmas.Bool.Decides.{eqb_tells, nat_tests}
 use Rattle.std.proofs.lemmas.List.{map-append, length-map}
-use Rattle.std.proofs.lemmas.List.Elements.{filter-append}
-use Rattle.std.proofs.lemmas.List.Concat.{flat_map-append}
-use Rattle.std.proofs.lemmas.List.Sums.{sum_by_push}
-use Rattle.std.proofs.lemmas.Option.{same_Some, none-some, slice_get_within, slice_get-map, option_and_then_some}
-use Rattle.fdb_history.specs.Answer.{kept, kept_answer, answer_to}
+use Rattle.std.proofs.lemmas.Option.{same_Some, none-some, slice_get_within, option_and_then_some}
+use Rattle.fdb_history.specs.Answer.{kept}
 use Rattle.fdb_history.specs.Chain.{latest}
-use Rattle.fdb_history.specs.Log.{answer_in, answers_in, fresh_answers}
-use Rattle.fdb_history.specs.Bearing.{IsBorneOutBy, IsDueBy, IsOfIssuedBy, drawn, due_again, own_after}
-use Rattle.fdb_history.specs.Replies.{KeptReplies, drawn_place, no_replies, place_of, replies_after, reply}
-use Rattle.fdb_history.specs.Strays.{IsBorneOut, IsDue, IsFreshAnswer, IsIssued, IsOfChain, IsOfIssued, goes_with, logged_as, own_chain}
-use Rattle.fdb_history.specs.declared.chain.Ask.{Ask}
+use Rattle.fdb_history.specs.Bearing.{drawn}
+use Rattle.fdb_history.specs.Replies.{KeptReplies, no_replies, replies_after, reply}
 use Rattle.fdb_history.specs.declared.chain.Issued.{Issued}
-use Rattle.fdb_history.specs.declared.log.Call.{Call}
-use Rattle.fdb_history.specs.declared.log.CallAnswer.{CallAnswer}
-use Rattle.fdb_history.specs.declared.log.CallAnswer.TheVariants.{Version, Answered, Acked, Told, Refused}
-use Rattle.fdb_history.specs.declared.log.Input.{Input}
-use Rattle.fdb_history.specs.declared.log.Input.TheVariants as input
-use Rattle.fdb_history.specs.declared.log.Refusal.TheVariants.{Early, Forgotten, NotIssued}
 use Rattle.fdb_history.proofs.Counting.{missing, is_taken, is_taken-at, missing-none, missing-push}
 use Rattle.fdb_history.proofs.KeptReplies.{kept-append_new, kept-append_erased, kept-append_old, latest-append, place_of-new, place_of-erased, place_of-old}
 use Rattle.fdb_history.proofs.Lists.{at_left, at_push, map-at, slice_get-append_seam}
@@ -166,27 +153,27 @@ AreOwn-fresh chain client answers fresh own answer are new =
     record {
       places = ap (λ places. places ++ answer.ordinal ∷ []) are.places ∙ sym (map-append ordinal_of fresh (answer ∷ []));
       each =
-        λ place issued at. elim (at_push fresh answer place issued at) [
-          | inl before ↦ are.each place issued before
-          | inr last ↦ rw (last.0, ← last.1) new
-        ];
+          λ place issued at. elim (at_push fresh answer place issued at) [
+            | inl before ↦ are.each place issued before
+            | inr last ↦ rw (last.0, ← last.1) new
+          ];
       among =
-        λ place issued at. elim (at_push fresh answer place issued at) [
-          | inl before ↦ among-push answers answer (place + 1) issued (are.among place issued before)
-          | inr last ↦ (length answers, slice_get-append_seam answers answer ∙ ap Some last.1, ap (λ (a : Issued). a.num) (sym last.1) ∙ (new.under ∙ ap (λ n. n + 1) (sym last.0)))
-        ];
+          λ place issued at. elim (at_push fresh answer place issued at) [
+            | inl before ↦ among-push answers answer (place + 1) issued (are.among place issued before)
+            | inr last ↦ (length answers, slice_get-append_seam answers answer ∙ ap Some last.1, ap (λ (a : Issued). a.num) (sym last.1) ∙ (new.under ∙ ap (λ n. n + 1) (sym last.0)))
+          ];
       look_up = λ num. ap (λ p. kept p num (fresh ++ answer ∷ [])) (sym new.of_client) ∙ look_up-fresh chain client answers fresh own answer are new num;
       count =
-        let one = cond-true {A = ℕ} (eqb answer.proxy client) 1 0 (eq-eqb answer.proxy client new.of_client) in
-        let more = latest-append client fresh answer in
-        let count = are.count in
-        omega (arith, length-append fresh (answer ∷ []));
+          let one = cond-true {A = ℕ} (eqb answer.proxy client) 1 0 (eq-eqb answer.proxy client new.of_client) in
+          let more = latest-append client fresh answer in
+          let count = are.count in
+          omega (arith, length-append fresh (answer ∷ []));
       versions = versions-fresh chain client answers fresh own answer are new;
       counted =
-        let of_client : new.entry.proxy ≡ client = ap (λ (a : Issued). a.proxy) (sym new.same) ∙ new.of_client in
-        let less = missing-push (is_of client) own.places answer.ordinal 0 chain answer.ordinal new.entry new.at (zero-add answer.ordinal) (eq-eqb new.entry.proxy client of_client) (ordinal-new chain client answers fresh own answer are new) in
-        let counted = are.counted in
-        omega (arith, length-append fresh (answer ∷ []));
+          let of_client : new.entry.proxy ≡ client = ap (λ (a : Issued). a.proxy) (sym new.same) ∙ new.of_client in
+          let less = missing-push (is_of client) own.places answer.ordinal 0 chain answer.ordinal new.entry new.at (zero-add answer.ordinal) (eq-eqb new.entry.proxy client of_client) (ordinal-new chain client answers fresh own answer are new) in
+          let counted = are.counted in
+          omega (arith, length-append fresh (answer ∷ []));
     }
 
 -- after an answer that was given again
@@ -200,9 +187,9 @@ AreOwn-again chain client answers fresh own answer are version =
       look_up = are.look_up;
       count = are.count;
       versions =
-        λ num issued among. elim (at_push answers answer among.0 issued among.1) [
-          | inl before ↦ are.versions num issued (among.0, before, among.2)
-          | inr last ↦ rw (← among.2, ← last.1) version
-        ];
+          λ num issued among. elim (at_push answers answer among.0 issued among.1) [
+            | inl before ↦ are.versions num issued (among.0, before, among.2)
+            | inr last ↦ rw (← among.2, ← last.1) version
+          ];
       counted = are.counted;
     }

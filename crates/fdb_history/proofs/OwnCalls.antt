@@ -1,18 +1,17 @@
 -- What a client has drawn, along the calls of its log, and which answers that bears out.
-use Rattle.std.proofs.Common.{◌≡◌, ◌↔◌, ◌≢◌, ◌⊎◌, ℕ, zero, suc, ◌+◌, ◌-◌, ◌<◌, ◌≤◌, Bool, true, false, cond, List, [], ◌∷◌, ◌++◌, filter, flat_map, length, take, slice_get, Option, Some, None, Ok, Err, refl, ap, sym, ◌∙◌, subst, inl, inr, arith, eqb, ltb, leb, append-nil}
+use Rattle.std.proofs.Common.{◌≡◌, ◌↔◌, ◌≢◌, ℕ, ◌+◌, ◌-◌, ◌<◌, Bool, true, false, cond, List, [], ◌∷◌, ◌++◌, filter, length, slice_get, Option, Some, None, Err, refl, ap, sym, ◌∙◌, subst, inl, inr, arith, ltb, leb, append-nil}
 use Rattle.std.specs.Option.{option_map, option_and_then}
-use Rattle.std.proofs.lemmas.Bool.{cond-true, cond-false, cases_eq, cases_lt, lt-ltb, le-ltb, le-leb, lt-leb}
-use Rattle.std.proofs.lemmas.Bool.Decides.{leb_tells, eqb_tells, nat_tests}
+use Rattle.std.proofs.lemmas.Bool.{cases_eq, cases_lt, lt-ltb, le-ltb, le-leb}
+use Rattle.std.proofs.lemmas.Bool.Decides.{leb_tells, eqb_tells}
 use Rattle.std.proofs.lemmas.List.Elements.{filter-append}
 use Rattle.std.proofs.lemmas.List.Concat.{flat_map-append}
-use Rattle.std.proofs.lemmas.Option.{same_Some, none-some, slice_get_within, option_and_then_some}
-use Rattle.fdb_history.specs.Answer.{kept, kept_answer, answer_to}
+use Rattle.std.proofs.lemmas.Option.{same_Some, none-some, option_and_then_some}
+use Rattle.fdb_history.specs.Answer.{kept_answer, answer_to}
 use Rattle.fdb_history.specs.Chain.{latest}
 use Rattle.fdb_history.specs.Log.{answer_in, answers_in, fresh_answers}
 use Rattle.fdb_history.specs.Bearing.{IsBorneOutBy, IsDueBy, IsOfIssuedBy, drawn, due_again, own_after}
-use Rattle.fdb_history.specs.Replies.{KeptReplies, drawn_place, no_replies, place_of, replies_after, reply}
-use Rattle.fdb_history.specs.Strays.{IsBorneOut, IsDue, IsFreshAnswer, IsIssued, IsOfChain, IsOfIssued, goes_with, logged_as, own_chain}
-use Rattle.fdb_history.specs.declared.chain.Ask.{Ask}
+use Rattle.fdb_history.specs.Replies.{KeptReplies, replies_after, reply}
+use Rattle.fdb_history.specs.Strays.{IsBorneOut, IsDue, IsOfChain, IsOfIssued, goes_with, logged_as, own_chain}
 use Rattle.fdb_history.specs.declared.chain.Issued.{Issued}
 use Rattle.fdb_history.specs.declared.log.Call.{Call}
 use Rattle.fdb_history.specs.declared.log.CallAnswer.{CallAnswer}
@@ -83,7 +82,7 @@ step-fresh chain client answers fresh own issued num are of_chain next is =
     let len = length-places are in
     let num_is = of_chain.4 in
     let new : IsDrawnUnder chain client (length fresh + 1) issued =
-      record { entry = of_chain.0; at = of_chain.1; same = of_chain.2 ∙ ap (λ b. record of_chain.0 { fresh = b }) is; of_client = of_chain.3; under = omega arith } in
+    record { entry = of_chain.0; at = of_chain.1; same = of_chain.2 ∙ ap (λ b. record of_chain.0 { fresh = b }) is; of_client = of_chain.3; under = omega arith } in
     subst (AtFresh chain client answers fresh own issued) (sym is) (AreOwn-fresh chain client answers fresh own issued are new)
 
 step-answer : (chain : List Issued) (client : ℕ) (answers fresh : List Issued) (own : KeptReplies) (asked : Input) (answer : CallAnswer) → AreOwn chain client answers fresh own → goes_with asked answer ≡ true → IsOfChain chain client asked answer → IsDueBy chain own asked answer
@@ -146,9 +145,10 @@ due-by chain clients client before own (input.Tell to) answer known are = (λ h.
 due-by chain clients client before own (input.Learn from) answer known are = (λ h. h, λ h. h)
 due-by chain clients client before own (input.Ask num processed at) answer known are =
     let same : latest client (fresh_answers before) ≡ length own.places = are.count ∙ sym (length-places are) in
-    let same_next : latest client (fresh_answers before) + 1 ≡ length own.places + 1 = ap (λ n. n + 1) same in
-    (λ due. (λ next. due.0 (next ∙ same_next), λ other. due.1 (λ e. other (e ∙ sym same_next)) ∙ ap logged_as (sym (due-is chain clients client before own num processed at known are other))),
-     λ due. (λ next. due.0 (next ∙ sym same_next), λ other. let other' : num ≢ latest client (fresh_answers before) + 1 = λ e. other (e ∙ same_next) in due.1 other' ∙ ap logged_as (due-is chain clients client before own num processed at known are other')))
+    let same_next : latest client (fresh_answers before) + 1 ≡ length own.places + 1 = ap (λ n. n + 1) same in (
+      λ due. (λ next. due.0 (next ∙ same_next), λ other. due.1 (λ e. other (e ∙ sym same_next)) ∙ ap logged_as (sym (due-is chain clients client before own num processed at known are other))),
+      λ due. (λ next. due.0 (next ∙ sym same_next), λ other. let other' : num ≢ latest client (fresh_answers before) + 1 = λ e. other (e ∙ same_next) in due.1 other' ∙ ap logged_as (due-is chain clients client before own num processed at known are other')),
+    )
 
 -- ---- what was issued
 
@@ -197,28 +197,31 @@ issued-by chain client before own (input.Report num locked metadata) (Refused Pr
 issued-by chain client before own (input.Report num locked metadata) (Refused Stranger) are = (λ h. h, λ h. h)
 issued-by chain client before own (input.Report num locked metadata) (Refused TooLarge) are = (λ h. h, λ h. h)
 issued-by chain client before own (input.Report num locked metadata) (Refused (Behind position)) are = (λ h. h, λ h. h)
-issued-by chain client before own (input.Report num locked metadata) (Refused NotIssued) are =
-    (λ none issued among. let version = are.versions num issued among in none-some version.0 (sym none ∙ version.1),
-     λ none. none-drawn (drawn chain own num) (λ entry is. let issued = drawn-issued chain client (answers_in before) (fresh_answers before) own num entry are is in none issued.0 issued.1))
-issued-by chain client before own (input.Report num locked metadata) (Acked rec raised) are =
-    (λ by. let issued = drawn-issued chain client (answers_in before) (fresh_answers before) own num by.0.0 are by.0.1 in ((issued.0, issued.1, by.0.2 ∙ sym issued.2), by.1, by.2),
-     λ of'. let version = are.versions num of'.0.0 of'.0.1 in ((version.0, version.1, of'.0.2 ∙ version.2), of'.1, of'.2))
+issued-by chain client before own (input.Report num locked metadata) (Refused NotIssued) are = (
+  λ none issued among. let version = are.versions num issued among in none-some version.0 (sym none ∙ version.1),
+  λ none. none-drawn (drawn chain own num) (λ entry is. let issued = drawn-issued chain client (answers_in before) (fresh_answers before) own num entry are is in none issued.0 issued.1),
+)
+issued-by chain client before own (input.Report num locked metadata) (Acked rec raised) are = (
+  λ by. let issued = drawn-issued chain client (answers_in before) (fresh_answers before) own num by.0.0 are by.0.1 in ((issued.0, issued.1, by.0.2 ∙ sym issued.2), by.1, by.2),
+  λ of'. let version = are.versions num of'.0.0 of'.0.1 in ((version.0, version.1, of'.0.2 ∙ version.2), of'.1, of'.2),
+)
 
 -- a call's answer is borne out, by what its client has drawn
 pub borne_out-by : (chain : List Issued) (clients client : ℕ) (before : List Call) (own : KeptReplies) (call : Call) → client < clients → OwnAfter chain client before own → IsBorneOutBy chain client own call ↔ IsBorneOut chain clients client before call
 borne_out-by chain clients client before own call known are =
-    let due = due-by chain clients client before own call.input call.answer known are in
-    (λ by. record {
-       of_its_kind = by.of_its_kind;
-       rightly_locked_out = by.rightly_locked_out;
-       of_chain = by.of_chain;
-       due = due.0 by.due;
-       of_issued = (issued-by chain client before own call.input call.answer are).0 by.of_issued;
-     },
-     λ is. record {
-       of_its_kind = is.of_its_kind;
-       rightly_locked_out = is.rightly_locked_out;
-       of_chain = is.of_chain;
-       due = due.1 is.due;
-       of_issued = (issued-by chain client before own call.input call.answer are).1 is.of_issued;
-     })
+    let due = due-by chain clients client before own call.input call.answer known are in (
+      λ by. record {
+        of_its_kind = by.of_its_kind;
+        rightly_locked_out = by.rightly_locked_out;
+        of_chain = by.of_chain;
+        due = due.0 by.due;
+        of_issued = (issued-by chain client before own call.input call.answer are).0 by.of_issued;
+      },
+      λ is. record {
+        of_its_kind = is.of_its_kind;
+        rightly_locked_out = is.rightly_locked_out;
+        of_chain = is.of_chain;
+        due = due.1 is.due;
+        of_issued = (issued-by chain client before own call.input call.answer are).1 is.of_issued;
+      },
+    )

@@ -66,7 +66,9 @@ fn is_rightly_locked_out(input: &Input, answer: &CallAnswer) -> bool
         (
             Input::Grv(opts),
             CallAnswer::Version {
-                rec, locked_out, ..
+                rec,
+                locked_out,
+                ..
             },
         ) => *locked_out == (rec.locked && !opts.lock_aware),
         _ => true,
@@ -106,11 +108,7 @@ fn is_due(chain: &[Issued], own: &Replies, input: &Input, answer: &CallAnswer) -
     ensures { IsTrue result ↔ IsDueBy chain.now own.now input.now answer.now }
 {
     match input {
-        Input::Ask {
-            num,
-            processed,
-            at,
-        } => {
+        Input::Ask { num, processed, at } => {
             if *num == own.latest() + 1 {
                 is_fresh_answer(chain, *processed, *at, answer)
             } else {

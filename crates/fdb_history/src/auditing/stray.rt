@@ -42,11 +42,7 @@ pub fn first_stray(
 }
 
 /// How many entries of the chain each of so many clients has.
-fn entries_of_each(
-    alloc: Global,
-    chain: &[Issued],
-    clients: usize,
-) -> Result<Vec<u64>, AllocError>
+fn entries_of_each(alloc: Global, chain: &[Issued], clients: usize) -> Result<Vec<u64>, AllocError>
     ensures count { IfOk result (λ counts. length counts.items ≡ clients) }
     ensures each { IfOk result (λ counts. (client : ℕ) → client < clients → slice_index counts.items client ≡ latest client chain.now) }
 {

@@ -1,4 +1,4 @@
-use Rattle.std.proofs.Common.{◌≡◌, ◌<◌, ◌≤◌, length, take, get_or, arith, length-set}
+use Rattle.std.proofs.Common.{◌<◌, length, get_or, arith, length-set}
 use Rattle.std.proofs.lemmas.List.{get_or_default}
 use Rattle.fdb_history.proofs.NoLog.{no_entry, counts-other, counts-own, latest-within}
 use Rattle.fdb_history.proofs.auditing.stray.entries_of_each.Goals as goal
@@ -16,17 +16,17 @@ overflow_add-index_mut c =
 
 pub loop-entry-preserved : goal.loop-entry-preserved
 loop-entry-preserved c =
-   elim c.if-client-clients.branch [
-     | then-client-clients w ↦ 
-         rw w.counts-is
-         (record {
-           count = simp length-set c.loop-entry.invariant.count;
-           each = counts-own c.args.chain.now c.loop-entry.counts.items c.args.clients c.loop-entry.entry-index w.index_mut.result.now no_entry c.loop-entry-test.true c.loop-entry.invariant.count c.loop-entry.invariant.each w.if-client-clients.true w.index_mut.ensures.value;
-         })
-     | else-client-clients w ↦ 
-         rw w.counts-is
-         (record {
-           count = c.loop-entry.invariant.count;
-           each = counts-other c.args.chain.now c.loop-entry.counts.items c.args.clients c.loop-entry.entry-index no_entry c.loop-entry-test.true c.loop-entry.invariant.each w.if-client-clients.false;
-         })
-   ]
+    elim c.if-client-clients.branch [
+      | then-client-clients w ↦
+          rw w.counts-is
+          (record {
+            count = simp length-set c.loop-entry.invariant.count;
+            each = counts-own c.args.chain.now c.loop-entry.counts.items c.args.clients c.loop-entry.entry-index w.index_mut.result.now no_entry c.loop-entry-test.true c.loop-entry.invariant.count c.loop-entry.invariant.each w.if-client-clients.true w.index_mut.ensures.value;
+          })
+      | else-client-clients w ↦
+          rw w.counts-is
+          (record {
+            count = c.loop-entry.invariant.count;
+            each = counts-other c.args.chain.now c.loop-entry.counts.items c.args.clients c.loop-entry.entry-index no_entry c.loop-entry-test.true c.loop-entry.invariant.each w.if-client-clients.false;
+          })
+    ]

@@ -1,8 +1,7 @@
-use Rattle.std.proofs.Common.{◌≡◌, ◌<◌, ◌≤◌, length, slice_get, Some, refl, arith}
+use Rattle.std.proofs.Common.{◌<◌, ◌≤◌, length, refl, arith}
 use Rattle.std.proofs.lemmas.Bool.{false≢true}
 use Rattle.std.proofs.lemmas.Option.{slice_get_read}
 use Rattle.fdb_history.specs.Chain.{latest}
-use Rattle.fdb_history.specs.Log.{calls_of}
 use Rattle.fdb_history.proofs.FirstStray.{calls-read, log-at_call, log-at_end, log-borne_out, log-nowhere, log-own}
 use Rattle.fdb_history.proofs.Own.{AreOwn-none}
 use Rattle.fdb_history.proofs.auditing.stray.first_of.Goals as goal
