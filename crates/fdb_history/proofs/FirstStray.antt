@@ -1,19 +1,21 @@
 -- The first stray answer: of one log, and of all.
-use Rattle.std.proofs.Common.{◌≡◌, ◌⊎◌, ℕ, zero, suc, ◌+◌, ◌<◌, ◌≤◌, true, false, List, [], ◌∷◌, ◌++◌, length, take, slice_get, get_or, Option, Some, None, refl, ap, sym, ◌∙◌, subst, inl, inr, arith, eqb-true, zero-add}
+use Rattle.std.proofs.Common.{◌≡◌, ℕ, ◌+◌, ◌<◌, ◌≤◌, List, [], ◌∷◌, ◌++◌, length, take, slice_get, get_or, Some, refl, ap, sym, ◌∙◌, subst, inl, inr, arith, eqb-true, zero-add}
 use Rattle.std.proofs.lemmas.Bool.{both_ways, cases_lt, eq-eqb}
 use Rattle.std.proofs.lemmas.List.{take_all, take_more}
-use Rattle.std.proofs.lemmas.Option.{same_Some, none-some, get_or_from_slice_get, slice_get_read, slice_get_within, slice_get_past}
+use Rattle.std.proofs.lemmas.Option.{same_Some, get_or_from_slice_get, slice_get_within}
 use Rattle.fdb_history.specs.Chain.{latest}
-use Rattle.fdb_history.specs.Faults.{AtNoPosition, ComesBefore, IsFirst, IsLeast, Nowhere, StandsAt}
+use Rattle.fdb_history.specs.Faults.{AtNoPosition, IsLeast}
 use Rattle.fdb_history.specs.Log.{calls_of, fresh_answers}
-use Rattle.fdb_history.specs.Own.{IsBorneOutBy, own_after}
+use Rattle.fdb_history.specs.Bearing.{IsBorneOutBy, own_after}
 use Rattle.fdb_history.specs.Replies.{KeptReplies}
-use Rattle.fdb_history.specs.Strays.{HasNoLog, HasUndrawn, IsBorneOut, IsDrawn, IsStray}
+use Rattle.fdb_history.specs.Strays.{HasUndrawn, IsBorneOut, IsStray}
 use Rattle.fdb_history.specs.declared.chain.Issued.{Issued}
 use Rattle.fdb_history.specs.declared.log.Call.{Call}
 use Rattle.fdb_history.specs.declared.log.ClientLog.{ClientLog}
 use Rattle.fdb_history.proofs.Counting.{is_taken, is_taken-at, at-is_taken, none_missing, some_missing}
-use Rattle.fdb_history.proofs.Own.{AreOwn, as_fresh, is_of, length-places, map-at, at-map, ordinal_of}
+use Rattle.fdb_history.proofs.FirstCalls.{calls-at}
+use Rattle.fdb_history.proofs.Lists.{at-map, map-at}
+use Rattle.fdb_history.proofs.Own.{as_fresh, is_of, length-places, ordinal_of}
 use Rattle.fdb_history.proofs.OwnCalls.{OwnAfter, OwnAfter-call, borne_out-by}
 
 -- ---- entries that were not drawn
@@ -105,9 +107,9 @@ first-nowhere chain logs client known before drawn p stray =
 
 -- ---- along a log
 
--- the calls of a client whose log is at its place
-pub calls-at : (logs : List ClientLog) (client : ℕ) (log : ClientLog) (calls : List Call) → client < length logs → log ≡ get_or logs client log → calls ≡ (get_or logs client log).calls → calls_of logs client ≡ calls
-calls-at logs client log calls known at is = rw (slice_get_read logs (length logs) client log refl known at) (ap (λ (l : ClientLog). l.calls) at ∙ sym is)
+-- the calls that were read from a client's log
+pub calls-read : (logs : List ClientLog) (client : ℕ) (log : ClientLog) (calls : List Call) → client < length logs → log ≡ get_or logs client log → calls ≡ (get_or logs client log).calls → calls_of logs client ≡ calls
+calls-read logs client log calls known at is = calls-at logs client log known at ∙ (ap (λ (l : ClientLog). l.calls) at ∙ sym is)
 
 -- at a call that is not borne out
 pub log-at_call : (chain : List Issued) (logs : List ClientLog) (client : ℕ) (calls : List Call) (own : KeptReplies) (place : ℕ) (call : Call) → calls_of logs client ≡ calls → client < length logs → AreBorneOut chain (length logs) client calls place

@@ -1,19 +1,18 @@
 -- Clients that have an entry of the chain: how many, and the least of them that has no log.
-use Rattle.std.proofs.Common.{◌≡◌, ◌⊎◌, ℕ, zero, suc, ◌+◌, ◌<◌, ◌≤◌, false, cond, min, List, [], ◌∷◌, ◌++◌, length, take, get_or, set, slice_get, Option, Some, None, refl, ap, sym, ◌∙◌, subst, inl, inr, arith, eqb, get_or-set_same, get_or-set_other}
+use Rattle.std.proofs.Common.{◌≡◌, ◌⊎◌, ℕ, ◌+◌, ◌<◌, ◌≤◌, false, cond, min, List, [], ◌∷◌, ◌++◌, length, take, get_or, set, slice_get, Option, Some, None, refl, ap, sym, ◌∙◌, subst, inl, inr, arith, eqb, get_or-set_same, get_or-set_other}
 use Rattle.std.proofs.lemmas.Bool.{cases_eq, cases_lt, eq-eqb, ne_eqb, cond-true, cond-false}
 use Rattle.std.proofs.lemmas.List.{get_or_default, take_more, length-take}
 use Rattle.std.proofs.lemmas.List.Sums.{count_by-le-length}
-use Rattle.std.proofs.lemmas.Option.{none-some, slice_get_past}
+use Rattle.std.proofs.lemmas.Option.{none-some}
 use Rattle.fdb_history.specs.Auditing.{IsLeastIfAny}
 use Rattle.fdb_history.specs.Chain.{latest}
 use Rattle.fdb_history.specs.Faults.{AtNoPosition, ComesBefore, IsFirst, IsLeast, Nowhere}
-use Rattle.fdb_history.specs.Log.{calls_of}
 use Rattle.fdb_history.specs.Strays.{HasNoLog, IsStray}
 use Rattle.fdb_history.specs.declared.chain.Issued.{Issued}
 use Rattle.fdb_history.specs.declared.log.ClientLog.{ClientLog}
+use Rattle.fdb_history.proofs.FirstCalls.{calls-past}
 use Rattle.fdb_history.proofs.KeptReplies.{latest-append}
-use Rattle.fdb_history.proofs.Lists.{slice_get-append_seam}
-use Rattle.fdb_history.proofs.Own.{at_left, at_push}
+use Rattle.fdb_history.proofs.Lists.{at_left, at_push, slice_get-append_seam}
 
 -- what a look-up past the end of the chain gives in a proof
 abbrev pub no_entry : Issued
@@ -111,8 +110,7 @@ least-more before entry logs least first beyond =
 -- past the logs nothing is astray but an entry
 stray-beyond : (chain : List Issued) (logs : List ClientLog) (client place : ℕ) → length logs ≤ client → IsStray chain logs client place → HasNoLog chain logs client
 stray-beyond chain logs client place beyond (inl stands) =
-    let none : calls_of logs client ≡ [] = rw (slice_get_past logs client beyond) refl in
-    absurd (none-some stands.0 (sym (ap (λ cs. slice_get cs place) none) ∙ stands.1))
+    absurd (none-some stands.0 (sym (ap (λ cs. slice_get cs place) (calls-past logs client beyond)) ∙ stands.1))
 stray-beyond chain logs client place beyond (inr (inl ends)) = absurd (omega (arith, ends.0, beyond))
 stray-beyond chain logs client place beyond (inr (inr no_log)) = no_log.1
 

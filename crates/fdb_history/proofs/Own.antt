@@ -1,31 +1,18 @@
 -- What a client has drawn, call by call.
-use Rattle.std.proofs.Common.{◌≡◌, ◌↔◌, ◌≢◌, ℕ, zero, suc, ◌+◌, ◌-◌, ◌<◌, ◌≤◌, ◌==◌, Bool, true, false, cond, not, List, [], ◌∷◌, ◌++◌, map, filter, flat_map, length, take, slice_get, Option, Some, None, Ok, Err, refl, ap, sym, ◌∙◌, subst, inl, inr, arith, eqb, leb, add-zero, zero-add, append-nil, length-append, All, IfSome, ◌⊎◌}
+use Rattle.std.proofs.Common.{◌≡◌, ℕ, ◌+◌, ◌-◌, Bool, true, false, cond, List, [], ◌∷◌, ◌++◌, map, length, slice_get, Some, None, refl, ap, sym, ◌∙◌, inl, inr, arith, eqb, add-zero, zero-add, length-append}
 use Rattle.std.specs.Option.{option_map, option_and_then}
-use Rattle.std.proofs.lemmas.Bool.{cond-true, cond-false, cases_eq, cases_lt, eq-eqb, eqb-true, ne_eqb, cases_Bool, both_ways, false_from_ne_true}
-use Rattle.std.proofs.lemmas.Bool.Decides.{leb_tells, eqb_tells, nat_tests}
-use Rattle.std.proofs.lemmas.Grind.{common_steps}
+use Rattle.std.proofs.lemmas.Bool.{cond-true, cases_eq, cases_lt, eq-eqb, ne_eqb, false_from_ne_true}
+use Rattle.std.proofs.lemmas.Bool.Decides.{eqb_tells, nat_tests}
 use Rattle.std.proofs.lemmas.List.{map-append, length-map}
-use Rattle.std.proofs.lemmas.List.Elements.{filter-append}
-use Rattle.std.proofs.lemmas.List.Concat.{flat_map-append}
-use Rattle.std.proofs.lemmas.List.Sums.{sum_by_push}
-use Rattle.std.proofs.lemmas.Option.{same_Some, none-some, slice_get_within, slice_get-map, option_and_then_some}
-use Rattle.fdb_history.specs.Answer.{kept, kept_answer, answer_to}
+use Rattle.std.proofs.lemmas.Option.{same_Some, none-some, slice_get_within, option_and_then_some}
+use Rattle.fdb_history.specs.Answer.{kept}
 use Rattle.fdb_history.specs.Chain.{latest}
-use Rattle.fdb_history.specs.Log.{answer_in, answers_in, fresh_answers}
-use Rattle.fdb_history.specs.Own.{IsBorneOutBy, IsDueBy, IsOfIssuedBy, drawn, due_again, own_after}
-use Rattle.fdb_history.specs.Replies.{KeptReplies, drawn_place, no_replies, place_of, replies_after, reply}
-use Rattle.fdb_history.specs.Strays.{IsBorneOut, IsDue, IsFreshAnswer, IsIssued, IsOfChain, IsOfIssued, goes_with, logged_as, own_chain}
-use Rattle.fdb_history.specs.declared.chain.Ask.{Ask}
+use Rattle.fdb_history.specs.Bearing.{drawn}
+use Rattle.fdb_history.specs.Replies.{KeptReplies, no_replies, replies_after, reply}
 use Rattle.fdb_history.specs.declared.chain.Issued.{Issued}
-use Rattle.fdb_history.specs.declared.log.Call.{Call}
-use Rattle.fdb_history.specs.declared.log.CallAnswer.{CallAnswer}
-use Rattle.fdb_history.specs.declared.log.CallAnswer.TheVariants.{Version, Answered, Acked, Told, Refused}
-use Rattle.fdb_history.specs.declared.log.Input.{Input}
-use Rattle.fdb_history.specs.declared.log.Input.TheVariants as input
-use Rattle.fdb_history.specs.declared.log.Refusal.TheVariants.{Early, Forgotten, NotIssued}
 use Rattle.fdb_history.proofs.Counting.{missing, is_taken, is_taken-at, missing-none, missing-push}
 use Rattle.fdb_history.proofs.KeptReplies.{kept-append_new, kept-append_erased, kept-append_old, latest-append, place_of-new, place_of-erased, place_of-old}
-use Rattle.fdb_history.proofs.Lists.{slice_get-append_left, slice_get-append_seam}
+use Rattle.fdb_history.proofs.Lists.{at_left, at_push, map-at, slice_get-append_seam}
 
 -- an answer is the chain's entry at its ordinal, drawn by this client under this number
 pub record IsDrawnUnder (chain : List Issued) (client num : ℕ) (issued : Issued) : Type 0 where
@@ -79,16 +66,6 @@ AreOwn-none chain client =
 pub length-places : {chain : List Issued} {client : ℕ} {answers fresh : List Issued} {own : KeptReplies} → AreOwn chain client answers fresh own → length own.places ≡ length fresh
 length-places {chain} {client} {answers} {fresh} {own} are = ap length are.places ∙ length-map fresh ordinal_of
 
--- an answer at a place of a longer list was there before, or is the new one
-pub at_push : {X : Type 0} (xs : List X) (y : X) (place : ℕ) (x : X) → slice_get (xs ++ y ∷ []) place ≡ Some x → ((slice_get xs place ≡ Some x)) ⊎ ((place ≡ length xs) × (y ≡ x))
-at_push [] y zero x at = inr (refl, same_Some y x at)
-at_push [] y (suc place) x at = absurd (none-some x at)
-at_push (z ∷ zs) y zero x at = inl at
-at_push (z ∷ zs) y (suc place) x at = elim (at_push zs y place x at) [ inl before ↦ inl before | inr new ↦ inr (ap suc new.0, new.1) ]
-
-pub at_left : {X : Type 0} (xs : List X) (y : X) (place : ℕ) (x : X) → slice_get xs place ≡ Some x → slice_get (xs ++ y ∷ []) place ≡ Some x
-at_left xs y place x at = slice_get-append_left xs (y ∷ []) place (slice_get_within xs place x at) ∙ at
-
 among-push : (answers : List Issued) (answer : Issued) (num : ℕ) (issued : Issued) → IsAmong answers num issued → IsAmong (answers ++ answer ∷ []) num issued
 among-push answers answer num issued among = (among.0, at_left answers answer among.0 issued among.1, among.2)
 
@@ -110,17 +87,6 @@ drawn-new chain own place processed num entry new at =
     let not_zero : eqb num 0 ≡ false = ne_eqb num 0 (λ z. absurd (omega arith)) in
     ap (λ b. option_and_then (slice_get chain) (cond b None (slice_get (own.places ++ place ∷ []) (num - 1)))) not_zero
     ∙ (ap (option_and_then (slice_get chain)) is ∙ at)
-
--- an element of the mapped list is that of an element of the list
-pub map-at : {X Y : Type 0} (v : X → Y) (xs : List X) (k : ℕ) (y : Y) → slice_get (map v xs) k ≡ Some y → (x : X) × (slice_get xs k ≡ Some x) × (v x ≡ y)
-map-at v [] k y at = absurd (none-some y at)
-map-at v (x ∷ xs) zero y at = (x, refl, same_Some (v x) y at)
-map-at v (x ∷ xs) (suc k) y at = map-at v xs k y at
-
-pub at-map : {X Y : Type 0} (v : X → Y) (xs : List X) (k : ℕ) (x : X) → slice_get xs k ≡ Some x → slice_get (map v xs) k ≡ Some (v x)
-at-map v [] k x at = absurd (none-some x at)
-at-map v (y ∷ ys) zero x at = ap (λ z. Some (v z)) (same_Some y x at)
-at-map v (y ∷ ys) (suc k) x at = at-map v ys k x at
 
 same_fresh : (a b x y : Issued) → a ≡ as_fresh x → b ≡ as_fresh y → x ≡ y → a ≡ b
 same_fresh a b x y ax by xy = ax ∙ (ap as_fresh xy ∙ sym by)

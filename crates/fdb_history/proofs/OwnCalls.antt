@@ -1,18 +1,17 @@
 -- What a client has drawn, along the calls of its log, and which answers that bears out.
-use Rattle.std.proofs.Common.{◌≡◌, ◌↔◌, ◌≢◌, ◌⊎◌, ℕ, zero, suc, ◌+◌, ◌-◌, ◌<◌, ◌≤◌, Bool, true, false, cond, List, [], ◌∷◌, ◌++◌, filter, flat_map, length, take, slice_get, Option, Some, None, Ok, Err, refl, ap, sym, ◌∙◌, subst, inl, inr, arith, eqb, ltb, leb, append-nil}
+use Rattle.std.proofs.Common.{◌≡◌, ◌↔◌, ◌≢◌, ℕ, ◌+◌, ◌-◌, ◌<◌, Bool, true, false, cond, List, [], ◌∷◌, ◌++◌, filter, length, slice_get, Option, Some, None, Err, refl, ap, sym, ◌∙◌, subst, inl, inr, arith, ltb, leb, append-nil}
 use Rattle.std.specs.Option.{option_map, option_and_then}
-use Rattle.std.proofs.lemmas.Bool.{cond-true, cond-false, cases_eq, cases_lt, lt-ltb, le-ltb, le-leb, lt-leb}
-use Rattle.std.proofs.lemmas.Bool.Decides.{leb_tells, eqb_tells, nat_tests}
+use Rattle.std.proofs.lemmas.Bool.{cases_eq, cases_lt, lt-ltb, le-ltb, le-leb}
+use Rattle.std.proofs.lemmas.Bool.Decides.{leb_tells, eqb_tells}
 use Rattle.std.proofs.lemmas.List.Elements.{filter-append}
 use Rattle.std.proofs.lemmas.List.Concat.{flat_map-append}
-use Rattle.std.proofs.lemmas.Option.{same_Some, none-some, slice_get_within, option_and_then_some}
-use Rattle.fdb_history.specs.Answer.{kept, kept_answer, answer_to}
+use Rattle.std.proofs.lemmas.Option.{same_Some, none-some, option_and_then_some}
+use Rattle.fdb_history.specs.Answer.{kept_answer, answer_to}
 use Rattle.fdb_history.specs.Chain.{latest}
 use Rattle.fdb_history.specs.Log.{answer_in, answers_in, fresh_answers}
-use Rattle.fdb_history.specs.Own.{IsBorneOutBy, IsDueBy, IsOfIssuedBy, drawn, due_again, own_after}
-use Rattle.fdb_history.specs.Replies.{KeptReplies, drawn_place, no_replies, place_of, replies_after, reply}
-use Rattle.fdb_history.specs.Strays.{IsBorneOut, IsDue, IsFreshAnswer, IsIssued, IsOfChain, IsOfIssued, goes_with, logged_as, own_chain}
-use Rattle.fdb_history.specs.declared.chain.Ask.{Ask}
+use Rattle.fdb_history.specs.Bearing.{IsBorneOutBy, IsDueBy, IsOfIssuedBy, drawn, due_again, own_after}
+use Rattle.fdb_history.specs.Replies.{KeptReplies, replies_after, reply}
+use Rattle.fdb_history.specs.Strays.{IsBorneOut, IsDue, IsOfChain, IsOfIssued, goes_with, logged_as, own_chain}
 use Rattle.fdb_history.specs.declared.chain.Issued.{Issued}
 use Rattle.fdb_history.specs.declared.log.Call.{Call}
 use Rattle.fdb_history.specs.declared.log.CallAnswer.{CallAnswer}
@@ -20,7 +19,8 @@ use Rattle.fdb_history.specs.declared.log.CallAnswer.TheVariants.{Version, Answe
 use Rattle.fdb_history.specs.declared.log.Input.{Input}
 use Rattle.fdb_history.specs.declared.log.Input.TheVariants as input
 use Rattle.fdb_history.specs.declared.log.Refusal.TheVariants.{Early, Forgotten, UnknownProxy, Exhausted, BadCount, BatchThrottled, Full, ProxyClosed, NotIssued, Stranger, TooLarge, Behind}
-use Rattle.fdb_history.proofs.Own.{AreOwn, AreOwn-again, AreOwn-fresh, IsAmong, IsDrawnUnder, IsVersionOf, as_fresh, length-places, map-at, ordinal_of}
+use Rattle.fdb_history.proofs.Own.{AreOwn, AreOwn-again, AreOwn-fresh, IsAmong, IsDrawnUnder, IsVersionOf, as_fresh, length-places, ordinal_of}
+use Rattle.fdb_history.proofs.Lists.{map-at}
 
 -- the replies of a client after some calls
 abbrev pub OwnAfter : List Issued → ℕ → List Call → KeptReplies → Type 0

@@ -1,5 +1,5 @@
 -- The derived `==` of two answers.
-use Rattle.std.proofs.Common.{◌≡◌, ◌↔◌, ℕ, Bool, true, false, ◌&&◌, eqb, IsTrue, refl, ap, arith, eqb-true}
+use Rattle.std.proofs.Common.{◌≡◌, ℕ, Bool, true, false, ◌&&◌, eqb, refl, eqb-true}
 use Rattle.std.proofs.lemmas.Bool.{and_parts, eq-eqb}
 use mathlib.Core.Bool.{beq}
 use Rattle.fdb_history.specs.declared.chain.Issued.{Issued}

@@ -12,6 +12,6 @@ pub mod Text
 pub mod Laws
 pub mod Faults
 pub mod Strays
-pub mod Own
+pub mod Bearing
 pub mod Audit
 pub mod Auditing

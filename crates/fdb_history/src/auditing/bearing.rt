@@ -2,7 +2,7 @@
 
 ghost use Rattle.std.specs.Prelude.{◌≡◌, ◌≢◌, ◌+◌, ◌<◌, ◌↔◌, IsTrue, length, slice_get};
 ghost use Rattle.std.specs.Option.{option_copied};
-ghost use Rattle.fdb_history.specs.Own.{IsBorneOutBy, IsDueBy, IsOfIssuedBy, drawn, due_again};
+ghost use Rattle.fdb_history.specs.Bearing.{IsBorneOutBy, IsDueBy, IsOfIssuedBy, drawn, due_again};
 ghost use Rattle.fdb_history.specs.Strays.{IsFreshAnswer, IsNearTheEnd, IsOfChain, IsRightlyLockedOut, goes_with, logged_as, may_refuse};
 ghost use Rattle.fdb_history.specs.declared.chain.Issued.{Issued};
 

@@ -3,7 +3,7 @@
 ghost use Rattle.std.specs.Prelude.{◌≡◌, ◌<◌, ◌≤◌, ℕ, length, slice_index, IfOk, OnOk};
 ghost use Rattle.fdb_history.specs.Auditing.{IsFirstCall, IsLeastIfAny};
 ghost use Rattle.fdb_history.specs.Chain.{latest};
-ghost use Rattle.fdb_history.specs.Own.{own_after};
+ghost use Rattle.fdb_history.specs.Bearing.{own_after};
 ghost use Rattle.fdb_history.specs.Strays.{HasNoLog, IsStray};
 
 use crate::auditing::bearing::is_borne_out;

@@ -1,6 +1,4 @@
-use Rattle.std.proofs.Common.{rules, ◌≡◌, ◌↔◌, IsTrue, true, sym, ◌∙◌, arith}
-use Rattle.fdb_history.specs.Strays.{logged_as}
-use Rattle.fdb_history.specs.declared.log.CallAnswer.TheVariants.{Answered}
+use Rattle.std.proofs.Common.{◌≡◌, true, sym, ◌∙◌, arith}
 use Rattle.fdb_history.proofs.SameIssued.{same_issued-equal, equal-same_issued}
 use Rattle.fdb_history.proofs.auditing.bearing.is_logged_as.Goals as goal
 

@@ -1,4 +1,4 @@
-use Rattle.std.proofs.Common.{◌≡◌, ◌<◌, ◌≤◌, length, take, get_or, arith, length-set}
+use Rattle.std.proofs.Common.{◌<◌, length, get_or, arith, length-set}
 use Rattle.std.proofs.lemmas.List.{get_or_default}
 use Rattle.fdb_history.proofs.NoLog.{no_entry, counts-other, counts-own, latest-within}
 use Rattle.fdb_history.proofs.auditing.stray.entries_of_each.Goals as goal

@@ -1,4 +1,4 @@
-use Rattle.std.proofs.Common.{◌≡◌, ◌<◌, ℕ, take, length, get_or, vec_len}
+use Rattle.std.proofs.Common.{◌≡◌, ◌<◌, ℕ, take, length, get_or}
 use Rattle.fdb_history.specs.Chain.{latest}
 use Rattle.fdb_history.proofs.auditing.stray.entries_of_each.Given as goal
 

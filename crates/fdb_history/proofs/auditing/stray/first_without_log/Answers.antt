@@ -1,4 +1,4 @@
-use Rattle.std.proofs.Common.{◌≡◌, ◌<◌, ◌≤◌, length, take, get_or, arith}
+use Rattle.std.proofs.Common.{take, get_or}
 use Rattle.std.proofs.lemmas.List.{take_all, take_more}
 use Rattle.fdb_history.proofs.NoLog.{no_entry, least-first, least-more, least-other}
 use Rattle.fdb_history.proofs.auditing.stray.first_without_log.Goals as goal

@@ -1,8 +1,7 @@
 -- What a client's calls so far have drawn, and which answers it bears out. (this product's own)
-use Rattle.std.specs.Prelude.{◌≡◌, ◌≢◌, ℕ, ◌+◌, ◌-◌, ◌≤◌, ◌<◌, ◌==◌, nat_lt, nat_le, Bool, true, false, List, map, length, count_by, filter, Option, None, Some, Result, Ok, Err, slice_get, if◌then◌else◌}
+use Rattle.std.specs.Prelude.{◌≡◌, ◌≢◌, ℕ, ◌+◌, nat_lt, true, List, length, Option, None, Some, Result, Err, slice_get, if◌then◌else◌}
 use Rattle.std.specs.Option.{option_and_then}
-use Rattle.fdb_history.specs.Answer.{kept, kept_answer}
-use Rattle.fdb_history.specs.Chain.{latest}
+use Rattle.fdb_history.specs.Answer.{kept_answer}
 use Rattle.fdb_history.specs.Replies.{KeptReplies, drawn_place, replies_after, reply}
 use Rattle.fdb_history.specs.Strays.{goes_with, IsRightlyLockedOut, IsOfChain, IsFreshAnswer, logged_as}
 use Rattle.fdb_history.specs.declared.chain.Issued.{Issued}
