@@ -1,6 +1,7 @@
 -- A session that has played every round of a script leaves an outcome of it.
 use Rattle.std.proofs.Common.{◌≡◌, ℕ, zero, suc, ◌+◌, ◌<◌, List, [], ◌∷◌, Result, Ok, Err, length, drop, get_or, replicate, refl, ap, sym, ◌∙◌, subst, arith, add-one, drop-cons}
 use Rattle.std.specs.List.{AllByRecursion, FoldsTo}
+use Rattle.std.specs.Result.{IfOk}
 use Rattle.std.proofs.lemmas.Bool.{eq-eqb}
 use Rattle.std.proofs.lemmas.List.Elements.{All-from_recursion, All-get_or}
 use Rattle.fdb_history.specs.Audit.{IsAudited}
@@ -16,6 +17,8 @@ use Rattle.fdb_replay.specs.Served.{AreServed}
 use Rattle.fdb_history.specs.Linear.{IsLinear}
 use Rattle.fdb_replay.specs.declared.outcome.Outcome.{Outcome}
 use Rattle.fdb_replay.specs.declared.script.Command.{Command}
+use Rattle.fdb_replay.specs.declared.outcome.RunFault.{RunFault}
+use Rattle.fdb_replay.specs.declared.session.Played.{Played}
 use Rattle.fdb_replay.specs.declared.session.Session.{Session}
 
 abbrev log_of : List Call → List ClientLog
@@ -53,21 +56,25 @@ one_round_more plan place commands before after last is within item answered res
     subst (λ rounds. FoldsTo AnswersRound (log_of before) rounds last) (sym split) (log_of after, round_answered before after commands known_one answered, rest)
 
 -- the outcome of a session that has played all rounds, and was audited
-pub run_of : (plan : Plan) (session : Session) (outcome : Outcome) → IsPlan plan → IsSession session
+pub run_of : (plan : Plan) (session : Session) (played : Played) (result : Result Outcome RunFault) → IsPlan plan → IsSession session
     → session.core.epoch_end ≡ plan.epoch_end → session.core.recovery ≡ plan.recovery → FoldsTo AnswersRound (log_of []) plan.rounds (log_of session.calls)
-    → IsChain session.core.epoch_end session.core.recovery outcome.chain.items → outcome.chain.items ≡ fresh_answers session.calls → outcome.logs.items ≡ log_of session.calls
-    → IsAudited (opening plan.recovery) outcome.chain.items outcome.logs.items (Ok outcome.history) → IsLinear (opening plan.recovery) outcome.logs.items outcome.history.events
-    → IsRunOf plan outcome
-run_of plan session outcome is_plan is epoch_end recovery answered chain drawn logs audited linear =
-    let calls : calls_of outcome.logs.items 0 ≡ session.calls = ap (λ all. calls_of all 0) logs in
+    → IsChain session.core.epoch_end session.core.recovery played.chain.items → played.chain.items ≡ fresh_answers session.calls → played.logs.items ≡ log_of session.calls
+    → IfOk result (λ outcome. outcome.chain.items ≡ played.chain.items) → IfOk result (λ outcome. outcome.logs.items ≡ played.logs.items)
+    → IfOk result (λ outcome. IsAudited (opening plan.recovery) played.chain.items played.logs.items (Ok outcome.history))
+    → IfOk result (λ outcome. IsLinear (opening plan.recovery) played.logs.items outcome.history.events)
+    → IfOk result (IsRunOf plan)
+run_of plan session played (Err fault) is_plan is epoch_end recovery answered one_chain drawn logs same_chain same_logs audited linear = tt
+run_of plan session played (Ok outcome) is_plan is epoch_end recovery answered one_chain drawn logs same_chain same_logs audited linear =
+    let calls : calls_of outcome.logs.items 0 ≡ session.calls = ap (λ all. calls_of all 0) (same_logs ∙ logs) in
     let answers : Answers plan (log_of session.calls) = subst (λ n. FoldsTo AnswersRound (replicate n (record { calls = [] })) plan.rounds (log_of session.calls)) (sym is_plan.one_client) answered in
     record {
-      answers = subst (Answers plan) (sym logs) answers;
-      one_chain = subst (λ e. IsChain e plan.recovery outcome.chain.items) epoch_end (subst (λ r. IsChain session.core.epoch_end r outcome.chain.items) recovery chain);
-      linear = linear;
-      in_order = audited.3;
-      none_astray = audited.1;
-      none_low = audited.2;
+      answers = subst (Answers plan) (sym (same_logs ∙ logs)) answers;
+      one_chain = subst (IsChain plan.epoch_end plan.recovery) (sym same_chain)
+          (subst (λ e. IsChain e plan.recovery played.chain.items) epoch_end (subst (λ r. IsChain session.core.epoch_end r played.chain.items) recovery one_chain));
+      linear = rw same_logs linear;
+      in_order = rw same_logs audited.3;
+      none_astray = rw (same_chain, same_logs) audited.1;
+      none_low = rw same_logs audited.2;
       served = rw calls (subst (λ e. AreServed e plan.recovery [] session.calls) epoch_end (subst (λ r. AreServed session.core.epoch_end r [] session.calls) recovery is.served));
-      drawn = rw calls drawn;
+      drawn = rw calls (same_chain ∙ drawn);
     }

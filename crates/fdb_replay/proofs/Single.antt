@@ -16,7 +16,6 @@ use Rattle.fdb_history.specs.declared.log.CallAnswer.TheVariants.{Version, Answe
 use Rattle.fdb_history.specs.declared.log.ClientLog.{ClientLog}
 use Rattle.fdb_history.specs.declared.register.Record.{Record}
 use Rattle.fdb_replay.specs.Session.{events_of, advanced, Climbs}
-use Rattle.fdb_replay.proofs.Order.{in_order}
 use Rattle.fdb_replay.proofs.Sessions.{event_at, events_from, events-cons}
 
 -- ---- positions

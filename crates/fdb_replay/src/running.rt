@@ -1,6 +1,11 @@
 //! A run of a script.
 
-ghost use Rattle.std.specs.Prelude.{◌≡◌, ◌<◌, ◌≤◌, IfOk, IfErr};
+ghost use Rattle.std.specs.Prelude.{◌≡◌, ◌<◌, ◌≤◌, List, length, IfOk, IfErr, Ok};
+ghost use Rattle.fdb_history.specs.Audit.{IsAudited, Low};
+ghost use Rattle.fdb_history.specs.Faults.{Nowhere};
+ghost use Rattle.fdb_history.specs.Linear.{IsLinear};
+ghost use Rattle.fdb_history.specs.Strays.{IsStray};
+ghost use Rattle.fdb_history.specs.declared.event.Event.{Event};
 ghost use Rattle.fdb_replay.specs.Outcome.{IsRunOf, opening};
 
 use crate::outcome::{Outcome, RunFault};
@@ -36,18 +41,8 @@ pub fn run<R: Threads + Wait + Sync, G: Gate>(
     for round in script.rounds() {
         session = session.play(alloc, round.as_slice())?;
     }
-    let Played { chain, logs } = session.finish(alloc)?;
-    let history = audit(
-        alloc,
-        opening(script.recovery()),
-        chain.as_slice(),
-        logs.as_slice(),
-    )?;
-    Ok(Outcome {
-        chain,
-        logs,
-        history,
-    })
+    let played = session.finish(alloc)?;
+    audited(alloc, opening(script.recovery()), played)
 }
 
 /// The record before any report.
@@ -59,4 +54,23 @@ fn opening(recovery: u64) -> Record
         locked: false,
         metadata: None,
     }
+}
+
+/// The outcome, with the history that the audit finds.
+fn audited(alloc: Global, start: Record, played: Played) -> Result<Outcome, RunFault>
+    requires { length played.logs.items ≤ 64 }
+    ensures chain { IfOk result (λ outcome. outcome.chain.items ≡ played.chain.items) }
+    ensures logs { IfOk result (λ outcome. outcome.logs.items ≡ played.logs.items) }
+    ensures audited { IfOk result (λ outcome. IsAudited start played.chain.items played.logs.items (Ok outcome.history)) }
+    ensures linear { IfOk result (λ outcome. IsLinear start played.logs.items outcome.history.events) }
+    ensures err { (history : List Event) → IsLinear start played.logs.items history → Nowhere (IsStray played.chain.items played.logs.items)
+        → Nowhere (Low start played.logs.items) → IfErr result (λ fault. fault ≡ RunFault.Memory) }
+{
+    let Played { chain, logs } = played;
+    let history = audit(alloc, start, chain.as_slice(), logs.as_slice())?;
+    Ok(Outcome {
+        chain,
+        logs,
+        history,
+    })
 }

@@ -2,6 +2,7 @@ use Rattle.std.proofs.Common.{◌≡◌, [], ◌∷◌, ◌<◌, length, get_or,
 use Rattle.std.specs.List.{FoldsTo}
 use Rattle.std.proofs.lemmas.List.{drop_all}
 use Rattle.fdb_replay.specs.Answering.{AnswersCommand, AnswersRound}
+use Rattle.fdb_replay.specs.Outcome.{opening}
 use Rattle.fdb_replay.proofs.Runs.{one_round_more, run_of}
 use Rattle.fdb_replay.proofs.running.run.Goals as goal
 
@@ -32,6 +33,12 @@ returns-clause-ok g c =
     let rounds = c.args.script.now.rounds in
     let logs = record { calls = c.loop-round.session.calls } ∷ [] in
     let none_left : drop c.loop-round.round-index rounds ≡ [] = drop_all c.loop-round.round-index rounds (omega (arith, ap length c.rounds-round-items.ensures)) in
-    run_of c.args.script.now c.loop-round.session c.outcome.result is.plan is.session is.epoch_end is.recovery
+    let played = c.in_ok-played.ensures in
+    let audited = c.audited.ensures in
+    let start : c.opening.result ≡ opening c.args.script.now.recovery = c.opening.ensures ∙ ap opening c.recovery-2.ensures in
+    run_of c.args.script.now c.loop-round.session c.in_ok-played.played c.audited.result is.plan is.session is.epoch_end is.recovery
     (is.forwards logs (subst (λ left. FoldsTo AnswersRound logs left logs) (sym none_left) refl))
-    c.outcome.ensures.one_chain c.outcome.ensures.drawn c.outcome.ensures.logs c.outcome.ensures.history
+    played.one_chain played.drawn played.logs audited.chain audited.logs (rw start at audited.audited) (rw start at audited.linear)
+
+pub returns-clause-err : goal.returns-clause-err
+returns-clause-err g c = ?
