@@ -8,7 +8,7 @@ ghost use Rattle.fdb_history.specs.declared.chain.Issued.{Issued};
 
 use crate::chain::{Issued, MAX_STEP};
 use crate::log::{Call, CallAnswer, Input, Refusal};
-use crate::register::{MAX_VERSION, Record};
+use crate::register::MAX_VERSION;
 use crate::replies::Replies;
 
 /// Whether a call's answer is borne out.
