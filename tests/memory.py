@@ -1,5 +1,6 @@
 """Memory that is refused: each allocation in turn, and then that one with all that follow."""
 import os
+import re
 import shutil
 import subprocess
 import tempfile
@@ -11,8 +12,8 @@ from model import printed
 SOURCE = f"{ROOT}/tests/refuse.c"
 LARGE = [[("ask", 9 * it) for it in range(500)], [("report", it + 1) for it in range(500)], [("grv", None)] * 500]
 MOST_RUNS = 2_000
-# The tests that pass whichever single allocation is refused: of each crate those whose names have this word.
-BEARING = {"fdb_history": "", "fdb_chain": "", "fdb_replay": "refused_memory_is_borne"}
+# The tests that pass whichever single allocation is refused: of each crate those whose names match.
+BEARING = {"fdb_history": r"^tests::\w+$|refused_memory_is_borne", "fdb_chain": r"", "fdb_replay": r"refused_memory_is_borne"}
 PASSED = done(b"\ntest result: ok\n")
 
 
@@ -67,10 +68,11 @@ def refused(program):
                     yield f"{what} {number}", fault
 
 
-def bearing_tests(tests, word):
-    """Names the tests of a built test program whose names have this word."""
+def bearing_tests(tests, pattern):
+    """Names the tests of a built test program whose names match."""
     listed = run([tests, "--list"]).out.decode().splitlines()
-    return [name for name, colon, what in (line.rpartition(": ") for line in listed) if what == "test" and word in name]
+    names = [name for name, colon, what in (line.rpartition(": ") for line in listed) if what == "test"]
+    return [name for name in names if re.search(pattern, name)]
 
 
 def borne(_program):
@@ -78,13 +80,13 @@ def borne(_program):
     each = lambda at: at + 1
     with tempfile.TemporaryDirectory(prefix="refuse-") as folder:
         preloaded = built(folder)
-        for crate, word in BEARING.items():
+        for crate, pattern in BEARING.items():
             tests = f"{ROOT}/crates/{crate}/out/{crate}_tests"
             if not os.access(tests, os.X_OK):
                 yield crate, f"there is no {tests}: run rt ci, or rt test in the crate's folder"
                 continue
-            names = bearing_tests(tests, word)
-            yield f"{crate}'s tests", None if names else f"none has {word!r} in its name"
+            names = bearing_tests(tests, pattern)
+            yield f"{crate}'s tests", None if names else f"none matches {pattern!r}"
             for name in names:
                 for number, fault in swept([tests, name], preloaded, b"", PASSED, PASSED, False, each):
                     yield f"{crate} {name}, allocation {number}", fault

@@ -157,6 +157,7 @@ fn refused_memory_is_borne_by_an_audit(rt: HostRuntime) -> Result<(), Fail> {
             Ok(logs) => logs,
             Err(_) => two_clients(alloc, &chain)?,
         };
+        assert!(rt; logs.len() == 2, "there are two logs");
         let found = match audit(alloc, START, &chain, &logs) {
             Err(AuditFault::Memory) => audit(alloc, START, &chain, &logs),
             found => found,

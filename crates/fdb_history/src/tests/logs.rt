@@ -150,6 +150,7 @@ pub fn finds(
     logs: &[ClientLog],
     fault: Option<AuditFault>,
 ) {
+    assert!(rt; logs.len() <= 64, "{what}: more logs than an audit takes");
     let found = audit(alloc, START, chain, logs);
     assert_eq!(rt; found.err(), fault, "{what}");
 }
