@@ -1,5 +1,5 @@
 -- What an audit answers, by what its parts found.
-use Rattle.std.proofs.Common.{◌≡◌, ℕ, List, Option, None, Some, Result, Ok, Err, OnOk, IfOk, IfErr, refl, subst, sym}
+use Rattle.std.proofs.Common.{◌≡◌, ℕ, List, Option, None, Result, Ok, Err, IfOk, IfErr, refl, subst, sym}
 use Rattle.fdb_history.specs.Audit.{IsAudited, IsFirstFault, OutOfOrder, WronglyAnswered, Low}
 use Rattle.fdb_history.specs.Auditing.{IsFirstCall}
 use Rattle.fdb_history.specs.Faults.{IsFaultless, IsClash, IsGap, Nowhere, AtNoPosition}

@@ -1,5 +1,5 @@
 -- What an audit answers. (this product's own)
-use Rattle.std.specs.Prelude.{◌≡◌, ◌≤◌, ◌<◌, ◌≢◌, ℕ, Bool, true, List, length, Result, Ok, Err}
+use Rattle.std.specs.Prelude.{◌≡◌, ◌≤◌, ◌≢◌, ℕ, true, List, Result, Ok, Err}
 use Rattle.fdb_history.specs.Explained.{explained}
 use Rattle.fdb_history.specs.Faults.{IsFaultless, IsOutOfOrder, IsClash, IsGap, IsWrongAnswer, StandsAt, IsFirst, IsLeast, Nowhere, AtNoPosition, register_at}
 use Rattle.fdb_history.specs.Strays.{IsStray}
@@ -7,7 +7,6 @@ use Rattle.fdb_history.specs.declared.chain.Issued.{Issued}
 use Rattle.fdb_history.specs.declared.event.History.{History}
 use Rattle.fdb_history.specs.declared.fault.AuditFault.{AuditFault}
 use Rattle.fdb_history.specs.declared.fault.AuditFault.TheVariants.{Order, Clash, Gap, Wrong, Stray, NotAbove, Memory}
-use Rattle.fdb_history.specs.declared.log.Call.{Call}
 use Rattle.fdb_history.specs.declared.log.CallAnswer.{CallAnswer}
 use Rattle.fdb_history.specs.declared.log.CallAnswer.TheVariants.{Version, Answered, Acked, Told, Refused}
 use Rattle.fdb_history.specs.declared.log.ClientLog.{ClientLog}

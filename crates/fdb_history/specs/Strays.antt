@@ -1,10 +1,9 @@
 -- Answers that their inputs, the chain of commit versions or their client's own log do not bear out. (this product's own)
-use Rattle.std.specs.Prelude.{◌≡◌, ◌≢◌, ◌⊎◌, ℕ, ◌+◌, ◌-◌, ◌<◌, ◌≤◌, ◌==◌, Bool, true, false, ◌&&◌, not, List, [], ◌∷◌, length, take, Option, None, Some, Result, Ok, Err, slice_get}
-use Rattle.fdb_history.specs.Answer.{Chain, answer_to, kept_answer, kept}
+use Rattle.std.specs.Prelude.{◌≡◌, ◌≢◌, ◌⊎◌, ℕ, ◌+◌, ◌-◌, ◌<◌, ◌≤◌, Bool, true, false, ◌&&◌, not, List, length, Some, Result, Ok, Err, slice_get}
+use Rattle.fdb_history.specs.Answer.{Chain, answer_to}
 use Rattle.fdb_history.specs.Chain.{last_answer, latest}
 use Rattle.fdb_history.specs.Faults.{StandsAt}
 use Rattle.fdb_history.specs.Log.{calls_of, answers_in, fresh_answers}
-use Rattle.fdb_history.specs.declared.chain.Ask.{Ask}
 use Rattle.fdb_history.specs.declared.chain.Issued.{Issued}
 use Rattle.fdb_history.specs.declared.chain.TheConstants.{MAX_STEP}
 use Rattle.fdb_history.specs.declared.log.Call.{Call}
@@ -15,7 +14,6 @@ use Rattle.fdb_history.specs.declared.log.Input.{Input}
 use Rattle.fdb_history.specs.declared.log.Input.TheVariants as input
 use Rattle.fdb_history.specs.declared.log.Refusal.{Refusal}
 use Rattle.fdb_history.specs.declared.log.Refusal.TheVariants.{Early, Forgotten, Exhausted, BadCount, BatchThrottled, Full, ProxyClosed, NotIssued, Stranger, Behind}
-use Rattle.fdb_history.specs.declared.register.Record.{Record}
 use Rattle.fdb_history.specs.declared.register.TheConstants.{MAX_VERSION}
 
 -- ---- the kind of an answer

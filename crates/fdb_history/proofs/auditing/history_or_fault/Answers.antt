@@ -1,4 +1,4 @@
-use Rattle.std.proofs.Common.{None, Some, subst}
+use Rattle.std.proofs.Common.{subst}
 use Rattle.std.proofs.lemmas.Result.{err_from_is_err_and}
 use Rattle.fdb_history.proofs.Audited.{nothing_found}
 use Rattle.fdb_history.proofs.Faultless.{all_events_within}
