@@ -1,6 +1,9 @@
 pub mod Arrays
 pub mod Input
+pub mod NoneAstray
+pub mod NoneLow
 pub mod Numbers
+pub mod Places
 pub mod Runs
 pub mod Sessions
 pub mod Single

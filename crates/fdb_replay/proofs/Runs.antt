@@ -1,28 +1,35 @@
 -- A session that has played every round of a script leaves an outcome of it.
-use Rattle.std.proofs.Common.{◌≡◌, ℕ, zero, suc, ◌+◌, ◌<◌, List, [], ◌∷◌, Result, Ok, Err, length, drop, get_or, replicate, refl, ap, sym, ◌∙◌, subst, arith, add-one, drop-cons}
-use Rattle.std.specs.List.{AllByRecursion, FoldsTo}
-use Rattle.std.specs.Result.{IfOk}
+use Rattle.std.proofs.Common.{◌≡◌, ℕ, zero, suc, ◌+◌, ◌<◌, ◌≤◌, List, [], ◌∷◌, Result, Ok, Err, length, drop, get_or, replicate, refl, ap, sym, ◌∙◌, subst, arith, add-one, drop-cons}
+use Rattle.std.specs.List.{All, AllByRecursion, FoldsTo}
+use Rattle.std.specs.Result.{IfOk, IfErr}
 use Rattle.std.proofs.lemmas.Bool.{eq-eqb}
 use Rattle.std.proofs.lemmas.List.Elements.{All-from_recursion, All-get_or}
-use Rattle.fdb_history.specs.Audit.{IsAudited}
+use Rattle.fdb_history.specs.Audit.{IsAudited, Low}
 use Rattle.fdb_history.specs.Chain.{IsChain}
 use Rattle.fdb_history.specs.Log.{calls_of, fresh_answers}
+use Rattle.fdb_history.specs.Faults.{Nowhere}
+use Rattle.fdb_history.specs.Strays.{IsStray}
+use Rattle.fdb_history.specs.declared.chain.Issued.{Issued}
+use Rattle.fdb_history.specs.declared.event.Event.{Event}
 use Rattle.fdb_history.specs.declared.log.Call.{Call}
 use Rattle.fdb_history.specs.declared.log.ClientLog.{ClientLog}
+use Rattle.fdb_history.specs.declared.register.TheConstants.{MAX_VERSION}
 use Rattle.fdb_replay.specs.Answering.{AnswersCommand, AnswersRound, Answers, commands_of}
 use Rattle.fdb_replay.specs.Outcome.{IsRunOf, opening}
 use Rattle.fdb_replay.specs.Plan.{Plan, IsPlan}
-use Rattle.fdb_replay.specs.Session.{IsSession}
+use Rattle.fdb_replay.specs.Session.{IsSession, events_of}
 use Rattle.fdb_replay.specs.Served.{AreServed}
 use Rattle.fdb_history.specs.Linear.{IsLinear}
 use Rattle.fdb_replay.specs.declared.outcome.Outcome.{Outcome}
 use Rattle.fdb_replay.specs.declared.script.Command.{Command}
 use Rattle.fdb_replay.specs.declared.outcome.RunFault.{RunFault}
 use Rattle.fdb_replay.specs.declared.session.Played.{Played}
+use Rattle.fdb_replay.specs.declared.outcome.RunFault.TheVariants.{Memory}
 use Rattle.fdb_replay.specs.declared.session.Session.{Session}
-
-abbrev log_of : List Call → List ClientLog
-log_of calls = record { calls = calls } ∷ []
+use Rattle.fdb_replay.proofs.NoneAstray.{none_astray}
+use Rattle.fdb_replay.proofs.NoneLow.{none_low}
+use Rattle.fdb_replay.proofs.Places.{AreOwnCalls, log_of}
+use Rattle.fdb_replay.proofs.Single.{linear}
 
 all_own : (commands : List Command) → AllByRecursion (λ command. command.client < 1) commands → commands_of 0 commands ≡ commands
 all_own [] known = refl
@@ -78,3 +85,30 @@ run_of plan session played (Ok outcome) is_plan is epoch_end recovery answered o
       served = rw calls (subst (λ e. AreServed e plan.recovery [] session.calls) epoch_end (subst (λ r. AreServed session.core.epoch_end r [] session.calls) recovery is.served));
       drawn = rw calls (same_chain ∙ drawn);
     }
+
+-- the calls of a session are those of a single client that was served
+own_calls : (session : Session) (chain : List Issued) → IsSession session → session.core.recovery ≤ MAX_VERSION → IsChain session.core.epoch_end session.core.recovery chain
+    → All (λ answer. answer.proxy < 1) chain → chain ≡ fresh_answers session.calls → AreOwnCalls session.core.epoch_end session.core.recovery session.calls
+own_calls session chain is in_range one_chain own drawn =
+    record {
+      in_range = in_range;
+      one_chain = subst (IsChain session.core.epoch_end session.core.recovery) drawn one_chain;
+      own = subst (All (λ answer. answer.proxy < 1)) drawn own;
+      all_fresh = is.answers ∙ sym is.all_fresh;
+      climbs = is.climbs;
+      served = is.served;
+      next_requests = is.next_requests;
+    }
+
+-- what a session leaves is linear, and in it nothing is astray and nothing is low, so that its audit finds no fault but want of memory
+pub refused_for_memory : (session : Session) (played : Played) (result : Result Outcome RunFault) → IsSession session → session.core.recovery ≤ MAX_VERSION
+    → IsChain session.core.epoch_end session.core.recovery played.chain.items → All (λ answer. answer.proxy < 1) played.chain.items
+    → played.chain.items ≡ fresh_answers session.calls → played.logs.items ≡ log_of session.calls
+    → ((history : List Event) → IsLinear (opening session.core.recovery) played.logs.items history → Nowhere (IsStray played.chain.items played.logs.items)
+    → Nowhere (Low (opening session.core.recovery) played.logs.items) → IfErr result (λ fault. fault ≡ Memory))
+    → IfErr result (λ fault. fault ≡ Memory)
+refused_for_memory session played result is in_range one_chain own drawn logs audited =
+    let start = opening session.core.recovery in
+    let calls = own_calls session played.chain.items is in_range one_chain own drawn in
+    audited (events_of session.calls) (rw logs (linear start session.calls is.climbs is.legal)) (rw (drawn, logs) (none_astray session.core.epoch_end session.core.recovery session.calls calls))
+    (rw logs (none_low session.core.epoch_end session.core.recovery session.calls calls))

@@ -25,7 +25,7 @@ use Rattle.fdb_history.specs.declared.register.Record.{Record}
 use Rattle.fdb_replay.specs.Answering.{input_of}
 use Rattle.fdb_replay.specs.Outcome.{opening}
 use Rattle.fdb_replay.specs.Served.{AreServed, BearsOut, IsReportOf, chain_of, logged_answer}
-use Rattle.fdb_replay.specs.Session.{events_of, advanced, Climbs, core_after, IsSession, Performs}
+use Rattle.fdb_replay.specs.Session.{events_of, advanced, Climbs, core_after, IsNextRequest, AreNextRequests, IsSession, Performs}
 use Rattle.fdb_history.specs.declared.log.Input.TheVariants as input
 use Rattle.fdb_replay.specs.declared.script.Act.{Act}
 use Rattle.fdb_replay.specs.declared.script.Act.TheVariants as act
@@ -85,6 +85,16 @@ AreServed-push epoch_end recovery before [] call served bears = (rw append-nil a
 AreServed-push epoch_end recovery before (first ∷ calls) call served bears =
     (served.0, AreServed-push epoch_end recovery (before ++ first ∷ []) calls call served.1 (rw append_assoc bears))
 
+AreNextRequests-push : (before calls : List Call) (call : Call) → AreNextRequests before calls → IsNextRequest (before ++ calls) call.input → AreNextRequests before (calls ++ call ∷ [])
+AreNextRequests-push before [] call next last = (rw append-nil at last, tt)
+AreNextRequests-push before (first ∷ calls) call next last = (next.0, AreNextRequests-push (before ++ first ∷ []) calls call next.1 (rw append_assoc last))
+
+-- what is asked for an act is the next number
+next_request : (before : List Call) (act : Act) → IsNextRequest before (input_of before act)
+next_request before act.Grv = tt
+next_request before (act.Ask processed at) = refl
+next_request before (act.Report num) = tt
+
 -- what a call has to be, so that the session goes on
 pub record GoesOn (old : Session) (act : Act) (call : Call) (live : Record) : Type 0 where
   pub wanted : call.input ≡ input_of old.calls act
@@ -119,6 +129,7 @@ performs old act call live is goes =
         legal = subst (IsLegal (opening old.core.recovery)) (sym events)
             (IsLegal-append (opening old.core.recovery) (events_of old.calls) (event_at (length old.calls) call.answer) is.legal (subst (λ live. IsLegal live (event_at (length old.calls) call.answer)) is.live_is (goes.legal (length old.calls))));
         served = AreServed-push old.core.epoch_end old.core.recovery [] old.calls call is.served goes.bears;
+        next_requests = AreNextRequests-push [] old.calls call is.next_requests (subst (IsNextRequest old.calls) (sym goes.wanted) (next_request old.calls act));
       };
       epoch_end = refl;
       recovery = refl;

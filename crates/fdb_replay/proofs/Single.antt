@@ -45,7 +45,7 @@ advanced_above before (Answered issued) = (omega arith, λ up. absurd cc)
 advanced_above before Told = (omega arith, λ up. absurd cc)
 advanced_above before (Refused cause) = (omega arith, λ up. absurd cc)
 
-never_back : (before : ℕ) (calls : List Call) → Climbs before calls → NeverGoesBack before calls
+pub never_back : (before : ℕ) (calls : List Call) → Climbs before calls → NeverGoesBack before calls
 never_back before [] climbs = tt
 never_back before (call ∷ calls) climbs =
     let above = advanced_above before call.answer in

@@ -1,9 +1,10 @@
-use Rattle.std.proofs.Common.{◌≡◌, [], ◌∷◌, ◌<◌, length, get_or, ap, sym, ◌∙◌, subst, refl, drop, arith}
+use Rattle.std.proofs.Common.{◌≡◌, [], ◌∷◌, ◌<◌, ◌≤◌, length, get_or, ap, sym, ◌∙◌, subst, refl, drop, arith}
 use Rattle.std.specs.List.{FoldsTo}
 use Rattle.std.proofs.lemmas.List.{drop_all}
+use Rattle.fdb_history.specs.declared.register.TheConstants.{MAX_VERSION}
 use Rattle.fdb_replay.specs.Answering.{AnswersCommand, AnswersRound}
 use Rattle.fdb_replay.specs.Outcome.{opening}
-use Rattle.fdb_replay.proofs.Runs.{one_round_more, run_of}
+use Rattle.fdb_replay.proofs.Runs.{one_round_more, refused_for_memory, run_of}
 use Rattle.fdb_replay.proofs.running.run.Goals as goal
 
 pub loop-round-preserved : goal.loop-round-preserved
@@ -41,4 +42,10 @@ returns-clause-ok g c =
     played.one_chain played.drawn played.logs audited.chain audited.logs (rw start at audited.audited) (rw start at audited.linear)
 
 pub returns-clause-err : goal.returns-clause-err
-returns-clause-err g c = ?
+returns-clause-err g c =
+    let is = c.loop-round.invariant in
+    let session = c.loop-round.session in
+    let played = c.in_ok-played.ensures in
+    let start : c.opening.result ≡ opening session.core.recovery = c.opening.ensures ∙ ap opening (c.recovery-2.ensures ∙ sym is.recovery) in
+    let in_range : session.core.recovery ≤ MAX_VERSION = omega (arith, is.plan.recovery_in_range, is.recovery) in
+    refused_for_memory session c.in_ok-played.played c.audited.result is.session in_range played.one_chain played.asked played.drawn played.logs (rw start at c.audited.ensures.err)
