@@ -1,5 +1,5 @@
 -- The calls of a single client by their places, and the chain of the answers that they drew.
-use Rattle.std.proofs.Common.{◌≡◌, ℕ, zero, suc, ◌+◌, ◌-◌, ◌<◌, ◌≤◌, Bool, true, false, IsTrue, List, [], ◌∷◌, ◌++◌, length, take, filter, get_or, slice_get, Some, refl, ap, sym, ◌∙◌, subst, inl, inr, append_assoc, append-nil, arith}
+use Rattle.std.proofs.Common.{◌≡◌, ℕ, zero, suc, ◌-◌, ◌<◌, ◌≤◌, Bool, true, IsTrue, List, [], ◌∷◌, ◌++◌, length, take, filter, get_or, slice_get, Some, refl, ap, sym, ◌∙◌, subst, inl, inr, append_assoc, append-nil, arith}
 use Rattle.std.specs.List.{All, AllByRecursion}
 use Rattle.std.proofs.lemmas.Bool.{cases_lt}
 use Rattle.std.proofs.lemmas.List.{length-append, length-take-le, take_at}
@@ -78,7 +78,7 @@ fresh-cut calls place call at =
     ap answers_in cut.1 ∙ flat_map-append (λ (c : Call). answer_in c.answer) front (call ∷ cut.0) in (
       fresh_answers cut.0,
       ap (filter is_fresh) answers ∙ filter-append is_fresh (answers_in front) (answer_in call.answer ++ answers_in cut.0)
-      ∙ ap (λ rest. fresh_answers front ++ rest) (filter-append is_fresh (answer_in call.answer) (answers_in cut.0)),
+          ∙ ap (λ rest. fresh_answers front ++ rest) (filter-append is_fresh (answer_in call.answer) (answers_in cut.0)),
     )
 
 -- where all answers are fresh, so are those before a place

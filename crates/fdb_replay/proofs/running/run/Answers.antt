@@ -1,6 +1,7 @@
-use Rattle.std.proofs.Common.{◌≡◌, [], ◌∷◌, ◌<◌, ◌≤◌, length, get_or, ap, sym, ◌∙◌, subst, refl, drop, arith}
+use Rattle.std.proofs.Common.{◌≡◌, List, [], ◌∷◌, ◌<◌, ◌≤◌, length, get_or, ap, sym, ◌∙◌, subst, refl, drop, arith}
 use Rattle.std.specs.List.{FoldsTo}
 use Rattle.std.proofs.lemmas.List.{drop_all}
+use Rattle.fdb_history.specs.declared.log.ClientLog.{ClientLog}
 use Rattle.fdb_history.specs.declared.register.TheConstants.{MAX_VERSION}
 use Rattle.fdb_replay.specs.Answering.{AnswersCommand, AnswersRound}
 use Rattle.fdb_replay.specs.Outcome.{opening}
@@ -32,7 +33,7 @@ pub returns-clause-ok : goal.returns-clause-ok
 returns-clause-ok g c =
     let is = c.loop-round.invariant in
     let rounds = c.args.script.now.rounds in
-    let logs = record { calls = c.loop-round.session.calls } ∷ [] in
+    let logs : List ClientLog = record { calls = c.loop-round.session.calls } ∷ [] in
     let none_left : drop c.loop-round.round-index rounds ≡ [] = drop_all c.loop-round.round-index rounds (omega (arith, ap length c.rounds-round-items.ensures)) in
     let played = c.in_ok-played.ensures in
     let audited = c.audited.ensures in
