@@ -1,11 +1,11 @@
 -- No answer in the log of a single client is astray: each is borne out, and the chain has what its calls drew alone.
-use Rattle.std.proofs.Common.{◌≡◌, ℕ, zero, suc, ◌+◌, ◌-◌, ◌<◌, ◌≤◌, ◌==◌, Bool, true, false, cond, nat_le, List, [], ◌∷◌, ◌++◌, length, take, filter, find, slice_get, get_or, Option, None, Some, Result, Ok, Err, refl, ap, sym, ◌∙◌, subst, inl, inr, append-nil, arith}
+use Rattle.std.proofs.Common.{◌≡◌, ℕ, zero, suc, ◌+◌, ◌-◌, ◌<◌, ◌≤◌, ◌==◌, Bool, true, nat_le, List, [], ◌∷◌, ◌++◌, length, take, filter, find, slice_get, get_or, Option, None, Some, refl, ap, sym, ◌∙◌, subst, inl, inr, arith}
 use Rattle.std.specs.List.{All}
 use Rattle.std.proofs.lemmas.Bool.{cases_Bool, cases_lt, eq-eqb, eqb-true, leb-false}
-use Rattle.std.proofs.lemmas.List.{length-append, length-take-le}
+use Rattle.std.proofs.lemmas.List.{length-take-le}
 use Rattle.std.proofs.lemmas.List.Elements.{All-get_or}
 use Rattle.std.proofs.lemmas.Option.{same_Some, none-some, slice_get_within, slice_get-get_or, get_or_from_slice_get, slice_get_cases}
-use Rattle.fdb_history.specs.Answer.{Chain, answer_to, fresh_answer, next_answer}
+use Rattle.fdb_history.specs.Answer.{fresh_answer, next_answer}
 use Rattle.fdb_history.specs.Chain.{IsChain, last_answer, version_after, latest}
 use Rattle.fdb_history.specs.Faults.{Nowhere}
 use Rattle.fdb_history.specs.Log.{calls_of, answer_in, answers_in, fresh_answers}
@@ -16,10 +16,9 @@ use Rattle.fdb_history.specs.declared.chain.TheConstants.{MAX_STEP}
 use Rattle.fdb_history.specs.declared.log.Call.{Call}
 use Rattle.fdb_history.specs.declared.log.CallAnswer.{CallAnswer}
 use Rattle.fdb_history.specs.declared.log.CallAnswer.TheVariants.{Version, Answered, Acked, Told, Refused}
-use Rattle.fdb_history.specs.declared.log.ClientLog.{ClientLog}
 use Rattle.fdb_history.specs.declared.log.Input.{Input}
 use Rattle.fdb_history.specs.declared.log.Input.TheVariants as input
-use Rattle.fdb_history.specs.declared.log.Refusal.TheVariants.{Exhausted, NotIssued}
+use Rattle.fdb_history.specs.declared.log.Refusal.TheVariants.{Exhausted}
 use Rattle.fdb_history.specs.declared.register.TheConstants.{MAX_VERSION}
 use Rattle.fdb_replay.specs.Served.{BearsOut, IsReportOf, chain_of, logged_answer}
 use Rattle.fdb_replay.specs.Session.{IsNextRequest}

@@ -1,5 +1,5 @@
 -- In the log of a single client no commit version is low: each but the first is above what its asker had seen.
-use Rattle.std.proofs.Common.{◌≡◌, ℕ, zero, suc, ◌+◌, ◌-◌, ◌<◌, ◌≤◌, ◌==◌, Bool, true, false, IsTrue, List, [], ◌∷◌, ◌++◌, length, take, filter, find, slice_get, get_or, Option, None, Some, Result, Ok, Err, refl, ap, sym, ◌∙◌, subst, inl, inr, append-nil, arith}
+use Rattle.std.proofs.Common.{◌≡◌, ℕ, zero, suc, ◌<◌, ◌≤◌, ◌==◌, Bool, true, false, List, [], ◌∷◌, ◌++◌, length, take, filter, find, slice_get, get_or, Option, None, Some, Result, Ok, Err, refl, ap, ◌∙◌, subst, inl, inr, append-nil, arith}
 use Rattle.std.specs.List.{AllByRecursion, flat_map}
 use Rattle.std.proofs.lemmas.Bool.{cases_Bool, cases_eq, cases_lt, eq-eqb, ne_eqb}
 use Rattle.std.proofs.lemmas.List.{length-take-le}
@@ -7,7 +7,7 @@ use Rattle.std.proofs.lemmas.Option.{none-some, slice_get_within, slice_get-get_
 use Rattle.fdb_history.specs.Audit.{IsNotAbove, Low}
 use Rattle.fdb_history.specs.Chain.{IsChain}
 use Rattle.fdb_history.specs.Faults.{Nowhere, raise_in, raises_in, raises_at, after_raises, register_at}
-use Rattle.fdb_history.specs.Log.{calls_of, answer_in, answers_in, fresh_answers}
+use Rattle.fdb_history.specs.Log.{answer_in, answers_in, fresh_answers}
 use Rattle.fdb_history.specs.Register.{raises, record_after}
 use Rattle.fdb_history.specs.declared.auditing.raises.Raise.{Raise}
 use Rattle.fdb_history.specs.declared.chain.Issued.{Issued}

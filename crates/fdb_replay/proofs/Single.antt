@@ -1,11 +1,10 @@
 -- The log of a single client, whose positions count its raises, is explained by its own events in order.
-use Rattle.std.proofs.Common.{◌≡◌, ℕ, zero, suc, ◌+◌, ◌<◌, ◌≤◌, ◌==◌, Bool, true, false, cond, IsTrue, List, [], ◌∷◌, ◌++◌, map, filter, count_by, refl, ap, sym, ◌∙◌, append-nil, arith}
+use Rattle.std.proofs.Common.{◌≡◌, ℕ, zero, suc, ◌+◌, ◌<◌, ◌≤◌, ◌==◌, Bool, true, false, cond, IsTrue, List, [], ◌∷◌, ◌++◌, map, filter, refl, ap, sym, ◌∙◌, arith}
 use Rattle.std.specs.List.{AllByRecursion}
 use Rattle.std.proofs.lemmas.Bool.{ne_eqb}
 use Rattle.std.proofs.lemmas.List.Elements.{filter-append}
 use Rattle.std.proofs.lemmas.List.Sums.{sum_by-cons}
 use Rattle.fdb_history.specs.Event.{Placed, stamped, is_raise, raise_count, IsLegal}
-use Rattle.fdb_history.specs.Explained.{explained, events_up_to}
 use Rattle.fdb_history.specs.Linear.{IsLinear, NeverGoesBack, client_of}
 use Rattle.fdb_history.specs.Log.{placed_from, calls_of, answer_raises}
 use Rattle.fdb_history.specs.declared.event.Event.{Event}
