@@ -1,8 +1,8 @@
 -- What an audit answers, by what its parts found.
 use Rattle.std.proofs.Common.{◌≡◌, ℕ, List, Option, None, Result, Ok, Err, IfOk, IfErr, refl, subst, sym}
-use Rattle.fdb_history.specs.Audit.{IsAudited, IsFirstFault, OutOfOrder, WronglyAnswered, Low}
+use Rattle.fdb_history.specs.Audit.{IsAudited, IsFirstFault, Low}
 use Rattle.fdb_history.specs.Auditing.{IsFirstCall}
-use Rattle.fdb_history.specs.Faults.{IsFaultless, IsClash, IsGap, Nowhere, AtNoPosition}
+use Rattle.fdb_history.specs.Faults.{IsFaultless, OutOfOrder, WronglyAnswered, IsClash, IsGap, Nowhere, AtNoPosition}
 use Rattle.fdb_history.specs.Linear.{IsLinear}
 use Rattle.fdb_history.specs.Strays.{IsStray}
 use Rattle.fdb_history.specs.declared.auditing.found.CallName.{CallName}

@@ -1,6 +1,15 @@
 -- Worked examples of the definitions: each is computed by them, so that a wrong definition fails here.
-use Rattle.std.proofs.Common.{◌≡◌, ℕ, true, false, List, [], ◌∷◌, map, None, Ok, Err, Result, refl}
+use Rattle.std.proofs.Common.{◌≡◌, ℕ, true, false, List, [], ◌∷◌, map, length, None, Ok, Err, Result, refl, ap, inl, arith}
 use Rattle.fdb_history.specs.Event.{register, IsLegal, positions_from}
+use Rattle.fdb_history.specs.Explained.{explained}
+use Rattle.fdb_history.specs.Faults.{raises_at, register_at, IsOutOfOrder, IsWrongAnswer}
+use Rattle.fdb_history.specs.Strays.{goes_with}
+use Rattle.fdb_history.specs.declared.grv.GrvOpts.{GrvOpts}
+use Rattle.fdb_history.specs.declared.grv.Priority.TheVariants.{Default}
+use Rattle.fdb_history.specs.declared.log.Call.{Call}
+use Rattle.fdb_history.specs.declared.log.CallAnswer.TheVariants.{Version, Acked, Refused}
+use Rattle.fdb_history.specs.declared.log.ClientLog.{ClientLog}
+use Rattle.fdb_history.specs.declared.log.Input.TheVariants as input
 use Rattle.fdb_history.specs.Answer.{Chain, answer_to, chain_after, after_asks}
 use Rattle.fdb_history.specs.declared.register.Record.{Record}
 use Rattle.fdb_history.specs.declared.event.Event.{Event}
@@ -8,7 +17,7 @@ use Rattle.fdb_history.specs.declared.event.Event.TheVariants.{Report, Read}
 use Rattle.fdb_history.specs.declared.chain.Ask.{Ask}
 use Rattle.fdb_history.specs.declared.chain.Issued.{Issued}
 use Rattle.fdb_history.specs.declared.log.Refusal.{Refusal}
-use Rattle.fdb_history.specs.declared.log.Refusal.TheVariants.{UnknownProxy, Early, Forgotten, Exhausted}
+use Rattle.fdb_history.specs.declared.log.Refusal.TheVariants.{UnknownProxy, Early, Forgotten, Exhausted, BadCount}
 
 -- an unlocked record with no metadata version
 abbrev plain : ℕ → Record
@@ -144,3 +153,52 @@ spent-stays = refl
 -- Number 2 is still kept.
 spent-kept : answer_to (after_asks spent (ask 3 0 ∷ [])) (ask 2 0) ≡ Ok (record { ordinal = 1; proxy = 0; num = 2; processed = 0; prev = 9223372036854775806; version = 9223372036854775807; at = 0; fresh = false })
 spent-kept = refl
+
+-- ---- logs
+
+abbrev plain_read : GrvOpts
+plain_read = record { priority = Default; count = 1; tags = []; lock_aware = false; at = 0 }
+
+-- a read of a version, and a report that raised the register
+abbrev reads : ℕ → ℕ → ℕ → Call
+reads asked position version = record { input = input.Grv plain_read; asked = asked; position = position; answer = Version (plain version) [] false }
+
+abbrev raised : ℕ → ℕ → ℕ → Call
+raised asked position version = record { input = input.Report 1 false None; asked = asked; position = position; answer = Acked (plain version) true }
+
+abbrev log_of : List Call → ClientLog
+log_of calls = record { calls = calls }
+
+-- Client 0 raises the register twice; client 1 reads before that, and then after the first raise.
+abbrev two_clients : List ClientLog
+two_clients = log_of (raised 0 1 200 ∷ raised 1 2 300 ∷ []) ∷ log_of (reads 0 0 100 ∷ reads 0 1 200 ∷ []) ∷ []
+
+-- The history goes by position, the raise first.
+two_clients-explained : explained two_clients ≡ Read 1 0 (plain 100) ∷ Report 0 0 (plain 200) true ∷ Read 1 1 (plain 200) ∷ Report 0 1 (plain 300) true ∷ []
+two_clients-explained = refl
+
+-- The register at each position.
+two_clients-register : map (register_at (plain 100) two_clients) (0 ∷ 1 ∷ 2 ∷ 3 ∷ []) ≡ plain 100 ∷ plain 200 ∷ plain 300 ∷ plain 300 ∷ []
+two_clients-register = refl
+
+-- A raise in each of two logs at position 1: both stand there.
+two_at_one : length (raises_at (log_of (raised 0 1 200 ∷ []) ∷ log_of (raised 0 1 300 ∷ []) ∷ []) 1) ≡ 2
+two_at_one = refl
+
+apart : (a b : ℕ) → a ≡ 300 → b ≡ 100 → a ≡ b → ⊥
+apart a b one other same = absurd (omega arith)
+
+-- A read of version 300 at position 0, where the register has 100, is wrong.
+read-wrong : IsWrongAnswer (plain 100) [] 0 (Version (plain 300) [] false)
+read-wrong = λ same. apart 300 100 refl refl (ap (λ (rec : Record). rec.version) same)
+
+-- Reads at 1 and then at 0: the second is out of order.
+second-out_of_order : IsOutOfOrder (reads 0 1 100 ∷ []) (reads 0 0 100)
+second-out_of_order = inl (omega arith)
+
+-- A read may be refused for its count, and no report may.
+read_may : goes_with (input.Grv plain_read) (Refused BadCount) ≡ true
+read_may = refl
+
+report_may_not : goes_with (input.Report 1 false None) (Refused BadCount) ≡ false
+report_may_not = refl

@@ -1,7 +1,7 @@
 -- What an audit answers. (this product's own)
 use Rattle.std.specs.Prelude.{◌≡◌, ◌≤◌, ◌≢◌, ℕ, true, List, Result, Ok, Err}
 use Rattle.fdb_history.specs.Explained.{explained}
-use Rattle.fdb_history.specs.Faults.{IsFaultless, IsOutOfOrder, IsClash, IsGap, IsWrongAnswer, StandsAt, IsFirst, IsLeast, Nowhere, AtNoPosition, register_at}
+use Rattle.fdb_history.specs.Faults.{IsFaultless, OutOfOrder, WronglyAnswered, IsClash, IsGap, StandsAt, IsFirst, IsLeast, Nowhere, AtNoPosition, register_at}
 use Rattle.fdb_history.specs.Strays.{IsStray}
 use Rattle.fdb_history.specs.declared.chain.Issued.{Issued}
 use Rattle.fdb_history.specs.declared.event.History.{History}
@@ -21,13 +21,7 @@ IsNotAbove register asked (Acked rec raised) = ⊥
 IsNotAbove register asked Told = ⊥
 IsNotAbove register asked (Refused cause) = ⊥
 
--- where the faults of the kinds that are named by a call stand
-abbrev pub OutOfOrder : List ClientLog → ℕ → ℕ → Type 0
-OutOfOrder logs = StandsAt IsOutOfOrder logs
-
-abbrev pub WronglyAnswered : Record → List ClientLog → ℕ → ℕ → Type 0
-WronglyAnswered start logs = StandsAt (λ before call. IsWrongAnswer start logs call.position call.answer) logs
-
+-- where a version is low: one that is not above stands there
 abbrev pub Low : Record → List ClientLog → ℕ → ℕ → Type 0
 Low start logs = StandsAt (λ before call. IsNotAbove (register_at start logs) call.asked call.answer) logs
 
@@ -43,7 +37,7 @@ IsFirstFault start chain logs (Stray client call) = IsFaultless start logs × Is
 IsFirstFault start chain logs (NotAbove client call) = IsFaultless start logs × Nowhere (IsStray chain logs) × IsFirst (Low start logs) client call
 IsFirstFault start chain logs Memory = Unit {0}
 
--- Where no fault stands, the answer is the one history of the logs.
+-- Where no fault stands, the answer is the history of the logs in the fixed order.
 abbrev pub IsAudited : Record → List Issued → List ClientLog → Result History AuditFault → Type 0
 IsAudited start chain logs (Ok history) =
     IsFaultless start logs × Nowhere (IsStray chain logs) × Nowhere (Low start logs) × (history.events ≡ explained logs)

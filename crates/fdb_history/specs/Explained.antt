@@ -1,4 +1,4 @@
--- The one history of some logs, in a fixed order.
+-- The history of some logs, in a fixed order.
 use Rattle.std.specs.Prelude.{ℕ, ◌+◌, ◌==◌, ◌&&◌, not, zero, suc, List, [], ◌∷◌, ◌++◌, map, filter, count_by}
 use Rattle.fdb_history.specs.Event.{Placed, is_raise}
 use Rattle.fdb_history.specs.Log.{placed_from}

@@ -32,8 +32,7 @@ at_position position raises = filter (λ raise. raise.position == position) rais
 abbrev pub raises_at : List ClientLog → ℕ → List Raise
 raises_at logs position = at_position position (raises_in logs)
 
--- The register after the raises at the positions 1 up to this one, in that order, by the rule that only a greater
--- version replaces it.
+-- The register at a position: the start, and then each raise up to there in turn, as `record_after` takes them.
 abbrev pub after_raises : Record → List Raise → Record
 after_raises current [] = current
 after_raises current (raise ∷ raises) = after_raises (record_after current raise.rec) raises
@@ -99,11 +98,18 @@ Nowhere Stands = (client place : ℕ) → Stands client place → ⊥
 abbrev pub AtNoPosition : (ℕ → Type 0) → Type 0
 AtNoPosition Stands = (position : ℕ) → Stands position → ⊥
 
+-- where the faults of the kinds that are named by a call stand
+abbrev pub OutOfOrder : List ClientLog → ℕ → ℕ → Type 0
+OutOfOrder logs = StandsAt IsOutOfOrder logs
+
+abbrev pub WronglyAnswered : Record → List ClientLog → ℕ → ℕ → Type 0
+WronglyAnswered start logs = StandsAt (λ before call. IsWrongAnswer start logs call.position call.answer) logs
+
 -- ---- the whole
 
 -- No fault of the history stands anywhere in the logs.
 pub record IsFaultless (start : Record) (logs : List ClientLog) : Type 0 where
-  pub order : Nowhere (StandsAt IsOutOfOrder logs)
+  pub order : Nowhere (OutOfOrder logs)
   pub clash : AtNoPosition (IsClash logs)
   pub gap : AtNoPosition (IsGap logs)
-  pub wrong : Nowhere (StandsAt (λ before call. IsWrongAnswer start logs call.position call.answer) logs)
+  pub wrong : Nowhere (WronglyAnswered start logs)

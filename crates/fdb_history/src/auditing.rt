@@ -1,4 +1,4 @@
-//! The audit of a run's logs: their one history, or the first fault that stands.
+//! The audit of a run's logs: their history, or the first fault that stands.
 
 ghost use Rattle.std.specs.Prelude.{◌≡◌, ◌≤◌, ◌⊎◌, length, List, OnOk, IfOk, IfErr, Ok, Err};
 ghost use Rattle.fdb_history.specs.Audit.{IsAudited, IsFirstFault, Low};
@@ -27,13 +27,13 @@ use found::CallName;
 use registers::Registers;
 use std::alloc::{AllocError, Global};
 
-/// The one history of the logs of a run, or the first fault that stands in them or in the chain of commit versions
-/// that was issued to them. The log at a place of `logs` is the client's of that number, and `start` is the record
+/// The history of the logs of a run, in the fixed order, or the first fault that stands in them or in the chain of
+/// commit versions that was issued to them. The log at a place of `logs` is the client's of that number, and `start` is the record
 /// that the register began with.
 ///
 /// The faults are looked for in the order of [`AuditFault`], each kind in all logs before the next: the least client
 /// and in it the least call, or the least position, is named. Memory may be refused at any time. It takes time in
-/// proportion to the calls and to the chain, up to a sort of the calls by position.
+/// proportion to the calls and to the chain, up to a sort by position.
 pub fn audit(
     alloc: Global,
     start: Record,

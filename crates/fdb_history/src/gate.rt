@@ -11,7 +11,7 @@ pub enum Place {
     ReadAnswered,
 }
 
-/// What is called at each place. `pass` always returns, and has no effect on the state of the product.
+/// What is called at each place. `pass` comes back, and leaves everything of this library as it was.
 pub trait Gate: Sync {
     /// The thread of client or commit proxy `who` is at the place.
     fn pass(&self, place: Place, who: u32);

@@ -144,7 +144,7 @@ pub struct Call {
     pub answer: CallAnswer,
 }
 
-/// The calls of one client, in its order.
+/// What one client called, one call after another.
 #[derive(Clone, Debug, Drop, PartialEq, Eq)]
 pub struct ClientLog {
     /// The calls.

@@ -9,7 +9,7 @@ use Rattle.fdb_history.specs.Answer.{fresh_answer, next_answer}
 use Rattle.fdb_history.specs.Chain.{IsChain, last_answer, version_after, latest}
 use Rattle.fdb_history.specs.Faults.{Nowhere}
 use Rattle.fdb_history.specs.Log.{calls_of, answer_in, answers_in, fresh_answers}
-use Rattle.fdb_history.specs.Strays.{IsBorneOut, IsDrawn, IsIssued, IsNearTheEnd, IsStray}
+use Rattle.fdb_history.specs.Strays.{IsBorneOut, IsDrawn, IsIssued, IsNearTheEnd, IsStray, logged_as}
 use Rattle.fdb_history.specs.declared.chain.Ask.{Ask}
 use Rattle.fdb_history.specs.declared.chain.Issued.{Issued}
 use Rattle.fdb_history.specs.declared.chain.TheConstants.{MAX_STEP}
@@ -20,7 +20,7 @@ use Rattle.fdb_history.specs.declared.log.Input.{Input}
 use Rattle.fdb_history.specs.declared.log.Input.TheVariants as input
 use Rattle.fdb_history.specs.declared.log.Refusal.TheVariants.{Exhausted}
 use Rattle.fdb_history.specs.declared.register.TheConstants.{MAX_VERSION}
-use Rattle.fdb_replay.specs.Served.{BearsOut, IsReportOf, chain_of, logged_answer}
+use Rattle.fdb_replay.specs.Served.{BearsOut, IsReportOf, chain_of}
 use Rattle.fdb_replay.specs.Session.{IsNextRequest}
 use Rattle.fdb_replay.proofs.Numbers.{latest_is_length}
 use Rattle.fdb_replay.proofs.Places.{AreOwnCalls, log_of, All-front, is_fresh, fresh-cut, served_at, slice_get-front, slice_get-seam, versions_rise}
@@ -100,7 +100,7 @@ request num processed at = record { proxy = 0; num = num; processed = processed;
 borne_ask : (epoch_end recovery : ℕ) (chain : List Issued) (before : List Call) (more : List Issued) (asked position num processed at : ℕ) (answer : CallAnswer)
     → recovery ≤ MAX_VERSION → IsChain epoch_end recovery chain → num ≡ latest 0 (fresh_answers before) + 1
     → chain ≡ fresh_answers before ++ (filter is_fresh (answer_in answer) ++ more)
-    → answer ≡ logged_answer (fresh_answer (chain_of epoch_end recovery before) (request num processed at)) → IsBorne chain before asked position (input.Ask num processed at) answer
+    → answer ≡ logged_as (fresh_answer (chain_of epoch_end recovery before) (request num processed at)) → IsBorne chain before asked position (input.Ask num processed at) answer
 borne_ask epoch_end recovery chain before more asked position num processed at answer in_range one_chain next grown is =
     let front = fresh_answers before in
     let drawn = next_answer (chain_of epoch_end recovery before) (request num processed at) in
@@ -144,7 +144,7 @@ borne_by epoch_end recovery chain before more asked position (input.Ask num proc
     let count = latest_is_length core refl own in
     let next_is : num ≡ latest 0 (fresh_answers before) + 1 = next ∙ ap (λ n. n + 1) (sym count) in
     borne_ask epoch_end recovery chain before more asked position num processed at answer in_range one_chain next_is grown
-    (bears ∙ ap logged_answer (answer_is_fresh core (request num processed at) refl refl count next))
+    (bears ∙ ap logged_as (answer_is_fresh core (request num processed at) refl refl count next))
 borne_by epoch_end recovery chain before more asked position (input.Report num locked metadata) answer in_range one_chain own grown bears next =
     borne_report chain before asked position num locked metadata answer (find (has_num num) (answers_in before)) refl bears
 borne_by epoch_end recovery chain before more asked position (input.Tell to) answer in_range one_chain own grown bears next = absurd bears

@@ -20,7 +20,8 @@ use Rattle.fdb_history.specs.declared.log.Input.TheVariants as input
 use Rattle.fdb_history.specs.declared.log.Refusal.{Refusal}
 use Rattle.fdb_history.specs.declared.register.Record.{Record}
 use Rattle.fdb_replay.specs.Outcome.{opening}
-use Rattle.fdb_replay.specs.Served.{BearsOut, IsReportOf, logged_answer}
+use Rattle.fdb_history.specs.Strays.{logged_as}
+use Rattle.fdb_replay.specs.Served.{BearsOut, IsReportOf}
 use Rattle.fdb_replay.proofs.NoneAstray.{found_at}
 use Rattle.fdb_replay.proofs.Places.{AreOwnCalls, log_of, is_fresh, fresh-cut, fresh-front, fresh-grows, served_at, slice_get-front, slice_get-seam, versions_rise, begins_in_order, raise_is_new}
 use Rattle.fdb_replay.proofs.Single.{never_back}
@@ -93,7 +94,7 @@ pub record IsOfEarlier (before : List Call) (rec : Record) : Type 0 where
   pub at : slice_get (answers_in before) place ≡ Some issued
   pub version : rec.version ≡ issued.version
 
-never_acked : (rec : Record) (raised : Bool) (reply : Result Issued Refusal) → Acked rec raised ≡ logged_answer reply → ⊥
+never_acked : (rec : Record) (raised : Bool) (reply : Result Issued Refusal) → Acked rec raised ≡ logged_as reply → ⊥
 never_acked rec raised (Ok issued) same = absurd cc
 never_acked rec raised (Err cause) same = absurd cc
 

@@ -24,7 +24,8 @@ use Rattle.fdb_history.specs.declared.log.CallAnswer.TheVariants.{Answered, Acke
 use Rattle.fdb_history.specs.declared.register.Record.{Record}
 use Rattle.fdb_replay.specs.Answering.{input_of}
 use Rattle.fdb_replay.specs.Outcome.{opening}
-use Rattle.fdb_replay.specs.Served.{AreServed, BearsOut, IsReportOf, chain_of, logged_answer}
+use Rattle.fdb_history.specs.Strays.{logged_as}
+use Rattle.fdb_replay.specs.Served.{AreServed, BearsOut, IsReportOf, chain_of}
 use Rattle.fdb_replay.specs.Session.{events_of, advanced, Climbs, core_after, IsNextRequest, AreNextRequests, IsSession, Performs}
 use Rattle.fdb_history.specs.declared.log.Input.TheVariants as input
 use Rattle.fdb_replay.specs.declared.script.Act.{Act}
@@ -188,18 +189,18 @@ refused_draw core new answer cause same logged =
 
 pub draws : (core : Chain) (ask : Ask) (reply : Result Issued ChainError) (new : Chain) (answer : CallAnswer) → answer_to core ask ≡ fresh_answer core ask
     → IsAnswer (answer_to core ask) reply → IfOk reply (λ issued. new ≡ with_answer core issued) → OnErr reply (new ≡ core)
-    → answer ≡ logged_answer (answer_to core ask) → (reply ≡ Err Memory → ⊥) → Draws core new answer
+    → answer ≡ logged_as (answer_to core ask) → (reply ≡ Err Memory → ⊥) → Draws core new answer
 draws core ask (Ok issued) new answer fresh is appended same logged had =
     let next_is : next_answer core ask ≡ issued = drawn_is_next (nat_le (next_answer core ask).version MAX_VERSION) (next_answer core ask) issued (sym fresh ∙ is) in
     let is_fresh : issued.fresh ≡ true = sym (ap (λ i. i.fresh) next_is) in
-    let logged_is : answer ≡ Answered issued = logged ∙ ap logged_answer is in
+    let logged_is : answer ≡ Answered issued = logged ∙ ap logged_as is in
     let grown : new ≡ core_after core (Answered issued) = appended ∙ ap (λ fresh. cond fresh (core_after core (Answered issued)) core) is_fresh in
     let kept : filter (λ i. i.fresh) (issued ∷ []) ≡ issued ∷ [] = rw is_fresh in
     subst (Draws core new) (sym logged_is) (record { core_is = grown; fresh = kept })
-draws core ask (Err UnknownProxy) new answer fresh is appended same logged had = refused_draw core new answer refusal.UnknownProxy same (logged ∙ ap logged_answer is)
-draws core ask (Err (Early expected)) new answer fresh is appended same logged had = refused_draw core new answer (refusal.Early expected) same (logged ∙ ap logged_answer is)
-draws core ask (Err Forgotten) new answer fresh is appended same logged had = refused_draw core new answer refusal.Forgotten same (logged ∙ ap logged_answer is)
-draws core ask (Err Exhausted) new answer fresh is appended same logged had = refused_draw core new answer refusal.Exhausted same (logged ∙ ap logged_answer is)
+draws core ask (Err UnknownProxy) new answer fresh is appended same logged had = refused_draw core new answer refusal.UnknownProxy same (logged ∙ ap logged_as is)
+draws core ask (Err (Early expected)) new answer fresh is appended same logged had = refused_draw core new answer (refusal.Early expected) same (logged ∙ ap logged_as is)
+draws core ask (Err Forgotten) new answer fresh is appended same logged had = refused_draw core new answer refusal.Forgotten same (logged ∙ ap logged_as is)
+draws core ask (Err Exhausted) new answer fresh is appended same logged had = refused_draw core new answer refusal.Exhausted same (logged ∙ ap logged_as is)
 draws core ask (Err Memory) new answer fresh is appended same logged had = absurd (had refl)
 draws core ask (Err BadEpoch) new answer fresh is appended same logged had = absurd is
 draws core ask (Err NoProxy) new answer fresh is appended same logged had = absurd is
@@ -238,20 +239,20 @@ abbrev IsDrawn : Session → ℕ → ℕ → CallAnswer → Type 0
 IsDrawn old processed at answer = GoesOn old (act.Ask processed at) (ask_call old processed at answer) old.live
 
 ask_goes_by : (old : Session) (processed at : ℕ) (reply : Result Issued Refusal) → IsSession old → reply ≡ answer_to old.core (asked_of old processed at)
-    → filter (λ issued. issued.fresh) (answer_in (logged_answer reply)) ≡ answer_in (logged_answer reply) → IsDrawn old processed at (logged_answer reply)
+    → filter (λ issued. issued.fresh) (answer_in (logged_as reply)) ≡ answer_in (logged_as reply) → IsDrawn old processed at (logged_as reply)
 ask_goes_by old processed at reply is drawn fresh =
     let wanted : input.Ask (length old.core.answers + 1) processed at ≡ input_of old.calls (act.Ask processed at) = ap (λ answers. input.Ask (length answers + 1) processed at) (sym is.all_fresh) in
-    let bears : logged_answer reply ≡ logged_answer (answer_to (chain_of old.core.epoch_end old.core.recovery old.calls) (asked_of old processed at)) =
-    ap logged_answer (drawn ∙ ap (λ core. answer_to core (asked_of old processed at)) (sym (chain_of_is old is))) in
-    elim reply as (λ r. filter (λ issued. issued.fresh) (answer_in (logged_answer r)) ≡ answer_in (logged_answer r)
-    → logged_answer r ≡ logged_answer (answer_to (chain_of old.core.epoch_end old.core.recovery old.calls) (asked_of old processed at)) → IsDrawn old processed at (logged_answer r)) [
+    let bears : logged_as reply ≡ logged_as (answer_to (chain_of old.core.epoch_end old.core.recovery old.calls) (asked_of old processed at)) =
+    ap logged_as (drawn ∙ ap (λ core. answer_to core (asked_of old processed at)) (sym (chain_of_is old is))) in
+    elim reply as (λ r. filter (λ issued. issued.fresh) (answer_in (logged_as r)) ≡ answer_in (logged_as r)
+    → logged_as r ≡ logged_as (answer_to (chain_of old.core.epoch_end old.core.recovery old.calls) (asked_of old processed at)) → IsDrawn old processed at (logged_as r)) [
       | Ok issued ↦ λ fresh bears. record { wanted = wanted; asked = refl; position = refl; stays = λ still. refl; fresh = fresh; legal = λ place. tt; live_is = λ place. refl; bears = bears; below = is.below }
       | Err cause ↦ λ fresh bears. record { wanted = wanted; asked = refl; position = refl; stays = λ still. refl; fresh = fresh; legal = λ place. tt; live_is = λ place. refl; bears = bears; below = is.below }
     ] fresh bears
 
 -- a session that has asked
 pub asks : (old : Session) (processed at : ℕ) (answer : CallAnswer) (core : Chain) (new : Session) → IsSession old
-    → answer ≡ logged_answer (answer_to old.core (asked_of old processed at)) → filter (λ issued. issued.fresh) (answer_in answer) ≡ answer_in answer → core ≡ core_after old.core answer
+    → answer ≡ logged_as (answer_to old.core (asked_of old processed at)) → filter (λ issued. issued.fresh) (answer_in answer) ≡ answer_in answer → core ≡ core_after old.core answer
     → new ≡ record { core = core; live = old.live; position = old.position; calls = old.calls ++ ask_call old processed at answer ∷ [] } → Performs old (act.Ask processed at) new
 asks old processed at answer core new is answered fresh drawn parts =
     let kept = λ (a : CallAnswer). filter (λ issued. issued.fresh) (answer_in a) ≡ answer_in a in

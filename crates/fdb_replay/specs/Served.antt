@@ -2,6 +2,7 @@
 use Rattle.std.specs.Prelude.{◌≡◌, ℕ, ◌==◌, ◌&&◌, not, Bool, List, [], ◌∷◌, ◌++◌, Option, None, Some, Result, Ok, Err, find}
 use Rattle.fdb_history.specs.Answer.{Chain, answer_to}
 use Rattle.fdb_history.specs.Log.{answers_in, fresh_answers}
+use Rattle.fdb_history.specs.Strays.{logged_as}
 use Rattle.fdb_history.specs.declared.chain.Issued.{Issued}
 use Rattle.fdb_history.specs.declared.log.Call.{Call}
 use Rattle.fdb_history.specs.declared.log.CallAnswer.{CallAnswer}
@@ -15,11 +16,6 @@ use Rattle.fdb_history.specs.declared.log.Refusal.TheVariants.{NotIssued}
 abbrev pub chain_of : ℕ → ℕ → List Call → Chain
 chain_of epoch_end recovery calls = record { epoch_end = epoch_end; recovery = recovery; proxies = 1; answers = fresh_answers calls }
 
--- how an answer of the sequencer is logged
-abbrev pub logged_answer : Result Issued Refusal → CallAnswer
-logged_answer (Ok issued) = Answered issued
-logged_answer (Err cause) = Refused cause
-
 -- A report is of the version that the client got under its number, with the flags that it was told to report.
 abbrev pub IsReportOf : Option Issued → Bool → Option ℕ → CallAnswer → Type 0
 IsReportOf None locked metadata answer = answer ≡ Refused NotIssued
@@ -29,7 +25,7 @@ IsReportOf (Some issued) locked metadata answer = (raised : Bool) × (answer ≡
 abbrev pub BearsOut : ℕ → ℕ → List Call → Input → CallAnswer → Type 0
 BearsOut epoch_end recovery before (input.Grv opts) (Version rec limits locked_out) = (limits ≡ []) × (locked_out ≡ (rec.locked && not opts.lock_aware))
 BearsOut epoch_end recovery before (input.Ask num processed at) answer =
-    answer ≡ logged_answer (answer_to (chain_of epoch_end recovery before) (record { proxy = 0; num = num; processed = processed; at = at }))
+    answer ≡ logged_as (answer_to (chain_of epoch_end recovery before) (record { proxy = 0; num = num; processed = processed; at = at }))
 BearsOut epoch_end recovery before (input.Report num locked metadata) answer = IsReportOf (find (λ issued. issued.num == num) (answers_in before)) locked metadata answer
 BearsOut epoch_end recovery before input answer = ⊥
 

@@ -75,7 +75,7 @@ impl From<ReplayFault> for Fault {
 /// Reads a script from the input, replays it, and writes the lines to `out`. Answers the status of the program:
 /// 0 where all of it is done, 1 where the script is refused, 3 for want of memory, 4 for an audit fault, and 5 where
 /// reading or writing failed, a script of more than [`MAX_SCRIPT_BYTES`] included. Whatever is not 0 is told
-/// by a line to `err`; a line that cannot be written leaves the status as it is.
+/// by a line to `err`; where that line cannot be written, the status is the same.
 pub fn drive<R: Threads + Wait + Sync, I: Read, O: Write, E: Write>(
     rt: &R,
     alloc: Global,

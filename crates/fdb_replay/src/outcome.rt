@@ -6,7 +6,7 @@ use fdb_history::{AuditFault, ClientLog, History, Issued};
 use std::alloc::{AllocError, AllocFailed};
 use thiserror::Error;
 
-/// What a run leaves: the chain of commit versions, the log of each client, and the one history that explains them.
+/// What a run leaves: the chain of commit versions, the log of each client, and a history that explains them.
 #[derive(Debug, Drop)]
 pub struct Outcome {
     /// The fresh commit version answers, in order.

@@ -25,7 +25,7 @@ pub enum ReplayFault {
     /// The run was refused.
     #[error("{0}")]
     Run(RunFault),
-    /// The writer failed. Nothing is said of how much went out.
+    /// The writer failed, and may have taken any part of the text before it did.
     #[error("writing failed")]
     Write,
 }

@@ -6,19 +6,19 @@ ghost use Rattle.fdb_history.specs.Faults.{Nowhere};
 ghost use Rattle.fdb_history.specs.Linear.{IsLinear};
 ghost use Rattle.fdb_history.specs.Strays.{IsStray};
 ghost use Rattle.fdb_history.specs.declared.event.Event.{Event};
-ghost use Rattle.fdb_replay.specs.Outcome.{IsRunOf, opening};
+ghost use Rattle.fdb_replay.specs.Outcome.{IsRunOf};
 
 use crate::outcome::{Outcome, RunFault};
 use crate::script::Script;
-use crate::session::{Played, Session};
+use crate::session::{Played, Session, opening};
 use fdb_history::{Gate, Record, audit};
 use std::alloc::Global;
 use std::sync::Wait;
 use std::thread::Threads;
 
 /// Plays a script, audits what it leaves, and answers it: the logs of its clients, the chain of commit versions, and
-/// the one history that explains them. The script's only client is served in the calling thread, so that the runtime,
-/// the number of GRV proxies and the gate are not used yet.
+/// a history that explains them, in the fixed order. The script's only client is served in the calling thread, so that
+/// the runtime, the number of GRV proxies and the gate are not used yet.
 ///
 /// Fails only for want of memory.
 pub fn run<R: Threads + Wait + Sync, G: Gate>(
@@ -43,17 +43,6 @@ pub fn run<R: Threads + Wait + Sync, G: Gate>(
     }
     let played = session.finish(alloc)?;
     audited(alloc, opening(script.recovery()), played)
-}
-
-/// The record before any report.
-fn opening(recovery: u64) -> Record
-    ensures { result ≡ opening recovery }
-{
-    Record {
-        version: recovery,
-        locked: false,
-        metadata: None,
-    }
 }
 
 /// The outcome, with the history that the audit finds.

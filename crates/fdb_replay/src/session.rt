@@ -4,8 +4,9 @@ ghost use Rattle.std.specs.Prelude.{◌≡◌, All, ◌<◌, ◌≤◌, ◌+◌,
 ghost use Rattle.fdb_history.specs.Added.{AddsCall};
 ghost use Rattle.fdb_history.specs.declared.register.TheConstants.{MAX_VERSION};
 ghost use Rattle.fdb_replay.specs.Answering.{input_of, plain_read};
+ghost use Rattle.fdb_replay.specs.Outcome.{opening};
 ghost use Rattle.fdb_replay.specs.Session.{IsSession, Performs, Plays, core_after};
-ghost use Rattle.fdb_replay.specs.Served.{logged_answer};
+ghost use Rattle.fdb_history.specs.Strays.{logged_as};
 ghost use Rattle.fdb_history.specs.Answer.{answer_to};
 ghost use Rattle.fdb_history.specs.Log.{answer_in, fresh_answers};
 ghost use Rattle.fdb_history.specs.Chain.{IsChain};
@@ -61,11 +62,7 @@ impl Session {
         };
         Ok(Session {
             core,
-            live: Record {
-                version: recovery,
-                locked: false,
-                metadata: None,
-            },
+            live: opening(recovery),
             position: 0,
             calls: Sequence::new(alloc),
         })
@@ -208,11 +205,22 @@ impl Session {
     }
 }
 
+/// The record before any report.
+pub(crate) fn opening(recovery: u64) -> Record
+    ensures { result ≡ opening recovery }
+{
+    Record {
+        version: recovery,
+        locked: false,
+        metadata: None,
+    }
+}
+
 /// Makes the only commit proxy's next request, and answers what is to be logged.
 fn draw(core: &mut ChainCore, num: u64, processed: u64, at: u64) -> Result<CallAnswer, RunFault>
     requires one_proxy { core.old.proxies ≡ 1 }
     requires next { num ≡ length core.old.answers + 1 }
-    ensures answer { IfOk result (λ answer. answer ≡ logged_answer (answer_to core.old (record { proxy = 0; num = num; processed = processed; at = at }))) }
+    ensures answer { IfOk result (λ answer. answer ≡ logged_as (answer_to core.old (record { proxy = 0; num = num; processed = processed; at = at }))) }
     ensures core { IfOk result (λ answer. core.new ≡ core_after core.old answer) }
     ensures fresh { IfOk result (λ answer. filter (λ issued. issued.fresh) (answer_in answer) ≡ answer_in answer) }
     ensures err { IfErr result (λ fault. fault ≡ RunFault.Memory) }
@@ -230,7 +238,7 @@ fn draw(core: &mut ChainCore, num: u64, processed: u64, at: u64) -> Result<CallA
 /// How an answer of the sequencer is logged.
 fn logged(reply: Result<Issued, ChainError>) -> Result<CallAnswer, RunFault>
     requires { (answer : Result Issued Refusal) × IsAnswer answer reply }
-    ensures ok { (answer : Result Issued Refusal) → IsAnswer answer reply → IfOk result (λ logged. logged ≡ logged_answer answer) }
+    ensures ok { (answer : Result Issued Refusal) → IsAnswer answer reply → IfOk result (λ logged. logged ≡ logged_as answer) }
     ensures had { OnOk result (reply ≢ Err ChainError.Memory) }
     ensures err { IfErr result (λ fault. fault ≡ RunFault.Memory) }
 {

@@ -1,9 +1,9 @@
 //! Answers that the register would not have given, and commit versions that are not above what their askers had seen.
 
 ghost use Rattle.std.specs.Prelude.{◌≤◌, length};
-ghost use Rattle.fdb_history.specs.Audit.{WronglyAnswered, Low, OutOfOrder};
+ghost use Rattle.fdb_history.specs.Audit.{Low};
 ghost use Rattle.fdb_history.specs.Auditing.{AreRegisters, IsFirstCall};
-ghost use Rattle.fdb_history.specs.Faults.{Nowhere};
+ghost use Rattle.fdb_history.specs.Faults.{Nowhere, OutOfOrder, WronglyAnswered};
 
 use crate::auditing::found::{self, CallFault, CallName};
 use crate::auditing::registers::Registers;
@@ -54,8 +54,8 @@ impl<'a> CallFault for Wrong<'a> {
     }
 }
 
-/// The fault of a commit version that is not above what its asker had seen. The first of the chain is exempt: it is
-/// the recovery version, which the register begins with.
+/// The fault of a commit version that is not above what its asker had seen. The first of a chain is exempt, since a
+/// register may begin with that very version.
 #[derive(Drop)]
 struct NotAbove<'a> {
     registers: &'a Registers,

@@ -1,7 +1,7 @@
 //! Calls that were answered from before what their client had seen.
 
 ghost use Rattle.std.specs.Prelude.{◌≡◌, ◌≤◌, length};
-ghost use Rattle.fdb_history.specs.Audit.{OutOfOrder};
+ghost use Rattle.fdb_history.specs.Faults.{OutOfOrder};
 ghost use Rattle.fdb_history.specs.Auditing.{IsFirstCall};
 ghost use Rattle.fdb_history.specs.Log.{answer_raises, position_after_calls};
 

@@ -1,9 +1,8 @@
 //! The register at each position, by the raises in the logs.
 
 ghost use Rattle.std.specs.Prelude.{◌≡◌, ◌≤◌, ℕ, slice_get, Some, IfOk, OnOk, IfErr};
-ghost use Rattle.fdb_history.specs.Audit.{OutOfOrder};
 ghost use Rattle.fdb_history.specs.Auditing.{AreRegisters, IsRaiseFault, IsTable, by_table};
-ghost use Rattle.fdb_history.specs.Faults.{IsClash, IsGap, IsReached, AtNoPosition, Nowhere};
+ghost use Rattle.fdb_history.specs.Faults.{OutOfOrder, IsClash, IsGap, IsReached, AtNoPosition, Nowhere};
 ghost use Rattle.fdb_history.specs.declared.log.Call.{Call};
 
 use crate::auditing::raises::{Raise, first_clash, first_missing, raises_by_position};

@@ -164,6 +164,28 @@ fn wrong_answers(rt: HostRuntime) -> Result<(), Fail> {
         stale,
         wrong(1),
     )?;
+    // a raise of the same version with the flag set replaces nothing: what it made is the start, and it is wrong itself
+    let reader = log(vec![in alloc; read(alloc, 0, 1, 100)]?);
+    let locks = Call {
+        answer: CallAnswer::Acked {
+            rec: Record {
+                locked: true,
+                ..START
+            },
+            raised: true,
+        },
+        ..raise(0, 1, 1, 100)
+    };
+    let logs = vec![in alloc; reader, log(vec![in alloc; locks]?)]?;
+    let fault = AuditFault::Wrong { client: 1, call: 0 };
+    finds(
+        &rt,
+        alloc,
+        "a raise that replaces nothing",
+        &[],
+        &logs,
+        Some(fault),
+    );
     let good = log(vec![in alloc; read(alloc, 0, 0, 100), read(alloc, 0, 0, 100)]?);
     let last = log(vec![in alloc; read(alloc, 0, 0, 100), read(alloc, 0, 0, 99)]?);
     let logs = vec![in alloc; good, last]?;

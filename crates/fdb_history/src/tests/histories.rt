@@ -144,6 +144,25 @@ fn two_clients(alloc: Global, chain: &[Issued; 4]) -> Result<Vec<ClientLog>, All
 #[test]
 fn refused_memory_is_borne_by_an_audit(rt: HostRuntime) -> Result<(), Fail> {
     let alloc = rt.alloc();
+    let events = [
+        Event::Report {
+            client: 0,
+            call: 2,
+            rec: at_version(200),
+            raised: true,
+        },
+        Event::Read {
+            client: 1,
+            call: 0,
+            rec: at_version(200),
+        },
+        Event::Report {
+            client: 0,
+            call: 3,
+            rec: at_version(300),
+            raised: true,
+        },
+    ];
     // The version of the last entry, and the fault.
     let low = AuditFault::NotAbove { client: 1, call: 2 };
     for (version, fault) in [(400, None), (200, Some(low))] {
@@ -162,6 +181,9 @@ fn refused_memory_is_borne_by_an_audit(rt: HostRuntime) -> Result<(), Fail> {
             Err(AuditFault::Memory) => audit(alloc, START, &chain, &logs),
             found => found,
         };
+        if let Ok(history) = &found {
+            assert_eq!(rt; history.events.as_slice(), events.as_slice());
+        }
         assert_eq!(rt; found.err(), fault, "a version of {version}");
     }
     Ok(())

@@ -4,7 +4,7 @@ use super::logs::{
     START, ask, at_version, call, entry, finds, grv, log, one, plain_grv, raise, read, report_of,
     version_of,
 };
-use crate::{AuditFault, Call, CallAnswer, Input, Record, Refusal};
+use crate::{AuditFault, Call, CallAnswer, Input, Issued, Record, Refusal};
 use std::test::Fail;
 
 const FAR: u64 = u64::MAX;
@@ -89,7 +89,9 @@ fn answers_of_another_kind(rt: HostRuntime) -> Result<(), Fail> {
         (report_of(1), CallAnswer::Answered(first)),
         (Input::Tell { to: 0 }, version()),
         (Input::Tell { to: 0 }, acked()),
+        (Input::Tell { to: 0 }, CallAnswer::Answered(first)),
         (Input::Learn { from: 0 }, version()),
+        (Input::Learn { from: 0 }, acked()),
         (Input::Learn { from: 0 }, CallAnswer::Answered(first)),
     ];
     for (input, answer) in Vec::from_array(alloc, others)? {
@@ -238,5 +240,70 @@ fn reports_of_what_was_not_issued(rt: HostRuntime) -> Result<(), Fail> {
         &logs,
         stray(0),
     );
+    Ok(())
+}
+
+#[test]
+fn reports_of_versions_that_are_not_kept(rt: HostRuntime) -> Result<(), Fail> {
+    let alloc = rt.alloc();
+    // The second answer has processed the first: it is not kept any more, and was issued all the same.
+    let first = entry(0, 0, 1, 0, 200);
+    let second = Issued {
+        processed: 1,
+        ..entry(1, 0, 2, 200, 300)
+    };
+    let chain = [first, second];
+    let reported = vec![in alloc; ask(0, first), ask(0, second), raise(0, 1, 1, 200)]?;
+    one(
+        &rt,
+        alloc,
+        "a report of what was processed",
+        &chain,
+        reported,
+        None,
+    )?;
+    let refused = call(report_of(1), CallAnswer::Refused(Refusal::NotIssued));
+    let calls = vec![in alloc; ask(0, first), ask(0, second), refused]?;
+    one(
+        &rt,
+        alloc,
+        "a refused report of what was processed",
+        &chain,
+        calls,
+        stray(2),
+    )
+}
+
+#[test]
+fn positions_that_were_learnt(rt: HostRuntime) -> Result<(), Fail> {
+    let alloc = rt.alloc();
+    let chain = [entry(0, 0, 1, 0, 200), entry(1, 1, 1, 200, 300)];
+    // Client 1 learns of client 0's raise and then reads and draws; a read that was refused goes as far.
+    for refused in [false, true] {
+        let writer = log(vec![in alloc; ask(0, chain[0]), raise(0, 1, 1, 200)]?);
+        let learns = Call {
+            position: 1,
+            ..call(Input::Learn { from: 0 }, CallAnswer::Told)
+        };
+        let full = call(plain_grv(alloc), CallAnswer::Refused(Refusal::Full));
+        let seen = if refused {
+            Call {
+                position: 1,
+                ..full
+            }
+        } else {
+            learns
+        };
+        let reader = log(vec![in alloc; seen, read(alloc, 1, 1, 200), ask(1, chain[1])]?);
+        let logs = vec![in alloc; writer, reader]?;
+        finds(
+            &rt,
+            alloc,
+            "a position that was learnt",
+            &chain,
+            &logs,
+            None,
+        );
+    }
     Ok(())
 }

@@ -142,6 +142,16 @@ fn answers_that_were_not_due(rt: HostRuntime) -> Result<(), Fail> {
     }
     let early_first = vec![in alloc; refused_ask(1, Refusal::Early { expected: 2 })]?;
     one(&rt, alloc, "an untrue Early", &[], early_first, stray(0))?;
+    // the next number answered as if it were kept
+    let unfresh = vec![in alloc; ask(0, kept(first))]?;
+    one(
+        &rt,
+        alloc,
+        "an answer that says not fresh",
+        &[first],
+        unfresh,
+        stray(0),
+    )?;
     // a fresh answer with the members of another request
     for (processed, at) in [(1, 100), (0, 99)] {
         let calls = vec![in alloc; asks(1, processed, at, CallAnswer::Answered(first))]?;
@@ -198,6 +208,19 @@ fn versions_that_are_used_up(rt: HostRuntime) -> Result<(), Fail> {
             fault,
         )?;
     }
+    // what another client drew counts too
+    let theirs = entry(0, 1, 1, 0, MAX_VERSION);
+    let drawn = log(vec![in alloc; ask(0, theirs)]?);
+    let refused = log(vec![in alloc; refused_ask(1, Refusal::Exhausted)]?);
+    let logs = vec![in alloc; refused, drawn]?;
+    finds(
+        &rt,
+        alloc,
+        "another client drew the last version",
+        &[theirs],
+        &logs,
+        None,
+    );
     let none = vec![in alloc; refused_ask(1, Refusal::Exhausted)]?;
     one(&rt, alloc, "no version was drawn yet", &[], none, stray(0))
 }
@@ -251,5 +274,43 @@ fn versions_that_nobody_drew(rt: HostRuntime) -> Result<(), Fail> {
             Some(fault),
         );
     }
+    Ok(())
+}
+
+#[test]
+fn entries_of_as_many_clients_as_there_may_be(rt: HostRuntime) -> Result<(), Fail> {
+    let alloc = rt.alloc();
+    // who has the last entry, and the fault
+    let cases = [
+        (63, None),
+        (
+            64,
+            Some(AuditFault::Stray {
+                client: 64,
+                call: 0,
+            }),
+        ),
+    ];
+    for (last, fault) in cases {
+        let mut chain = Vec::new(alloc);
+        let mut logs = Vec::new(alloc);
+        for client in 0..64 {
+            let issued = entry(u64::from(client), client, 1, 99, u64::from(client) + 100);
+            let drawn = if client < 63 || last == 63 { 1 } else { 0 };
+            let mut calls = Vec::new(alloc);
+            if drawn == 1 {
+                chain.push(issued)?;
+                calls.push(ask(0, issued))?;
+            }
+            logs.push(log(calls))?;
+        }
+        if last == 64 {
+            chain.push(entry(63, 64, 1, 0, 163))?;
+        }
+        finds(&rt, alloc, "64 logs", &chain, &logs, fault);
+    }
+    let foreign = [entry(0, 7, 1, 0, 100)];
+    let fault = AuditFault::Stray { client: 7, call: 0 };
+    finds(&rt, alloc, "no logs at all", &foreign, &[], Some(fault));
     Ok(())
 }

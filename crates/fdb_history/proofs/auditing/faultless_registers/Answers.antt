@@ -1,7 +1,6 @@
 use Rattle.std.proofs.Common.{subst}
 use Rattle.fdb_history.proofs.Audited.{no_fault}
-use Rattle.fdb_history.specs.Audit.{WronglyAnswered}
-use Rattle.fdb_history.specs.Faults.{Nowhere}
+use Rattle.fdb_history.specs.Faults.{Nowhere, WronglyAnswered}
 use Rattle.fdb_history.specs.declared.register.Record.{Record}
 use Rattle.fdb_history.proofs.auditing.faultless_registers.Goals as goal
 
