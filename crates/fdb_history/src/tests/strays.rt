@@ -5,6 +5,7 @@ use super::logs::{
     version_of,
 };
 use crate::{AuditFault, Call, CallAnswer, Input, Issued, Record, Refusal};
+use std::alloc::Global;
 use std::test::Fail;
 
 const FAR: u64 = u64::MAX;
@@ -274,6 +275,15 @@ fn reports_of_versions_that_are_not_kept(rt: HostRuntime) -> Result<(), Fail> {
     )
 }
 
+/// A learn, or a read that was refused.
+fn come_by(alloc: Global, refused: bool) -> Call {
+    if refused {
+        call(plain_grv(alloc), CallAnswer::Refused(Refusal::Full))
+    } else {
+        call(Input::Learn { from: 0 }, CallAnswer::Told)
+    }
+}
+
 #[test]
 fn positions_that_were_learnt(rt: HostRuntime) -> Result<(), Fail> {
     let alloc = rt.alloc();
@@ -281,18 +291,9 @@ fn positions_that_were_learnt(rt: HostRuntime) -> Result<(), Fail> {
     // Client 1 learns of client 0's raise and then reads and draws; a read that was refused goes as far.
     for refused in [false, true] {
         let writer = log(vec![in alloc; ask(0, chain[0]), raise(0, 1, 1, 200)]?);
-        let learns = Call {
+        let seen = Call {
             position: 1,
-            ..call(Input::Learn { from: 0 }, CallAnswer::Told)
-        };
-        let full = call(plain_grv(alloc), CallAnswer::Refused(Refusal::Full));
-        let seen = if refused {
-            Call {
-                position: 1,
-                ..full
-            }
-        } else {
-            learns
+            ..come_by(alloc, refused)
         };
         let reader = log(vec![in alloc; seen, read(alloc, 1, 1, 200), ask(1, chain[1])]?);
         let logs = vec![in alloc; writer, reader]?;
