@@ -1,0 +1,128 @@
+//! The queue of a GRV proxy.
+
+ghost use Rattle.std.specs.Prelude.{◌≡◌, ◌+◌, ◌<◌, ◌≤◌, ◌⊎◌, ◌↔◌, ◌∷◌, ◌++◌, ◌^◌, ◌==◌, [], length, drop, if◌then◌else◌, OnOk, OnErr, IfOk, IfErr};
+ghost use Rattle.fdb_queue.specs.Admission.{refusal_of, admitted, pushed_out, is_full, IsCause};
+ghost use Rattle.fdb_queue.specs.Config.{IsConfig};
+ghost use Rattle.fdb_queue.specs.Kept.{IsQueue};
+ghost use Rattle.fdb_queue.specs.Queue.{new_queue};
+
+use crate::budgets::Budgets;
+use crate::config::QueueConfig;
+use crate::error::QueueError;
+use crate::request::Req;
+use crate::waiting::{Lengths, Waiting};
+use fdb_history::Priority;
+use std::alloc::Global;
+use std::marker::Model;
+
+/// The requests that wait at a GRV proxy, and the budgets by which they start (`GrvProxyServer`, FoundationDB 7.1: the
+/// three queues and the two `GrvTransactionRateInfo`).
+///
+/// Contracts see it as the record `Queue`: its configuration, a list of requests for each priority, and the budgets.
+#[derive(Debug, Drop)]
+pub struct GrvQueue<T> {
+    config: QueueConfig,
+    waiting: Waiting<T>,
+    budgets: Budgets,
+}
+
+impl<T> Model for GrvQueue<T> {
+    ghost use Rattle.fdb_queue.specs.Queue.{Queue};
+
+    ghost Value = { Queue T };
+
+    ghost use Rattle.fdb_queue.specs.Kept.{IsQueue};
+
+    ghost view = { λ queue. record { config = queue.config; waiting = queue.waiting; budgets = queue.budgets } };
+
+    ghost invariant = { λ queue. IsQueue {T = T} (record { config = queue.config; waiting = queue.waiting; budgets = queue.budgets }) };
+}
+
+impl<T> GrvQueue<T> {
+    /// A queue in which nothing waits, with budgets of 0. Takes no memory.
+    ///
+    /// It is refused as `BadConfig` where a member of the configuration is out of range.
+    pub fn new(alloc: Global, config: QueueConfig) -> Result<GrvQueue<T>, QueueError>
+        ensures ok { IfOk result (λ queue. queue ≡ new_queue config) }
+        ensures in_range { OnOk result (IsConfig config) }
+        ensures bad_config { IfErr result (λ cause. (cause ≡ QueueError.BadConfig) × ¬ IsConfig config) }
+    {
+        if !config.is_in_range() {
+            return Err(QueueError::BadConfig);
+        }
+        Ok(GrvQueue {
+            config,
+            waiting: Waiting::new(alloc),
+            budgets: Budgets::default(),
+        })
+    }
+
+    /// Lets a request in, at the end of its list. Where the queue is full, the oldest request of a lower priority is pushed
+    /// out, batch requests first, and handed to the caller.
+    ///
+    /// It is refused as `BadCount`, `BatchThrottled` or `Full`, the first of these that stands, else for memory. It is
+    /// then handed back, and the queue is as it was. It takes constant time, the growth of the list aside.
+    pub fn offer(&mut self, request: Req<T>) -> Result<Option<Req<T>>, (QueueError, Req<T>)>
+        // It is let in exactly where the definition has nothing against it.
+        ensures let_in { OnOk result (refusal_of self.old request ≡ None) }
+        ensures admitted { OnOk result (self.new ≡ admitted self.old request) }
+        ensures pushed_out { IfOk result (λ out. out ≡ pushed_out self.old request) }
+
+        ensures cause { IfErr result (λ refused. IsCause (refusal_of self.old request) refused.0) }
+        ensures handed_back { IfErr result (λ refused. refused.1 ≡ request) }
+        ensures unchanged { OnErr result (self.new ≡ self.old) }
+    {
+        if let Some(cause) = self.refusal_of(&request) {
+            return Err((cause, request));
+        }
+        let full = self.is_full();
+        if let Err(refused) = self.waiting.push(request) {
+            return Err((QueueError::Memory, refused.value));
+        }
+        if !full {
+            return Ok(None);
+        }
+        Ok(self.waiting.pop_lowest())
+    }
+
+    /// Why a request is refused, if it is, and not for memory.
+    fn refusal_of(&self, request: &Req<T>) -> Option<QueueError>
+        ensures { result ≡ refusal_of self.now request.now }
+    {
+        if !self.config.admits(request.priority, request.count) {
+            return Some(QueueError::BadCount);
+        }
+        if request.priority == Priority::Batch && self.config.batch == 0 {
+            return Some(QueueError::BatchThrottled);
+        }
+        if self.is_full() && !self.waiting.has_below(request.priority) {
+            return Some(QueueError::Full);
+        }
+        None
+    }
+
+    /// Whether as many requests wait as there is room for.
+    fn is_full(&self) -> bool
+        ensures { result ≡ is_full self.now }
+    {
+        self.waiting.len() as u64 == self.config.room
+    }
+
+    /// The budgets. Takes no memory.
+    pub fn budgets(&self) -> Budgets
+        ensures value { result ≡ self.now.budgets }
+        ensures kept { IsQueue self.now }
+    {
+        self.budgets
+    }
+
+    /// How many requests of each priority wait. Takes no memory.
+    pub fn lengths(&self) -> Lengths
+        ensures system { result.system ≡ length self.now.waiting.system }
+        ensures default_ { result.default_ ≡ length self.now.waiting.default_ }
+        ensures batch { result.batch ≡ length self.now.waiting.batch }
+        ensures room { result.system + result.default_ + result.batch ≤ self.now.config.room }
+    {
+        self.waiting.lengths()
+    }
+}
