@@ -109,6 +109,5 @@ IsQueue-pushed_out queue request h let_in full =
       default_ = kept.default_;
       batch = kept.batch;
       room = omega (arith, h.room);
-      normal = h.normal;
-      batch_budget = h.batch_budget
+      budgets = h.budgets
     }

@@ -2,6 +2,7 @@
 use Rattle.std.specs.Prelude.{ℕ, ◌*◌, ◌≤◌, ◌≡◌, true, List, All, length}
 use Rattle.fdb_history.specs.declared.grv.Priority.{Priority}
 use Rattle.fdb_history.specs.declared.grv.Priority.TheVariants.{System, Default, Batch}
+use Rattle.fdb_queue.specs.declared.budgets.Budgets.{Budgets}
 use Rattle.fdb_queue.specs.declared.config.TheConstants.{MAX_BURST, RATE_WINDOW}
 use Rattle.fdb_queue.specs.declared.config.QueueConfig.{QueueConfig}
 use Rattle.fdb_queue.specs.declared.request.Req.{Req}
@@ -19,6 +20,10 @@ pub record IsAdmitted {T : Type 0} (config : QueueConfig) (priority : Priority) 
 abbrev pub IsBudget : ℕ → Type 0
 IsBudget budget = budget ≤ MAX_BURST * RATE_WINDOW
 
+pub record AreBudgets (budgets : Budgets) : Type 0 where
+  pub normal : IsBudget budgets.normal
+  pub batch : IsBudget budgets.batch
+
 -- Each list has admitted requests of its priority, no more wait than there is room for, and no budget is above its bound.
 pub record IsQueue {T : Type 0} (queue : Queue T) : Type 0 where
   pub config : IsConfig queue.config
@@ -26,5 +31,4 @@ pub record IsQueue {T : Type 0} (queue : Queue T) : Type 0 where
   pub default_ : All (IsAdmitted queue.config Default) queue.waiting.default_
   pub batch : All (IsAdmitted queue.config Batch) queue.waiting.batch
   pub room : length (row queue.waiting) ≤ queue.config.room
-  pub normal : IsBudget queue.budgets.normal
-  pub batch_budget : IsBudget queue.budgets.batch
+  pub budgets : AreBudgets queue.budgets

@@ -5,3 +5,4 @@ pub mod Queue
 pub mod Window
 pub mod Admission
 pub mod Kept
+pub mod Turn

@@ -10,6 +10,7 @@ mod config;
 mod error;
 mod queue;
 mod request;
+mod turn;
 mod waiting;
 
 pub use budgets::Budgets;

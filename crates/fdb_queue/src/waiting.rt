@@ -1,12 +1,12 @@
 //! The requests that wait, by priority.
 
-ghost use Rattle.std.specs.Prelude.{◌≡◌, ◌+◌, ◌<◌, ◌^◌, ◌==◌, ◌++◌, not, length, drop, if◌then◌else◌, OnOk, OnErr, IfErr};
+ghost use Rattle.std.specs.Prelude.{◌≡◌, ◌+◌, ◌<◌, ◌^◌, ◌==◌, ◌++◌, not, length, take, drop, vec_len, vec_capacity, IsOk, IfOk, ◌≤◌, if◌then◌else◌, OnOk, OnErr, IfErr};
 ghost use Rattle.fdb_queue.specs.Admission.{below, without_oldest};
 ghost use Rattle.fdb_queue.specs.Waiting.{nothing, row, first, with_last};
 
 use crate::request::Req;
 use fdb_history::Priority;
-use std::alloc::{AllocFailed, Global};
+use std::alloc::{AllocError, AllocFailed, Global};
 use std::collections::VecDeque;
 use std::marker::Model;
 
@@ -103,5 +103,41 @@ impl<T> Waiting<T> {
             return self.default_.pop_front();
         }
         self.batch.pop_front()
+    }
+
+    /// Takes so many requests from the front of each list, in the order of the row. The memory for them is asked for first:
+    /// where it is refused, all is as it was.
+    pub(crate) fn take_front(&mut self, counts: Lengths) -> Result<Vec<Req<T>>, AllocError>
+        requires system { counts.system ≤ length self.old.system }
+        requires default_ { counts.default_ ≤ length self.old.default_ }
+        requires batch { counts.batch ≤ length self.old.batch }
+        requires together { counts.system + counts.default_ + counts.batch < 2 ^ 62 }
+        ensures taken { IfOk result (λ taken. taken.items ≡ take counts.system self.old.system ++ take counts.default_ self.old.default_ ++ take counts.batch self.old.batch) }
+        ensures left { OnOk result (self.new ≡ record { system = drop counts.system self.old.system; default_ = drop counts.default_ self.old.default_; batch = drop counts.batch self.old.batch }) }
+        ensures err { OnErr result (self.new ≡ self.old) }
+        ensures none { counts.system + counts.default_ + counts.batch ≡ 0 → IsOk result }
+    {
+        let count = counts.system + counts.default_ + counts.batch;
+        let mut taken = Vec::with_capacity(*self.system.allocator(), count)?;
+        move_front(&mut self.system, counts.system, &mut taken);
+        move_front(&mut self.default_, counts.default_, &mut taken);
+        move_front(&mut self.batch, counts.batch, &mut taken);
+        Ok(taken)
+    }
+}
+
+/// Moves so many requests from the front of a list.
+fn move_front<T>(list: &mut VecDeque<Req<T>>, count: usize, taken: &mut Vec<Req<T>>)
+    requires count { count ≤ length list.old.items }
+    requires room { vec_len taken.old + count ≤ vec_capacity taken.old }
+    ensures taken { taken.new.items ≡ taken.old.items ++ take count list.old.items }
+    ensures left { list.new.items ≡ drop count list.old.items }
+    ensures len { vec_len taken.new ≡ vec_len taken.old + count }
+    ensures capacity { vec_capacity taken.new ≡ vec_capacity taken.old }
+{
+    for _ in 0..count {
+        if let Some(request) = list.pop_front() {
+            taken.push_reserved(request);
+        }
     }
 }
