@@ -1,1 +1,4 @@
 pub mod Admitting
+pub mod LongestPrefix
+pub mod Fitting
+pub mod Walking

@@ -6,3 +6,4 @@ pub mod Window
 pub mod Admission
 pub mod Kept
 pub mod Turn
+pub mod Reach

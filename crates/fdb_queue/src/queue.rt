@@ -2,12 +2,13 @@
 
 ghost use Rattle.std.specs.Prelude.{◌≡◌, ◌+◌, ◌<◌, ◌≤◌, ◌⊎◌, ◌↔◌, ◌∷◌, ◌++◌, ◌^◌, ◌==◌, [], length, drop, if◌then◌else◌, OnOk, OnErr, IfOk, IfErr};
 ghost use Rattle.fdb_queue.specs.Admission.{refusal_of, admitted, pushed_out, is_full, IsCause};
-ghost use Rattle.fdb_queue.specs.Config.{IsConfig};
+ghost use Rattle.fdb_queue.specs.Config.{IsConfig, IsElapsed};
 ghost use Rattle.fdb_queue.specs.Kept.{IsQueue};
 ghost use Rattle.fdb_queue.specs.Queue.{new_queue};
+ghost use Rattle.fdb_queue.specs.Window.{window, after_window};
 
-use crate::budgets::Budgets;
-use crate::config::QueueConfig;
+use crate::budgets::{self, Budgets};
+use crate::config::{MAX_ELAPSED, QueueConfig};
 use crate::error::QueueError;
 use crate::request::Req;
 use crate::waiting::{Lengths, Waiting};
@@ -83,6 +84,35 @@ impl<T> GrvQueue<T> {
             return Ok(None);
         }
         Ok(self.waiting.pop_lowest())
+    }
+
+    /// Starts the longest prefix of the row that may start, and hands it out in order; the budgets then gain for the time
+    /// since the last window and pay for what was started.
+    ///
+    /// `elapsed` is that time in microseconds. It is refused as `BadConfig` where it is 0 or above `MAX_ELAPSED`, else for
+    /// memory, which a window that starts nothing does not take; nothing has changed then. It takes time in proportion
+    /// to what it starts.
+    pub fn window(&mut self, elapsed: u64) -> Result<Vec<Req<T>>, QueueError>
+        ensures in_range { OnOk result (IsElapsed elapsed) }
+        ensures started { IfOk result (λ started. started.items ≡ window self.old) }
+        ensures after { OnOk result (self.new ≡ after_window elapsed self.old) }
+
+        ensures bad_config { (result ≡ Err QueueError.BadConfig) ↔ ((elapsed ≡ 0) ⊎ (MAX_ELAPSED < elapsed)) }
+        ensures else_memory { IsElapsed elapsed → IfErr result (λ cause. (cause ≡ QueueError.Memory) × (0 < length (window self.old))) }
+        ensures unchanged { OnErr result (self.new ≡ self.old) }
+    {
+        if elapsed == 0 || elapsed > MAX_ELAPSED {
+            return Err(QueueError::BadConfig);
+        }
+        let reach = self.waiting.reach(&self.config, &self.budgets);
+        let started = self.waiting.take_front(reach.counts)?;
+        let left = self.waiting.lengths();
+        let unbatched = left.system + left.default_;
+        self.budgets = Budgets {
+            normal: budgets::after(elapsed, self.config.normal, reach.unbatched, self.budgets.normal, unbatched == 0),
+            batch: budgets::after(elapsed, self.config.batch, reach.all, self.budgets.batch, unbatched + left.batch == 0),
+        };
+        Ok(started)
     }
 
     /// Why a request is refused, if it is, and not for memory.

@@ -2,9 +2,14 @@
 
 ghost use Rattle.std.specs.Prelude.{◌≡◌, ◌+◌, ◌<◌, ◌^◌, ◌==◌, ◌++◌, not, length, take, drop, vec_len, vec_capacity, IsOk, IfOk, ◌≤◌, if◌then◌else◌, OnOk, OnErr, IfErr};
 ghost use Rattle.fdb_queue.specs.Admission.{below, without_oldest};
+ghost use Rattle.fdb_queue.specs.Kept.{IsQueue};
+ghost use Rattle.fdb_queue.specs.Reach.{IsReach};
 ghost use Rattle.fdb_queue.specs.Waiting.{nothing, row, first, with_last};
 
+use crate::budgets::Budgets;
+use crate::config::QueueConfig;
 use crate::request::Req;
+use crate::turn::Turn;
 use fdb_history::Priority;
 use std::alloc::{AllocError, AllocFailed, Global};
 use std::collections::VecDeque;
@@ -21,6 +26,17 @@ pub struct Lengths {
     pub batch: usize,
 }
 
+/// How far a window comes in the row.
+#[derive(Clone, Copy, Debug, PartialEq, Eq, Hash)]
+pub(crate) struct Reach {
+    /// How many requests of each priority it starts.
+    pub(crate) counts: Lengths,
+    /// How many transactions of system and default requests.
+    pub(crate) unbatched: u64,
+    /// How many transactions.
+    pub(crate) all: u64,
+}
+
 /// The requests that wait: a list for each priority, in which the oldest is the first.
 #[derive(Debug, Drop)]
 pub(crate) struct Waiting<T> {
@@ -30,7 +46,9 @@ pub(crate) struct Waiting<T> {
 }
 
 impl<T> Model for Waiting<T> {
-    ghost use Rattle.fdb_queue.specs.Waiting.{Requests};
+    ghost use Rattle.fdb_queue.specs.Kept.{IsQueue};
+ghost use Rattle.fdb_queue.specs.Reach.{IsReach};
+ghost use Rattle.fdb_queue.specs.Waiting.{Requests};
 
     ghost Value = { Requests T };
 
@@ -103,6 +121,25 @@ impl<T> Waiting<T> {
             return self.default_.pop_front();
         }
         self.batch.pop_front()
+    }
+
+    /// How far a window comes.
+    pub(crate) fn reach(&self, config: &QueueConfig, budgets: &Budgets) -> Reach
+        requires { IsQueue {T = T} (record { config = config.now; waiting = self.now; budgets = budgets.now }) }
+        ensures { IsReach {T = T} (record { config = config.now; waiting = self.now; budgets = budgets.now }) result }
+    {
+        let system = Turn::NEW.along(config, budgets, &self.system);
+        let default_ = system.along(config, budgets, &self.default_);
+        let batch = default_.along(config, budgets, &self.batch);
+        Reach {
+            counts: Lengths {
+                system: system.requests as usize,
+                default_: (default_.requests - system.requests) as usize,
+                batch: (batch.requests - default_.requests) as usize,
+            },
+            unbatched: default_.transactions,
+            all: batch.transactions,
+        }
     }
 
     /// Takes so many requests from the front of each list, in the order of the row. The memory for them is asked for first:
