@@ -2,3 +2,4 @@ pub mod Admitting
 pub mod LongestPrefix
 pub mod Fitting
 pub mod Walking
+pub mod Leaving
