@@ -21,7 +21,7 @@ pub record IsLetIn {T : Type 0} (queue : Queue T) (request : Req T) : Type 0 whe
   pub room : is_full queue ≡ true → (length (below request.priority queue.waiting) == 0) ≡ false
 
 let_in_by : {E : Type 0} (one two three : E) (count throttled full none : Bool) → (if not count then Some one else if throttled then Some two else if full && none then Some three else None) ≡ None
-  → (count ≡ true) × (full ≡ true → none ≡ false)
+    → (count ≡ true) × (full ≡ true → none ≡ false)
 let_in_by one two three true false true false h = (refl, λ _. refl)
 let_in_by one two three true false true true h = cc
 let_in_by one two three true false false none h = (refl, λ e. cc)
@@ -40,30 +40,30 @@ pub record AreAdmitted {T : Type 0} (config : QueueConfig) (waiting : Requests T
   pub batch : All (IsAdmitted config Batch) waiting.batch
 
 AreAdmitted-with_last : {T : Type 0} (config : QueueConfig) (waiting : Requests T) (request : Req T) (priority : Priority)
-  → request.priority ≡ priority → is_count config priority request.count ≡ true → AreAdmitted config waiting
-  → AreAdmitted config (with_last waiting request priority)
+    → request.priority ≡ priority → is_count config priority request.count ≡ true → AreAdmitted config waiting
+    → AreAdmitted config (with_last waiting request priority)
 AreAdmitted-with_last config waiting request System own count h = record {
   system = All-push (IsAdmitted config System) waiting.system request h.system (record { own = own; count = count });
   default_ = h.default_;
-  batch = h.batch
+  batch = h.batch;
 }
 AreAdmitted-with_last config waiting request Default own count h = record {
   system = h.system;
   default_ = All-push (IsAdmitted config Default) waiting.default_ request h.default_ (record { own = own; count = count });
-  batch = h.batch
+  batch = h.batch;
 }
 AreAdmitted-with_last config waiting request Batch own count h = record {
   system = h.system;
   default_ = h.default_;
-  batch = All-push (IsAdmitted config Batch) waiting.batch request h.batch (record { own = own; count = count })
+  batch = All-push (IsAdmitted config Batch) waiting.batch request h.batch (record { own = own; count = count });
 }
 
 AreAdmitted-without_oldest : {T : Type 0} (config : QueueConfig) (waiting : Requests T) → AreAdmitted config waiting
-  → AreAdmitted config (without_oldest waiting)
+    → AreAdmitted config (without_oldest waiting)
 AreAdmitted-without_oldest config waiting h = elim (length waiting.batch == 0) as (λ v. AreAdmitted config (if v then record waiting { default_ = drop 1 waiting.default_ } else record waiting { batch = drop 1 waiting.batch })) [
-    true ↦ record { system = h.system; default_ = All-drop (IsAdmitted config Default) 1 waiting.default_ h.default_; batch = h.batch }
+  | true ↦ record { system = h.system; default_ = All-drop (IsAdmitted config Default) 1 waiting.default_ h.default_; batch = h.batch }
   | false ↦ record { system = h.system; default_ = h.default_; batch = All-drop (IsAdmitted config Batch) 1 waiting.batch h.batch }
-  ]
+]
 
 length_row : {T : Type 0} (waiting : Requests T) → length (row waiting) ≡ length waiting.system + length waiting.default_ + length waiting.batch
 length_row waiting = simp length-append
@@ -78,25 +78,25 @@ not_empty : (n : ℕ) → (suc n == 0) ≡ false
 not_empty n = grind (arith, nat_tests)
 
 length_oldest : {T : Type 0} (system default_ batch : List (Req T)) → 0 < length batch + length default_
-  → length (row (without_oldest (record { system = system; default_ = default_; batch = batch }))) + 1 ≡ length (system ++ default_ ++ batch)
+    → length (row (without_oldest (record { system = system; default_ = default_; batch = batch }))) + 1 ≡ length (system ++ default_ ++ batch)
 length_oldest system [] [] some = absurd (omega arith)
 length_oldest system (oldest ∷ default_) [] some = simp length-append (omega arith)
 length_oldest system default_ (oldest ∷ batch) some = rw (not_empty (length batch)) (simp length-append (omega arith))
 
 length_row-without_oldest : {T : Type 0} (waiting : Requests T) → 0 < length waiting.batch + length waiting.default_
-  → length (row (without_oldest waiting)) + 1 ≡ length (row waiting)
+    → length (row (without_oldest waiting)) + 1 ≡ length (row waiting)
 length_row-without_oldest waiting some = length_oldest waiting.system waiting.default_ waiting.batch some
 
 -- what may be pushed out is still there when the request has come
 some_lowest : {T : Type 0} (waiting : Requests T) (request : Req T) (priority : Priority) → (length (below priority waiting) == 0) ≡ false
-  → let after = with_last waiting request priority in 0 < length after.batch + length after.default_
+    → let after = with_last waiting request priority in 0 < length after.batch + length after.default_
 some_lowest {T = T} waiting request System some = grind (arith, nat_tests, length-append waiting.batch waiting.default_)
 some_lowest waiting request Default some = grind (arith, nat_tests, length-append waiting.default_ (request ∷ []))
 some_lowest waiting request Batch some = simp length-append (omega arith)
 
 -- A queue that was full stays one when the request has come and the oldest of the lowest priority has gone.
 pub IsQueue-pushed_out : {T : Type 0} (queue : Queue T) (request : Req T) → IsQueue queue → IsLetIn queue request → is_full queue ≡ true
-  → IsQueue (record queue { waiting = without_oldest (with_last queue.waiting request request.priority) })
+    → IsQueue (record queue { waiting = without_oldest (with_last queue.waiting request request.priority) })
 IsQueue-pushed_out queue request h let_in full =
     let own : AreAdmitted queue.config queue.waiting = record { system = h.system; default_ = h.default_; batch = h.batch } in
     let grown = AreAdmitted-with_last queue.config queue.waiting request request.priority refl let_in.count own in
@@ -109,5 +109,5 @@ IsQueue-pushed_out queue request h let_in full =
       default_ = kept.default_;
       batch = kept.batch;
       room = omega (arith, h.room);
-      budgets = h.budgets
+      budgets = h.budgets;
     }

@@ -58,11 +58,11 @@ are_started queue reach h is =
     let zs = take reach.counts.batch queue.waiting.batch in
     record {
       system = ap (λ some. of_priority System some) is.started ∙ of_three System xs ys zs
-        ∙ rw (of_priority-own config System xs system, of_priority-other config Default System ys refl default_, of_priority-other config Batch System zs refl batch) (append-nil (xs ++ []) ∙ append-nil xs);
+          ∙ rw (of_priority-own config System xs system, of_priority-other config Default System ys refl default_, of_priority-other config Batch System zs refl batch) (append-nil (xs ++ []) ∙ append-nil xs);
       default_ = ap (λ some. of_priority Default some) is.started ∙ of_three Default xs ys zs
-        ∙ rw (of_priority-other config System Default xs refl system, of_priority-own config Default ys default_, of_priority-other config Batch Default zs refl batch) (append-nil ys);
+          ∙ rw (of_priority-other config System Default xs refl system, of_priority-own config Default ys default_, of_priority-other config Batch Default zs refl batch) (append-nil ys);
       batch = ap (λ some. of_priority Batch some) is.started ∙ of_three Batch xs ys zs
-        ∙ rw (of_priority-other config System Batch xs refl system, of_priority-other config Default Batch ys refl default_, of_priority-own config Batch zs batch) refl
+          ∙ rw (of_priority-other config System Batch xs refl system, of_priority-other config Default Batch ys refl default_, of_priority-own config Batch zs batch) refl;
     }
 
 -- what is left of the lists
@@ -70,7 +70,7 @@ abbrev pub left_by : {T : Type 0} → Reach → Requests T → Requests T
 left_by reach waiting = record {
   system = drop reach.counts.system waiting.system;
   default_ = drop reach.counts.default_ waiting.default_;
-  batch = drop reach.counts.batch waiting.batch
+  batch = drop reach.counts.batch waiting.batch;
 }
 
 left_is : {T : Type 0} (queue : Queue T) (reach : Reach) → IsQueue queue → IsReach queue reach → left_by reach queue.waiting ≡ without (window queue) queue.waiting
@@ -83,15 +83,15 @@ abbrev after_leaving : {T : Type 0} → Queue T → ℕ → Requests T → Queue
 after_leaving queue elapsed left = record queue { waiting = left; budgets = budgets_after queue.config queue.budgets elapsed (window queue) left }
 
 pub after_is : {T : Type 0} (queue : Queue T) (reach : Reach) (elapsed normal batch : ℕ) (left : Requests T) → IsQueue queue → IsReach queue reach
-  → left ≡ left_by reach queue.waiting
-  → normal ≡ cut (length left.system + length left.default_ == 0) (budget_after elapsed queue.config.normal reach.unbatched queue.budgets.normal)
-  → batch ≡ cut (length left.system + length left.default_ + length left.batch == 0) (budget_after elapsed queue.config.batch reach.all queue.budgets.batch)
-  → record queue { waiting = left; budgets = record { normal = normal; batch = batch } } ≡ after_window elapsed queue
+    → left ≡ left_by reach queue.waiting
+    → normal ≡ cut (length left.system + length left.default_ == 0) (budget_after elapsed queue.config.normal reach.unbatched queue.budgets.normal)
+    → batch ≡ cut (length left.system + length left.default_ + length left.batch == 0) (budget_after elapsed queue.config.batch reach.all queue.budgets.batch)
+    → record queue { waiting = left; budgets = record { normal = normal; batch = batch } } ≡ after_window elapsed queue
 after_is queue reach elapsed normal batch left h is left_same normal_is batch_is =
     let started = are_started queue reach h is in
     let same : left ≡ without (window queue) queue.waiting = left_same ∙ left_is queue reach h is in
     let unbatched : reach.unbatched ≡ total (of_priority System (window queue)) + total (of_priority Default (window queue)) =
-      is.unbatched ∙ rw (started.system, started.default_) (sum_by-append (λ request. request.count) (take reach.counts.system queue.waiting.system) (take reach.counts.default_ queue.waiting.default_)) in
+    is.unbatched ∙ rw (started.system, started.default_) (sum_by-append (λ request. request.count) (take reach.counts.system queue.waiting.system) (take reach.counts.default_ queue.waiting.default_)) in
     let lengths : length (row left) ≡ length left.system + length left.default_ + length left.batch = simp length-append in
     let own : Budgets = budgets_after queue.config queue.budgets elapsed (window queue) left in
     let normal_same : normal ≡ own.normal = normal_is ∙ ap (λ spent. cut (length left.system + length left.default_ == 0) (budget_after elapsed queue.config.normal spent queue.budgets.normal)) unbatched in
@@ -100,12 +100,12 @@ after_is queue reach elapsed normal batch left h is left_same normal_is batch_is
     here ∙ ap (λ some. after_leaving queue elapsed some) same
 
 pub IsQueue-left : {T : Type 0} (queue : Queue T) (reach : Reach) (budgets : Budgets) → IsQueue queue → AreBudgets budgets
-  → IsQueue (record queue { waiting = left_by reach queue.waiting; budgets = budgets })
+    → IsQueue (record queue { waiting = left_by reach queue.waiting; budgets = budgets })
 IsQueue-left queue reach budgets h in_range = record {
   config = h.config;
   system = All-drop (IsAdmitted queue.config System) reach.counts.system queue.waiting.system h.system;
   default_ = All-drop (IsAdmitted queue.config Default) reach.counts.default_ queue.waiting.default_ h.default_;
   batch = All-drop (IsAdmitted queue.config Batch) reach.counts.batch queue.waiting.batch h.batch;
   room = simp (length-append, length-drop) (omega (arith, simp length-append at h.room));
-  budgets = in_range
+  budgets = in_range;
 }

@@ -9,8 +9,8 @@ find-map : {X Y : Type 0} (test : Y → Bool) (f : X → Y) (xs : List X) → fi
 find-map test f [] = refl
 find-map test f (x ∷ xs) =
     elim (test (f x)) as (λ v. (if v then Some (f x) else find test (map f xs)) ≡ option_map f (if v then Some x else find (λ x. test (f x)) xs)) [
-      true ↦ refl
-    | false ↦ find-map test f xs
+      | true ↦ refl
+      | false ↦ find-map test f xs
     ]
 
 find-none : {X : Type 0} (test : X → Bool) (xs : List X) → ((x : X) → test x ≡ false) → find test xs ≡ None

@@ -55,7 +55,7 @@ without_oldest waiting =
 -- The queue with a request that is let in.
 abbrev pub admitted : {T : Type 0} → Queue T → Req T → Queue T
 admitted queue request = record queue {
-  waiting = with_last (if is_full queue then without_oldest queue.waiting else queue.waiting) request request.priority
+  waiting = with_last (if is_full queue then without_oldest queue.waiting else queue.waiting) request request.priority;
 }
 
 -- Why an offer was refused is what the definition says. Where it lets the request in, memory was refused.

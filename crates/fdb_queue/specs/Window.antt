@@ -51,7 +51,7 @@ abbrev pub without : {T : Type 0} → List (Req T) → Requests T → Requests T
 without started waiting = record {
   system = rest_of System started waiting.system;
   default_ = rest_of Default started waiting.default_;
-  batch = rest_of Batch started waiting.batch
+  batch = rest_of Batch started waiting.batch;
 }
 
 -- The budgets after a window that started some requests, by what is left waiting. The normal rate pays for system and
@@ -59,8 +59,8 @@ without started waiting = record {
 abbrev pub budgets_after : {T : Type 0} → QueueConfig → Budgets → ℕ → List (Req T) → Requests T → Budgets
 budgets_after config budgets elapsed started left = record {
   normal = cut (length left.system + length left.default_ == 0)
-    (budget_after elapsed config.normal (total (of_priority System started) + total (of_priority Default started)) budgets.normal);
-  batch = cut (length (row left) == 0) (budget_after elapsed config.batch (total started) budgets.batch)
+      (budget_after elapsed config.normal (total (of_priority System started) + total (of_priority Default started)) budgets.normal);
+  batch = cut (length (row left) == 0) (budget_after elapsed config.batch (total started) budgets.batch);
 }
 
 -- The queue after a window.

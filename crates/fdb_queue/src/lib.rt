@@ -15,9 +15,13 @@ mod waiting;
 
 pub use budgets::Budgets;
 pub use config::{
-    IDLE_BURST, MAX_BURST, MAX_COUNT, MAX_ELAPSED, MAX_RATE, MAX_ROOM, MAX_STARTED, QueueConfig, RATE_WINDOW,
+    IDLE_BURST, MAX_BURST, MAX_COUNT, MAX_ELAPSED, MAX_RATE, MAX_ROOM, MAX_STARTED, QueueConfig,
+    RATE_WINDOW,
 };
 pub use error::QueueError;
 pub use queue::GrvQueue;
 pub use request::Req;
 pub use waiting::Lengths;
+
+#[cfg(test)]
+mod tests;

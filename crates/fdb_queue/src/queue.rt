@@ -109,8 +109,20 @@ impl<T> GrvQueue<T> {
         let left = self.waiting.lengths();
         let unbatched = left.system + left.default_;
         self.budgets = Budgets {
-            normal: budgets::after(elapsed, self.config.normal, reach.unbatched, self.budgets.normal, unbatched == 0),
-            batch: budgets::after(elapsed, self.config.batch, reach.all, self.budgets.batch, unbatched + left.batch == 0),
+            normal: budgets::after(
+                elapsed,
+                self.config.normal,
+                reach.unbatched,
+                self.budgets.normal,
+                unbatched == 0,
+            ),
+            batch: budgets::after(
+                elapsed,
+                self.config.batch,
+                reach.all,
+                self.budgets.batch,
+                unbatched + left.batch == 0,
+            ),
         };
         Ok(started)
     }

@@ -45,7 +45,9 @@ impl Turn {
             return self;
         }
         let transactions = self.transactions + request.count;
-        if self.requests == MAX_STARTED || !may_start(config, budgets, request.priority, transactions) {
+        if self.requests == MAX_STARTED
+            || !may_start(config, budgets, request.priority, transactions)
+        {
             return Turn {
                 ended: true,
                 ..self
@@ -59,7 +61,12 @@ impl Turn {
     }
 
     /// The turn after it has gone along a list.
-    pub(crate) fn along<T>(self, config: &QueueConfig, budgets: &Budgets, list: &VecDeque<Req<T>>) -> Turn
+    pub(crate) fn along<T>(
+        self,
+        config: &QueueConfig,
+        budgets: &Budgets,
+        list: &VecDeque<Req<T>>,
+    ) -> Turn
         requires config { IsConfig config.now }
         requires budgets { AreBudgets budgets.now }
         requires turn { IsTurn self }

@@ -47,8 +47,8 @@ pub(crate) struct Waiting<T> {
 
 impl<T> Model for Waiting<T> {
     ghost use Rattle.fdb_queue.specs.Kept.{IsQueue};
-ghost use Rattle.fdb_queue.specs.Reach.{IsReach};
-ghost use Rattle.fdb_queue.specs.Waiting.{Requests};
+    ghost use Rattle.fdb_queue.specs.Reach.{IsReach};
+    ghost use Rattle.fdb_queue.specs.Waiting.{Requests};
 
     ghost Value = { Requests T };
 

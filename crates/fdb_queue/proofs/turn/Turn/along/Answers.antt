@@ -12,10 +12,10 @@ use Rattle.fdb_queue.proofs.turn.Turn.along.Goals as goal
 
 pub loop-request-preserved : goal.loop-request-preserved
 loop-request-preserved g c = (
-    c.after-turn.ensures.turn,
-    All-rest (λ request. request.count ≤ MAX_COUNT) c.in-Some.request.now (deque_iter_rest c.next.new.self) (deque_iter_rest c.loop-request.request-iterator) c.in-Some.ensures.steps c.loop-request.invariant.1,
-    rw c.after-turn.ensures.value (rw c.in-Some.ensures.steps at c.loop-request.invariant.2)
-  )
+  c.after-turn.ensures.turn,
+  All-rest (λ request. request.count ≤ MAX_COUNT) c.in-Some.request.now (deque_iter_rest c.next.new.self) (deque_iter_rest c.loop-request.request-iterator) c.in-Some.ensures.steps c.loop-request.invariant.1,
+  rw c.after-turn.ensures.value (rw c.in-Some.ensures.steps at c.loop-request.invariant.2),
+)
 
 -- a turn that has ended stays as it is
 ended_stays : {T : Type 0} (config : QueueConfig) (budgets : Budgets) (turn : Turn) (request : Req T) → turn.ended ≡ true → turn_after config budgets turn request ≡ turn
