@@ -74,7 +74,7 @@ length_row-with_last waiting request Default = simp length-append (omega arith)
 length_row-with_last waiting request Batch = simp length-append (omega arith)
 
 -- a list that has an item is not empty
-not_empty : (n : ℕ) → (suc n == 0) ≡ false
+pub not_empty : (n : ℕ) → (suc n == 0) ≡ false
 not_empty n = grind (arith, nat_tests)
 
 length_oldest : {T : Type 0} (system default_ batch : List (Req T)) → 0 < length batch + length default_
@@ -111,3 +111,37 @@ IsQueue-pushed_out queue request h let_in full =
       room = omega (arith, h.room);
       budgets = h.budgets;
     }
+
+-- what may be pushed out is among the batch and default requests
+lowest_of : {T : Type 0} (waiting : Requests T) (priority : Priority) → (length (below priority waiting) == 0) ≡ false → 0 < length waiting.batch + length waiting.default_
+lowest_of waiting System some = grind (arith, nat_tests, length-append waiting.batch waiting.default_)
+lowest_of waiting Default some = grind (arith, nat_tests)
+lowest_of waiting Batch some = cc
+
+admitted_at : {T : Type 0} (queue : Queue T) (request : Req T) (waiting : Requests T) → IsQueue queue → is_count queue.config request.priority request.count ≡ true
+  → AreAdmitted queue.config waiting → length (row waiting) < queue.config.room → IsQueue (record queue { waiting = with_last waiting request request.priority })
+admitted_at queue request waiting h count own room =
+    let kept = AreAdmitted-with_last queue.config waiting request request.priority refl count own in
+    let longer = length_row-with_last waiting request request.priority in
+    record {
+      config = h.config;
+      system = kept.system;
+      default_ = kept.default_;
+      batch = kept.batch;
+      room = omega arith;
+      budgets = h.budgets
+    }
+
+admitted_by : {T : Type 0} (queue : Queue T) (request : Req T) (full : Bool) → is_full queue ≡ full → IsQueue queue → IsLetIn queue request
+  → IsQueue (record queue { waiting = with_last (if full then without_oldest queue.waiting else queue.waiting) request request.priority })
+admitted_by queue request true full h let_in =
+    let own : AreAdmitted queue.config queue.waiting = record { system = h.system; default_ = h.default_; batch = h.batch } in
+    let shorter = length_row-without_oldest queue.waiting (lowest_of queue.waiting request.priority (let_in.room full)) in
+    let room = h.room in
+    admitted_at queue request (without_oldest queue.waiting) h let_in.count (AreAdmitted-without_oldest queue.config queue.waiting own) (omega arith)
+admitted_by queue request false full h let_in =
+    let own : AreAdmitted queue.config queue.waiting = record { system = h.system; default_ = h.default_; batch = h.batch } in
+    admitted_at queue request queue.waiting h let_in.count own (grind (arith, nat_tests, h.room))
+
+pub IsQueue-admitted : {T : Type 0} (queue : Queue T) (request : Req T) → IsQueue queue → refusal_of queue request ≡ None → IsQueue (admitted queue request)
+IsQueue-admitted queue request h none = admitted_by queue request (is_full queue) refl h (let_in queue request none)

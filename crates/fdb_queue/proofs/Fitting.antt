@@ -56,7 +56,7 @@ each_may_start-after {T = T} config budgets requests =
     (λ it. ap (may_start config budgets it.1.priority) (omega arith)) (with_those_before requests)
     ∙ each_from config budgets 0 requests
 
-and_false : (a b : Bool) → (a && b) ≡ false → (a ≡ false) ⊎ (b ≡ false)
+pub and_false : (a b : Bool) → (a && b) ≡ false → (a ≡ false) ⊎ (b ≡ false)
 and_false true b h = inr h
 and_false false b h = inl refl
 
@@ -69,7 +69,7 @@ and-false true = refl
 and-false false = refl
 
 -- whether some requests fit, with what comes after some of them
-fits-append : {T : Type 0} (queue : Queue T) (done more : List (Req T)) (request : Req T)
+pub fits-append : {T : Type 0} (queue : Queue T) (done more : List (Req T)) (request : Req T)
     → fits queue (done ++ request ∷ more)
     ≡ (nat_le (length (done ++ request ∷ more)) MAX_STARTED && (each_after queue.config queue.budgets 0 done
     && (may_start queue.config queue.budgets request.priority (total done + request.count) && each_after queue.config queue.budgets (total done + request.count) more)))
@@ -79,6 +79,15 @@ fits-append queue done more request =
     let whole : fits queue (done ++ request ∷ more) ≡ (nat_le (length (done ++ request ∷ more)) MAX_STARTED && (each_after queue.config queue.budgets 0 done && each_after queue.config queue.budgets (0 + total done) (request ∷ more))) =
     ap {A = Bool} {B = Bool} (λ v. nat_le (length (done ++ request ∷ more)) MAX_STARTED && v) split in
     rw none at whole
+
+-- what comes first of what fits fits
+pub fits-prefix : {T : Type 0} (queue : Queue T) (done more : List (Req T)) → fits queue (done ++ more) ≡ true → fits queue done ≡ true
+fits-prefix queue done more h =
+    let both = and_true (nat_le (length (done ++ more)) MAX_STARTED) (each_may_start queue.config queue.budgets (done ++ more)) h in
+    let each = sym (each_may_start-after queue.config queue.budgets (done ++ more) ∙ each_after-append queue.config queue.budgets 0 done more) ∙ both.1 in
+    let first = (and_true (each_after queue.config queue.budgets 0 done) (each_after queue.config queue.budgets (0 + total done) more) each).0 in
+    let room : nat_le (length done) MAX_STARTED ≡ true = grind (arith, nat_tests, length-append done more, both.0) in
+    rw (room, each_may_start-after queue.config queue.budgets done, first) refl
 
 -- one more request, and whatever comes after it
 pub fits-more : {T : Type 0} (queue : Queue T) (done more : List (Req T)) (request : Req T)

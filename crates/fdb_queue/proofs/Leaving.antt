@@ -11,7 +11,7 @@ use Rattle.fdb_queue.specs.declared.config.QueueConfig.{QueueConfig}
 use Rattle.fdb_queue.specs.declared.request.Req.{Req}
 use Rattle.fdb_queue.specs.declared.waiting.Reach.{Reach}
 use Rattle.fdb_queue.specs.Budgets.{budget_after, cut}
-use Rattle.fdb_queue.specs.Kept.{IsQueue, IsAdmitted, AreBudgets}
+use Rattle.fdb_queue.specs.Kept.{IsQueue, IsAdmitted, IsBudget, AreBudgets}
 use Rattle.fdb_queue.specs.Queue.{Queue}
 use Rattle.fdb_queue.specs.Reach.{IsReach}
 use Rattle.fdb_queue.specs.Waiting.{Requests, row, total, is_priority, of_priority}
@@ -109,3 +109,23 @@ IsQueue-left queue reach budgets h in_range = record {
   room = simp (length-append, length-drop) (omega (arith, simp length-append at h.room));
   budgets = in_range;
 }
+
+-- a budget that is cut is within its bound
+cut_in_range : (idle : Bool) (budget : ℕ) → IsBudget (cut idle budget)
+cut_in_range true budget = omega arith
+cut_in_range false budget = omega arith
+
+pub IsQueue-after_window : {T : Type 0} (queue : Queue T) (elapsed : ℕ) → IsQueue queue → IsQueue (after_window elapsed queue)
+IsQueue-after_window queue elapsed h =
+    let started = window queue in
+    record {
+      config = h.config;
+      system = All-drop (IsAdmitted queue.config System) (length (of_priority System started)) queue.waiting.system h.system;
+      default_ = All-drop (IsAdmitted queue.config Default) (length (of_priority Default started)) queue.waiting.default_ h.default_;
+      batch = All-drop (IsAdmitted queue.config Batch) (length (of_priority Batch started)) queue.waiting.batch h.batch;
+      room = simp (length-append, length-drop) (omega (arith, simp length-append at h.room));
+      budgets = record {
+        normal = cut_in_range (length (without started queue.waiting).system + length (without started queue.waiting).default_ == 0) _;
+        batch = cut_in_range (length (row (without started queue.waiting)) == 0) _
+      }
+    }

@@ -3,3 +3,5 @@ pub mod LongestPrefix
 pub mod Fitting
 pub mod Walking
 pub mod Leaving
+pub mod Lawful
+pub mod Lost

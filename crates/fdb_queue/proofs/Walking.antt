@@ -107,7 +107,7 @@ never_shrinks config budgets turn after requests is =
 
 -- ---- a turn along the row
 
-abbrev longest : {T : Type 0} → Queue T → List (Req T) → List (Req T)
+abbrev pub longest : {T : Type 0} → Queue T → List (Req T) → List (Req T)
 longest queue requests = unwrap_or (find (λ some. fits queue some) (prefixes requests)) []
 
 -- a turn that has started some requests
@@ -140,6 +140,39 @@ walk {T = T} queue done (x ∷ xs) fit =
       | inr stops ↦ rw (ends_there queue.config queue.budgets (turn_of done) x refl stops, ended_fold queue.config queue.budgets (ended_at (turn_of done)) xs refl)
           (walked_at queue done (x ∷ xs) (ended_at (turn_of done)) refl refl (find_longest (λ some. fits queue some) done (x ∷ xs) fit (λ more. fits-more queue done more x stops)))
     ]
+
+-- ---- the window, and the head of what is left
+
+-- the head of what is left may not start, unless as many have started as may
+abbrev pub Blocked : {T : Type 0} → Queue T → List (Req T) → List (Req T) → Type 0
+Blocked queue started [] = Unit {0}
+Blocked queue started (x ∷ xs) = (nat_lt (length started) MAX_STARTED && may_start queue.config queue.budgets x.priority (total started + x.count)) ≡ false
+
+-- a row is what a window starts, and what is left
+pub record IsCut {T : Type 0} (queue : Queue T) (requests left : List (Req T)) : Type 0 where
+  pub both : requests ≡ longest queue requests ++ left
+  pub fit : fits queue (longest queue requests) ≡ true
+  pub blocked : Blocked queue (longest queue requests) left
+
+cut_here : {T : Type 0} (queue : Queue T) (done rest : List (Req T)) → longest queue (done ++ rest) ≡ done → fits queue done ≡ true → Blocked queue done rest
+  → IsCut queue (done ++ rest) rest
+cut_here queue done rest is fit blocked = record {
+  both = ap (λ some. some ++ rest) (sym is);
+  fit = rw is fit;
+  blocked = rw is blocked
+}
+
+pub cut_at : {T : Type 0} (queue : Queue T) (done rest : List (Req T)) → fits queue done ≡ true → (left : List (Req T)) × IsCut queue (done ++ rest) left
+cut_at queue done [] fit = ([], cut_here queue done [] (rw (find_longest (λ some. fits queue some) done [] fit tt) refl) fit tt)
+cut_at {T = T} queue done (x ∷ xs) fit =
+    elim (bool_cases (goes_on queue.config queue.budgets (turn_of done) x)) [
+      inl goes ↦
+        (let next : (left : List (Req T)) × IsCut queue (done ++ x ∷ [] ++ xs) left = cut_at queue (done ++ x ∷ []) xs (fits-push queue done x fit goes) in rw append_assoc at next)
+    | inr stops ↦ (x ∷ xs, cut_here queue done (x ∷ xs) (rw (find_longest (λ some. fits queue some) done (x ∷ xs) fit (λ more. fits-more queue done more x stops)) refl) fit stops)
+    ]
+
+pub window_cut : {T : Type 0} (queue : Queue T) → (left : List (Req T)) × IsCut queue (row queue.waiting) left
+window_cut queue = cut_at queue [] (row queue.waiting) refl
 
 -- ---- the three lists
 

@@ -7,3 +7,4 @@ pub mod Admission
 pub mod Kept
 pub mod Turn
 pub mod Reach
+pub mod Laws

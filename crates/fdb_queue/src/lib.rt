@@ -8,6 +8,7 @@
 mod budgets;
 mod config;
 mod error;
+pub mod laws;
 mod queue;
 mod request;
 mod turn;
