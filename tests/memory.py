@@ -12,7 +12,7 @@ SOURCE = f"{ROOT}/tests/refuse.c"
 LARGE = [[("ask", 9 * it) for it in range(500)], [("report", it + 1) for it in range(500)], [("grv", None)] * 500]
 MOST_RUNS = 2_000
 # The tests that pass whichever single allocation is refused: of each crate those whose names have this word.
-BEARING = {"fdb_history": "", "fdb_chain": "", "fdb_replay": "refused_memory_is_borne"}
+BEARING = {"fdb_history": "", "fdb_chain": "", "fdb_queue": "refused_memory_is_borne", "fdb_replay": "refused_memory_is_borne"}
 PASSED = done(b"\ntest result: ok\n")
 
 

@@ -1,14 +1,11 @@
 -- A queue stays one when a request is let in.
-use Rattle.std.proofs.Common.{◌≡◌, ℕ, zero, suc, ◌+◌, ◌-◌, ◌≤◌, ◌<◌, ◌==◌, ◌&&◌, ◌⊎◌, inl, inr, Bool, true, false, List, [], ◌∷◌, ◌++◌, length, drop, Option, None, Some, refl, sym, ap, arith, rules, length-append, length-drop}
+use Rattle.std.proofs.Common.{◌≡◌, ℕ, suc, ◌+◌, ◌<◌, ◌==◌, ◌&&◌, Bool, true, false, List, [], ◌∷◌, ◌++◌, length, drop, None, Some, refl, arith, length-append}
 use Rattle.std.specs.Prelude.{All, if◌then◌else◌, not}
 use Rattle.std.proofs.lemmas.List.Elements.{All-push, All-drop}
 use Rattle.std.proofs.lemmas.Bool.Decides.{nat_tests}
-use Rattle.std.proofs.lemmas.Grind.{common_steps}
 use Rattle.fdb_history.specs.declared.grv.Priority.{Priority}
 use Rattle.fdb_history.specs.declared.grv.Priority.TheVariants.{System, Default, Batch}
-use Rattle.fdb_queue.specs.declared.budgets.Budgets.{Budgets}
 use Rattle.fdb_queue.specs.declared.config.QueueConfig.{QueueConfig}
-use Rattle.fdb_queue.specs.declared.error.QueueError.{QueueError}
 use Rattle.fdb_queue.specs.declared.request.Req.{Req}
 use Rattle.fdb_queue.specs.Admission.{refusal_of, admitted, without_oldest, is_full, is_count, is_throttled, below}
 use Rattle.fdb_queue.specs.Kept.{IsQueue, IsAdmitted}
@@ -119,7 +116,7 @@ lowest_of waiting Default some = grind (arith, nat_tests)
 lowest_of waiting Batch some = cc
 
 admitted_at : {T : Type 0} (queue : Queue T) (request : Req T) (waiting : Requests T) → IsQueue queue → is_count queue.config request.priority request.count ≡ true
-  → AreAdmitted queue.config waiting → length (row waiting) < queue.config.room → IsQueue (record queue { waiting = with_last waiting request request.priority })
+    → AreAdmitted queue.config waiting → length (row waiting) < queue.config.room → IsQueue (record queue { waiting = with_last waiting request request.priority })
 admitted_at queue request waiting h count own room =
     let kept = AreAdmitted-with_last queue.config waiting request request.priority refl count own in
     let longer = length_row-with_last waiting request request.priority in
@@ -129,11 +126,11 @@ admitted_at queue request waiting h count own room =
       default_ = kept.default_;
       batch = kept.batch;
       room = omega arith;
-      budgets = h.budgets
+      budgets = h.budgets;
     }
 
 admitted_by : {T : Type 0} (queue : Queue T) (request : Req T) (full : Bool) → is_full queue ≡ full → IsQueue queue → IsLetIn queue request
-  → IsQueue (record queue { waiting = with_last (if full then without_oldest queue.waiting else queue.waiting) request request.priority })
+    → IsQueue (record queue { waiting = with_last (if full then without_oldest queue.waiting else queue.waiting) request request.priority })
 admitted_by queue request true full h let_in =
     let own : AreAdmitted queue.config queue.waiting = record { system = h.system; default_ = h.default_; batch = h.batch } in
     let shorter = length_row-without_oldest queue.waiting (lowest_of queue.waiting request.priority (let_in.room full)) in

@@ -1,8 +1,8 @@
 -- Laws of windows.
-use Rattle.std.proofs.Common.{◌≡◌, ℕ, zero, suc, ◌+◌, ◌-◌, ◌*◌, ◌≤◌, ◌<◌, ◌&&◌, ◌⊎◌, inl, inr, Bool, true, false, List, [], ◌∷◌, ◌++◌, length, take, drop, refl, sym, ap, ◌∙◌, arith, length-append}
+use Rattle.std.proofs.Common.{◌≡◌, ℕ, suc, ◌+◌, ◌-◌, ◌*◌, ◌≤◌, ◌<◌, ◌&&◌, ◌⊎◌, inl, inr, true, false, List, [], ◌∷◌, ◌++◌, length, take, refl, sym, ap, ◌∙◌, arith, length-append}
 use Rattle.std.specs.Prelude.{nat_le, nat_lt, All}
 use Rattle.std.proofs.lemmas.Bool.Decides.{nat_tests}
-use Rattle.std.proofs.lemmas.List.{take_at, take_all, append_cancel_left, take-append-drop}
+use Rattle.std.proofs.lemmas.List.{take_at, append_cancel_left}
 use Rattle.std.proofs.Math.Seq.{take-append-add}
 use Rattle.std.proofs.lemmas.List.Elements.{All-head, All-tail, All-take, All-append, All-weaker, All-same}
 use Rattle.fdb_history.specs.declared.grv.Priority.{Priority}
@@ -15,8 +15,8 @@ use Rattle.fdb_queue.specs.Kept.{IsQueue, IsAdmitted}
 use Rattle.fdb_queue.specs.Queue.{Queue}
 use Rattle.fdb_queue.specs.Waiting.{row, total}
 use Rattle.fdb_queue.specs.Window.{may_start, each_may_start, fits, window}
-use Rattle.fdb_queue.proofs.Fitting.{total-cons, and_true, and_false, each_after, each_may_start-after, fits-append, fits-prefix, fits-more}
-use Rattle.fdb_queue.proofs.Walking.{IsCut, window_cut, Blocked, bool_cases, longest}
+use Rattle.fdb_queue.proofs.Fitting.{total-cons, and_true, and_false, each_after, fits-append, fits-more}
+use Rattle.fdb_queue.proofs.Walking.{window_cut, Blocked}
 
 pub prefix : {T : Type 0} (queue : Queue T) → window queue ≡ take (length (window queue)) (row queue.waiting)
 prefix queue =
@@ -32,29 +32,29 @@ in_range queue =
     grind (arith, nat_tests)
 
 pub starts : {T : Type 0} (queue : Queue T) (before after : List (Req T)) (request : Req T) → window queue ≡ before ++ request ∷ after
-  → may_start queue.config queue.budgets request.priority (total before + request.count) ≡ true
+    → may_start queue.config queue.budgets request.priority (total before + request.count) ≡ true
 starts queue before after request is =
     let whole = sym (fits-append queue before after request) ∙ sym (ap (λ some. fits queue some) is) ∙ fit_window queue in
     let later = (and_true (nat_le (length (before ++ request ∷ after)) MAX_STARTED)
-      (each_after queue.config queue.budgets 0 before && (may_start queue.config queue.budgets request.priority (total before + request.count) && each_after queue.config queue.budgets (total before + request.count) after)) whole).1 in
+    (each_after queue.config queue.budgets 0 before && (may_start queue.config queue.budgets request.priority (total before + request.count) && each_after queue.config queue.budgets (total before + request.count) after)) whole).1 in
     let here = (and_true (each_after queue.config queue.budgets 0 before)
-      (may_start queue.config queue.budgets request.priority (total before + request.count) && each_after queue.config queue.budgets (total before + request.count) after) later).1 in
+    (may_start queue.config queue.budgets request.priority (total before + request.count) && each_after queue.config queue.budgets (total before + request.count) after) later).1 in
     (and_true (may_start queue.config queue.budgets request.priority (total before + request.count)) (each_after queue.config queue.budgets (total before + request.count) after) here).0
 
 pub head : {T : Type 0} (queue : Queue T) (left : List (Req T)) (next : Req T) → row queue.waiting ≡ window queue ++ next ∷ left
-  → (length (window queue) ≡ MAX_STARTED) ⊎ (may_start queue.config queue.budgets next.priority (total (window queue) + next.count) ≡ false)
+    → (length (window queue) ≡ MAX_STARTED) ⊎ (may_start queue.config queue.budgets next.priority (total (window queue) + next.count) ≡ false)
 head queue left next is =
     let cut = window_cut queue in
     let same = append_cancel_left (window queue) cut.0 (next ∷ left) (sym cut.1.both ∙ is) in
     let blocked : Blocked queue (window queue) (next ∷ left) = rw same at cut.1.blocked in
     let room = in_range queue in
     elim (and_false (nat_lt (length (window queue)) MAX_STARTED) (may_start queue.config queue.budgets next.priority (total (window queue) + next.count)) blocked) [
-      inl full ↦ inl (grind (arith, nat_tests))
-    | inr held ↦ inr held
+      | inl full ↦ inl (grind (arith, nat_tests))
+      | inr held ↦ inr held
     ]
 
 longer_than : {T : Type 0} (queue : Queue T) (started left : List (Req T)) (count : ℕ) → Blocked queue started left → length started < count → count ≤ length (started ++ left)
-  → fits queue (take count (started ++ left)) ≡ false
+    → fits queue (take count (started ++ left)) ≡ false
 longer_than queue started [] count blocked more within = absurd (omega (arith, length-append started []))
 longer_than queue started (x ∷ xs) count blocked more within =
     let further : count ≡ length started + suc (count - length started - 1) = omega arith in
@@ -84,7 +84,7 @@ pub bounded : {T : Type 0} (queue : Queue T) → IsQueue queue → total (window
 bounded {T = T} queue h =
     let Small : Req T → Type 0 = λ request. request.count ≤ MAX_COUNT in
     let all = All-append Small (queue.waiting.system ++ queue.waiting.default_) queue.waiting.batch
-      (All-append Small queue.waiting.system queue.waiting.default_ (counts_of queue.config System queue.waiting.system h.system) (counts_of queue.config Default queue.waiting.default_ h.default_))
-      (counts_of queue.config Batch queue.waiting.batch h.batch) in
+    (All-append Small queue.waiting.system queue.waiting.default_ (counts_of queue.config System queue.waiting.system h.system) (counts_of queue.config Default queue.waiting.default_ h.default_))
+    (counts_of queue.config Batch queue.waiting.batch h.batch) in
     let started = All-same Small (window queue) (take (length (window queue)) (row queue.waiting)) (prefix queue) (All-take Small (length (window queue)) (row queue.waiting) all) in
     omega (arith, total_within (window queue) started, in_range queue)

@@ -1,6 +1,6 @@
 -- What a window leaves.
-use Rattle.std.proofs.Common.{◌≡◌, ℕ, zero, suc, ◌+◌, ◌-◌, ◌*◌, ◌≤◌, ◌<◌, ◌==◌, Bool, true, false, List, [], ◌∷◌, ◌++◌, length, take, drop, refl, sym, ap, ◌∙◌, arith, length-append, length-drop}
-use Rattle.std.specs.Prelude.{All, filter}
+use Rattle.std.proofs.Common.{◌≡◌, ℕ, ◌+◌, ◌==◌, Bool, true, false, List, [], ◌∷◌, ◌++◌, length, take, drop, refl, ap, ◌∙◌, arith, length-append, length-drop}
+use Rattle.std.specs.Prelude.{All}
 use Rattle.std.proofs.lemmas.List.{append-nil, length-take-le}
 use Rattle.std.proofs.lemmas.List.Elements.{All-head, All-tail, All-take, All-drop, filter-append}
 use Rattle.std.proofs.lemmas.List.Sums.{sum_by-append}
@@ -126,6 +126,6 @@ IsQueue-after_window queue elapsed h =
       room = simp (length-append, length-drop) (omega (arith, simp length-append at h.room));
       budgets = record {
         normal = cut_in_range (length (without started queue.waiting).system + length (without started queue.waiting).default_ == 0) _;
-        batch = cut_in_range (length (row (without started queue.waiting)) == 0) _
-      }
+        batch = cut_in_range (length (row (without started queue.waiting)) == 0) _;
+      };
     }

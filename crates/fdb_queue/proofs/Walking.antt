@@ -1,22 +1,20 @@
 -- A turn that goes along the row starts the window.
-use Rattle.std.proofs.Common.{◌≡◌, ℕ, zero, suc, ◌+◌, ◌-◌, ◌*◌, ◌≤◌, ◌<◌, ◌&&◌, ◌⊎◌, inl, inr, Bool, true, false, List, [], ◌∷◌, ◌++◌, length, take, Option, None, Some, fold, refl, sym, ap, ◌∙◌, arith, rules, add-zero, length-append, append_assoc, subst}
-use Rattle.std.specs.Prelude.{nat_le, nat_lt, find, unwrap_or}
+use Rattle.std.proofs.Common.{◌≡◌, ℕ, suc, ◌+◌, ◌-◌, ◌≤◌, ◌<◌, ◌&&◌, ◌⊎◌, inl, inr, Bool, true, false, List, [], ◌∷◌, ◌++◌, length, take, Some, fold, refl, sym, ap, ◌∙◌, arith, add-zero, length-append, append_assoc}
+use Rattle.std.specs.Prelude.{nat_lt, find, unwrap_or}
 use Rattle.std.proofs.lemmas.List.{append-nil, take-append-le, take_all, take_at}
 use Rattle.std.proofs.Math.Seq.{take-append-add}
 use Rattle.std.proofs.lemmas.List.Folds.{fold_stays}
 use Rattle.std.proofs.lemmas.List.Sums.{fold-append, sum_by-append, sum_by_push}
 use Rattle.fdb_queue.specs.declared.budgets.Budgets.{Budgets}
 use Rattle.fdb_queue.specs.declared.config.QueueConfig.{QueueConfig}
-use Rattle.fdb_queue.specs.declared.config.TheConstants.{MAX_STARTED, MAX_COUNT}
+use Rattle.fdb_queue.specs.declared.config.TheConstants.{MAX_STARTED}
 use Rattle.fdb_queue.specs.declared.request.Req.{Req}
 use Rattle.fdb_queue.specs.declared.turn.Turn.{Turn}
-use Rattle.fdb_queue.specs.declared.waiting.Lengths.{Lengths}
-use Rattle.fdb_queue.specs.declared.waiting.Reach.{Reach}
 use Rattle.fdb_queue.specs.Queue.{Queue}
 use Rattle.fdb_queue.specs.Reach.{IsReach}
 use Rattle.fdb_queue.specs.Turn.{turn_after, IsTurn}
-use Rattle.fdb_queue.specs.Waiting.{Requests, row, total}
-use Rattle.fdb_queue.specs.Window.{may_start, prefixes, fits, window}
+use Rattle.fdb_queue.specs.Waiting.{row, total}
+use Rattle.fdb_queue.specs.Window.{may_start, prefixes, fits}
 use Rattle.fdb_queue.proofs.Fitting.{total-cons, fits-more, fits-push}
 use Rattle.fdb_queue.proofs.LongestPrefix.{find_longest}
 
@@ -155,20 +153,20 @@ pub record IsCut {T : Type 0} (queue : Queue T) (requests left : List (Req T)) :
   pub blocked : Blocked queue (longest queue requests) left
 
 cut_here : {T : Type 0} (queue : Queue T) (done rest : List (Req T)) → longest queue (done ++ rest) ≡ done → fits queue done ≡ true → Blocked queue done rest
-  → IsCut queue (done ++ rest) rest
+    → IsCut queue (done ++ rest) rest
 cut_here queue done rest is fit blocked = record {
   both = ap (λ some. some ++ rest) (sym is);
   fit = rw is fit;
-  blocked = rw is blocked
+  blocked = rw is blocked;
 }
 
 pub cut_at : {T : Type 0} (queue : Queue T) (done rest : List (Req T)) → fits queue done ≡ true → (left : List (Req T)) × IsCut queue (done ++ rest) left
 cut_at queue done [] fit = ([], cut_here queue done [] (rw (find_longest (λ some. fits queue some) done [] fit tt) refl) fit tt)
 cut_at {T = T} queue done (x ∷ xs) fit =
     elim (bool_cases (goes_on queue.config queue.budgets (turn_of done) x)) [
-      inl goes ↦
-        (let next : (left : List (Req T)) × IsCut queue (done ++ x ∷ [] ++ xs) left = cut_at queue (done ++ x ∷ []) xs (fits-push queue done x fit goes) in rw append_assoc at next)
-    | inr stops ↦ (x ∷ xs, cut_here queue done (x ∷ xs) (rw (find_longest (λ some. fits queue some) done (x ∷ xs) fit (λ more. fits-more queue done more x stops)) refl) fit stops)
+      | inl goes ↦
+          (let next : (left : List (Req T)) × IsCut queue (done ++ x ∷ [] ++ xs) left = cut_at queue (done ++ x ∷ []) xs (fits-push queue done x fit goes) in rw append_assoc at next)
+      | inr stops ↦ (x ∷ xs, cut_here queue done (x ∷ xs) (rw (find_longest (λ some. fits queue some) done (x ∷ xs) fit (λ more. fits-more queue done more x stops)) refl) fit stops)
     ]
 
 pub window_cut : {T : Type 0} (queue : Queue T) → (left : List (Req T)) × IsCut queue (row queue.waiting) left

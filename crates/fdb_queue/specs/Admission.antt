@@ -1,5 +1,5 @@
 -- What becomes of a request that is offered to a queue. (this product's own)
-use Rattle.std.specs.Prelude.{ℕ, ◌+◌, Bool, true, false, ◌&&◌, ◌||◌, not, ◌==◌, nat_lt, nat_le, if◌then◌else◌, List, [], ◌∷◌, ◌++◌, length, drop, Option, None, Some, ◌≡◌}
+use Rattle.std.specs.Prelude.{ℕ, ◌+◌, Bool, false, ◌&&◌, not, ◌==◌, nat_le, if◌then◌else◌, List, [], ◌++◌, length, drop, Option, None, Some, ◌≡◌}
 use Rattle.fdb_history.specs.declared.grv.Priority.{Priority}
 use Rattle.fdb_history.specs.declared.grv.Priority.TheVariants.{System, Default, Batch}
 use Rattle.fdb_queue.specs.declared.config.QueueConfig.{QueueConfig}

@@ -1,5 +1,5 @@
 -- What a queue keeps to.
-use Rattle.std.specs.Prelude.{ℕ, ◌*◌, ◌≤◌, ◌≡◌, true, List, All, length}
+use Rattle.std.specs.Prelude.{ℕ, ◌*◌, ◌≤◌, ◌≡◌, true, All, length}
 use Rattle.fdb_history.specs.declared.grv.Priority.{Priority}
 use Rattle.fdb_history.specs.declared.grv.Priority.TheVariants.{System, Default, Batch}
 use Rattle.fdb_queue.specs.declared.budgets.Budgets.{Budgets}
@@ -9,7 +9,7 @@ use Rattle.fdb_queue.specs.declared.request.Req.{Req}
 use Rattle.fdb_queue.specs.Admission.{is_count}
 use Rattle.fdb_queue.specs.Config.{IsConfig}
 use Rattle.fdb_queue.specs.Queue.{Queue}
-use Rattle.fdb_queue.specs.Waiting.{Requests, row}
+use Rattle.fdb_queue.specs.Waiting.{row}
 
 -- a request has the priority of its list and a count that is admitted
 pub record IsAdmitted {T : Type 0} (config : QueueConfig) (priority : Priority) (request : Req T) : Type 0 where

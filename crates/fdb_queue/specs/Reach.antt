@@ -1,5 +1,5 @@
 -- How far a window comes, by the number of requests of each list. (private to the crate)
-use Rattle.std.specs.Prelude.{◌≡◌, ℕ, ◌+◌, ◌*◌, ◌≤◌, ◌++◌, take, length}
+use Rattle.std.specs.Prelude.{◌≡◌, ◌+◌, ◌*◌, ◌≤◌, ◌++◌, take, length}
 use Rattle.fdb_queue.specs.declared.config.TheConstants.{MAX_COUNT, MAX_STARTED}
 use Rattle.fdb_queue.specs.declared.waiting.Reach.{Reach}
 use Rattle.fdb_queue.specs.Queue.{Queue}

@@ -1,5 +1,5 @@
 -- How far a window has come in the row. (private to the crate)
-use Rattle.std.specs.Prelude.{ℕ, ◌+◌, ◌*◌, ◌≤◌, ◌&&◌, true, false, nat_lt, if◌then◌else◌, List, fold}
+use Rattle.std.specs.Prelude.{◌+◌, ◌*◌, ◌≤◌, ◌&&◌, true, false, nat_lt, if◌then◌else◌}
 use Rattle.fdb_queue.specs.Window.{may_start}
 use Rattle.fdb_queue.specs.declared.budgets.Budgets.{Budgets}
 use Rattle.fdb_queue.specs.declared.config.QueueConfig.{QueueConfig}

@@ -1,6 +1,6 @@
 -- Which requests a window starts, and what it leaves. (the order is that of `transactionStarter` of GrvProxyServer;
 -- the rates, the budgets and the bounds are this product's own)
-use Rattle.std.specs.Prelude.{ℕ, ◌+◌, Bool, true, false, ◌&&◌, ◌==◌, nat_le, List, [], ◌∷◌, ◌++◌, map, find, unwrap_or, length, drop}
+use Rattle.std.specs.Prelude.{ℕ, ◌+◌, Bool, true, ◌&&◌, ◌==◌, nat_le, List, [], ◌∷◌, ◌++◌, map, find, unwrap_or, length, drop}
 use Rattle.std.specs.List.{list_all}
 use Rattle.fdb_history.specs.declared.grv.Priority.{Priority}
 use Rattle.fdb_history.specs.declared.grv.Priority.TheVariants.{System, Default, Batch}

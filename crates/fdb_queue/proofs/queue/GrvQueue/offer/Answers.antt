@@ -1,4 +1,4 @@
-use Rattle.std.proofs.Common.{◌≡◌, refl, sym, ◌∙◌}
+use Rattle.std.proofs.Common.{sym, ◌∙◌}
 use Rattle.fdb_queue.proofs.Admitting.{IsQueue-pushed_out, let_in}
 use Rattle.fdb_queue.proofs.queue.GrvQueue.offer.Goals as goal
 

@@ -1,4 +1,3 @@
-use Rattle.std.proofs.Common.{◌≡◌, arith, refl}
 use Rattle.fdb_queue.proofs.Leaving.{after_is, IsQueue-left}
 use Rattle.fdb_queue.proofs.queue.GrvQueue.window.Goals as goal
 

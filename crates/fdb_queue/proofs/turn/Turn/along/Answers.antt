@@ -1,13 +1,10 @@
-use Rattle.std.proofs.Common.{◌≡◌, ◌≤◌, ℕ, true, refl, sym, ◌∙◌, fold, ap, rules}
+use Rattle.std.proofs.Common.{◌≤◌, sym, ◌∙◌}
 use Rattle.std.proofs.lemmas.List.Elements.{All-rest}
 use Rattle.std.proofs.lemmas.List.Folds.{fold_stays}
 use Rattle.std.specs.VecDeque.Iter.{deque_iter_rest}
 use Rattle.fdb_queue.specs.Turn.{turn_after}
-use Rattle.fdb_queue.specs.declared.budgets.Budgets.{Budgets}
-use Rattle.fdb_queue.specs.declared.config.QueueConfig.{QueueConfig}
 use Rattle.fdb_queue.specs.declared.config.TheConstants.{MAX_COUNT}
-use Rattle.fdb_queue.specs.declared.request.Req.{Req}
-use Rattle.fdb_queue.specs.declared.turn.Turn.{Turn}
+use Rattle.fdb_queue.proofs.Walking.{ended_stays}
 use Rattle.fdb_queue.proofs.turn.Turn.along.Goals as goal
 
 pub loop-request-preserved : goal.loop-request-preserved
@@ -16,10 +13,6 @@ loop-request-preserved g c = (
   All-rest (λ request. request.count ≤ MAX_COUNT) c.in-Some.request.now (deque_iter_rest c.next.new.self) (deque_iter_rest c.loop-request.request-iterator) c.in-Some.ensures.steps c.loop-request.invariant.1,
   rw c.after-turn.ensures.value (rw c.in-Some.ensures.steps at c.loop-request.invariant.2),
 )
-
--- a turn that has ended stays as it is
-ended_stays : {T : Type 0} (config : QueueConfig) (budgets : Budgets) (turn : Turn) (request : Req T) → turn.ended ≡ true → turn_after config budgets turn request ≡ turn
-ended_stays config budgets turn request ended = rw ended refl
 
 pub returns-then-turn-clause-value : goal.returns-then-turn-clause-value
 returns-then-turn-clause-value g c =
