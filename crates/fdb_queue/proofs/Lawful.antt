@@ -80,11 +80,15 @@ count_within config Batch request h = grind (arith, nat_tests)
 counts_of : {T : Type 0} (config : QueueConfig) (priority : Priority) (requests : List (Req T)) → All (IsAdmitted config priority) requests → All (λ request. request.count ≤ MAX_COUNT) requests
 counts_of {T = T} config priority requests all = All-weaker (IsAdmitted {T = T} config priority) (λ request. request.count ≤ MAX_COUNT) (λ request admitted. count_within config priority request admitted.count) requests all
 
+pub counts_in_row : {T : Type 0} (queue : Queue T) → IsQueue queue → All (λ request. request.count ≤ MAX_COUNT) (row queue.waiting)
+counts_in_row {T = T} queue h =
+    let Small : Req T → Type 0 = λ request. request.count ≤ MAX_COUNT in
+    All-append Small (queue.waiting.system ++ queue.waiting.default_) queue.waiting.batch
+      (All-append Small queue.waiting.system queue.waiting.default_ (counts_of queue.config System queue.waiting.system h.system) (counts_of queue.config Default queue.waiting.default_ h.default_))
+      (counts_of queue.config Batch queue.waiting.batch h.batch)
+
 pub bounded : {T : Type 0} (queue : Queue T) → IsQueue queue → total (window queue) ≤ 1000000000
 bounded {T = T} queue h =
     let Small : Req T → Type 0 = λ request. request.count ≤ MAX_COUNT in
-    let all = All-append Small (queue.waiting.system ++ queue.waiting.default_) queue.waiting.batch
-    (All-append Small queue.waiting.system queue.waiting.default_ (counts_of queue.config System queue.waiting.system h.system) (counts_of queue.config Default queue.waiting.default_ h.default_))
-    (counts_of queue.config Batch queue.waiting.batch h.batch) in
-    let started = All-same Small (window queue) (take (length (window queue)) (row queue.waiting)) (prefix queue) (All-take Small (length (window queue)) (row queue.waiting) all) in
+    let started = All-same Small (window queue) (take (length (window queue)) (row queue.waiting)) (prefix queue) (All-take Small (length (window queue)) (row queue.waiting) (counts_in_row queue h)) in
     omega (arith, total_within (window queue) started, in_range queue)

@@ -5,3 +5,4 @@ pub mod Walking
 pub mod Leaving
 pub mod Lawful
 pub mod Lost
+pub mod Turning

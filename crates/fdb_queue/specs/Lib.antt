@@ -8,3 +8,4 @@ pub mod Kept
 pub mod Turn
 pub mod Reach
 pub mod Laws
+pub mod Waits

@@ -10,6 +10,9 @@ ghost use Rattle.fdb_queue.specs.Kept.{IsQueue};
 ghost use Rattle.fdb_queue.specs.Laws.{list_of, rank};
 ghost use Rattle.fdb_queue.specs.Queue.{Queue};
 ghost use Rattle.fdb_queue.specs.Waiting.{row, total};
+ghost use Rattle.std.specs.Int.{div_ceil};
+ghost use Rattle.fdb_queue.specs.Waits.{after_windows, IsSure, limit_of};
+ghost use Rattle.fdb_queue.specs.declared.budgets.Budgets.{Budgets};
 ghost use Rattle.fdb_queue.specs.Window.{may_start, fits, window, after_window};
 ghost use Rattle.fdb_queue.specs.declared.config.TheConstants.{IDLE_BURST, MAX_BURST, MAX_STARTED, RATE_WINDOW};
 ghost use Rattle.fdb_queue.specs.declared.request.Req.{Req};
@@ -64,4 +67,14 @@ pub fn only_the_oldest_is_pushed_out<T>()
 pub fn nobody_is_lost<T>()
     ensures { (queue : Queue T) (request : Req T) → refusal_of queue request ≡ None
         → IsPermutation (request ∷ row queue.waiting) (option_to_list (pushed_out queue request) ++ row (admitted queue request).waiting) }
+{}
+
+/// A request that is first in the row and sure to start waits no more windows of one length than its count divided by what
+/// its limit grants in one, rounded up: whatever the budgets are, more windows with no offer between them do not all
+/// start nothing.
+pub fn waits_are_bounded<T>()
+    ensures { (queue : Queue T) (budgets : Budgets) (first : Req T) (left : List (Req T)) (elapsed idle : ℕ)
+        → IsQueue queue → 1 ≤ elapsed → row queue.waiting ≡ first ∷ left → IsSure queue.config first.priority first.count
+        → ((before : ℕ) → before < idle → window (after_windows elapsed before (record queue { budgets = budgets })) ≡ [])
+        → idle ≤ div_ceil (first.count * RATE_WINDOW) (elapsed * limit_of queue.config first.priority) }
 {}

@@ -1,14 +1,17 @@
 //! The queue of a GRV proxy.
 
-ghost use Rattle.std.specs.Prelude.{◌≡◌, ◌+◌, ◌<◌, ◌≤◌, ◌⊎◌, ◌↔◌, ◌∷◌, ◌++◌, ◌^◌, ◌==◌, [], length, drop, if◌then◌else◌, OnOk, OnErr, IfOk, IfErr};
+ghost use Rattle.std.specs.Prelude.{◌≡◌, ◌+◌, ◌<◌, ◌≤◌, ◌⊎◌, ◌↔◌, ◌∷◌, ◌++◌, ◌^◌, ◌==◌, [], length, drop, if◌then◌else◌, OnOk, OnErr, IfOk, IfErr, IsSome, IfSome, IsSomeAnd};
 ghost use Rattle.fdb_queue.specs.Admission.{refusal_of, admitted, pushed_out, is_full, IsCause};
 ghost use Rattle.fdb_queue.specs.Config.{IsConfig, IsElapsed};
 ghost use Rattle.fdb_queue.specs.Kept.{IsQueue};
 ghost use Rattle.fdb_queue.specs.Queue.{new_queue};
+ghost use Rattle.fdb_queue.specs.Waiting.{first, row};
+ghost use Rattle.fdb_queue.specs.Waits.{budget_of, IsSure, limit_of, StartsAfter};
+ghost use Rattle.fdb_queue.specs.declared.config.TheConstants.{MAX_COUNT};
 ghost use Rattle.fdb_queue.specs.Window.{window, after_window};
 
 use crate::budgets::{self, Budgets};
-use crate::config::{MAX_ELAPSED, QueueConfig};
+use crate::config::{MAX_ELAPSED, QueueConfig, RATE_WINDOW};
 use crate::error::QueueError;
 use crate::request::Req;
 use crate::waiting::{Lengths, Waiting};
@@ -125,6 +128,40 @@ impl<T> GrvQueue<T> {
             ),
         };
         Ok(started)
+    }
+
+    /// How many windows of `elapsed` microseconds, with no offer between them, start nothing before one starts something. It
+    /// is computed from the head of the row and takes constant time and no memory.
+    ///
+    /// It is `None` where that is not certain or nothing waits: in an empty row, for a system request, which any window
+    /// starts, for a batch request that the normal rate may hold or whose own limit is 0, and for a time out of range.
+    pub fn waits(&self, elapsed: u64) -> Option<u64>
+        ensures covered { IsSome result ↔ (IsElapsed elapsed × IsSomeAnd (first (row self.now.waiting)) (λ head. IsSure self.now.config head.priority head.count)) }
+        ensures exact { IfSome result (λ count. StartsAfter elapsed self.now count) }
+    {
+        if elapsed == 0 || elapsed > MAX_ELAPSED {
+            return None;
+        }
+        let head = self.waiting.head()?;
+        let (limit, budget) = self.rate_of(head.priority, head.count)?;
+        let needed = head.count * RATE_WINDOW;
+        let missing = needed.saturating_sub(limit * RATE_WINDOW + budget);
+        Some(missing.div_ceil(elapsed * limit))
+    }
+
+    /// The limit and the budget of the rate that alone holds a request at the head of the row, if one does.
+    fn rate_of(&self, priority: Priority, count: u64) -> Option<(u64, u64)>
+        requires { count ≤ MAX_COUNT }
+        ensures sure { IsSome result ↔ IsSure self.now.config priority count }
+        ensures rate { IfSome result (λ rate. (rate.0 ≡ limit_of self.now.config priority) × (rate.1 ≡ budget_of self.now.budgets priority)) }
+    {
+        match priority {
+            Priority::Default => Some((self.config.normal, self.budgets.normal)),
+            Priority::Batch if count <= self.config.normal && self.config.batch > 0 => {
+                Some((self.config.batch, self.budgets.batch))
+            }
+            _ => None,
+        }
     }
 
     /// Why a request is refused, if it is, and not for memory.

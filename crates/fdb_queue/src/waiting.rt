@@ -1,6 +1,7 @@
 //! The requests that wait, by priority.
 
 ghost use Rattle.std.specs.Prelude.{◌≡◌, ◌+◌, ◌<◌, ◌^◌, ◌==◌, ◌++◌, not, length, take, drop, vec_len, vec_capacity, IsOk, IfOk, ◌≤◌, if◌then◌else◌, OnOk, OnErr, IfErr};
+ghost use Rattle.std.specs.Option.{option_copied};
 ghost use Rattle.fdb_queue.specs.Admission.{below, without_oldest};
 ghost use Rattle.fdb_queue.specs.Kept.{IsQueue};
 ghost use Rattle.fdb_queue.specs.Reach.{IsReach};
@@ -86,6 +87,19 @@ impl<T> Waiting<T> {
         ensures { result ≡ length (row self.now) }
     {
         self.system.len() + self.default_.len() + self.batch.len()
+    }
+
+    /// The first of the row.
+    pub(crate) fn head(&self) -> Option<&Req<T>>
+        ensures { option_copied result ≡ first (row self.now) }
+    {
+        if let Some(head) = self.system.front() {
+            return Some(head);
+        }
+        if let Some(head) = self.default_.front() {
+            return Some(head);
+        }
+        self.batch.front()
     }
 
     /// Whether there are requests that one of this priority may push out.
