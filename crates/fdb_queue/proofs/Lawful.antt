@@ -84,8 +84,8 @@ pub counts_in_row : {T : Type 0} (queue : Queue T) → IsQueue queue → All (λ
 counts_in_row {T = T} queue h =
     let Small : Req T → Type 0 = λ request. request.count ≤ MAX_COUNT in
     All-append Small (queue.waiting.system ++ queue.waiting.default_) queue.waiting.batch
-      (All-append Small queue.waiting.system queue.waiting.default_ (counts_of queue.config System queue.waiting.system h.system) (counts_of queue.config Default queue.waiting.default_ h.default_))
-      (counts_of queue.config Batch queue.waiting.batch h.batch)
+    (All-append Small queue.waiting.system queue.waiting.default_ (counts_of queue.config System queue.waiting.system h.system) (counts_of queue.config Default queue.waiting.default_ h.default_))
+    (counts_of queue.config Batch queue.waiting.batch h.batch)
 
 pub bounded : {T : Type 0} (queue : Queue T) → IsQueue queue → total (window queue) ≤ 1000000000
 bounded {T = T} queue h =

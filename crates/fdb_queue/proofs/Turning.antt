@@ -45,7 +45,7 @@ missing queue request = request.count * RATE_WINDOW - (limit_of queue.config req
 -- ---- whether a window starts something
 
 held : {T : Type 0} (queue : Queue T) (request : Req T) (left : List (Req T)) → row queue.waiting ≡ request ∷ left
-  → may_start queue.config queue.budgets request.priority request.count ≡ false → window queue ≡ []
+    → may_start queue.config queue.budgets request.priority request.count ≡ false → window queue ≡ []
 held {T = T} queue request left is stays =
     let none : total {T = T} [] + request.count ≡ request.count = omega arith in
     let stops : may_start queue.config queue.budgets request.priority (total {T = T} [] + request.count) ≡ false = ap (λ sum. may_start queue.config queue.budgets request.priority sum) none ∙ stays in
@@ -53,22 +53,22 @@ held {T = T} queue request left is stays =
     ∙ rw (find_longest (λ some. fits queue some) [] (request ∷ left) refl (λ more. fits-more queue [] more request (rw stops refl))) refl
 
 not_both : {T : Type 0} (queue : Queue T) (request : Req T) (left : List (Req T)) → row queue.waiting ≡ request ∷ left
-  → may_start queue.config queue.budgets request.priority request.count ≡ true → window queue ≡ [] → ⊥
+    → may_start queue.config queue.budgets request.priority request.count ≡ true → window queue ≡ [] → ⊥
 not_both queue request left is goes none =
     let after : row queue.waiting ≡ window queue ++ request ∷ left = is ∙ ap (λ some. some ++ request ∷ left) (sym none) in
     let sum : total (window queue) + request.count ≡ request.count = ap (λ some. total some + request.count) none ∙ zero-add request.count in
     let empty : length (window queue) ≡ 0 = ap (λ some. length some) none in
     elim (head queue left request after) [
-      inl full ↦ omega arith
-    | inr stays ↦ (let both : true ≡ false = sym goes ∙ ap (λ some. may_start queue.config queue.budgets request.priority some) (sym sum) ∙ stays in cc)
+      | inl full ↦ omega arith
+      | inr stays ↦ (let both : true ≡ false = sym goes ∙ ap (λ some. may_start queue.config queue.budgets request.priority some) (sym sum) ∙ stays in cc)
     ]
 
 started : {T : Type 0} (queue : Queue T) (request : Req T) (left : List (Req T)) → row queue.waiting ≡ request ∷ left
-  → may_start queue.config queue.budgets request.priority request.count ≡ true → 0 < length (window queue)
+    → may_start queue.config queue.budgets request.priority request.count ≡ true → 0 < length (window queue)
 started queue request left is goes =
     elim (bool_cases (length (window queue) == 0)) [
-      inl none ↦ absurd (not_both queue request left is goes (nil_from_length (window queue) (grind (arith, nat_tests))))
-    | inr some ↦ grind (arith, nat_tests)
+      | inl none ↦ absurd (not_both queue request left is goes (nil_from_length (window queue) (grind (arith, nat_tests))))
+      | inr some ↦ grind (arith, nat_tests)
     ]
 
 -- The first of the row may start where nothing is missing.
@@ -83,7 +83,7 @@ and-true true = refl
 and-true false = refl
 
 may_by : (config : QueueConfig) (budgets : Budgets) (priority : Priority) (count : ℕ) → IsConfig config → IsSure config priority count
-  → may_start config budgets priority count ≡ nat_le (count * RATE_WINDOW - (limit_of config priority * RATE_WINDOW + budget_of budgets priority)) 0
+    → may_start config budgets priority count ≡ nat_le (count * RATE_WINDOW - (limit_of config priority * RATE_WINDOW + budget_of budgets priority)) 0
 may_by config budgets System count h sure = absurd sure
 may_by config budgets Default count h sure = may_by_limit config.normal budgets.normal count sure
 may_by config budgets Batch count h sure =
@@ -99,18 +99,18 @@ after_idle elapsed queue idle = rw idle refl
 
 -- What is missing falls by what the limit grants.
 cut_missing : (elapsed limit budget count : ℕ) → count ≤ MAX_BURST
-  → count * RATE_WINDOW - (limit * RATE_WINDOW + cut false (budget_after elapsed limit 0 budget)) ≡ count * RATE_WINDOW - (limit * RATE_WINDOW + budget) - elapsed * limit
+    → count * RATE_WINDOW - (limit * RATE_WINDOW + cut false (budget_after elapsed limit 0 budget)) ≡ count * RATE_WINDOW - (limit * RATE_WINDOW + budget) - elapsed * limit
 cut_missing elapsed limit budget count small = grind (arith)
 
 falls : {T : Type 0} (elapsed : ℕ) (queue : Queue T) (request : Req T) (priority : Priority) → IsConfig queue.config → IsSure queue.config priority request.count → IsWaiting priority queue.waiting
-  → request.count * RATE_WINDOW - (limit_of queue.config priority * RATE_WINDOW + budget_of (waited elapsed queue).budgets priority)
-  ≡ request.count * RATE_WINDOW - (limit_of queue.config priority * RATE_WINDOW + budget_of queue.budgets priority) - elapsed * limit_of queue.config priority
+    → request.count * RATE_WINDOW - (limit_of queue.config priority * RATE_WINDOW + budget_of (waited elapsed queue).budgets priority)
+    ≡ request.count * RATE_WINDOW - (limit_of queue.config priority * RATE_WINDOW + budget_of queue.budgets priority) - elapsed * limit_of queue.config priority
 falls elapsed queue request System h sure waiting = absurd sure
 falls elapsed queue request Default h sure waiting = rw waiting (cut_missing elapsed queue.config.normal queue.budgets.normal request.count sure)
 falls elapsed queue request Batch h sure waiting = rw waiting (cut_missing elapsed queue.config.batch queue.budgets.batch request.count (omega (arith, sure.0, h.normal_in_range)))
 
 next_missing : {T : Type 0} (elapsed : ℕ) (queue : Queue T) (request : Req T) (left : List (Req T)) → IsHead queue request left
-  → missing (waited elapsed queue) request ≡ missing queue request - elapsed * limit_of queue.config request.priority
+    → missing (waited elapsed queue) request ≡ missing queue request - elapsed * limit_of queue.config request.priority
 next_missing elapsed queue request left h = falls elapsed queue request request.priority h.config h.sure h.waiting
 
 not_none : (n : ℕ) → 0 < n → nat_le n 0 ≡ false
@@ -128,7 +128,7 @@ still_head elapsed queue request left h = record { row_is = h.row_is; config = h
 -- ---- how many windows start nothing
 
 each_before : {T : Type 0} (elapsed : ℕ) (queue : Queue T) (count : ℕ) → window queue ≡ [] → StartsAfter elapsed (after_window elapsed queue) count
-  → (before : ℕ) → before < suc count → window (after_windows elapsed before queue) ≡ []
+    → (before : ℕ) → before < suc count → window (after_windows elapsed before queue) ≡ []
 each_before elapsed queue count idle rest zero less = idle
 each_before elapsed queue count idle rest (suc before) less = rest.idle before (omega arith)
 
@@ -139,10 +139,10 @@ one_less n count step enough needed =
 
 -- So many as it takes for what the limit grants to make up for what is missing.
 pub counted : {T : Type 0} (elapsed : ℕ) (queue : Queue T) (request : Req T) (left : List (Req T)) (count step : ℕ) → IsHead queue request left
-  → step ≡ elapsed * limit_of queue.config request.priority → missing queue request ≤ count * step → (0 < count → count * step < missing queue request + step) → StartsAfter elapsed queue count
+    → step ≡ elapsed * limit_of queue.config request.priority → missing queue request ≤ count * step → (0 < count → count * step < missing queue request + step) → StartsAfter elapsed queue count
 counted elapsed queue request left zero step h is enough needed = record {
   idle = λ before less. absurd (omega arith);
-  starts = starts_where queue request left h (omega arith)
+  starts = starts_where queue request left h (omega arith);
 }
 counted {T = T} elapsed queue request left (suc count) step h is enough needed =
     let numbers = one_less (missing queue request) count step enough (needed (omega arith)) in
@@ -154,7 +154,7 @@ counted {T = T} elapsed queue request left (suc count) step h is enough needed =
     let then : StartsAfter elapsed (after_window elapsed queue) count = rw after rest in
     record {
       idle = each_before elapsed queue count idle then;
-      starts = then.starts
+      starts = then.starts;
     }
 
 -- ---- no more than that
@@ -173,19 +173,19 @@ is_more : (n : ℕ) → (n == 0) ≡ false → 0 < n
 is_more n h = grind (arith, nat_tests)
 
 pub idle_within : {T : Type 0} (elapsed : ℕ) (queue : Queue T) (request : Req T) (left : List (Req T)) (count step : ℕ) → IsHead queue request left
-  → step ≡ elapsed * limit_of queue.config request.priority → 0 < step → ((before : ℕ) → before < count → window (after_windows elapsed before queue) ≡ []) → count * step < missing queue request + step
+    → step ≡ elapsed * limit_of queue.config request.priority → 0 < step → ((before : ℕ) → before < count → window (after_windows elapsed before queue) ≡ []) → count * step < missing queue request + step
 idle_within elapsed queue request left zero step h is grants idle = let none : zero * step ≡ 0 = zero-mul step in omega arith
 idle_within elapsed queue request left (suc count) step h is grants idle =
     let here = idle 0 (omega arith) in
     let after = after_idle elapsed queue here in
     let next = next_missing elapsed queue request left h ∙ ap (λ it. missing queue request - it) (sym is) in
     let later_raw : count * step < missing (waited elapsed queue) request + step = idle_within elapsed (waited elapsed queue) request left count step (still_head elapsed queue request left h) is grants
-      (λ before less. rw (← after) (idle (suc before) (omega arith))) in
+    (λ before less. rw (← after) (idle (suc before) (omega arith))) in
     let later = rw next at later_raw in
     let some : 0 < missing queue request = elim (bool_cases (missing queue request == 0)) [
-        inl none ↦ (let starts = starts_where queue request left h (is_zero (missing queue request) none) in let empty = ap (λ it. length it) here in absurd (omega arith))
+      | inl none ↦ (let starts = starts_where queue request left h (is_zero (missing queue request) none) in let empty = ap (λ it. length it) here in absurd (omega arith))
       | inr more ↦ is_more (missing queue request) more
-      ] in
+    ] in
     one_more (missing queue request) count step some later
 
 -- a product that is less than one and one more factor
@@ -199,9 +199,9 @@ granted elapsed config Default count time h sure = mul-pos time h.normal_some
 granted elapsed config Batch count time h sure = mul-pos time sure.1
 
 waiting_by : {T : Type 0} (config : QueueConfig) (system default_ batch : List (Req T)) (request : Req T) (left : List (Req T))
-  → All (IsAdmitted config System) system → All (IsAdmitted config Default) default_ → All (IsAdmitted config Batch) batch
-  → system ++ default_ ++ batch ≡ request ∷ left → IsSure config request.priority request.count
-  → IsWaiting request.priority (record { system = system; default_ = default_; batch = batch })
+    → All (IsAdmitted config System) system → All (IsAdmitted config Default) default_ → All (IsAdmitted config Batch) batch
+    → system ++ default_ ++ batch ≡ request ∷ left → IsSure config request.priority request.count
+    → IsWaiting request.priority (record { system = system; default_ = default_; batch = batch })
 waiting_by {T = T} config (x ∷ system) default_ batch request left ss ds bs is sure =
     let same : x ≡ request = cc in
     let own : request.priority ≡ System = sym (ap (λ (it : Req T). it.priority) same) ∙ (All-head (IsAdmitted config System) x system ss).own in
@@ -218,13 +218,13 @@ waiting_by config [] [] [] request left ss ds bs is sure = cc
 
 -- a head, by the lists
 head_by : {T : Type 0} (queue : Queue T) (request : Req T) (left : List (Req T)) → IsQueue queue → row queue.waiting ≡ request ∷ left → IsSure queue.config request.priority request.count
-  → IsHead queue request left
+    → IsHead queue request left
 head_by queue request left h is sure = record { row_is = is; config = h.config; sure = sure; waiting = waiting_by queue.config queue.waiting.system queue.waiting.default_ queue.waiting.batch request left h.system h.default_ h.batch is sure }
 
 pub bounded : {T : Type 0} (queue : Queue T) (budgets : Budgets) (request : Req T) (left : List (Req T)) (elapsed idle : ℕ)
-  → IsQueue queue → 1 ≤ elapsed → row queue.waiting ≡ request ∷ left → IsSure queue.config request.priority request.count
-  → ((before : ℕ) → before < idle → window (after_windows elapsed before (record queue { budgets = budgets })) ≡ [])
-  → idle ≤ div_ceil (request.count * RATE_WINDOW) (elapsed * limit_of queue.config request.priority)
+    → IsQueue queue → 1 ≤ elapsed → row queue.waiting ≡ request ∷ left → IsSure queue.config request.priority request.count
+    → ((before : ℕ) → before < idle → window (after_windows elapsed before (record queue { budgets = budgets })) ≡ [])
+    → idle ≤ div_ceil (request.count * RATE_WINDOW) (elapsed * limit_of queue.config request.priority)
 bounded queue budgets request left elapsed idle h time is sure all =
     let own = head_by queue request left h is sure in
     let here : IsHead (record queue { budgets = budgets }) request left = record { row_is = own.row_is; config = own.config; sure = own.sure; waiting = own.waiting } in
@@ -241,8 +241,8 @@ first_split [] x h = cc
 first_split (y ∷ ys) x h = (ys, (let same : y ≡ x = cc in rw same refl))
 
 pub exact : {T : Type 0} (queue : Queue T) (request : Req T) (elapsed limit budget count : ℕ) → IsQueue queue → 1 ≤ elapsed → first (row queue.waiting) ≡ Some request
-  → IsSure queue.config request.priority request.count → limit ≡ limit_of queue.config request.priority → budget ≡ budget_of queue.budgets request.priority
-  → count ≡ div_ceil (request.count * RATE_WINDOW - (limit * RATE_WINDOW + budget)) (elapsed * limit) → StartsAfter elapsed queue count
+    → IsSure queue.config request.priority request.count → limit ≡ limit_of queue.config request.priority → budget ≡ budget_of queue.budgets request.priority
+    → count ≡ div_ceil (request.count * RATE_WINDOW - (limit * RATE_WINDOW + budget)) (elapsed * limit) → StartsAfter elapsed queue count
 exact queue request elapsed limit budget count h time is sure limit_is budget_is count_is =
     let split = first_split (row queue.waiting) request is in
     let own = head_by queue request split.0 h split.1 sure in

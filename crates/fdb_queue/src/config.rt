@@ -1,8 +1,9 @@
 //! What a queue is made with, and the limits of it.
 
-ghost use Rattle.std.specs.Prelude.{◌≡◌, ◌↔◌, IsTrue};
+ghost use Rattle.std.specs.Prelude.{◌≡◌, ◌<◌, ◌⊎◌, ◌↔◌, IsTrue};
+ghost use Rattle.std.specs.Bool.{OnTrue, OnFalse};
 ghost use Rattle.fdb_queue.specs.Admission.{is_count};
-ghost use Rattle.fdb_queue.specs.Config.{IsConfig};
+ghost use Rattle.fdb_queue.specs.Config.{IsConfig, IsElapsed};
 
 use fdb_history::Priority;
 
@@ -62,4 +63,12 @@ impl QueueConfig {
             Priority::Batch => in_range && count <= self.normal + IDLE_BURST,
         }
     }
+}
+
+/// Whether a time between two windows is in range.
+pub(crate) fn is_elapsed(elapsed: u64) -> bool
+    ensures within { OnTrue result (IsElapsed elapsed) }
+    ensures without { OnFalse result ((elapsed ≡ 0) ⊎ (MAX_ELAPSED < elapsed)) }
+{
+    (1..=MAX_ELAPSED).contains(&elapsed)
 }

@@ -7,11 +7,11 @@ ghost use Rattle.fdb_queue.specs.Kept.{IsQueue};
 ghost use Rattle.fdb_queue.specs.Queue.{new_queue};
 ghost use Rattle.fdb_queue.specs.Waiting.{first, row};
 ghost use Rattle.fdb_queue.specs.Waits.{budget_of, IsSure, limit_of, StartsAfter};
-ghost use Rattle.fdb_queue.specs.declared.config.TheConstants.{MAX_COUNT};
+ghost use Rattle.fdb_queue.specs.declared.config.TheConstants.{MAX_COUNT, MAX_ELAPSED};
 ghost use Rattle.fdb_queue.specs.Window.{window, after_window};
 
 use crate::budgets::{self, Budgets};
-use crate::config::{MAX_ELAPSED, QueueConfig, RATE_WINDOW};
+use crate::config::{self, QueueConfig, RATE_WINDOW};
 use crate::error::QueueError;
 use crate::request::Req;
 use crate::waiting::{Lengths, Waiting};
@@ -104,7 +104,7 @@ impl<T> GrvQueue<T> {
         ensures else_memory { IsElapsed elapsed → IfErr result (λ cause. (cause ≡ QueueError.Memory) × (0 < length (window self.old))) }
         ensures unchanged { OnErr result (self.new ≡ self.old) }
     {
-        if elapsed == 0 || elapsed > MAX_ELAPSED {
+        if !config::is_elapsed(elapsed) {
             return Err(QueueError::BadConfig);
         }
         let reach = self.waiting.reach(&self.config, &self.budgets);
@@ -139,7 +139,7 @@ impl<T> GrvQueue<T> {
         ensures covered { IsSome result ↔ (IsElapsed elapsed × IsSomeAnd (first (row self.now.waiting)) (λ head. IsSure self.now.config head.priority head.count)) }
         ensures exact { IfSome result (λ count. StartsAfter elapsed self.now count) }
     {
-        if elapsed == 0 || elapsed > MAX_ELAPSED {
+        if !config::is_elapsed(elapsed) {
             return None;
         }
         let head = self.waiting.head()?;
