@@ -1,5 +1,5 @@
 -- What a window leaves.
-use Rattle.std.proofs.Common.{◌≡◌, ℕ, ◌+◌, ◌==◌, Bool, true, false, List, [], ◌∷◌, ◌++◌, length, take, drop, refl, ap, ◌∙◌, arith, length-append, length-drop}
+use Rattle.std.proofs.Common.{◌≡◌, ℕ, ◌+◌, ◌==◌, ◌<◌, Bool, true, false, List, [], ◌∷◌, ◌++◌, length, take, drop, refl, ◌⊎◌, inl, inr, ap, ◌∙◌, arith, length-append, length-drop}
 use Rattle.std.specs.Prelude.{All}
 use Rattle.std.proofs.lemmas.List.{append-nil, length-take-le}
 use Rattle.std.proofs.lemmas.List.Elements.{All-head, All-tail, All-take, All-drop, filter-append}
@@ -18,7 +18,7 @@ use Rattle.fdb_queue.specs.Waiting.{Requests, row, total, is_priority, of_priori
 use Rattle.fdb_queue.specs.Window.{window, without, budgets_after, after_window}
 
 -- all of a list has its own priority
-is_own : (priority : Priority) → is_priority priority priority ≡ true
+pub is_own : (priority : Priority) → is_priority priority priority ≡ true
 is_own System = refl
 is_own Default = refl
 is_own Batch = refl
@@ -98,6 +98,38 @@ after_is queue reach elapsed normal batch left h is left_same normal_is batch_is
     let batch_same : batch ≡ own.batch = batch_is ∙ rw (← lengths, is.all) refl in
     let here : record queue { waiting = left; budgets = record { normal = normal; batch = batch } } ≡ after_leaving queue elapsed left = rw (normal_same, batch_same) refl in
     here ∙ ap (λ some. after_leaving queue elapsed some) same
+
+zero_or_more : (n : ℕ) → (n ≡ 0) ⊎ (0 < n)
+zero_or_more n = grind arith
+
+-- how far a window comes has nothing to do with throttles
+pub IsReach-throttled : {T : Type 0} (queue : Queue T) (reach : Reach) → IsReach (record queue { throttles = [] }) reach → IsReach queue reach
+IsReach-throttled queue reach is = record {
+  system = is.system;
+  default_ = is.default_;
+  batch = is.batch;
+  requests = is.requests;
+  started = is.started;
+  unbatched = is.unbatched;
+  all = is.all;
+  unbatched_in_range = is.unbatched_in_range;
+  all_in_range = is.all_in_range;
+}
+
+-- a window that takes somebody out starts something
+pub some_started : {T : Type 0} (queue : Queue T) (reach : Reach) → IsReach queue reach → (reach.counts.system + reach.counts.default_ + reach.counts.batch ≡ 0 → ⊥) → 0 < length (window queue)
+some_started queue reach is some =
+    let xs = take reach.counts.system queue.waiting.system in
+    let ys = take reach.counts.default_ queue.waiting.default_ in
+    let zs = take reach.counts.batch queue.waiting.batch in
+    let whole : length (window queue) ≡ length xs + length ys + length zs = ap (λ it. length it) is.started ∙ simp length-append in
+    let one = length-take-le reach.counts.system queue.waiting.system is.system in
+    let two = length-take-le reach.counts.default_ queue.waiting.default_ is.default_ in
+    let three = length-take-le reach.counts.batch queue.waiting.batch is.batch in
+    elim (zero_or_more (length (window queue))) [
+      | inl none ↦ absurd (some (omega arith))
+      | inr more ↦ more
+    ]
 
 pub IsQueue-left : {T : Type 0} (queue : Queue T) (reach : Reach) (budgets : Budgets) → IsQueue queue → AreBudgets budgets
     → IsQueue (record queue { waiting = left_by reach queue.waiting; budgets = budgets })

@@ -6,3 +6,4 @@ pub mod Leaving
 pub mod Lawful
 pub mod Lost
 pub mod Turning
+pub mod Keeping

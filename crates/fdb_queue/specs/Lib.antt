@@ -1,6 +1,8 @@
 pub mod Config
 pub mod Budgets
 pub mod Waiting
+pub mod Throttles
+pub mod Kinds
 pub mod Queue
 pub mod Window
 pub mod Admission

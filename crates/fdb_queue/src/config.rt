@@ -31,6 +31,9 @@ pub const MAX_BURST: u64 = 100_000;
 /// The most transactions that the budget of a rate stands for while nothing waits for it.
 pub const IDLE_BURST: u64 = 10;
 
+/// The most bytes of a tag.
+pub const MAX_TAG: u64 = 16;
+
 /// The rates of a queue, in transactions for each `RATE_WINDOW` of time, and the room in it.
 #[derive(Clone, Copy, Debug, PartialEq, Eq, Hash)]
 pub struct QueueConfig {

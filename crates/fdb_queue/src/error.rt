@@ -18,6 +18,9 @@ pub enum QueueError {
     /// The queue is full of requests that may not be pushed out by this one.
     #[error("the queue is full")]
     Full,
+    /// A tag has more than `MAX_TAG` bytes.
+    #[error("the tag is too long")]
+    TagTooLong,
     /// Memory was refused.
     #[error("want of memory")]
     Memory,

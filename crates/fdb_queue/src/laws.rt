@@ -9,6 +9,8 @@ ghost use Rattle.fdb_queue.specs.Admission.{refusal_of, admitted, pushed_out};
 ghost use Rattle.fdb_queue.specs.Kept.{IsQueue};
 ghost use Rattle.fdb_queue.specs.Laws.{list_of, rank};
 ghost use Rattle.fdb_queue.specs.Queue.{Queue};
+ghost use Rattle.fdb_queue.specs.Throttles.{Throttle, SameThrottles, limits_of};
+ghost use Rattle.fdb_history.specs.declared.grv.Priority.{Priority};
 ghost use Rattle.fdb_queue.specs.Waiting.{row, total};
 ghost use Rattle.std.specs.Int.{div_ceil};
 ghost use Rattle.fdb_queue.specs.Waits.{after_windows, IsSure, limit_of};
@@ -77,4 +79,14 @@ pub fn waits_are_bounded<T>()
         → IsQueue queue → 1 ≤ elapsed → row queue.waiting ≡ first ∷ left → IsSure queue.config first.priority first.count
         → ((before : ℕ) → before < idle → window (after_windows elapsed before (record queue { budgets = budgets })) ≡ [])
         → idle ≤ div_ceil (first.count * RATE_WINDOW) (elapsed * limit_of queue.config first.priority) }
+{}
+
+/// What was set last counts. Each call that sets a throttle leaves some that stand for the new one before those there were:
+/// so those that are kept always stand for the list of all that were set, the newest first, and the limits of any tags are
+/// the same by either.
+pub fn what_was_set_last_counts()
+    ensures limits { (these those : List Throttle) (priority : Priority) (at : ℕ) (tags : List (List ℕ)) → SameThrottles these those
+        → limits_of these priority at tags ≡ limits_of those priority at tags }
+    ensures all { (kept before all : List Throttle) (newest : Throttle) → SameThrottles kept (newest ∷ before) → SameThrottles before all
+        → SameThrottles kept (newest ∷ all) }
 {}

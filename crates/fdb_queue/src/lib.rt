@@ -11,13 +11,14 @@ mod error;
 pub mod laws;
 mod queue;
 mod request;
+mod throttles;
 mod turn;
 mod waiting;
 
 pub use budgets::Budgets;
 pub use config::{
-    IDLE_BURST, MAX_BURST, MAX_COUNT, MAX_ELAPSED, MAX_RATE, MAX_ROOM, MAX_STARTED, QueueConfig,
-    RATE_WINDOW,
+    IDLE_BURST, MAX_BURST, MAX_COUNT, MAX_ELAPSED, MAX_RATE, MAX_ROOM, MAX_STARTED, MAX_TAG,
+    QueueConfig, RATE_WINDOW,
 };
 pub use error::QueueError;
 pub use queue::GrvQueue;

@@ -5,29 +5,32 @@ ghost use Rattle.fdb_queue.specs.Admission.{refusal_of, admitted, pushed_out, is
 ghost use Rattle.fdb_queue.specs.Config.{IsConfig, IsElapsed};
 ghost use Rattle.fdb_queue.specs.Kept.{IsQueue};
 ghost use Rattle.fdb_queue.specs.Queue.{new_queue};
+ghost use Rattle.fdb_queue.specs.Throttles.{limits_of, SameThrottles};
 ghost use Rattle.fdb_queue.specs.Waiting.{first, row};
 ghost use Rattle.fdb_queue.specs.Waits.{budget_of, IsSure, limit_of, StartsAfter};
 ghost use Rattle.fdb_queue.specs.declared.config.TheConstants.{MAX_COUNT, MAX_ELAPSED};
 ghost use Rattle.fdb_queue.specs.Window.{window, after_window};
 
 use crate::budgets::{self, Budgets};
-use crate::config::{self, QueueConfig, RATE_WINDOW};
+use crate::config::{self, MAX_TAG, QueueConfig, RATE_WINDOW};
 use crate::error::QueueError;
 use crate::request::Req;
+use crate::throttles::Throttles;
 use crate::waiting::{Lengths, Waiting};
-use fdb_history::Priority;
+use fdb_history::{Priority, Tag, TagLimit};
 use std::alloc::Global;
 use std::marker::Model;
 
 /// The requests that wait at a GRV proxy, and the budgets by which they start (`GrvProxyServer`, FoundationDB 7.1: the
-/// three queues and the two `GrvTransactionRateInfo`).
+/// three queues, the two `GrvTransactionRateInfo` and the throttled tags).
 ///
-/// Contracts see it as the record `Queue`: its configuration, a list of requests for each priority, and the budgets.
+/// Contracts see it as the record `Queue`: its configuration, a list of requests for each priority, the budgets and the throttles.
 #[derive(Debug, Drop)]
 pub struct GrvQueue<T> {
     config: QueueConfig,
     waiting: Waiting<T>,
     budgets: Budgets,
+    throttles: Throttles,
 }
 
 impl<T> Model for GrvQueue<T> {
@@ -37,9 +40,9 @@ impl<T> Model for GrvQueue<T> {
 
     ghost use Rattle.fdb_queue.specs.Kept.{IsQueue};
 
-    ghost view = { λ queue. record { config = queue.config; waiting = queue.waiting; budgets = queue.budgets } };
+    ghost view = { λ queue. record { config = queue.config; waiting = queue.waiting; budgets = queue.budgets; throttles = queue.throttles } };
 
-    ghost invariant = { λ queue. IsQueue {T = T} (record { config = queue.config; waiting = queue.waiting; budgets = queue.budgets }) };
+    ghost invariant = { λ queue. IsQueue {T = T} (record { config = queue.config; waiting = queue.waiting; budgets = queue.budgets; throttles = queue.throttles }) };
 }
 
 impl<T> GrvQueue<T> {
@@ -58,6 +61,7 @@ impl<T> GrvQueue<T> {
             config,
             waiting: Waiting::new(alloc),
             budgets: Budgets::default(),
+            throttles: Throttles::new(alloc),
         })
     }
 
@@ -162,6 +166,49 @@ impl<T> GrvQueue<T> {
             }
             _ => None,
         }
+    }
+
+    /// Sets the throttle of a tag at a priority, in the place of an older one: a rate in transactions per second, and the
+    /// moment in microseconds from which on it holds no longer. It is never erased.
+    ///
+    /// It is refused as `TagTooLong` where the tag has more than `MAX_TAG` bytes, else for memory; nothing has changed then.
+    /// It takes logarithmic time.
+    pub fn set_throttle(
+        &mut self,
+        priority: Priority,
+        tag: Tag,
+        rate: u64,
+        expires: u64,
+    ) -> Result<(), QueueError>
+        ensures set { OnOk result (SameThrottles self.new.throttles (record { priority = priority; limit = record { tag = tag; rate = rate; expires = expires } } ∷ self.old.throttles)) }
+        ensures rest { OnOk result (self.new ≡ record self.old { throttles = self.new.throttles }) }
+
+        ensures too_long { (result ≡ Err QueueError.TagTooLong) ↔ (MAX_TAG < length tag) }
+        ensures else_memory { length tag ≤ MAX_TAG → IfErr result (λ cause. cause ≡ QueueError.Memory) }
+        ensures unchanged { OnErr result (self.new ≡ self.old) }
+    {
+        if tag.len() as u64 > MAX_TAG {
+            return Err(QueueError::TagTooLong);
+        }
+        self.throttles
+            .set(priority, TagLimit { tag, rate, expires })?;
+        Ok(())
+    }
+
+    /// The limits of some tags at a priority and a moment: for each tag in order, also for one that stands twice, the
+    /// throttle last set, if it expires later than that moment. It takes logarithmic time for each tag.
+    pub fn throttles(
+        &self,
+        priority: Priority,
+        tags: &[Tag],
+        at: u64,
+    ) -> Result<Vec<TagLimit>, QueueError>
+        ensures ok { IfOk result (λ limits. limits.items ≡ limits_of self.now.throttles priority at tags.now) }
+        ensures err { IfErr result (λ cause. cause ≡ QueueError.Memory) }
+    {
+        let alloc = self.waiting.allocator();
+        let limits = self.throttles.limits(alloc, priority, tags, at)?;
+        Ok(limits)
     }
 
     /// Why a request is refused, if it is, and not for memory.

@@ -1,8 +1,8 @@
 //! Worked examples, and calls that are refused memory. Each test passes also where any one allocation is refused.
 
 use crate::{Budgets, GrvQueue, Lengths, QueueConfig, QueueError, Req};
-use fdb_history::Priority;
-use std::alloc::Global;
+use fdb_history::{Priority, Tag};
+use std::alloc::{AllocError, Global};
 use std::process::Abort;
 use std::test::Fail;
 
@@ -303,6 +303,50 @@ fn the_waiting_is_what_windows_take(rt: HostRuntime) -> Result<(), Fail> {
                 turned,
                 "{priority:?} of {count} at {normal} and {batch}"
             );
+        }
+    }
+    Ok(())
+}
+
+fn tags(alloc: Global, texts: &[&[u8]]) -> Result<Vec<Tag>, AllocError> {
+    let mut tags = Vec::with_capacity(alloc, texts.len())?;
+    for text in texts {
+        tags.push(Tag::from(text.to_vec(alloc)?))?;
+    }
+    Ok(tags)
+}
+
+#[test]
+fn throttles_hold_until_they_expire(rt: HostRuntime) -> Result<(), Fail> {
+    let mut queue = queue(rt.alloc(), 1, 1, 1)?;
+    let set = [(DEFAULT, 4, 9000), (DEFAULT, 5, 5000), (SYSTEM, 6, 9000)];
+    for (priority, rate, expires) in set {
+        let tag = Tag::from(b"t".to_vec(rt.alloc())?);
+        queue.set_throttle(priority, tag, rate, expires)?;
+    }
+    let longest = Tag::from([1; 16].to_vec(rt.alloc())?);
+    queue.set_throttle(BATCH, longest, 1, 1)?;
+    let long = Tag::from([1; 17].to_vec(rt.alloc())?);
+    let refusal = queue.set_throttle(BATCH, long, 1, 1).err();
+    assert_eq!(rt; refusal, Some(QueueError::TagTooLong));
+    let asked = tags(rt.alloc(), &[b"t", b"u", b"t"])?;
+    // the rates that are told for t, u and t
+    let table: [(Priority, u64, &[u64]); 4] = [
+        (DEFAULT, 4999, &[5, 5]),
+        (DEFAULT, 5000, &[]),
+        (SYSTEM, 5000, &[6, 6]),
+        (BATCH, 4999, &[]),
+    ];
+    for (priority, at, rates) in table {
+        let limits = queue.throttles(priority, asked.as_slice(), at)?;
+        assert_eq!(rt; limits.len(), rates.len(), "{priority:?} at {at}");
+        for (limit, rate) in limits.iter().zip(rates) {
+            assert_eq!(rt;
+                limit.tag.as_slice(),
+                b"t".as_slice(),
+                "{priority:?} at {at}"
+            );
+            assert_eq!(rt; limit.rate, *rate, "{priority:?} at {at}");
         }
     }
     Ok(())

@@ -1,6 +1,6 @@
 //! The requests that wait, by priority.
 
-ghost use Rattle.std.specs.Prelude.{◌≡◌, ◌+◌, ◌<◌, ◌^◌, ◌==◌, ◌++◌, not, length, take, drop, vec_len, vec_capacity, IsOk, IfOk, ◌≤◌, if◌then◌else◌, OnOk, OnErr, IfErr};
+ghost use Rattle.std.specs.Prelude.{◌≡◌, [], ◌+◌, ◌<◌, ◌^◌, ◌==◌, ◌++◌, not, length, take, drop, vec_len, vec_capacity, IsOk, IfOk, ◌≤◌, if◌then◌else◌, OnOk, OnErr, IfErr};
 ghost use Rattle.std.specs.Option.{option_copied};
 ghost use Rattle.fdb_queue.specs.Admission.{below, without_oldest};
 ghost use Rattle.fdb_queue.specs.Kept.{IsQueue};
@@ -81,6 +81,11 @@ impl<T> Waiting<T> {
         }
     }
 
+    /// The allocator of the lists.
+    pub(crate) fn allocator(&self) -> Global {
+        *self.system.allocator()
+    }
+
     /// How many requests there are.
     pub(crate) fn len(&self) -> usize
         requires { length (row self.now) < 2 ^ 62 }
@@ -139,8 +144,8 @@ impl<T> Waiting<T> {
 
     /// How far a window comes.
     pub(crate) fn reach(&self, config: &QueueConfig, budgets: &Budgets) -> Reach
-        requires { IsQueue {T = T} (record { config = config.now; waiting = self.now; budgets = budgets.now }) }
-        ensures { IsReach {T = T} (record { config = config.now; waiting = self.now; budgets = budgets.now }) result }
+        requires { IsQueue {T = T} (record { config = config.now; waiting = self.now; budgets = budgets.now; throttles = [] }) }
+        ensures { IsReach {T = T} (record { config = config.now; waiting = self.now; budgets = budgets.now; throttles = [] }) result }
     {
         let system = Turn::NEW.along(config, budgets, &self.system);
         let default_ = system.along(config, budgets, &self.default_);
@@ -169,7 +174,7 @@ impl<T> Waiting<T> {
         ensures none { counts.system + counts.default_ + counts.batch ≡ 0 → IsOk result }
     {
         let count = counts.system + counts.default_ + counts.batch;
-        let mut taken = Vec::with_capacity(*self.system.allocator(), count)?;
+        let mut taken = Vec::with_capacity(self.allocator(), count)?;
         move_front(&mut self.system, counts.system, &mut taken);
         move_front(&mut self.default_, counts.default_, &mut taken);
         move_front(&mut self.batch, counts.batch, &mut taken);
