@@ -7,3 +7,4 @@ pub mod Lawful
 pub mod Lost
 pub mod Turning
 pub mod Keeping
+mod Examples

@@ -1,8 +1,11 @@
 //! Worked examples, and calls that are refused memory. Each test passes also where any one allocation is refused.
 
+mod throttles;
+mod waits;
+
 use crate::{Budgets, GrvQueue, Lengths, QueueConfig, QueueError, Req};
-use fdb_history::{Priority, Tag};
-use std::alloc::{AllocError, Global};
+use fdb_history::Priority;
+use std::alloc::Global;
 use std::process::Abort;
 use std::test::Fail;
 
@@ -36,6 +39,20 @@ fn offer_of(priority: Priority, count: u64, payload: u32) -> Offer {
         count,
         payload,
         wanted: Ok(None),
+    }
+}
+
+/// The same offer, with another answer.
+fn answered(wanted: Result<Option<u32>, QueueError>, offer: Offer) -> Offer {
+    Offer { wanted, ..offer }
+}
+
+fn held(elapsed: u64, started: &'static [u32], normal: u64, batch: u64) -> Row {
+    Row {
+        elapsed,
+        started,
+        normal,
+        batch,
     }
 }
 
@@ -147,31 +164,11 @@ fn rates_hold_requests(rt: HostRuntime) -> Result<(), Fail> {
     ];
     offer_each(&rt, &mut queue, &offers);
     let rows = [
-        Row {
-            elapsed: 1_000_000,
-            started: &[0],
-            normal: 0,
-            batch: 0,
-        },
-        Row {
-            elapsed: 1_000_000,
-            started: &[1, 2],
-            normal: 0,
-            batch: 0,
-        },
-        Row {
-            elapsed: 1_000_000,
-            started: &[3],
-            normal: 3_000_000,
-            batch: 1_000_000,
-        },
+        held(1_000_000, &[0], 0, 0),
+        held(1_000_000, &[1, 2], 0, 0),
+        held(1_000_000, &[3], 3_000_000, 1_000_000),
         // 3,000,000 + 10,000,000 * 3 and 1,000,000 + 10,000,000 * 2 are above what an idle rate keeps
-        Row {
-            elapsed: 10_000_000,
-            started: &[],
-            normal: 20_000_000,
-            batch: 20_000_000,
-        },
+        held(10_000_000, &[], 20_000_000, 20_000_000),
     ];
     hold_each(&rt, &mut queue, "three priorities", &rows)?;
     Ok(())
@@ -189,166 +186,13 @@ fn the_head_waits_for_its_budget(rt: HostRuntime) -> Result<(), Fail> {
     let second = 1_000_000;
     // the batch budget, for which nothing else pays, gains as much until the three start
     let rows = [
-        Row {
-            elapsed: second,
-            started: &[],
-            normal: 1_000_000,
-            batch: 1_000_000,
-        },
-        Row {
-            elapsed: second,
-            started: &[],
-            normal: 2_000_000,
-            batch: 2_000_000,
-        },
-        Row {
-            elapsed: second,
-            started: &[],
-            normal: 3_000_000,
-            batch: 3_000_000,
-        },
-        Row {
-            elapsed: second,
-            started: &[],
-            normal: 4_000_000,
-            batch: 4_000_000,
-        },
-        Row {
-            elapsed: second,
-            started: &[0],
-            normal: 2_000_000,
-            batch: 2_000_000,
-        },
+        held(second, &[], 1_000_000, 1_000_000),
+        held(second, &[], 2_000_000, 2_000_000),
+        held(second, &[], 3_000_000, 3_000_000),
+        held(second, &[], 4_000_000, 4_000_000),
+        held(second, &[0], 2_000_000, 2_000_000),
     ];
     hold_each(&rt, &mut queue, "a head of count 3", &rows)?;
-    Ok(())
-}
-
-/// The number is 4 before the first window of the head of count 3, where the bound is 6, and one less after each.
-#[test]
-fn the_waiting_is_counted(rt: HostRuntime) -> Result<(), Fail> {
-    let mut queue = queue(rt.alloc(), 1, 1, 100)?;
-    let second = 1_000_000;
-    assert_eq!(rt; queue.waits(second), None, "an empty row");
-    offer_each(
-        &rt,
-        &mut queue,
-        &[offer_of(DEFAULT, 3, 0), offer_of(DEFAULT, 1, 1)],
-    );
-    assert_eq!(rt; queue.waits(0), None, "no time");
-    assert_eq!(rt; queue.waits(10_000_001), None, "too long a time");
-    for left in [4, 3, 2, 1] {
-        assert_eq!(rt; queue.waits(second), Some(left));
-        assert_eq!(rt; window(&rt, &mut queue, second)?.len(), 0, "{left} left");
-    }
-    assert_eq!(rt; queue.waits(second), Some(0));
-    assert_eq!(rt; window(&rt, &mut queue, second)?.len(), 1);
-    offer_each(&rt, &mut queue, &[offer_of(SYSTEM, 1, 2)]);
-    assert_eq!(rt; queue.waits(second), None, "a system request");
-    Ok(())
-}
-
-/// Nobody turns so many windows in a test: (100,000 - 1) times 2,000,000.
-#[test]
-fn the_longest_waiting_is_computed(rt: HostRuntime) -> Result<(), Fail> {
-    let mut queue = queue(rt.alloc(), 1, 0, 1)?;
-    offer_each(&rt, &mut queue, &[offer_of(DEFAULT, 100_000, 7)]);
-    assert_eq!(rt; queue.waits(1), Some(199_998_000_000));
-    Ok(())
-}
-
-/// What is answered is what is found by turning windows, for small limits, counts and times, and some budgets before.
-#[test]
-fn the_waiting_is_what_windows_take(rt: HostRuntime) -> Result<(), Fail> {
-    for (normal, batch, count, elapsed, idle) in [
-        (1, 1, 1, 1_000_000, 0),
-        (1, 1, 2, 1_000_000, 0),
-        (1, 1, 3, 700_000, 1),
-        (2, 1, 5, 333_333, 2),
-        (3, 2, 3, 1_000_000, 0),
-        (3, 2, 9, 999_999, 3),
-        (7, 3, 50, 1_000_001, 1),
-    ] {
-        for priority in [DEFAULT, BATCH] {
-            let mut queue = queue(rt.alloc(), normal, batch, 4)?;
-            for _ in 0..idle {
-                assert_eq!(rt; queue.window(elapsed)?.len(), 0);
-            }
-            let case = Req {
-                priority,
-                count,
-                payload: 0,
-            };
-            if made_offer(&rt, &mut queue, case).is_err() {
-                assert_eq!(rt; queue.waits(elapsed), None, "{priority:?} of {count}");
-                continue;
-            }
-            let Some(waits) = queue.waits(elapsed) else {
-                // a batch request that the normal rate may hold
-                assert!(rt;
-                    priority == BATCH && count > normal,
-                    "{priority:?} of {count}"
-                );
-                continue;
-            };
-            let mut turned = 0;
-            for _ in 0..1000 {
-                if window(&rt, &mut queue, elapsed)?.len() > 0 {
-                    break;
-                }
-                turned += 1;
-            }
-            assert_eq!(rt;
-                waits,
-                turned,
-                "{priority:?} of {count} at {normal} and {batch}"
-            );
-        }
-    }
-    Ok(())
-}
-
-fn tags(alloc: Global, texts: &[&[u8]]) -> Result<Vec<Tag>, AllocError> {
-    let mut tags = Vec::with_capacity(alloc, texts.len())?;
-    for text in texts {
-        tags.push(Tag::from(text.to_vec(alloc)?))?;
-    }
-    Ok(tags)
-}
-
-#[test]
-fn throttles_hold_until_they_expire(rt: HostRuntime) -> Result<(), Fail> {
-    let mut queue = queue(rt.alloc(), 1, 1, 1)?;
-    let set = [(DEFAULT, 4, 9000), (DEFAULT, 5, 5000), (SYSTEM, 6, 9000)];
-    for (priority, rate, expires) in set {
-        let tag = Tag::from(b"t".to_vec(rt.alloc())?);
-        queue.set_throttle(priority, tag, rate, expires)?;
-    }
-    let longest = Tag::from([1; 16].to_vec(rt.alloc())?);
-    queue.set_throttle(BATCH, longest, 1, 1)?;
-    let long = Tag::from([1; 17].to_vec(rt.alloc())?);
-    let refusal = queue.set_throttle(BATCH, long, 1, 1).err();
-    assert_eq!(rt; refusal, Some(QueueError::TagTooLong));
-    let asked = tags(rt.alloc(), &[b"t", b"u", b"t"])?;
-    // the rates that are told for t, u and t
-    let table: [(Priority, u64, &[u64]); 4] = [
-        (DEFAULT, 4999, &[5, 5]),
-        (DEFAULT, 5000, &[]),
-        (SYSTEM, 5000, &[6, 6]),
-        (BATCH, 4999, &[]),
-    ];
-    for (priority, at, rates) in table {
-        let limits = queue.throttles(priority, asked.as_slice(), at)?;
-        assert_eq!(rt; limits.len(), rates.len(), "{priority:?} at {at}");
-        for (limit, rate) in limits.iter().zip(rates) {
-            assert_eq!(rt;
-                limit.tag.as_slice(),
-                b"t".as_slice(),
-                "{priority:?} at {at}"
-            );
-            assert_eq!(rt; limit.rate, *rate, "{priority:?} at {at}");
-        }
-    }
     Ok(())
 }
 
@@ -360,12 +204,7 @@ fn the_greatest_count_starts(rt: HostRuntime) -> Result<(), Fail> {
     for _ in 1..100_000 {
         assert_eq!(rt; queue.window(2_000_000)?.len(), 0);
     }
-    let rows = [Row {
-        elapsed: 2_000_000,
-        started: &[7],
-        normal: 0,
-        batch: 0,
-    }];
+    let rows = [held(2_000_000, &[7], 0, 0)];
     hold_each(&rt, &mut queue, "window 100,000", &rows)?;
     Ok(())
 }
@@ -375,26 +214,11 @@ fn counts_in_and_out_of_range(rt: HostRuntime) -> Result<(), Fail> {
     let mut queue = queue(rt.alloc(), 1, 1, 6)?;
     let bad = Err(QueueError::BadCount);
     let table = [
-        Offer {
-            wanted: bad,
-            ..offer_of(SYSTEM, 0, 0)
-        },
-        Offer {
-            wanted: bad,
-            ..offer_of(DEFAULT, 100_001, 1)
-        },
-        Offer {
-            wanted: bad,
-            ..offer_of(SYSTEM, 100_001, 2)
-        },
-        Offer {
-            wanted: bad,
-            ..offer_of(BATCH, 0, 3)
-        },
-        Offer {
-            wanted: bad,
-            ..offer_of(BATCH, 12, 4)
-        },
+        answered(bad, offer_of(SYSTEM, 0, 0)),
+        answered(bad, offer_of(DEFAULT, 100_001, 1)),
+        answered(bad, offer_of(SYSTEM, 100_001, 2)),
+        answered(bad, offer_of(BATCH, 0, 3)),
+        answered(bad, offer_of(BATCH, 12, 4)),
         offer_of(BATCH, 11, 5),
         offer_of(BATCH, 1, 6),
         offer_of(DEFAULT, 12, 7),
@@ -402,14 +226,8 @@ fn counts_in_and_out_of_range(rt: HostRuntime) -> Result<(), Fail> {
         offer_of(SYSTEM, 100_000, 9),
         offer_of(SYSTEM, 1, 10),
         // the queue is full, and the count is looked at first
-        Offer {
-            wanted: bad,
-            ..offer_of(BATCH, 12, 11)
-        },
-        Offer {
-            wanted: Err(QueueError::Full),
-            ..offer_of(BATCH, 11, 12)
-        },
+        answered(bad, offer_of(BATCH, 12, 11)),
+        answered(Err(QueueError::Full), offer_of(BATCH, 11, 12)),
     ];
     offer_each(&rt, &mut queue, &table);
     Ok(())
@@ -422,30 +240,12 @@ fn a_full_queue_pushes_out(rt: HostRuntime) -> Result<(), Fail> {
     let table = [
         offer_of(BATCH, 1, 0),
         offer_of(BATCH, 1, 1),
-        Offer {
-            wanted: Ok(Some(0)),
-            ..offer_of(DEFAULT, 1, 2)
-        },
-        Offer {
-            wanted: Ok(Some(1)),
-            ..offer_of(SYSTEM, 1, 3)
-        },
-        Offer {
-            wanted: Ok(Some(2)),
-            ..offer_of(SYSTEM, 1, 4)
-        },
-        Offer {
-            wanted: full,
-            ..offer_of(SYSTEM, 1, 5)
-        },
-        Offer {
-            wanted: full,
-            ..offer_of(BATCH, 1, 6)
-        },
-        Offer {
-            wanted: full,
-            ..offer_of(DEFAULT, 1, 7)
-        },
+        answered(Ok(Some(0)), offer_of(DEFAULT, 1, 2)),
+        answered(Ok(Some(1)), offer_of(SYSTEM, 1, 3)),
+        answered(Ok(Some(2)), offer_of(SYSTEM, 1, 4)),
+        answered(full, offer_of(SYSTEM, 1, 5)),
+        answered(full, offer_of(BATCH, 1, 6)),
+        answered(full, offer_of(DEFAULT, 1, 7)),
     ];
     offer_each(&rt, &mut queue, &table);
     let lengths = Lengths {
@@ -462,20 +262,11 @@ fn a_batch_limit_of_0_lets_no_batch_request_in(rt: HostRuntime) -> Result<(), Fa
     let mut queue = queue(rt.alloc(), 1, 0, 1)?;
     let throttled = Err(QueueError::BatchThrottled);
     let table = [
-        Offer {
-            wanted: throttled,
-            ..offer_of(BATCH, 1, 0)
-        },
+        answered(throttled, offer_of(BATCH, 1, 0)),
         offer_of(DEFAULT, 1, 1),
         // the queue is full, and the batch limit is looked at first
-        Offer {
-            wanted: throttled,
-            ..offer_of(BATCH, 1, 2)
-        },
-        Offer {
-            wanted: Err(QueueError::BadCount),
-            ..offer_of(BATCH, 12, 3)
-        },
+        answered(throttled, offer_of(BATCH, 1, 2)),
+        answered(Err(QueueError::BadCount), offer_of(BATCH, 12, 3)),
     ];
     offer_each(&rt, &mut queue, &table);
     Ok(())
