@@ -1,10 +1,9 @@
 -- Worked examples of the definitions: each is computed by them, so that a wrong definition fails here.
-use Rattle.std.proofs.Common.{◌≡◌, ℕ, List, [], ◌∷◌, map, None, Some, Option, refl}
+use Rattle.std.proofs.Common.{◌≡◌, ℕ, List, [], ◌∷◌, map, Some, refl}
 use Rattle.fdb_history.specs.declared.grv.Priority.{Priority}
 use Rattle.fdb_history.specs.declared.grv.Priority.TheVariants.{System, Default, Batch}
 use Rattle.fdb_history.specs.declared.grv.TagLimit.{TagLimit}
-use Rattle.fdb_queue.specs.declared.budgets.Budgets.{Budgets}
-use Rattle.fdb_queue.specs.declared.error.QueueError.TheVariants.{BadCount, BatchThrottled, Full}
+use Rattle.fdb_queue.specs.declared.error.QueueError.TheVariants.{BadCount, Full}
 use Rattle.fdb_queue.specs.declared.request.Req.{Req}
 use Rattle.fdb_queue.specs.Admission.{refusal_of, admitted, pushed_out}
 use Rattle.fdb_queue.specs.Queue.{Queue, new_queue}

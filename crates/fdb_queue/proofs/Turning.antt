@@ -1,8 +1,8 @@
 -- Windows that start nothing.
-use Rattle.std.proofs.Common.{◌≡◌, ℕ, zero, suc, ◌+◌, ◌-◌, ◌*◌, ◌≤◌, ◌<◌, ◌==◌, ◌&&◌, ◌⊎◌, inl, inr, Bool, true, false, List, [], ◌∷◌, ◌++◌, length, take, drop, refl, sym, ap, ◌∙◌, arith, length-append, zero-add}
+use Rattle.std.proofs.Common.{◌≡◌, ℕ, zero, suc, ◌+◌, ◌-◌, ◌*◌, ◌≤◌, ◌<◌, ◌==◌, ◌&&◌, inl, inr, Bool, true, false, List, [], ◌∷◌, ◌++◌, length, refl, sym, ap, ◌∙◌, arith, zero-add}
 use native.Mathlib.Nat.{suc-mul, zero-mul, mul-pos}
 use Rattle.std.specs.Int.{div_ceil}
-use Rattle.std.specs.Prelude.{nat_le, nat_lt, min, All, Some}
+use Rattle.std.specs.Prelude.{nat_le, All, Some}
 use Rattle.std.proofs.lemmas.Bool.Decides.{nat_tests}
 use Rattle.std.proofs.lemmas.List.{nil_from_length}
 use Rattle.std.proofs.lemmas.List.Elements.{All-head}
@@ -11,7 +11,7 @@ use Rattle.fdb_history.specs.declared.grv.Priority.{Priority}
 use Rattle.fdb_history.specs.declared.grv.Priority.TheVariants.{System, Default, Batch}
 use Rattle.fdb_queue.specs.declared.budgets.Budgets.{Budgets}
 use Rattle.fdb_queue.specs.declared.config.QueueConfig.{QueueConfig}
-use Rattle.fdb_queue.specs.declared.config.TheConstants.{MAX_STARTED, MAX_COUNT, MAX_BURST, MAX_RATE, RATE_WINDOW}
+use Rattle.fdb_queue.specs.declared.config.TheConstants.{MAX_COUNT, MAX_BURST, RATE_WINDOW}
 use Rattle.fdb_queue.specs.declared.request.Req.{Req}
 use Rattle.fdb_queue.specs.Budgets.{can_start, budget_after, cut}
 use Rattle.fdb_queue.specs.Config.{IsConfig}
@@ -19,7 +19,7 @@ use Rattle.fdb_queue.specs.Kept.{IsQueue, IsAdmitted}
 use Rattle.fdb_queue.specs.Queue.{Queue}
 use Rattle.fdb_queue.specs.Waiting.{Requests, row, total, first}
 use Rattle.fdb_queue.specs.Waits.{after_windows, StartsAfter, IsSure, limit_of, budget_of}
-use Rattle.fdb_queue.specs.Window.{may_start, fits, window, without, budgets_after, after_window}
+use Rattle.fdb_queue.specs.Window.{may_start, fits, window, budgets_after, after_window}
 use Rattle.fdb_queue.proofs.Fitting.{fits-more}
 use Rattle.fdb_queue.proofs.LongestPrefix.{find_longest}
 use Rattle.fdb_queue.proofs.Lawful.{head, counts_in_row}

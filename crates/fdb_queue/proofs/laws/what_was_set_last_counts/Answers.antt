@@ -1,7 +1,7 @@
-use Rattle.std.proofs.Common.{◌≡◌, ℕ, ◌++◌, List, [], ◌∷◌, refl, ap, ◌∙◌, Some}
+use Rattle.std.proofs.Common.{◌≡◌, ℕ, List, [], ◌∷◌, refl, ap, ◌∙◌, Some}
 use Rattle.std.specs.Prelude.{if◌then◌else◌}
 use Rattle.fdb_history.specs.declared.grv.Priority.{Priority}
-use Rattle.fdb_queue.specs.Throttles.{Throttle, SameThrottles, limits_of, unexpired, is_for}
+use Rattle.fdb_queue.specs.Throttles.{Throttle, SameThrottles, limits_of, is_for}
 use Rattle.fdb_queue.proofs.laws.what_was_set_last_counts.Goals as goal
 
 same_limits : (these those : List Throttle) (priority : Priority) (at : ℕ) (tags : List (List ℕ)) → SameThrottles these those → limits_of these priority at tags ≡ limits_of those priority at tags

@@ -1,4 +1,4 @@
-use Rattle.std.proofs.Common.{sym, ◌∙◌, ap, arith, rules, refl, ◌*◌}
+use Rattle.std.proofs.Common.{sym, ◌∙◌, ap, rules, refl, ◌*◌}
 use Rattle.fdb_queue.specs.Config.{IsElapsed}
 use Rattle.std.specs.Int.{div_ceil}
 use Rattle.std.specs.Option.{option_copied}

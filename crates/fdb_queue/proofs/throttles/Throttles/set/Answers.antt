@@ -1,4 +1,3 @@
-use Rattle.std.proofs.Common.{sym, ◌∙◌, refl}
 use Rattle.fdb_queue.proofs.Keeping.{set_system, set_default, set_batch}
 use Rattle.fdb_queue.proofs.throttles.Throttles.set.Goals as goal
 
