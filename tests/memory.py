@@ -13,7 +13,12 @@ SOURCE = f"{ROOT}/tests/refuse.c"
 LARGE = [[("ask", 9 * it) for it in range(500)], [("report", it + 1) for it in range(500)], [("grv", None)] * 500]
 MOST_RUNS = 2_000
 # The tests that pass whichever single allocation is refused: of each crate those whose names match.
-BEARING = {"fdb_history": r"^tests::\w+$|refused_memory_is_borne", "fdb_chain": r"", "fdb_replay": r"refused_memory_is_borne"}
+BEARING = {
+    "fdb_history": r"^tests::\w+$|refused_memory_is_borne",
+    "fdb_chain": r"",
+    "fdb_queue": r"refused_memory_is_borne",
+    "fdb_replay": r"refused_memory_is_borne",
+}
 PASSED = done(b"\ntest result: ok\n")
 
 

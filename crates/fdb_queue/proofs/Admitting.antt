@@ -1,0 +1,144 @@
+-- A queue stays one when a request is let in.
+use Rattle.std.proofs.Common.{◌≡◌, ℕ, suc, ◌+◌, ◌<◌, ◌==◌, ◌&&◌, Bool, true, false, List, [], ◌∷◌, ◌++◌, length, drop, None, Some, refl, arith, length-append}
+use Rattle.std.specs.Prelude.{All, if◌then◌else◌, not}
+use Rattle.std.proofs.lemmas.List.Elements.{All-push, All-drop}
+use Rattle.std.proofs.lemmas.Bool.Decides.{nat_tests}
+use Rattle.fdb_history.specs.declared.grv.Priority.{Priority}
+use Rattle.fdb_history.specs.declared.grv.Priority.TheVariants.{System, Default, Batch}
+use Rattle.fdb_queue.specs.declared.config.QueueConfig.{QueueConfig}
+use Rattle.fdb_queue.specs.declared.request.Req.{Req}
+use Rattle.fdb_queue.specs.Admission.{refusal_of, admitted, without_oldest, is_full, is_count, is_throttled, below}
+use Rattle.fdb_queue.specs.Kept.{IsQueue, IsAdmitted}
+use Rattle.fdb_queue.specs.Queue.{Queue}
+use Rattle.fdb_queue.specs.Waiting.{Requests, row, with_last}
+
+-- what is known of a request that is let in
+pub record IsLetIn {T : Type 0} (queue : Queue T) (request : Req T) : Type 0 where
+  pub count : is_count queue.config request.priority request.count ≡ true
+  pub room : is_full queue ≡ true → (length (below request.priority queue.waiting) == 0) ≡ false
+
+let_in_by : {E : Type 0} (one two three : E) (count throttled full none : Bool) → (if not count then Some one else if throttled then Some two else if full && none then Some three else None) ≡ None
+    → (count ≡ true) × (full ≡ true → none ≡ false)
+let_in_by one two three true false true false h = (refl, λ _. refl)
+let_in_by one two three true false true true h = cc
+let_in_by one two three true false false none h = (refl, λ e. cc)
+let_in_by one two three true true full none h = cc
+let_in_by one two three false throttled full none h = cc
+
+pub let_in : {T : Type 0} (queue : Queue T) (request : Req T) → refusal_of queue request ≡ None → IsLetIn queue request
+let_in queue request h =
+    let both = let_in_by _ _ _ (is_count queue.config request.priority request.count) (is_throttled queue.config request.priority) (is_full queue) (length (below request.priority queue.waiting) == 0) h in
+    record { count = both.0; room = both.1 }
+
+-- each list has admitted requests of its priority
+pub record AreAdmitted {T : Type 0} (config : QueueConfig) (waiting : Requests T) : Type 0 where
+  pub system : All (IsAdmitted config System) waiting.system
+  pub default_ : All (IsAdmitted config Default) waiting.default_
+  pub batch : All (IsAdmitted config Batch) waiting.batch
+
+AreAdmitted-with_last : {T : Type 0} (config : QueueConfig) (waiting : Requests T) (request : Req T) (priority : Priority)
+    → request.priority ≡ priority → is_count config priority request.count ≡ true → AreAdmitted config waiting
+    → AreAdmitted config (with_last waiting request priority)
+AreAdmitted-with_last config waiting request System own count h = record {
+  system = All-push (IsAdmitted config System) waiting.system request h.system (record { own = own; count = count });
+  default_ = h.default_;
+  batch = h.batch;
+}
+AreAdmitted-with_last config waiting request Default own count h = record {
+  system = h.system;
+  default_ = All-push (IsAdmitted config Default) waiting.default_ request h.default_ (record { own = own; count = count });
+  batch = h.batch;
+}
+AreAdmitted-with_last config waiting request Batch own count h = record {
+  system = h.system;
+  default_ = h.default_;
+  batch = All-push (IsAdmitted config Batch) waiting.batch request h.batch (record { own = own; count = count });
+}
+
+AreAdmitted-without_oldest : {T : Type 0} (config : QueueConfig) (waiting : Requests T) → AreAdmitted config waiting
+    → AreAdmitted config (without_oldest waiting)
+AreAdmitted-without_oldest config waiting h = elim (length waiting.batch == 0) as (λ v. AreAdmitted config (if v then record waiting { default_ = drop 1 waiting.default_ } else record waiting { batch = drop 1 waiting.batch })) [
+  | true ↦ record { system = h.system; default_ = All-drop (IsAdmitted config Default) 1 waiting.default_ h.default_; batch = h.batch }
+  | false ↦ record { system = h.system; default_ = h.default_; batch = All-drop (IsAdmitted config Batch) 1 waiting.batch h.batch }
+]
+
+length_row : {T : Type 0} (waiting : Requests T) → length (row waiting) ≡ length waiting.system + length waiting.default_ + length waiting.batch
+length_row waiting = simp length-append
+
+length_row-with_last : {T : Type 0} (waiting : Requests T) (request : Req T) (priority : Priority) → length (row (with_last waiting request priority)) ≡ length (row waiting) + 1
+length_row-with_last waiting request System = simp length-append (omega arith)
+length_row-with_last waiting request Default = simp length-append (omega arith)
+length_row-with_last waiting request Batch = simp length-append (omega arith)
+
+-- a list that has an item is not empty
+pub not_empty : (n : ℕ) → (suc n == 0) ≡ false
+not_empty n = grind (arith, nat_tests)
+
+length_oldest : {T : Type 0} (system default_ batch : List (Req T)) → 0 < length batch + length default_
+    → length (row (without_oldest (record { system = system; default_ = default_; batch = batch }))) + 1 ≡ length (system ++ default_ ++ batch)
+length_oldest system [] [] some = absurd (omega arith)
+length_oldest system (oldest ∷ default_) [] some = simp length-append (omega arith)
+length_oldest system default_ (oldest ∷ batch) some = rw (not_empty (length batch)) (simp length-append (omega arith))
+
+length_row-without_oldest : {T : Type 0} (waiting : Requests T) → 0 < length waiting.batch + length waiting.default_
+    → length (row (without_oldest waiting)) + 1 ≡ length (row waiting)
+length_row-without_oldest waiting some = length_oldest waiting.system waiting.default_ waiting.batch some
+
+-- what may be pushed out is still there when the request has come
+some_lowest : {T : Type 0} (waiting : Requests T) (request : Req T) (priority : Priority) → (length (below priority waiting) == 0) ≡ false
+    → let after = with_last waiting request priority in 0 < length after.batch + length after.default_
+some_lowest {T = T} waiting request System some = grind (arith, nat_tests, length-append waiting.batch waiting.default_)
+some_lowest waiting request Default some = grind (arith, nat_tests, length-append waiting.default_ (request ∷ []))
+some_lowest waiting request Batch some = simp length-append (omega arith)
+
+-- A queue that was full stays one when the request has come and the oldest of the lowest priority has gone.
+pub IsQueue-pushed_out : {T : Type 0} (queue : Queue T) (request : Req T) → IsQueue queue → IsLetIn queue request → is_full queue ≡ true
+    → IsQueue (record queue { waiting = without_oldest (with_last queue.waiting request request.priority) })
+IsQueue-pushed_out queue request h let_in full =
+    let own : AreAdmitted queue.config queue.waiting = record { system = h.system; default_ = h.default_; batch = h.batch } in
+    let grown = AreAdmitted-with_last queue.config queue.waiting request request.priority refl let_in.count own in
+    let kept = AreAdmitted-without_oldest queue.config (with_last queue.waiting request request.priority) grown in
+    let longer = length_row-with_last queue.waiting request request.priority in
+    let shorter = length_row-without_oldest (with_last queue.waiting request request.priority) (some_lowest queue.waiting request request.priority (let_in.room full)) in
+    record {
+      config = h.config;
+      system = kept.system;
+      default_ = kept.default_;
+      batch = kept.batch;
+      room = omega (arith, h.room);
+      budgets = h.budgets;
+    }
+
+-- what may be pushed out is among the batch and default requests
+lowest_of : {T : Type 0} (waiting : Requests T) (priority : Priority) → (length (below priority waiting) == 0) ≡ false → 0 < length waiting.batch + length waiting.default_
+lowest_of waiting System some = grind (arith, nat_tests, length-append waiting.batch waiting.default_)
+lowest_of waiting Default some = grind (arith, nat_tests)
+lowest_of waiting Batch some = cc
+
+admitted_at : {T : Type 0} (queue : Queue T) (request : Req T) (waiting : Requests T) → IsQueue queue → is_count queue.config request.priority request.count ≡ true
+    → AreAdmitted queue.config waiting → length (row waiting) < queue.config.room → IsQueue (record queue { waiting = with_last waiting request request.priority })
+admitted_at queue request waiting h count own room =
+    let kept = AreAdmitted-with_last queue.config waiting request request.priority refl count own in
+    let longer = length_row-with_last waiting request request.priority in
+    record {
+      config = h.config;
+      system = kept.system;
+      default_ = kept.default_;
+      batch = kept.batch;
+      room = omega arith;
+      budgets = h.budgets;
+    }
+
+admitted_by : {T : Type 0} (queue : Queue T) (request : Req T) (full : Bool) → is_full queue ≡ full → IsQueue queue → IsLetIn queue request
+    → IsQueue (record queue { waiting = with_last (if full then without_oldest queue.waiting else queue.waiting) request request.priority })
+admitted_by queue request true full h let_in =
+    let own : AreAdmitted queue.config queue.waiting = record { system = h.system; default_ = h.default_; batch = h.batch } in
+    let shorter = length_row-without_oldest queue.waiting (lowest_of queue.waiting request.priority (let_in.room full)) in
+    let room = h.room in
+    admitted_at queue request (without_oldest queue.waiting) h let_in.count (AreAdmitted-without_oldest queue.config queue.waiting own) (omega arith)
+admitted_by queue request false full h let_in =
+    let own : AreAdmitted queue.config queue.waiting = record { system = h.system; default_ = h.default_; batch = h.batch } in
+    admitted_at queue request queue.waiting h let_in.count own (grind (arith, nat_tests, h.room))
+
+pub IsQueue-admitted : {T : Type 0} (queue : Queue T) (request : Req T) → IsQueue queue → refusal_of queue request ≡ None → IsQueue (admitted queue request)
+IsQueue-admitted queue request h none = admitted_by queue request (is_full queue) refl h (let_in queue request none)

@@ -1,0 +1,110 @@
+-- Which lists fit into one window, one request at a time.
+use Rattle.std.proofs.Common.{◌≡◌, ℕ, ◌+◌, ◌&&◌, Bool, true, false, List, [], ◌∷◌, ◌++◌, length, refl, sym, ap, ◌∙◌, arith, length-append, add-zero, ◌⊎◌, inl, inr}
+use Rattle.std.specs.Prelude.{nat_le, nat_lt}
+use Rattle.std.specs.List.{list_all}
+use Rattle.std.proofs.lemmas.Bool.Decides.{nat_tests}
+use Rattle.std.proofs.lemmas.List.Folds.{list_all-map}
+use Rattle.std.proofs.lemmas.List.Sums.{sum_by-cons}
+use Rattle.fdb_queue.specs.declared.budgets.Budgets.{Budgets}
+use Rattle.fdb_queue.specs.declared.config.QueueConfig.{QueueConfig}
+use Rattle.fdb_queue.specs.declared.config.TheConstants.{MAX_STARTED}
+use Rattle.fdb_queue.specs.declared.request.Req.{Req}
+use Rattle.fdb_queue.specs.Queue.{Queue}
+use Rattle.fdb_queue.specs.Waiting.{total}
+use Rattle.fdb_queue.specs.Window.{may_start, with_those_before, each_may_start, fits}
+
+-- whether each of some requests may start, where transactions of so many counts have started before them
+abbrev pub each_after : {T : Type 0} → QueueConfig → Budgets → ℕ → List (Req T) → Bool
+each_after config budgets before [] = true
+each_after config budgets before (request ∷ requests) =
+    may_start config budgets request.priority (before + request.count) && each_after config budgets (before + request.count) requests
+
+-- the sum of a list that begins with a request
+pub total-cons : {T : Type 0} (x : Req T) (xs : List (Req T)) → total (x ∷ xs) ≡ x.count + total xs
+total-cons x xs = sum_by-cons (λ request. request.count) x xs
+
+and_assoc : (a b c : Bool) → (a && (b && c)) ≡ (a && b && c)
+and_assoc true b c = refl
+and_assoc false b c = refl
+
+pub each_after-append : {T : Type 0} (config : QueueConfig) (budgets : Budgets) (before : ℕ) (xs ys : List (Req T))
+    → each_after config budgets before (xs ++ ys) ≡ (each_after config budgets before xs && each_after config budgets (before + total xs) ys)
+each_after-append config budgets before [] ys = rw (add-zero before) refl
+each_after-append config budgets before (x ∷ xs) ys =
+    let sums : before + total (x ∷ xs) ≡ before + x.count + total xs = omega (arith, total-cons x xs) in
+    rw (each_after-append config budgets (before + x.count) xs ys, sums) (and_assoc (may_start config budgets x.priority (before + x.count)) (each_after config budgets (before + x.count) xs) (each_after config budgets (before + x.count + total xs) ys))
+
+list_all-same : {X : Type 0} (p q : X → Bool) → ((x : X) → p x ≡ q x) → (xs : List X) → list_all p xs ≡ list_all q xs
+list_all-same p q same [] = refl
+list_all-same p q same (x ∷ xs) = rw (same x, list_all-same p q same xs) refl
+
+-- It is the test of the definition.
+each_from : {T : Type 0} (config : QueueConfig) (budgets : Budgets) (before : ℕ) (requests : List (Req T))
+    → list_all (λ it. may_start config budgets it.1.priority (before + total it.0 + it.1.count)) (with_those_before requests) ≡ each_after config budgets before requests
+each_from config budgets before [] = refl
+each_from {T = T} config budgets before (x ∷ xs) =
+    let here : before + 0 + x.count ≡ before + x.count = omega arith in
+    let there = list_all-map (λ (it : List (Req T) × Req T). may_start config budgets it.1.priority (before + total it.0 + it.1.count)) (λ (it : List (Req T) × Req T). (x ∷ it.0, it.1)) (with_those_before xs)
+    ∙ list_all-same (λ (it : List (Req T) × Req T). may_start config budgets it.1.priority (before + total (x ∷ it.0) + it.1.count)) (λ (it : List (Req T) × Req T). may_start config budgets it.1.priority (before + x.count + total it.0 + it.1.count))
+    (λ it. ap (may_start config budgets it.1.priority) (omega (arith, total-cons x it.0))) (with_those_before xs)
+    ∙ each_from config budgets (before + x.count) xs in
+    rw (here, there) refl
+
+pub each_may_start-after : {T : Type 0} (config : QueueConfig) (budgets : Budgets) (requests : List (Req T)) → each_may_start config budgets requests ≡ each_after config budgets 0 requests
+each_may_start-after {T = T} config budgets requests =
+    list_all-same (λ (it : List (Req T) × Req T). may_start config budgets it.1.priority (total it.0 + it.1.count)) (λ (it : List (Req T) × Req T). may_start config budgets it.1.priority (0 + total it.0 + it.1.count))
+    (λ it. ap (may_start config budgets it.1.priority) (omega arith)) (with_those_before requests)
+    ∙ each_from config budgets 0 requests
+
+pub and_false : (a b : Bool) → (a && b) ≡ false → (a ≡ false) ⊎ (b ≡ false)
+and_false true b h = inr h
+and_false false b h = inl refl
+
+pub and_true : (a b : Bool) → (a && b) ≡ true → (a ≡ true) × (b ≡ true)
+and_true true b h = (refl, h)
+and_true false b h = cc
+
+and-false : (b : Bool) → (b && false) ≡ false
+and-false true = refl
+and-false false = refl
+
+-- whether some requests fit, with what comes after some of them
+pub fits-append : {T : Type 0} (queue : Queue T) (done more : List (Req T)) (request : Req T)
+    → fits queue (done ++ request ∷ more)
+    ≡ (nat_le (length (done ++ request ∷ more)) MAX_STARTED && (each_after queue.config queue.budgets 0 done
+    && (may_start queue.config queue.budgets request.priority (total done + request.count) && each_after queue.config queue.budgets (total done + request.count) more)))
+fits-append queue done more request =
+    let split = each_may_start-after queue.config queue.budgets (done ++ request ∷ more) ∙ each_after-append queue.config queue.budgets 0 done (request ∷ more) in
+    let none : 0 + total done ≡ total done = omega arith in
+    let whole : fits queue (done ++ request ∷ more) ≡ (nat_le (length (done ++ request ∷ more)) MAX_STARTED && (each_after queue.config queue.budgets 0 done && each_after queue.config queue.budgets (0 + total done) (request ∷ more))) =
+    ap {A = Bool} {B = Bool} (λ v. nat_le (length (done ++ request ∷ more)) MAX_STARTED && v) split in
+    rw none at whole
+
+-- what comes first of what fits fits
+pub fits-prefix : {T : Type 0} (queue : Queue T) (done more : List (Req T)) → fits queue (done ++ more) ≡ true → fits queue done ≡ true
+fits-prefix queue done more h =
+    let both = and_true (nat_le (length (done ++ more)) MAX_STARTED) (each_may_start queue.config queue.budgets (done ++ more)) h in
+    let each = sym (each_may_start-after queue.config queue.budgets (done ++ more) ∙ each_after-append queue.config queue.budgets 0 done more) ∙ both.1 in
+    let first = (and_true (each_after queue.config queue.budgets 0 done) (each_after queue.config queue.budgets (0 + total done) more) each).0 in
+    let room : nat_le (length done) MAX_STARTED ≡ true = grind (arith, nat_tests, length-append done more, both.0) in
+    rw (room, each_may_start-after queue.config queue.budgets done, first) refl
+
+-- one more request, and whatever comes after it
+pub fits-more : {T : Type 0} (queue : Queue T) (done more : List (Req T)) (request : Req T)
+    → (nat_lt (length done) MAX_STARTED && may_start queue.config queue.budgets request.priority (total done + request.count)) ≡ false
+    → fits queue (done ++ request ∷ more) ≡ false
+fits-more queue done more request blocked =
+    fits-append queue done more request
+    ∙ elim (and_false (nat_lt (length done) MAX_STARTED) (may_start queue.config queue.budgets request.priority (total done + request.count)) blocked) [
+      | inl full ↦ (let over : nat_le (length (done ++ request ∷ more)) MAX_STARTED ≡ false = grind (arith, nat_tests, length-append done (request ∷ more)) in rw over refl)
+      | inr held ↦ rw (held, and-false, and-false) refl
+    ]
+
+pub fits-push : {T : Type 0} (queue : Queue T) (done : List (Req T)) (request : Req T) → fits queue done ≡ true
+    → (nat_lt (length done) MAX_STARTED && may_start queue.config queue.budgets request.priority (total done + request.count)) ≡ true
+    → fits queue (done ++ request ∷ []) ≡ true
+fits-push queue done request h goes =
+    let parts = and_true (nat_lt (length done) MAX_STARTED) (may_start queue.config queue.budgets request.priority (total done + request.count)) goes in
+    let each = sym (each_may_start-after queue.config queue.budgets done) ∙ (and_true (nat_le (length done) MAX_STARTED) (each_may_start queue.config queue.budgets done) h).1 in
+    let room : nat_le (length (done ++ request ∷ [])) MAX_STARTED ≡ true = grind (arith, nat_tests, length-append done (request ∷ []), parts.0) in
+    fits-append queue done [] request ∙ rw (room, each, parts.1) refl

@@ -1,0 +1,10 @@
+pub mod Admitting
+pub mod LongestPrefix
+pub mod Fitting
+pub mod Walking
+pub mod Leaving
+pub mod Lawful
+pub mod Lost
+pub mod Turning
+pub mod Keeping
+mod Examples

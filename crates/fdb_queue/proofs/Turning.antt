@@ -1,0 +1,260 @@
+-- Windows that start nothing.
+use Rattle.std.proofs.Common.{◌≡◌, ℕ, zero, suc, ◌+◌, ◌-◌, ◌*◌, ◌≤◌, ◌<◌, ◌==◌, ◌&&◌, inl, inr, Bool, true, false, List, [], ◌∷◌, ◌++◌, length, refl, sym, ap, ◌∙◌, arith, zero-add}
+use native.Mathlib.Nat.{suc-mul, zero-mul, mul-pos}
+use Rattle.std.specs.Int.{div_ceil}
+use Rattle.std.specs.Prelude.{nat_le, All, Some}
+use Rattle.std.proofs.lemmas.Bool.Decides.{nat_tests}
+use Rattle.std.proofs.lemmas.List.{nil_from_length}
+use Rattle.std.proofs.lemmas.List.Elements.{All-head}
+use Rattle.std.proofs.lemmas.Grind.{div_ceil_times}
+use Rattle.fdb_history.specs.declared.grv.Priority.{Priority}
+use Rattle.fdb_history.specs.declared.grv.Priority.TheVariants.{System, Default, Batch}
+use Rattle.fdb_queue.specs.declared.budgets.Budgets.{Budgets}
+use Rattle.fdb_queue.specs.declared.config.QueueConfig.{QueueConfig}
+use Rattle.fdb_queue.specs.declared.config.TheConstants.{MAX_COUNT, MAX_BURST, RATE_WINDOW}
+use Rattle.fdb_queue.specs.declared.request.Req.{Req}
+use Rattle.fdb_queue.specs.Budgets.{can_start, budget_after, cut}
+use Rattle.fdb_queue.specs.Config.{IsConfig}
+use Rattle.fdb_queue.specs.Kept.{IsQueue, IsAdmitted}
+use Rattle.fdb_queue.specs.Queue.{Queue}
+use Rattle.fdb_queue.specs.Waiting.{Requests, row, total, first}
+use Rattle.fdb_queue.specs.Waits.{after_windows, StartsAfter, IsSure, limit_of, budget_of}
+use Rattle.fdb_queue.specs.Window.{may_start, fits, window, budgets_after, after_window}
+use Rattle.fdb_queue.proofs.Fitting.{fits-more}
+use Rattle.fdb_queue.proofs.LongestPrefix.{find_longest}
+use Rattle.fdb_queue.proofs.Lawful.{head, counts_in_row}
+use Rattle.fdb_queue.proofs.Walking.{longest, bool_cases}
+
+-- somebody waits for the rate of this priority
+abbrev pub IsWaiting : {T : Type 0} → Priority → Requests T → Type 0
+IsWaiting System waiting = ⊥
+IsWaiting Default waiting = (length waiting.system + length waiting.default_ == 0) ≡ false
+IsWaiting Batch waiting = (length (row waiting) == 0) ≡ false
+
+-- the first of the row waits for its own rate alone
+pub record IsHead {T : Type 0} (queue : Queue T) (request : Req T) (left : List (Req T)) : Type 0 where
+  pub row_is : row queue.waiting ≡ request ∷ left
+  pub config : IsConfig queue.config
+  pub sure : IsSure queue.config request.priority request.count
+  pub waiting : IsWaiting request.priority queue.waiting
+
+-- how much of a budget is missing for the first of the row
+abbrev pub missing : {T : Type 0} → Queue T → Req T → ℕ
+missing queue request = request.count * RATE_WINDOW - (limit_of queue.config request.priority * RATE_WINDOW + budget_of queue.budgets request.priority)
+
+-- ---- whether a window starts something
+
+held : {T : Type 0} (queue : Queue T) (request : Req T) (left : List (Req T)) → row queue.waiting ≡ request ∷ left
+    → may_start queue.config queue.budgets request.priority request.count ≡ false → window queue ≡ []
+held {T = T} queue request left is stays =
+    let none : total {T = T} [] + request.count ≡ request.count = omega arith in
+    let stops : may_start queue.config queue.budgets request.priority (total {T = T} [] + request.count) ≡ false = ap (λ sum. may_start queue.config queue.budgets request.priority sum) none ∙ stays in
+    ap (λ requests. longest queue requests) is
+    ∙ rw (find_longest (λ some. fits queue some) [] (request ∷ left) refl (λ more. fits-more queue [] more request (rw stops refl))) refl
+
+not_both : {T : Type 0} (queue : Queue T) (request : Req T) (left : List (Req T)) → row queue.waiting ≡ request ∷ left
+    → may_start queue.config queue.budgets request.priority request.count ≡ true → window queue ≡ [] → ⊥
+not_both queue request left is goes none =
+    let after : row queue.waiting ≡ window queue ++ request ∷ left = is ∙ ap (λ some. some ++ request ∷ left) (sym none) in
+    let sum : total (window queue) + request.count ≡ request.count = ap (λ some. total some + request.count) none ∙ zero-add request.count in
+    let empty : length (window queue) ≡ 0 = ap (λ some. length some) none in
+    elim (head queue left request after) [
+      | inl full ↦ omega arith
+      | inr stays ↦ (let both : true ≡ false = sym goes ∙ ap (λ some. may_start queue.config queue.budgets request.priority some) (sym sum) ∙ stays in cc)
+    ]
+
+started : {T : Type 0} (queue : Queue T) (request : Req T) (left : List (Req T)) → row queue.waiting ≡ request ∷ left
+    → may_start queue.config queue.budgets request.priority request.count ≡ true → 0 < length (window queue)
+started queue request left is goes =
+    elim (bool_cases (length (window queue) == 0)) [
+      | inl none ↦ absurd (not_both queue request left is goes (nil_from_length (window queue) (grind (arith, nat_tests))))
+      | inr some ↦ grind (arith, nat_tests)
+    ]
+
+-- The first of the row may start where nothing is missing.
+may_by_limit : (limit budget count : ℕ) → count ≤ MAX_BURST → can_start limit budget count ≡ nat_le (count * RATE_WINDOW - (limit * RATE_WINDOW + budget)) 0
+may_by_limit limit budget count small = grind (arith, nat_tests)
+
+normal_suffices : (limit budget count : ℕ) → limit ≤ MAX_BURST → count ≤ limit → can_start limit budget count ≡ true
+normal_suffices limit budget count small within = grind (arith, nat_tests)
+
+and-true : (b : Bool) → (b && true) ≡ b
+and-true true = refl
+and-true false = refl
+
+may_by : (config : QueueConfig) (budgets : Budgets) (priority : Priority) (count : ℕ) → IsConfig config → IsSure config priority count
+    → may_start config budgets priority count ≡ nat_le (count * RATE_WINDOW - (limit_of config priority * RATE_WINDOW + budget_of budgets priority)) 0
+may_by config budgets System count h sure = absurd sure
+may_by config budgets Default count h sure = may_by_limit config.normal budgets.normal count sure
+may_by config budgets Batch count h sure =
+    rw (normal_suffices config.normal budgets.normal count h.normal_in_range sure.0, may_by_limit config.batch budgets.batch count (omega (arith, sure.0, h.normal_in_range))) (and-true _)
+
+-- ---- a window that starts nothing
+
+abbrev waited : {T : Type 0} → ℕ → Queue T → Queue T
+waited elapsed queue = record queue { budgets = budgets_after queue.config queue.budgets elapsed [] queue.waiting }
+
+pub after_idle : {T : Type 0} (elapsed : ℕ) (queue : Queue T) → window queue ≡ [] → after_window elapsed queue ≡ waited elapsed queue
+after_idle elapsed queue idle = rw idle refl
+
+-- What is missing falls by what the limit grants.
+cut_missing : (elapsed limit budget count : ℕ) → count ≤ MAX_BURST
+    → count * RATE_WINDOW - (limit * RATE_WINDOW + cut false (budget_after elapsed limit 0 budget)) ≡ count * RATE_WINDOW - (limit * RATE_WINDOW + budget) - elapsed * limit
+cut_missing elapsed limit budget count small = grind (arith)
+
+falls : {T : Type 0} (elapsed : ℕ) (queue : Queue T) (request : Req T) (priority : Priority) → IsConfig queue.config → IsSure queue.config priority request.count → IsWaiting priority queue.waiting
+    → request.count * RATE_WINDOW - (limit_of queue.config priority * RATE_WINDOW + budget_of (waited elapsed queue).budgets priority)
+    ≡ request.count * RATE_WINDOW - (limit_of queue.config priority * RATE_WINDOW + budget_of queue.budgets priority) - elapsed * limit_of queue.config priority
+falls elapsed queue request System h sure waiting = absurd sure
+falls elapsed queue request Default h sure waiting = rw waiting (cut_missing elapsed queue.config.normal queue.budgets.normal request.count sure)
+falls elapsed queue request Batch h sure waiting = rw waiting (cut_missing elapsed queue.config.batch queue.budgets.batch request.count (omega (arith, sure.0, h.normal_in_range)))
+
+next_missing : {T : Type 0} (elapsed : ℕ) (queue : Queue T) (request : Req T) (left : List (Req T)) → IsHead queue request left
+    → missing (waited elapsed queue) request ≡ missing queue request - elapsed * limit_of queue.config request.priority
+next_missing elapsed queue request left h = falls elapsed queue request request.priority h.config h.sure h.waiting
+
+not_none : (n : ℕ) → 0 < n → nat_le n 0 ≡ false
+not_none n some = grind (arith, nat_tests)
+
+idle_where : {T : Type 0} (queue : Queue T) (request : Req T) (left : List (Req T)) → IsHead queue request left → 0 < missing queue request → window queue ≡ []
+idle_where queue request left h some = held queue request left h.row_is (may_by queue.config queue.budgets request.priority request.count h.config h.sure ∙ not_none (missing queue request) some)
+
+starts_where : {T : Type 0} (queue : Queue T) (request : Req T) (left : List (Req T)) → IsHead queue request left → missing queue request ≡ 0 → 0 < length (window queue)
+starts_where queue request left h none = started queue request left h.row_is (may_by queue.config queue.budgets request.priority request.count h.config h.sure ∙ ap (λ it. nat_le it 0) none)
+
+still_head : {T : Type 0} (elapsed : ℕ) (queue : Queue T) (request : Req T) (left : List (Req T)) → IsHead queue request left → IsHead (waited elapsed queue) request left
+still_head elapsed queue request left h = record { row_is = h.row_is; config = h.config; sure = h.sure; waiting = h.waiting }
+
+-- ---- how many windows start nothing
+
+each_before : {T : Type 0} (elapsed : ℕ) (queue : Queue T) (count : ℕ) → window queue ≡ [] → StartsAfter elapsed (after_window elapsed queue) count
+    → (before : ℕ) → before < suc count → window (after_windows elapsed before queue) ≡ []
+each_before elapsed queue count idle rest zero less = idle
+each_before elapsed queue count idle rest (suc before) less = rest.idle before (omega arith)
+
+one_less : (n count step : ℕ) → n ≤ suc count * step → suc count * step < n + step → (0 < n) × (n - step ≤ count * step) × (0 < count → count * step < n - step + step)
+one_less n count step enough needed =
+    let more : suc count * step ≡ count * step + step = suc-mul count step in
+    (omega arith, omega arith, λ some. omega arith)
+
+-- So many as it takes for what the limit grants to make up for what is missing.
+pub counted : {T : Type 0} (elapsed : ℕ) (queue : Queue T) (request : Req T) (left : List (Req T)) (count step : ℕ) → IsHead queue request left
+    → step ≡ elapsed * limit_of queue.config request.priority → missing queue request ≤ count * step → (0 < count → count * step < missing queue request + step) → StartsAfter elapsed queue count
+counted elapsed queue request left zero step h is enough needed = record {
+  idle = λ before less. absurd (omega arith);
+  starts = starts_where queue request left h (omega arith);
+}
+counted {T = T} elapsed queue request left (suc count) step h is enough needed =
+    let numbers = one_less (missing queue request) count step enough (needed (omega arith)) in
+    let some = numbers.0 in
+    let next = next_missing elapsed queue request left h ∙ ap (λ it. missing queue request - it) (sym is) in
+    let idle = idle_where queue request left h some in
+    let after = after_idle elapsed queue idle in
+    let rest : StartsAfter elapsed (waited elapsed queue) count = counted elapsed (waited elapsed queue) request left count step (still_head elapsed queue request left h) is (rw next numbers.1) (λ more. rw next (numbers.2 more)) in
+    let then : StartsAfter elapsed (after_window elapsed queue) count = rw after rest in
+    record {
+      idle = each_before elapsed queue count idle then;
+      starts = then.starts;
+    }
+
+-- ---- no more than that
+
+one_more : (n count step : ℕ) → 0 < n → count * step < n - step + step → suc count * step < n + step
+one_more n zero step some less = let one : suc zero * step ≡ zero * step + step = suc-mul zero step in let none : zero * step ≡ 0 = zero-mul step in omega arith
+one_more n (suc count) step some less =
+    let two : suc (suc count) * step ≡ suc count * step + step = suc-mul (suc count) step in
+    let one : suc count * step ≡ count * step + step = suc-mul count step in
+    omega arith
+
+is_zero : (n : ℕ) → (n == 0) ≡ true → n ≡ 0
+is_zero n h = grind (arith, nat_tests)
+
+is_more : (n : ℕ) → (n == 0) ≡ false → 0 < n
+is_more n h = grind (arith, nat_tests)
+
+pub idle_within : {T : Type 0} (elapsed : ℕ) (queue : Queue T) (request : Req T) (left : List (Req T)) (count step : ℕ) → IsHead queue request left
+    → step ≡ elapsed * limit_of queue.config request.priority → 0 < step → ((before : ℕ) → before < count → window (after_windows elapsed before queue) ≡ []) → count * step < missing queue request + step
+idle_within elapsed queue request left zero step h is grants idle = let none : zero * step ≡ 0 = zero-mul step in omega arith
+idle_within elapsed queue request left (suc count) step h is grants idle =
+    let here = idle 0 (omega arith) in
+    let after = after_idle elapsed queue here in
+    let next = next_missing elapsed queue request left h ∙ ap (λ it. missing queue request - it) (sym is) in
+    let later_raw : count * step < missing (waited elapsed queue) request + step = idle_within elapsed (waited elapsed queue) request left count step (still_head elapsed queue request left h) is grants
+    (λ before less. rw (← after) (idle (suc before) (omega arith))) in
+    let later = rw next at later_raw in
+    let some : 0 < missing queue request = elim (bool_cases (missing queue request == 0)) [
+      | inl none ↦ (let starts = starts_where queue request left h (is_zero (missing queue request) none) in let empty = ap (λ it. length it) here in absurd (omega arith))
+      | inr more ↦ is_more (missing queue request) more
+    ] in
+    one_more (missing queue request) count step some later
+
+-- a product that is less than one and one more factor
+below_factor : (a b step : ℕ) → a * step < b * step + step → a ≤ b
+below_factor a b step less = grind arith
+
+-- a limit that is not 0 grants something
+granted : (elapsed : ℕ) (config : QueueConfig) (priority : Priority) (count : ℕ) → 1 ≤ elapsed → IsConfig config → IsSure config priority count → 0 < elapsed * limit_of config priority
+granted elapsed config System count time h sure = absurd sure
+granted elapsed config Default count time h sure = mul-pos time h.normal_some
+granted elapsed config Batch count time h sure = mul-pos time sure.1
+
+waiting_by : {T : Type 0} (config : QueueConfig) (system default_ batch : List (Req T)) (request : Req T) (left : List (Req T))
+    → All (IsAdmitted config System) system → All (IsAdmitted config Default) default_ → All (IsAdmitted config Batch) batch
+    → system ++ default_ ++ batch ≡ request ∷ left → IsSure config request.priority request.count
+    → IsWaiting request.priority (record { system = system; default_ = default_; batch = batch })
+waiting_by {T = T} config (x ∷ system) default_ batch request left ss ds bs is sure =
+    let same : x ≡ request = cc in
+    let own : request.priority ≡ System = sym (ap (λ (it : Req T). it.priority) same) ∙ (All-head (IsAdmitted config System) x system ss).own in
+    absurd (rw own at sure)
+waiting_by {T = T} config [] (x ∷ default_) batch request left ss ds bs is sure =
+    let same : x ≡ request = cc in
+    let own : request.priority ≡ Default = sym (ap (λ (it : Req T). it.priority) same) ∙ (All-head (IsAdmitted config Default) x default_ ds).own in
+    rw own (grind (arith, nat_tests))
+waiting_by {T = T} config [] [] (x ∷ batch) request left ss ds bs is sure =
+    let same : x ≡ request = cc in
+    let own : request.priority ≡ Batch = sym (ap (λ (it : Req T). it.priority) same) ∙ (All-head (IsAdmitted config Batch) x batch bs).own in
+    rw own (grind (arith, nat_tests))
+waiting_by config [] [] [] request left ss ds bs is sure = cc
+
+-- a head, by the lists
+head_by : {T : Type 0} (queue : Queue T) (request : Req T) (left : List (Req T)) → IsQueue queue → row queue.waiting ≡ request ∷ left → IsSure queue.config request.priority request.count
+    → IsHead queue request left
+head_by queue request left h is sure = record { row_is = is; config = h.config; sure = sure; waiting = waiting_by queue.config queue.waiting.system queue.waiting.default_ queue.waiting.batch request left h.system h.default_ h.batch is sure }
+
+pub bounded : {T : Type 0} (queue : Queue T) (budgets : Budgets) (request : Req T) (left : List (Req T)) (elapsed idle : ℕ)
+    → IsQueue queue → 1 ≤ elapsed → row queue.waiting ≡ request ∷ left → IsSure queue.config request.priority request.count
+    → ((before : ℕ) → before < idle → window (after_windows elapsed before (record queue { budgets = budgets })) ≡ [])
+    → idle ≤ div_ceil (request.count * RATE_WINDOW) (elapsed * limit_of queue.config request.priority)
+bounded queue budgets request left elapsed idle h time is sure all =
+    let own = head_by queue request left h is sure in
+    let here : IsHead (record queue { budgets = budgets }) request left = record { row_is = own.row_is; config = own.config; sure = own.sure; waiting = own.waiting } in
+    let step = elapsed * limit_of queue.config request.priority in
+    let grants : 0 < step = granted elapsed queue.config request.priority request.count time h.config sure in
+    let within = idle_within elapsed (record queue { budgets = budgets }) request left idle step here refl grants all in
+    let ceil = (div_ceil_times (request.count * RATE_WINDOW) step grants).0 in
+    below_factor idle (div_ceil (request.count * RATE_WINDOW) step) step (omega arith)
+
+-- ---- the number that is computed
+
+first_split : {X : Type 0} (xs : List X) (x : X) → first xs ≡ Some x → (left : List X) × (xs ≡ x ∷ left)
+first_split [] x h = cc
+first_split (y ∷ ys) x h = (ys, (let same : y ≡ x = cc in rw same refl))
+
+pub exact : {T : Type 0} (queue : Queue T) (request : Req T) (elapsed limit budget count : ℕ) → IsQueue queue → 1 ≤ elapsed → first (row queue.waiting) ≡ Some request
+    → IsSure queue.config request.priority request.count → limit ≡ limit_of queue.config request.priority → budget ≡ budget_of queue.budgets request.priority
+    → count ≡ div_ceil (request.count * RATE_WINDOW - (limit * RATE_WINDOW + budget)) (elapsed * limit) → StartsAfter elapsed queue count
+exact queue request elapsed limit budget count h time is sure limit_is budget_is count_is =
+    let split = first_split (row queue.waiting) request is in
+    let own = head_by queue request split.0 h split.1 sure in
+    let grants = granted elapsed queue.config request.priority request.count time h.config sure in
+    let step : elapsed * limit ≡ elapsed * limit_of queue.config request.priority = ap (λ it. elapsed * it) limit_is in
+    let number : count ≡ div_ceil (missing queue request) (elapsed * limit_of queue.config request.priority) = rw (limit_is, budget_is) at count_is in
+    let ceil = div_ceil_times (missing queue request) (elapsed * limit_of queue.config request.priority) grants in
+    rw number (counted elapsed queue request split.0 (div_ceil (missing queue request) (elapsed * limit_of queue.config request.priority)) (elapsed * limit_of queue.config request.priority) own refl ceil.0 (λ some. ceil.1))
+
+pub count_of : {T : Type 0} (queue : Queue T) (request : Req T) → IsQueue queue → first (row queue.waiting) ≡ Some request → request.count ≤ MAX_COUNT
+count_of {T = T} queue request h is =
+    let split = first_split (row queue.waiting) request is in
+    let Small : Req T → Type 0 = λ it. it.count ≤ MAX_COUNT in
+    let all : All Small (row queue.waiting) = counts_in_row queue h in
+    All-head Small request split.0 (rw split.1 at all)

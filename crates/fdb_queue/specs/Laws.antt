@@ -1,0 +1,18 @@
+-- Words of the laws: which list a priority has, and which priority is lower.
+use Rattle.std.specs.Prelude.{ℕ, List}
+use Rattle.fdb_history.specs.declared.grv.Priority.{Priority}
+use Rattle.fdb_history.specs.declared.grv.Priority.TheVariants.{System, Default, Batch}
+use Rattle.fdb_queue.specs.declared.request.Req.{Req}
+use Rattle.fdb_queue.specs.Waiting.{Requests}
+
+-- the list of a priority
+abbrev pub list_of : {T : Type 0} → Priority → Requests T → List (Req T)
+list_of System waiting = waiting.system
+list_of Default waiting = waiting.default_
+list_of Batch waiting = waiting.batch
+
+-- how high a priority is
+abbrev pub rank : Priority → ℕ
+rank System = 2
+rank Default = 1
+rank Batch = 0

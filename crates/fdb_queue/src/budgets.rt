@@ -1,0 +1,44 @@
+//! The budgets of the two rates.
+
+ghost use Rattle.std.specs.Prelude.{◌≡◌, ◌≤◌, ◌*◌, ◌^◌};
+ghost use Rattle.fdb_queue.specs.Budgets.{can_start, budget_after, cut};
+ghost use Rattle.fdb_queue.specs.Config.{IsElapsed};
+ghost use Rattle.fdb_queue.specs.Kept.{IsBudget};
+ghost use Rattle.fdb_queue.specs.declared.config.TheConstants.{MAX_RATE};
+
+use crate::config::{IDLE_BURST, MAX_BURST, RATE_WINDOW};
+
+/// The budgets of a queue's rates: what each may start beyond its limit, in transactions times `RATE_WINDOW`.
+#[derive(Clone, Copy, Debug, Default, PartialEq, Eq, Hash)]
+pub struct Budgets {
+    /// Of the rate that holds default and batch requests.
+    pub normal: u64,
+    /// Of the rate that holds batch requests besides.
+    pub batch: u64,
+}
+
+/// Whether a rate lets so many transactions start in one window.
+pub(crate) fn can_start(limit: u64, budget: u64, transactions: u64) -> bool
+    requires limit { limit ≤ MAX_RATE }
+    requires budget { IsBudget budget }
+    requires transactions { transactions ≤ 2 ^ 40 }
+    ensures { result ≡ can_start limit budget transactions }
+{
+    transactions * RATE_WINDOW <= (limit * RATE_WINDOW + budget).min(MAX_BURST * RATE_WINDOW)
+}
+
+/// The budget of a rate after a window that started so many transactions, and after which something waits for the rate or
+/// nothing does.
+pub(crate) fn after(elapsed: u64, limit: u64, started: u64, budget: u64, idle: bool) -> u64
+    requires elapsed { IsElapsed elapsed }
+    requires limit { limit ≤ MAX_RATE }
+    requires budget { IsBudget budget }
+    requires started { started ≤ 1000000000 }
+    ensures value { result ≡ cut idle (budget_after elapsed limit started budget) }
+    ensures in_range { IsBudget result }
+{
+    let burst = if idle { IDLE_BURST } else { MAX_BURST };
+    (budget + elapsed * limit)
+        .saturating_sub(elapsed * started)
+        .min(burst * RATE_WINDOW)
+}

@@ -1,0 +1,77 @@
+//! What a queue is made with, and the limits of it.
+
+ghost use Rattle.std.specs.Prelude.{◌≡◌, ◌<◌, ◌⊎◌, ◌↔◌, IsTrue};
+ghost use Rattle.std.specs.Bool.{OnTrue, OnFalse};
+ghost use Rattle.fdb_queue.specs.Admission.{is_count};
+ghost use Rattle.fdb_queue.specs.Config.{IsConfig, IsElapsed};
+
+use fdb_history::Priority;
+
+/// The microseconds over which a rate counts. A budget is a whole number of such parts of a transaction.
+pub const RATE_WINDOW: u64 = 2_000_000;
+
+/// The greatest limit of a rate.
+pub const MAX_RATE: u64 = 100_000;
+
+/// The greatest room of a queue.
+pub const MAX_ROOM: u64 = 100_000;
+
+/// The greatest count of a request.
+pub const MAX_COUNT: u64 = 100_000;
+
+/// The greatest time between two windows, in microseconds.
+pub const MAX_ELAPSED: u64 = 10_000_000;
+
+/// The most requests that one window starts.
+pub const MAX_STARTED: u64 = 10_000;
+
+/// The most transactions that one window starts by a rate, and that a budget can stand for.
+pub const MAX_BURST: u64 = 100_000;
+
+/// The most transactions that the budget of a rate stands for while nothing waits for it.
+pub const IDLE_BURST: u64 = 10;
+
+/// The most bytes of a tag.
+pub const MAX_TAG: u64 = 16;
+
+/// The rates of a queue, in transactions for each `RATE_WINDOW` of time, and the room in it.
+#[derive(Clone, Copy, Debug, PartialEq, Eq, Hash)]
+pub struct QueueConfig {
+    /// The rate that holds default and batch requests: 1 to `MAX_RATE`.
+    pub normal: u64,
+    /// The rate that holds batch requests besides: 0 to `MAX_RATE`. With 0 none is let in.
+    pub batch: u64,
+    /// The most requests that wait: 1 to `MAX_ROOM`.
+    pub room: u64,
+}
+
+impl QueueConfig {
+    /// Whether each member is in its range.
+    pub fn is_in_range(&self) -> bool
+        ensures { IsTrue result ↔ IsConfig self.now }
+    {
+        (1..=MAX_RATE).contains(&self.normal)
+            && self.batch <= MAX_RATE
+            && (1..=MAX_ROOM).contains(&self.room)
+    }
+
+    /// Whether a request of this priority may have this count.
+    pub(crate) fn admits(&self, priority: Priority, count: u64) -> bool
+        requires { IsConfig self.now }
+        ensures { result ≡ is_count self.now priority count }
+    {
+        let in_range = (1..=MAX_COUNT).contains(&count);
+        match priority {
+            Priority::System | Priority::Default => in_range,
+            Priority::Batch => in_range && count <= self.normal + IDLE_BURST,
+        }
+    }
+}
+
+/// Whether a time between two windows is in range.
+pub(crate) fn is_elapsed(elapsed: u64) -> bool
+    ensures within { OnTrue result (IsElapsed elapsed) }
+    ensures without { OnFalse result ((elapsed ≡ 0) ⊎ (MAX_ELAPSED < elapsed)) }
+{
+    (1..=MAX_ELAPSED).contains(&elapsed)
+}

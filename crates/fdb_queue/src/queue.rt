@@ -1,0 +1,254 @@
+//! The queue of a GRV proxy.
+
+ghost use Rattle.std.specs.Prelude.{◌≡◌, ◌+◌, ◌<◌, ◌≤◌, ◌⊎◌, ◌↔◌, ◌∷◌, ◌++◌, ◌^◌, ◌==◌, [], length, drop, if◌then◌else◌, OnOk, OnErr, IfOk, IfErr, IsSome, IfSome, IsSomeAnd};
+ghost use Rattle.fdb_queue.specs.Admission.{refusal_of, admitted, pushed_out, is_full, IsCause};
+ghost use Rattle.fdb_queue.specs.Config.{IsConfig, IsElapsed};
+ghost use Rattle.fdb_queue.specs.Kept.{IsQueue};
+ghost use Rattle.fdb_queue.specs.Queue.{new_queue};
+ghost use Rattle.fdb_queue.specs.Throttles.{limits_of, SameThrottles};
+ghost use Rattle.fdb_queue.specs.Waiting.{first, row};
+ghost use Rattle.fdb_queue.specs.Waits.{budget_of, IsSure, limit_of, StartsAfter};
+ghost use Rattle.fdb_queue.specs.declared.config.TheConstants.{MAX_COUNT, MAX_ELAPSED};
+ghost use Rattle.fdb_queue.specs.Window.{window, after_window};
+
+use crate::budgets::{self, Budgets};
+use crate::config::{self, MAX_TAG, QueueConfig, RATE_WINDOW};
+use crate::error::QueueError;
+use crate::request::Req;
+use crate::throttles::Throttles;
+use crate::waiting::{Lengths, Waiting};
+use fdb_history::{Priority, Tag, TagLimit};
+use std::alloc::Global;
+use std::marker::Model;
+
+/// The requests that wait at a GRV proxy, and the budgets by which they start (`GrvProxyServer`, FoundationDB 7.1: the
+/// three queues, the two `GrvTransactionRateInfo` and the throttled tags).
+///
+/// Contracts see it as the record `Queue`: its configuration, a list of requests for each priority, the budgets and the throttles.
+#[derive(Debug, Drop)]
+pub struct GrvQueue<T> {
+    config: QueueConfig,
+    waiting: Waiting<T>,
+    budgets: Budgets,
+    throttles: Throttles,
+}
+
+impl<T> Model for GrvQueue<T> {
+    ghost use Rattle.fdb_queue.specs.Queue.{Queue};
+
+    ghost Value = { Queue T };
+
+    ghost use Rattle.fdb_queue.specs.Kept.{IsQueue};
+
+    ghost view = { λ queue. record { config = queue.config; waiting = queue.waiting; budgets = queue.budgets; throttles = queue.throttles } };
+
+    ghost invariant = { λ queue. IsQueue {T = T} (record { config = queue.config; waiting = queue.waiting; budgets = queue.budgets; throttles = queue.throttles }) };
+}
+
+impl<T> GrvQueue<T> {
+    /// A queue in which nothing waits, with budgets of 0. Takes no memory.
+    ///
+    /// It is refused as `BadConfig` where a member of the configuration is out of range.
+    pub fn new(alloc: Global, config: QueueConfig) -> Result<GrvQueue<T>, QueueError>
+        ensures ok { IfOk result (λ queue. queue ≡ new_queue config) }
+        ensures in_range { OnOk result (IsConfig config) }
+        ensures bad_config { IfErr result (λ cause. (cause ≡ QueueError.BadConfig) × ¬ IsConfig config) }
+    {
+        if !config.is_in_range() {
+            return Err(QueueError::BadConfig);
+        }
+        Ok(GrvQueue {
+            config,
+            waiting: Waiting::new(alloc),
+            budgets: Budgets::default(),
+            throttles: Throttles::new(alloc),
+        })
+    }
+
+    /// Lets a request in, at the end of its list. Where the queue is full, the oldest request of a lower priority is pushed
+    /// out, batch requests first, and handed to the caller.
+    ///
+    /// It is refused as `BadCount`, `BatchThrottled` or `Full`, the first of these that stands, else for memory. It is
+    /// then handed back, and the queue is as it was. It takes constant time, the growth of the list aside.
+    pub fn offer(&mut self, request: Req<T>) -> Result<Option<Req<T>>, (QueueError, Req<T>)>
+        // It is let in exactly where the definition has nothing against it.
+        ensures let_in { OnOk result (refusal_of self.old request ≡ None) }
+        ensures admitted { OnOk result (self.new ≡ admitted self.old request) }
+        ensures pushed_out { IfOk result (λ out. out ≡ pushed_out self.old request) }
+
+        ensures cause { IfErr result (λ refused. IsCause (refusal_of self.old request) refused.0) }
+        ensures handed_back { IfErr result (λ refused. refused.1 ≡ request) }
+        ensures unchanged { OnErr result (self.new ≡ self.old) }
+    {
+        if let Some(cause) = self.refusal_of(&request) {
+            return Err((cause, request));
+        }
+        let full = self.is_full();
+        if let Err(refused) = self.waiting.push(request) {
+            return Err((QueueError::Memory, refused.value));
+        }
+        if !full {
+            return Ok(None);
+        }
+        Ok(self.waiting.pop_lowest())
+    }
+
+    /// Starts the longest prefix of the row that may start, and hands it out in order; the budgets then gain for the time
+    /// since the last window and pay for what was started.
+    ///
+    /// `elapsed` is that time in microseconds. It is refused as `BadConfig` where it is 0 or above `MAX_ELAPSED`, else for
+    /// memory, which a window that starts nothing does not take; nothing has changed then. It takes time in proportion
+    /// to what it starts.
+    pub fn window(&mut self, elapsed: u64) -> Result<Vec<Req<T>>, QueueError>
+        ensures in_range { OnOk result (IsElapsed elapsed) }
+        ensures started { IfOk result (λ started. started.items ≡ window self.old) }
+        ensures after { OnOk result (self.new ≡ after_window elapsed self.old) }
+
+        ensures bad_config { (result ≡ Err QueueError.BadConfig) ↔ ((elapsed ≡ 0) ⊎ (MAX_ELAPSED < elapsed)) }
+        ensures else_memory { IsElapsed elapsed → IfErr result (λ cause. (cause ≡ QueueError.Memory) × (0 < length (window self.old))) }
+        ensures unchanged { OnErr result (self.new ≡ self.old) }
+    {
+        if !config::is_elapsed(elapsed) {
+            return Err(QueueError::BadConfig);
+        }
+        let reach = self.waiting.reach(&self.config, &self.budgets);
+        let started = self.waiting.take_front(reach.counts)?;
+        let left = self.waiting.lengths();
+        let unbatched = left.system + left.default_;
+        self.budgets = Budgets {
+            normal: budgets::after(
+                elapsed,
+                self.config.normal,
+                reach.unbatched,
+                self.budgets.normal,
+                unbatched == 0,
+            ),
+            batch: budgets::after(
+                elapsed,
+                self.config.batch,
+                reach.all,
+                self.budgets.batch,
+                unbatched + left.batch == 0,
+            ),
+        };
+        Ok(started)
+    }
+
+    /// How many windows of `elapsed` microseconds, with no offer between them, start nothing before one starts something. It
+    /// is computed from the head of the row and takes constant time and no memory.
+    ///
+    /// It is `None` where that is not certain or nothing waits: in an empty row, for a system request, which any window
+    /// starts, for a batch request that the normal rate may hold or whose own limit is 0, and for a time out of range.
+    pub fn waits(&self, elapsed: u64) -> Option<u64>
+        ensures covered { IsSome result ↔ (IsElapsed elapsed × IsSomeAnd (first (row self.now.waiting)) (λ head. IsSure self.now.config head.priority head.count)) }
+        ensures exact { IfSome result (λ count. StartsAfter elapsed self.now count) }
+    {
+        if !config::is_elapsed(elapsed) {
+            return None;
+        }
+        let head = self.waiting.head()?;
+        let (limit, budget) = self.rate_of(head.priority, head.count)?;
+        let needed = head.count * RATE_WINDOW;
+        let missing = needed.saturating_sub(limit * RATE_WINDOW + budget);
+        Some(missing.div_ceil(elapsed * limit))
+    }
+
+    /// The limit and the budget of the rate that alone holds a request at the head of the row, if one does.
+    fn rate_of(&self, priority: Priority, count: u64) -> Option<(u64, u64)>
+        requires { count ≤ MAX_COUNT }
+        ensures sure { IsSome result ↔ IsSure self.now.config priority count }
+        ensures rate { IfSome result (λ rate. (rate.0 ≡ limit_of self.now.config priority) × (rate.1 ≡ budget_of self.now.budgets priority)) }
+    {
+        match priority {
+            Priority::Default => Some((self.config.normal, self.budgets.normal)),
+            Priority::Batch if count <= self.config.normal && self.config.batch > 0 => {
+                Some((self.config.batch, self.budgets.batch))
+            }
+            _ => None,
+        }
+    }
+
+    /// Sets the throttle of a tag at a priority, in the place of an older one: a rate in transactions per second, and the
+    /// moment in microseconds from which on it holds no longer. It is never erased.
+    ///
+    /// It is refused as `TagTooLong` where the tag has more than `MAX_TAG` bytes, else for memory; nothing has changed then.
+    /// It takes logarithmic time.
+    pub fn set_throttle(
+        &mut self,
+        priority: Priority,
+        tag: Tag,
+        rate: u64,
+        expires: u64,
+    ) -> Result<(), QueueError>
+        ensures set { OnOk result (SameThrottles self.new.throttles (record { priority = priority; limit = record { tag = tag; rate = rate; expires = expires } } ∷ self.old.throttles)) }
+        ensures rest { OnOk result (self.new ≡ record self.old { throttles = self.new.throttles }) }
+
+        ensures too_long { (result ≡ Err QueueError.TagTooLong) ↔ (MAX_TAG < length tag) }
+        ensures else_memory { length tag ≤ MAX_TAG → IfErr result (λ cause. cause ≡ QueueError.Memory) }
+        ensures unchanged { OnErr result (self.new ≡ self.old) }
+    {
+        if tag.len() as u64 > MAX_TAG {
+            return Err(QueueError::TagTooLong);
+        }
+        self.throttles
+            .set(priority, TagLimit { tag, rate, expires })?;
+        Ok(())
+    }
+
+    /// The limits of some tags at a priority and a moment: for each tag in order, also for one that stands twice, the
+    /// throttle last set, if it expires later than that moment. It takes logarithmic time for each tag.
+    pub fn throttles(
+        &self,
+        priority: Priority,
+        tags: &[Tag],
+        at: u64,
+    ) -> Result<Vec<TagLimit>, QueueError>
+        ensures ok { IfOk result (λ limits. limits.items ≡ limits_of self.now.throttles priority at tags.now) }
+        ensures err { IfErr result (λ cause. cause ≡ QueueError.Memory) }
+    {
+        let alloc = self.waiting.allocator();
+        let limits = self.throttles.limits(alloc, priority, tags, at)?;
+        Ok(limits)
+    }
+
+    /// Why a request is refused, if it is, and not for memory.
+    fn refusal_of(&self, request: &Req<T>) -> Option<QueueError>
+        ensures { result ≡ refusal_of self.now request.now }
+    {
+        if !self.config.admits(request.priority, request.count) {
+            return Some(QueueError::BadCount);
+        }
+        if request.priority == Priority::Batch && self.config.batch == 0 {
+            return Some(QueueError::BatchThrottled);
+        }
+        if self.is_full() && !self.waiting.has_below(request.priority) {
+            return Some(QueueError::Full);
+        }
+        None
+    }
+
+    /// Whether as many requests wait as there is room for.
+    fn is_full(&self) -> bool
+        ensures { result ≡ is_full self.now }
+    {
+        self.waiting.len() as u64 == self.config.room
+    }
+
+    /// The budgets. Takes no memory.
+    pub fn budgets(&self) -> Budgets
+        ensures value { result ≡ self.now.budgets }
+        ensures kept { IsQueue self.now }
+    {
+        self.budgets
+    }
+
+    /// How many requests of each priority wait. Takes no memory.
+    pub fn lengths(&self) -> Lengths
+        ensures system { result.system ≡ length self.now.waiting.system }
+        ensures default_ { result.default_ ≡ length self.now.waiting.default_ }
+        ensures batch { result.batch ≡ length self.now.waiting.batch }
+        ensures room { result.system + result.default_ + result.batch ≤ self.now.config.room }
+    {
+        self.waiting.lengths()
+    }
+}

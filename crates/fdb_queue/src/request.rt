@@ -1,0 +1,14 @@
+//! A request that waits for its start.
+
+use fdb_history::Priority;
+
+/// A request for a read version, as the queue sees it. Its payload comes out as it went in.
+#[derive(Debug, PartialEq, Eq, Drop)]
+pub struct Req<T> {
+    /// The list that it waits in, and the rates that hold it.
+    pub priority: Priority,
+    /// How many transactions it starts.
+    pub count: u64,
+    /// What it carries.
+    pub payload: T,
+}

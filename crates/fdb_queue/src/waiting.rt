@@ -1,0 +1,199 @@
+//! The requests that wait, by priority.
+
+ghost use Rattle.std.specs.Prelude.{◌≡◌, [], ◌+◌, ◌<◌, ◌^◌, ◌==◌, ◌++◌, not, length, take, drop, vec_len, vec_capacity, IsOk, IfOk, ◌≤◌, if◌then◌else◌, OnOk, OnErr, IfErr};
+ghost use Rattle.std.specs.Option.{option_copied};
+ghost use Rattle.fdb_queue.specs.Admission.{below, without_oldest};
+ghost use Rattle.fdb_queue.specs.Kept.{IsQueue};
+ghost use Rattle.fdb_queue.specs.Reach.{IsReach};
+ghost use Rattle.fdb_queue.specs.Waiting.{nothing, row, first, with_last};
+
+use crate::budgets::Budgets;
+use crate::config::QueueConfig;
+use crate::request::Req;
+use crate::turn::Turn;
+use fdb_history::Priority;
+use std::alloc::{AllocError, AllocFailed, Global};
+use std::collections::VecDeque;
+use std::marker::Model;
+
+/// How many requests of each priority wait.
+#[derive(Clone, Copy, Debug, Default, PartialEq, Eq, Hash)]
+pub struct Lengths {
+    /// System requests.
+    pub system: usize,
+    /// Default requests.
+    pub default_: usize,
+    /// Batch requests.
+    pub batch: usize,
+}
+
+/// How far a window comes in the row.
+#[derive(Clone, Copy, Debug, PartialEq, Eq, Hash)]
+pub(crate) struct Reach {
+    /// How many requests of each priority it starts.
+    pub(crate) counts: Lengths,
+    /// How many transactions of system and default requests.
+    pub(crate) unbatched: u64,
+    /// How many transactions.
+    pub(crate) all: u64,
+}
+
+/// The requests that wait: a list for each priority, in which the oldest is the first.
+#[derive(Debug, Drop)]
+pub(crate) struct Waiting<T> {
+    system: VecDeque<Req<T>>,
+    default_: VecDeque<Req<T>>,
+    batch: VecDeque<Req<T>>,
+}
+
+impl<T> Model for Waiting<T> {
+    ghost use Rattle.fdb_queue.specs.Kept.{IsQueue};
+    ghost use Rattle.fdb_queue.specs.Reach.{IsReach};
+    ghost use Rattle.fdb_queue.specs.Waiting.{Requests};
+
+    ghost Value = { Requests T };
+
+    ghost view = { λ waiting. record { system = waiting.system.items; default_ = waiting.default_.items; batch = waiting.batch.items } };
+}
+
+impl<T> Waiting<T> {
+    /// Nothing. Takes no memory.
+    pub(crate) fn new(alloc: Global) -> Self
+        ensures { result ≡ nothing }
+    {
+        Waiting {
+            system: VecDeque::new(alloc),
+            default_: VecDeque::new(alloc),
+            batch: VecDeque::new(alloc),
+        }
+    }
+
+    /// How many requests of each priority there are.
+    pub(crate) fn lengths(&self) -> Lengths
+        ensures system { result.system ≡ length self.now.system }
+        ensures default_ { result.default_ ≡ length self.now.default_ }
+        ensures batch { result.batch ≡ length self.now.batch }
+    {
+        Lengths {
+            system: self.system.len(),
+            default_: self.default_.len(),
+            batch: self.batch.len(),
+        }
+    }
+
+    /// The allocator of the lists.
+    pub(crate) fn allocator(&self) -> Global {
+        *self.system.allocator()
+    }
+
+    /// How many requests there are.
+    pub(crate) fn len(&self) -> usize
+        requires { length (row self.now) < 2 ^ 62 }
+        ensures { result ≡ length (row self.now) }
+    {
+        self.system.len() + self.default_.len() + self.batch.len()
+    }
+
+    /// The first of the row.
+    pub(crate) fn head(&self) -> Option<&Req<T>>
+        ensures { option_copied result ≡ first (row self.now) }
+    {
+        if let Some(head) = self.system.front() {
+            return Some(head);
+        }
+        if let Some(head) = self.default_.front() {
+            return Some(head);
+        }
+        self.batch.front()
+    }
+
+    /// Whether there are requests that one of this priority may push out.
+    pub(crate) fn has_below(&self, priority: Priority) -> bool
+        ensures { result ≡ not (length (below priority self.now) == 0) }
+    {
+        match priority {
+            Priority::System => !self.batch.is_empty() || !self.default_.is_empty(),
+            Priority::Default => !self.batch.is_empty(),
+            Priority::Batch => false,
+        }
+    }
+
+    /// Adds a request to its list, or hands it back where memory is refused.
+    pub(crate) fn push(&mut self, request: Req<T>) -> Result<(), AllocFailed<Req<T>>>
+        ensures ok { OnOk result (self.new ≡ with_last self.old request request.priority) }
+        ensures err { OnErr result (self.new ≡ self.old) }
+        ensures handed_back { IfErr result (λ refused. refused.value ≡ request) }
+    {
+        match request.priority {
+            Priority::System => self.system.push_back(request),
+            Priority::Default => self.default_.push_back(request),
+            Priority::Batch => self.batch.push_back(request),
+        }
+    }
+
+    /// Takes out the oldest batch request, or the oldest default one where there is none.
+    pub(crate) fn pop_lowest(&mut self) -> Option<Req<T>>
+        ensures out { result ≡ first (self.old.batch ++ self.old.default_) }
+        ensures rest { self.new ≡ without_oldest self.old }
+    {
+        if self.batch.is_empty() {
+            return self.default_.pop_front();
+        }
+        self.batch.pop_front()
+    }
+
+    /// How far a window comes.
+    pub(crate) fn reach(&self, config: &QueueConfig, budgets: &Budgets) -> Reach
+        requires { IsQueue {T = T} (record { config = config.now; waiting = self.now; budgets = budgets.now; throttles = [] }) }
+        ensures { IsReach {T = T} (record { config = config.now; waiting = self.now; budgets = budgets.now; throttles = [] }) result }
+    {
+        let system = Turn::NEW.along(config, budgets, &self.system);
+        let default_ = system.along(config, budgets, &self.default_);
+        let batch = default_.along(config, budgets, &self.batch);
+        Reach {
+            counts: Lengths {
+                system: system.requests as usize,
+                default_: (default_.requests - system.requests) as usize,
+                batch: (batch.requests - default_.requests) as usize,
+            },
+            unbatched: default_.transactions,
+            all: batch.transactions,
+        }
+    }
+
+    /// Takes so many requests from the front of each list, in the order of the row. The memory for them is asked for first:
+    /// where it is refused, all is as it was.
+    pub(crate) fn take_front(&mut self, counts: Lengths) -> Result<Vec<Req<T>>, AllocError>
+        requires system { counts.system ≤ length self.old.system }
+        requires default_ { counts.default_ ≤ length self.old.default_ }
+        requires batch { counts.batch ≤ length self.old.batch }
+        requires together { counts.system + counts.default_ + counts.batch < 2 ^ 62 }
+        ensures taken { IfOk result (λ taken. taken.items ≡ take counts.system self.old.system ++ take counts.default_ self.old.default_ ++ take counts.batch self.old.batch) }
+        ensures left { OnOk result (self.new ≡ record { system = drop counts.system self.old.system; default_ = drop counts.default_ self.old.default_; batch = drop counts.batch self.old.batch }) }
+        ensures err { OnErr result (self.new ≡ self.old) }
+        ensures none { counts.system + counts.default_ + counts.batch ≡ 0 → IsOk result }
+    {
+        let count = counts.system + counts.default_ + counts.batch;
+        let mut taken = Vec::with_capacity(self.allocator(), count)?;
+        move_front(&mut self.system, counts.system, &mut taken);
+        move_front(&mut self.default_, counts.default_, &mut taken);
+        move_front(&mut self.batch, counts.batch, &mut taken);
+        Ok(taken)
+    }
+}
+
+/// Moves so many requests from the front of a list.
+fn move_front<T>(list: &mut VecDeque<Req<T>>, count: usize, taken: &mut Vec<Req<T>>)
+    requires count { count ≤ length list.old.items }
+    requires room { vec_len taken.old + count ≤ vec_capacity taken.old }
+    ensures taken { taken.new.items ≡ taken.old.items ++ take count list.old.items }
+    ensures left { list.new.items ≡ drop count list.old.items }
+    ensures len { vec_len taken.new ≡ vec_len taken.old + count }
+    ensures capacity { vec_capacity taken.new ≡ vec_capacity taken.old }
+{
+    for _ in 0..count {
+        if let Some(request) = list.pop_front() {
+            taken.push_reserved(request);
+        }
+    }
+}
