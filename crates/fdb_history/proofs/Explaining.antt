@@ -1,5 +1,6 @@
--- The events of the logs, sorted by position and each raise before the others there, are the blocks of the positions.
-use Rattle.std.proofs.Common.{◌≡◌, ℕ, zero, suc, ◌+◌, ◌<◌, ◌≤◌, ◌==◌, ◌&&◌, not, Bool, true, false, ltb, leb, List, [], ◌∷◌, ◌++◌, filter, map, count_by, None, Ordering, Less, Equal, Greater, is_lt, nat_cmp, refl, ap, sym, subst, ◌∙◌, append_assoc, inl, inr, arith}
+-- The events of the logs, sorted by position and each raise before the others there, are the blocks of the positions,
+-- and the raises among them stand by position.
+use Rattle.std.proofs.Common.{◌≡◌, ℕ, zero, suc, ◌+◌, ◌<◌, ◌≤◌, ◌==◌, ◌&&◌, not, Bool, true, false, ltb, leb, List, [], ◌∷◌, ◌++◌, filter, flat_map, map, slice_index_or, count_by, None, Ordering, Less, Equal, Greater, is_lt, nat_cmp, refl, ap, sym, subst, ◌∙◌, append_assoc, inl, inr, arith, le_trans}
 use Rattle.std.specs.Cmp.{ranked}
 use Rattle.std.specs.List.{AllByRecursion, All}
 use Rattle.std.specs.List.Sorted.{IsSortedByKey, IsStableByKey, IsPermutation}
@@ -9,18 +10,22 @@ use Rattle.std.proofs.lemmas.List.{map-append}
 use Rattle.std.proofs.lemmas.Simd.{map-map}
 use Rattle.std.proofs.lemmas.List.Elements.{filter_agree, All-from_recursion}
 use Rattle.std.proofs.lemmas.List.Sorted.{All-permutation}
-use Rattle.fdb_history.specs.Auditing.{IsWithin}
+use Rattle.fdb_history.specs.Auditing.{AreByPosition, AreRaisesOf, IsWithin}
 use Rattle.fdb_history.specs.Event.{Placed, is_raise}
 use Rattle.fdb_history.specs.Explained.{placed_in, explained}
-use Rattle.fdb_history.specs.Explaining.{placed, placed_as}
-use Rattle.fdb_history.specs.declared.auditing.explaining.PlacedEvent.{PlacedEvent}
+use Rattle.fdb_history.specs.Explaining.{AreEventsByPosition, placed, placed_as, raise_of_event, raises_of}
+use Rattle.fdb_history.specs.Faults.{at_position}
+use Rattle.fdb_history.specs.declared.auditing.placed.PlacedEvent.{PlacedEvent}
+use Rattle.fdb_history.specs.declared.auditing.raises.Raise.{Raise}
+use Rattle.fdb_history.specs.declared.event.Event.{Event}
 use Rattle.fdb_history.specs.declared.event.Event.TheVariants.{Report, Read}
 use Rattle.fdb_history.specs.declared.log.ClientLog.{ClientLog}
 use Rattle.fdb_history.specs.declared.register.Record.{Record}
 use Rattle.fdb_history.proofs.Faultless.{events-blocks}
 use Rattle.fdb_history.proofs.FaultlessBlocks.{is_raise_at, is_other_at, block, blocks_up_to, kept, left_out}
+use Rattle.fdb_history.proofs.FaultlessLogs.{raise_of, filter-raises, raises-at}
 use Rattle.fdb_history.proofs.FaultlessRaises.{events_of}
-use Rattle.fdb_history.proofs.Grouped.{one_more_group, same_group}
+use Rattle.fdb_history.proofs.Grouped.{Rising, rising_from, from_rising, in_order, one_more_group, same_group}
 
 -- ---- the sort, by ranks
 
@@ -111,11 +116,16 @@ filter-placed test (p ∷ all) =
       | inr fails ↦ left_out test (placed_as p) (placed all) fails ∙ rest ∙ sym (ap placed (left_out own p all fails))
     ]
 
+-- the raises at a position are one rank
+raises-rank : (position : ℕ) (all : List PlacedEvent) → filter (is_raise_at position) (placed all) ≡ placed (of_rank (position + position) all)
+raises-rank position all =
+    filter-placed (is_raise_at position) all
+    ∙ ap placed (filter_agree (λ p. is_raise_at position (placed_as p)) (λ p. rank_of p == position + position) (λ p. raise_rank p.position position (is_raise p.event)) all)
+
 -- a block is two ranks
 block-rank : (position : ℕ) (all : List PlacedEvent) → block position (placed all) ≡ placed (of_rank (position + position) all ++ of_rank (position + position + 1) all)
 block-rank position all =
-    let raises = filter-placed (is_raise_at position) all
-    ∙ ap placed (filter_agree (λ p. is_raise_at position (placed_as p)) (λ p. rank_of p == position + position) (λ p. raise_rank p.position position (is_raise p.event)) all) in
+    let raises = raises-rank position all in
     let others = filter-placed (is_other_at position) all
     ∙ ap placed (filter_agree (λ p. is_other_at position (placed_as p)) (λ p. rank_of p == position + position + 1) (λ p. other_rank p.position position (is_raise p.event)) all) in
     ap (λ l. l ++ filter (is_other_at position) (placed all)) raises
@@ -179,10 +189,14 @@ an_other position = record { event = Read 0 0 blank; position = position }
 abbrev pub IsFrom : List PlacedEvent → List PlacedEvent → Type 0
 IsFrom all ys = IsStableByKey sort_key pair_order all ys
 
+-- the sort leaves the raises at a position as they were
+same_raises : (position : ℕ) (all ys : List PlacedEvent) → IsFrom all ys → of_rank (position + position) ys ≡ of_rank (position + position) all
+same_raises position all ys stable = same_group rank_of is_before by_rank all ys stable (a_raise position)
+
 -- the sort leaves each block as it was
 same_block : (position : ℕ) (all ys : List PlacedEvent) → IsFrom all ys → block position (placed ys) ≡ block position (placed all)
 same_block position all ys stable =
-    let raises : of_rank (position + position) ys ≡ of_rank (position + position) all = same_group rank_of is_before by_rank all ys stable (a_raise position) in
+    let raises = same_raises position all ys stable in
     let others : of_rank (position + position + 1) ys ≡ of_rank (position + position + 1) all = same_group rank_of is_before by_rank all ys stable (an_other position) in
     block-rank position ys
     ∙ ap (λ l. placed (l ++ of_rank (position + position + 1) ys)) raises
@@ -195,6 +209,52 @@ same_blocks zero all ys stable = same_block 0 all ys stable
 same_blocks (suc count) all ys stable =
     ap (λ l. l ++ block (suc count) (placed ys)) (same_blocks count all ys stable)
     ∙ ap (λ l. blocks_up_to count (placed all) ++ l) (same_block (suc count) all ys stable)
+
+-- ---- the raises
+
+-- the sorted events stand by position
+pub sorted_by_position : (ys : List PlacedEvent) → IsInOrder ys → AreEventsByPosition ys
+sorted_by_position ys sorted = λ i j d before below.
+    let x = slice_index_or ys i d in
+    let y = slice_index_or ys j d in
+    let ranks = in_order rank_of is_before by_rank ys sorted i j d before below in
+    let least = rank-least x.position (is_raise x.event) in
+    let most = rank-most y.position (is_raise y.event) in
+    omega arith
+
+-- what rises from a position rises from each below it
+rises_below : (before later : ℕ) (raises : List Raise) → before ≤ later → Rising (λ (raise : Raise). raise.position) later raises → Rising (λ (raise : Raise). raise.position) before raises
+rises_below before later [] below up = tt
+rises_below before later (raise ∷ raises) below up = (le_trans below up.0, up.1)
+
+-- the raise of an event, and then what rises from its position
+rises_more : (low position : ℕ) (event : Event) (raises : List Raise) → low ≤ position → Rising (λ (raise : Raise). raise.position) position raises
+    → Rising (λ (raise : Raise). raise.position) low (raise_of_event position event ++ raises)
+rises_more low position (Report client call rec true) raises least up = (least, up)
+rises_more low position (Report client call rec false) raises least up = rises_below low position raises least up
+rises_more low position (Read client call rec) raises least up = rises_below low position raises least up
+
+-- the raises among events that rise do so too
+rises_among : (low : ℕ) (ys : List PlacedEvent) → Rising (λ (p : PlacedEvent). p.position) low ys → Rising (λ (raise : Raise). raise.position) low (raises_of ys)
+rises_among low [] up = tt
+rises_among low (p ∷ ys) up = rises_more low p.position p.event (raises_of ys) up.0 (rises_among p.position ys up.1)
+
+-- The raises among events by position stand by position.
+pub raises_by_position : (ys : List PlacedEvent) → AreEventsByPosition ys → AreByPosition (raises_of ys)
+raises_by_position ys up =
+    from_rising (λ (raise : Raise). raise.position) 0 (raises_of ys) (rises_among 0 ys (rising_from (λ (p : PlacedEvent). p.position) 0 ys (λ d some. omega arith) up))
+
+-- the raises among the program's events are those among the definitions'
+raises-placed : (ys : List PlacedEvent) → raises_of ys ≡ flat_map raise_of (placed ys)
+raises-placed [] = refl
+raises-placed (p ∷ ys) = ap (λ l. raise_of_event p.position p.event ++ l) (raises-placed ys)
+
+-- The raises among the sorted events are those of the logs, at each position.
+pub sorted_raises : (logs : List ClientLog) (all ys : List PlacedEvent) → placed all ≡ placed_in 0 logs → IsFrom all ys → AreRaisesOf logs (raises_of ys)
+sorted_raises logs all ys is stable position =
+    ap (at_position position) (raises-placed ys) ∙ filter-raises position (placed ys)
+    ∙ ap (flat_map raise_of) (raises-rank position ys ∙ ap placed (same_raises position all ys stable) ∙ sym (raises-rank position all) ∙ ap (filter (is_raise_at position)) is)
+    ∙ sym (raises-at logs position)
 
 -- ---- the whole
 

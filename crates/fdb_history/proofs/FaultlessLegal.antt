@@ -7,6 +7,7 @@ use Rattle.std.proofs.lemmas.Option.{same_Some, none-some}
 use Rattle.fdb_history.specs.Register.{raises}
 use Rattle.fdb_history.specs.Event.{Placed, IsLegal, is_raise}
 use Rattle.fdb_history.specs.Explained.{events_at, events_up_to}
+use Rattle.fdb_history.specs.Explaining.{raise_of_event}
 use Rattle.fdb_history.specs.Faults.{after_raises, register_at, IsWrongAnswer}
 use Rattle.fdb_history.specs.declared.register.Record.{Record}
 use Rattle.fdb_history.specs.declared.event.Event.{Event}
@@ -15,7 +16,7 @@ use Rattle.fdb_history.specs.declared.log.CallAnswer.TheVariants.{Version, Answe
 use Rattle.fdb_history.specs.declared.log.ClientLog.{ClientLog}
 use Rattle.fdb_history.proofs.FaultlessBlocks.{is_raise_at, is_other_at, kept, left_out}
 use Rattle.fdb_history.proofs.FaultlessRaises.{raises_here, one_raise, events_of}
-use Rattle.fdb_history.proofs.FaultlessLogs.{raise_of, raise_of_event, Passes}
+use Rattle.fdb_history.proofs.FaultlessLogs.{raise_of, Passes}
 
 -- ---- two records are one or not
 

@@ -7,6 +7,7 @@ use Rattle.std.proofs.lemmas.List.Elements.{filter-append}
 use Rattle.std.proofs.lemmas.List.Concat.{flat_map-append}
 use Rattle.fdb_history.specs.Event.{Placed, is_raise}
 use Rattle.fdb_history.specs.Explained.{placed_in}
+use Rattle.fdb_history.specs.Explaining.{raise_of_event}
 use Rattle.fdb_history.specs.Faults.{raise_in, raises_in, raises_at, IsOutOfOrder, StandsAt, Nowhere}
 use Rattle.fdb_history.specs.Linear.{NeverGoesBack, client_of}
 use Rattle.fdb_history.specs.Log.{event_of_answer, placed_from, calls_of, answer_raises, position_after_calls}
@@ -190,13 +191,7 @@ climbing client place before (call ∷ calls) order =
 
 -- ---- the raises
 
--- the raise of an event, if it is one
-abbrev pub raise_of_event : ℕ → Event → List Raise
-raise_of_event position (Report client call rec true) = record { position = position; rec = rec } ∷ []
-raise_of_event position (Report client call rec false) = []
-raise_of_event position (Read client call rec) = []
-
--- the same of an event with its position
+-- the raise of an event with its position, if it is one
 abbrev pub raise_of : Placed → List Raise
 raise_of p = raise_of_event p.position p.event
 
@@ -250,7 +245,7 @@ filter-raise position at (Read client call rec) all rest =
     rest ∙ sym (ap (flat_map raise_of) (left_out (is_raise_at position) p all (and_right (at == position) false refl)))
 
 -- the raises at a position are those of the events that raise there
-filter-raises : (position : ℕ) (all : List Placed) → filter (stands_at position) (flat_map raise_of all) ≡ flat_map raise_of (filter (is_raise_at position) all)
+pub filter-raises : (position : ℕ) (all : List Placed) → filter (stands_at position) (flat_map raise_of all) ≡ flat_map raise_of (filter (is_raise_at position) all)
 filter-raises position [] = refl
 filter-raises position (p ∷ all) = filter-raise position p.position p.event all (filter-raises position all)
 

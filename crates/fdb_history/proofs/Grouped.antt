@@ -1,6 +1,6 @@
 -- Lists that a stable sort has put in the order of a number: those of one number stand as they stood before the sort,
 -- and the list is its groups, one number after another.
-use Rattle.std.proofs.Common.{◌≡◌, ℕ, suc, ◌+◌, ◌<◌, ◌≤◌, ◌==◌, ◌&&◌, not, Bool, ltb, leb, List, [], ◌∷◌, ◌++◌, length, slice_index_or, filter, refl, ap, sym, ◌∙◌, inl, inr, arith}
+use Rattle.std.proofs.Common.{◌≡◌, ℕ, zero, suc, ◌+◌, ◌<◌, ◌≤◌, ◌==◌, ◌&&◌, not, Bool, ltb, leb, List, [], ◌∷◌, ◌++◌, length, slice_index_or, filter, refl, ap, sym, ◌∙◌, inl, inr, arith, add-one}
 use Rattle.std.specs.List.Sorted.{IsSortedBy, IsStableBy, IsNonDecreasingBy, ties}
 use Rattle.std.proofs.lemmas.Bool.{and_left, and_right, and_from, not_from_true, not_from_false, ltb-false, lt-ltb, le-ltb, le-leb, lt-leb, eq-eqb, ne_eqb, cases_order}
 use Rattle.std.proofs.lemmas.List.Elements.{filter_agree}
@@ -8,7 +8,7 @@ use Rattle.std.proofs.lemmas.List.Sorted.{IsNonDecreasingBy-from_all_adjacent}
 use Rattle.fdb_history.proofs.FaultlessBlocks.{kept, left_out}
 
 -- no number falls below the one before it
-abbrev Rising : {X : Type 0} → (X → ℕ) → ℕ → List X → Type 0
+abbrev pub Rising : {X : Type 0} → (X → ℕ) → ℕ → List X → Type 0
 Rising n low [] = Unit {0}
 Rising n low (x ∷ xs) = (low ≤ n x) × Rising n (n x) xs
 
@@ -23,10 +23,22 @@ tie_of i j s t e f =
     ]
 
 module _ {X : Type 0} (n : X → ℕ) where
-  rising_from : (low : ℕ) (xs : List X) → ((d : X) → 0 < length xs → low ≤ n (slice_index_or xs 0 d)) → IsNonDecreasingBy n xs → Rising n low xs
+  -- a list in its order rises
+  pub rising_from : (low : ℕ) (xs : List X) → ((d : X) → 0 < length xs → low ≤ n (slice_index_or xs 0 d)) → IsNonDecreasingBy n xs → Rising n low xs
   rising_from low [] first up = tt
   rising_from low (x ∷ xs) first up =
       (first x (omega arith), rising_from (n x) xs (λ d some. up 0 1 d (omega arith) (omega arith)) (λ i j d le lt. up (suc i) (suc j) d (omega arith) (omega arith)))
+
+  -- the next is no less, where a list rises
+  rising_next : (low : ℕ) (xs : List X) → Rising n low xs → (k : ℕ) (d : X) → suc k < length xs → n (slice_index_or xs k d) ≤ n (slice_index_or xs (suc k) d)
+  rising_next low [] up k d below = absurd (omega arith)
+  rising_next low (x ∷ []) up k d below = absurd (omega arith)
+  rising_next low (x ∷ y ∷ xs) up zero d below = up.1.0
+  rising_next low (x ∷ y ∷ xs) up (suc k) d below = rising_next (n x) (y ∷ xs) up.1 k d (omega arith)
+
+  -- so it stands in its order
+  pub from_rising : (low : ℕ) (xs : List X) → Rising n low xs → IsNonDecreasingBy n xs
+  from_rising low xs up = IsNonDecreasingBy-from_all_adjacent n xs (λ k d below. rw (add-one k) (rising_next low xs up k d (omega arith)))
 
   -- nothing is below where the list begins
   none_below : (low j : ℕ) (xs : List X) → j < low → Rising n low xs → filter (λ x. leb (n x) j) xs ≡ []
@@ -60,8 +72,8 @@ module _ {X : Type 0} (n : X → ℕ) where
       ]
 
   module _ (lt : X → X → Bool) (is : (x y : X) → lt x y ≡ ltb (n x) (n y)) where
-    -- a list that is sorted by the number rises
-    in_order : (xs : List X) → IsSortedBy lt xs → IsNonDecreasingBy n xs
+    -- a list that is sorted by the number stands in its order
+    pub in_order : (xs : List X) → IsSortedBy lt xs → IsNonDecreasingBy n xs
     in_order xs sorted =
         IsNonDecreasingBy-from_all_adjacent n xs (λ k d below.
         ltb-false (n (slice_index_or xs (k + 1) d)) (n (slice_index_or xs k d)) (sym (is (slice_index_or xs (k + 1) d) (slice_index_or xs k d)) ∙ sorted k d (omega arith) below))

@@ -2,13 +2,13 @@
 use Rattle.std.proofs.Common.{◌≡◌, ℕ, zero, suc, ◌+◌, ◌<◌, ◌≤◌, List, [], ◌∷◌, ◌++◌, length, take, get_or, refl, sym, ap, ◌∙◌, arith, inl, inr, length-append}
 use Rattle.std.proofs.lemmas.Bool.{cases_lt, cases_eq}
 use Rattle.std.proofs.lemmas.List.{take_more, get_or_append_left, get_or_push}
-use Rattle.fdb_history.specs.Auditing.{StandInTurn, IsTable}
+use Rattle.fdb_history.specs.Auditing.{AreRaisesOf, StandInTurn, IsTable}
 use Rattle.fdb_history.specs.Faults.{at_position, register_at, after_raises, IsClash, AtNoPosition}
 use Rattle.fdb_history.specs.Register.{record_after}
 use Rattle.fdb_history.specs.declared.auditing.raises.Raise.{Raise}
 use Rattle.fdb_history.specs.declared.log.ClientLog.{ClientLog}
 use Rattle.fdb_history.specs.declared.register.Record.{Record}
-use Rattle.fdb_history.proofs.RaisesAt.{at-only, AreRaisesOf}
+use Rattle.fdb_history.proofs.RaisesAt.{at-only}
 
 -- ---- the table
 

@@ -4,7 +4,7 @@ use Rattle.std.specs.List.{AllByRecursion}
 use Rattle.std.specs.List.Sorted.{IsNonDecreasingBy}
 use Rattle.fdb_history.specs.Event.{is_raise}
 use Rattle.fdb_history.specs.Explained.{placed_in}
-use Rattle.fdb_history.specs.Faults.{IsClash, IsGap, IsFirst, IsLeast, IsReached, Nowhere, AtNoPosition, at_position, register_at, after_raises}
+use Rattle.fdb_history.specs.Faults.{IsClash, IsGap, IsFirst, IsLeast, IsReached, Nowhere, AtNoPosition, at_position, raises_at, register_at, after_raises}
 use Rattle.fdb_history.specs.declared.auditing.found.CallName.{CallName}
 use Rattle.fdb_history.specs.declared.auditing.raises.Raise.{Raise}
 use Rattle.fdb_history.specs.declared.auditing.registers.Registers.{Registers}
@@ -36,6 +36,10 @@ IsLeastIfAny Stands (Some position) = IsLeast Stands position
 -- the raises stand in the order of their positions
 abbrev pub AreByPosition : List Raise → Type 0
 AreByPosition raises = IsNonDecreasingBy (λ (raise : Raise). raise.position) raises
+
+-- the raises of a list are those of the logs, at each position
+abbrev pub AreRaisesOf : List ClientLog → List Raise → Type 0
+AreRaisesOf logs raises = (position : ℕ) → at_position position raises ≡ raises_at logs position
 
 -- two raises have a position
 abbrev pub AreTwoAt : List Raise → ℕ → Type 0

@@ -2,8 +2,9 @@
 
 ghost use Rattle.std.specs.Prelude.{◌≡◌, ◌≤◌, ◌⊎◌, length, List, OnOk, IfOk, IfErr, Ok, Err};
 ghost use Rattle.fdb_history.specs.Audit.{IsAudited, IsFirstFault, Low};
-ghost use Rattle.fdb_history.specs.Auditing.{AreRegisters};
-ghost use Rattle.fdb_history.specs.Faults.{IsFaultless, Nowhere};
+ghost use Rattle.fdb_history.specs.Auditing.{AreRaisesOf, AreRegisters};
+ghost use Rattle.fdb_history.specs.Explaining.{AreEventsByPosition, raises_of};
+ghost use Rattle.fdb_history.specs.Faults.{IsFaultless, Nowhere, OutOfOrder};
 ghost use Rattle.fdb_history.specs.Linear.{IsLinear};
 ghost use Rattle.fdb_history.specs.Strays.{IsStray};
 ghost use Rattle.fdb_history.specs.declared.chain.Issued.{Issued};
@@ -14,6 +15,7 @@ mod bearing;
 mod explaining;
 mod found;
 mod order;
+mod placed;
 mod raises;
 mod registers;
 mod stray;
@@ -24,6 +26,7 @@ use crate::fault::AuditFault;
 use crate::log::ClientLog;
 use crate::register::Record;
 use found::CallName;
+use placed::PlacedEvent;
 use registers::Registers;
 use std::alloc::{AllocError, Global};
 
@@ -33,7 +36,7 @@ use std::alloc::{AllocError, Global};
 ///
 /// The faults are looked for in the order of [`AuditFault`], each kind in all logs before the next: the least client
 /// and in it the least call, or the least position, is named. Memory may be refused at any time. It takes time in
-/// proportion to the calls and to the chain, up to a sort by position.
+/// proportion to the calls and to the chain, up to a sort of the register's events by position.
 pub fn audit(
     alloc: Global,
     start: Record,
@@ -59,32 +62,39 @@ fn history_or_fault(
     requires { length logs.now ≤ 64 }
     ensures { IsAudited start chain.now logs.now result }
 {
-    let registers = faultless_registers(alloc, start, logs)?;
+    if let Some(CallName { client, call }) = order::first_out_of_order(logs) {
+        return Err(AuditFault::Order { client, call });
+    }
+    let events = placed::events_by_position(alloc, logs)?;
+    let registers = faultless_registers(alloc, start, &events, logs)?;
     if let Some(CallName { client, call }) = stray::first_stray(alloc, chain, logs)? {
         return Err(AuditFault::Stray { client, call });
     }
     if let Some(CallName { client, call }) = answers::first_low(&registers, logs) {
         return Err(AuditFault::NotAbove { client, call });
     }
-    Ok(explaining::explain(alloc, logs)?)
+    Ok(explaining::explain(alloc, events)?)
 }
 
-/// The register at each position that a call has reached, or the first fault of the history.
+/// The register at each position that a call has reached, or the first fault of the history. No call is out of order,
+/// and `events` are those of the logs, by position.
 fn faultless_registers(
     alloc: Global,
     start: Record,
+    events: &[PlacedEvent],
     logs: &[ClientLog],
 ) -> Result<Registers, AuditFault>
-    requires { length logs.now ≤ 64 }
+    requires clients { length logs.now ≤ 64 }
+    requires order { Nowhere (OutOfOrder logs.now) }
+    requires sorted { AreEventsByPosition events.now }
+    requires raises { AreRaisesOf logs.now (raises_of events.now) }
     ensures faultless { OnOk result (IsFaultless start logs.now) }
     ensures begins { IfOk result (λ registers. registers.start ≡ start) }
     ensures right { IfOk result (λ registers. AreRegisters start logs.now registers) }
     ensures err { IfErr result (λ fault. (chain : List Issued) → IsFirstFault start chain logs.now fault) }
 {
-    if let Some(CallName { client, call }) = order::first_out_of_order(logs) {
-        return Err(AuditFault::Order { client, call });
-    }
-    let registers = registers::registers_of(alloc, start, logs)?;
+    let raises = raises::raises_among(alloc, events)?;
+    let registers = registers::registers_of(alloc, start, &raises, logs)?;
     if let Some(CallName { client, call }) = answers::first_wrong(&registers, logs) {
         return Err(AuditFault::Wrong { client, call });
     }

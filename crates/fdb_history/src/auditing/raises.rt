@@ -1,11 +1,12 @@
-//! The raises in the logs, by their positions.
+//! The raises among the events of the logs.
 
-ghost use Rattle.std.specs.Prelude.{◌≡◌, ◌≤◌, ◌++◌, ℕ, [], IfOk, OnOk};
-ghost use Rattle.std.specs.List.{flat_map};
+ghost use Rattle.std.specs.Prelude.{◌≡◌, ◌≤◌, [], IfOk};
 ghost use Rattle.fdb_history.specs.Auditing.{AreByPosition, AreTwoAt, IsLeastIfAny, StandInTurn};
-ghost use Rattle.fdb_history.specs.Faults.{AtNoPosition, raise_in, raises_in, raises_at, at_position};
+ghost use Rattle.fdb_history.specs.Explaining.{raises_of};
+ghost use Rattle.fdb_history.specs.Faults.{AtNoPosition, at_position};
 
-use crate::log::{Call, CallAnswer, ClientLog};
+use crate::auditing::placed::PlacedEvent;
+use crate::event::Event;
 use crate::register::Record;
 use std::alloc::{AllocError, Global};
 
@@ -18,40 +19,25 @@ pub struct Raise {
     pub rec: Record,
 }
 
-/// The raises in the logs, by their positions.
-pub fn raises_by_position(alloc: Global, logs: &[ClientLog]) -> Result<Vec<Raise>, AllocError>
-    ensures sorted { IfOk result (λ raises. AreByPosition raises.items) }
-    ensures same { IfOk result (λ raises. (position : ℕ) → at_position position raises.items ≡ raises_at logs.now position) }
-{
-    let mut raises = all_raises(alloc, logs)?;
-    raises.sort_by_key(|raise| raise.position)?;
-    Ok(raises)
-}
-
-/// The raises in the logs, log by log.
-fn all_raises(alloc: Global, logs: &[ClientLog]) -> Result<Vec<Raise>, AllocError>
-    ensures { IfOk result (λ raises. raises.items ≡ raises_in logs.now) }
+/// The raises among some events, in their order.
+pub fn raises_among(alloc: Global, events: &[PlacedEvent]) -> Result<Vec<Raise>, AllocError>
+    ensures { IfOk result (λ raises. raises.items ≡ raises_of events.now) }
 {
     let mut raises = Vec::new(alloc);
-    for log in logs {
-        push_raises(&mut raises, log.calls.as_slice())?;
-    }
-    Ok(raises)
-}
-
-/// Adds the raises of a log.
-fn push_raises(raises: &mut Vec<Raise>, calls: &[Call]) -> Result<(), AllocError>
-    ensures { OnOk result (raises.new.items ≡ raises.old.items ++ flat_map (λ call. raise_in call.position call.answer) calls.now) }
-{
-    for call in calls {
-        if let CallAnswer::Acked { rec, raised: true } = &call.answer {
+    for placed in events {
+        if let Event::Report {
+            rec,
+            raised: true,
+            ..
+        } = &placed.event
+        {
             raises.push(Raise {
-                position: call.position,
+                position: placed.position,
                 rec: *rec,
             })?;
         }
     }
-    Ok(())
+    Ok(raises)
 }
 
 /// The least position that two raises have.

@@ -1,11 +1,11 @@
 //! The register at each position, by the raises in the logs.
 
 ghost use Rattle.std.specs.Prelude.{◌≡◌, ◌≤◌, ℕ, slice_get, Some, IfOk, OnOk, IfErr};
-ghost use Rattle.fdb_history.specs.Auditing.{AreRegisters, IsRaiseFault, IsTable, by_table};
+ghost use Rattle.fdb_history.specs.Auditing.{AreByPosition, AreRaisesOf, AreRegisters, IsRaiseFault, IsTable, by_table};
 ghost use Rattle.fdb_history.specs.Faults.{OutOfOrder, IsClash, IsGap, IsReached, AtNoPosition, Nowhere};
 ghost use Rattle.fdb_history.specs.declared.log.Call.{Call};
 
-use crate::auditing::raises::{Raise, first_clash, first_missing, raises_by_position};
+use crate::auditing::raises::{Raise, first_clash, first_missing};
 use crate::fault::AuditFault;
 use crate::log::{Call, ClientLog};
 use crate::register::Record;
@@ -33,28 +33,30 @@ impl Registers {
 }
 
 /// The register at each position that a call has reached, or the first fault of the raises: two at one position, or
-/// none where one is owed.
+/// none where one is owed. `raises` are those of the logs, by position.
 pub fn registers_of(
     alloc: Global,
     start: Record,
+    raises: &[Raise],
     logs: &[ClientLog],
 ) -> Result<Registers, AuditFault>
-    requires { Nowhere (OutOfOrder logs.now) }
+    requires order { Nowhere (OutOfOrder logs.now) }
+    requires sorted { AreByPosition raises.now }
+    requires same { AreRaisesOf logs.now raises.now }
     ensures no_clash { OnOk result (AtNoPosition (IsClash logs.now)) }
     ensures no_gap { OnOk result (AtNoPosition (IsGap logs.now)) }
     ensures begins { IfOk result (λ registers. registers.start ≡ start) }
     ensures ok { IfOk result (λ registers. AreRegisters start logs.now registers) }
     ensures err { IfErr result (IsRaiseFault logs.now) }
 {
-    let raises = raises_by_position(alloc, logs)?;
-    if let Some(position) = first_clash(&raises) {
+    if let Some(position) = first_clash(raises) {
         return Err(AuditFault::Clash { position });
     }
-    let position = first_missing(&raises);
+    let position = first_missing(raises);
     if position <= greatest_position(logs) {
         return Err(AuditFault::Gap { position });
     }
-    let table = table_of(alloc, start, &raises)?;
+    let table = table_of(alloc, start, raises)?;
     Ok(Registers { start, table })
 }
 
@@ -62,12 +64,12 @@ pub fn registers_of(
 fn table_of(alloc: Global, start: Record, raises: &[Raise]) -> Result<Vec<Record>, AllocError>
     ensures { IfOk result (λ table. IsTable start raises.now table.items) }
 {
-    let mut table = Vec::new(alloc);
+    let mut table = Vec::with_capacity(alloc, raises.len() + 1)?;
     let mut current = start;
-    table.push(current)?;
+    table.push_reserved(current);
     for raise in raises {
         current = current.after_report(raise.rec);
-        table.push(current)?;
+        table.push_reserved(current);
     }
     Ok(table)
 }

@@ -3,11 +3,11 @@ use Rattle.std.proofs.lemmas.List.{map-append}
 use Rattle.fdb_history.specs.Event.{Placed}
 use Rattle.fdb_history.specs.Explaining.{placed}
 use Rattle.fdb_history.specs.Log.{event_of_answer, placed_from}
-use Rattle.fdb_history.specs.declared.auditing.explaining.PlacedEvent.{PlacedEvent}
+use Rattle.fdb_history.specs.declared.auditing.placed.PlacedEvent.{PlacedEvent}
 use Rattle.fdb_history.specs.declared.event.Event.{Event}
 use Rattle.fdb_history.specs.declared.log.Call.{Call}
-use Rattle.fdb_history.proofs.auditing.explaining.add_events.Goals as goal
-use Rattle.fdb_history.proofs.auditing.explaining.add_events.Goals.{in-Some+in_ok-push, in_default}
+use Rattle.fdb_history.proofs.auditing.placed.add_events.Goals as goal
+use Rattle.fdb_history.proofs.auditing.placed.add_events.Goals.{in-Some+in_ok-push, in_default}
 
 -- what a call's event adds, if it has one
 abbrev own : ℕ → Option Event → List Placed
