@@ -80,6 +80,8 @@ impl ChainCore {
     /// It is refused as `UnknownProxy`, `Early`, `Forgotten` or `Exhausted`, the first of these that stands.
     /// A fresh request alone takes memory. After a refusal the chain is as it was. It takes constant time, the
     /// growth of the chain aside.
+    // Inlined, so that a request comes in registers: by memory, each would wait for the answer before it to be stored.
+    #[inline(always)]
     pub fn ask(&mut self, ask: Ask) -> Result<Issued, ChainError>
         ensures answer { IsAnswer (answer_to self.old ask) result }
         ensures ok { IfOk result (λ issued. self.new ≡ with_answer self.old issued) }

@@ -1,0 +1,138 @@
+//! The chain of commit versions, and the answers that are kept for repeated requests.
+
+use std::collections::VecDeque;
+
+pub const MAX_VERSION: u64 = i64::MAX as u64;
+pub const MAX_STEP: u64 = 5_000_000;
+const MAX_PROXIES: u32 = 64;
+
+#[derive(Clone, Copy)]
+pub struct Ask {
+    pub proxy: u32,
+    pub num: u64,
+    pub processed: u64,
+    pub at: u64,
+}
+
+#[derive(Clone, Copy, PartialEq, Eq)]
+pub struct Issued {
+    pub ordinal: u64,
+    pub proxy: u32,
+    pub num: u64,
+    pub processed: u64,
+    pub prev: u64,
+    pub version: u64,
+    pub at: u64,
+    pub fresh: bool,
+}
+
+#[derive(Clone, Copy, Debug, PartialEq, Eq)]
+pub enum ChainError {
+    BadEpoch,
+    NoProxy,
+    UnknownProxy,
+    Early { expected: u64 },
+    Forgotten,
+    Exhausted,
+}
+
+/// The places in the chain of the answers that are kept for a proxy. Those up to number `erased` are gone.
+#[derive(Default)]
+struct Replies {
+    kept: VecDeque<usize>,
+    erased: u64,
+}
+
+impl Replies {
+    fn latest(&self) -> u64 {
+        self.erased + self.kept.len() as u64
+    }
+
+    fn place_of(&self, num: u64) -> Option<usize> {
+        if num <= self.erased {
+            return None;
+        }
+        self.kept.get((num - self.erased - 1) as usize).copied()
+    }
+
+    fn keep(&mut self, place: usize, processed: u64) {
+        while self.erased < processed && self.kept.pop_front().is_some() {
+            self.erased += 1;
+        }
+        self.kept.push_back(place);
+    }
+}
+
+pub struct ChainCore {
+    epoch_end: u64,
+    recovery: u64,
+    answers: Vec<Issued>,
+    replies: Vec<Replies>,
+}
+
+impl ChainCore {
+    pub fn new(epoch_end: u64, recovery: u64, proxies: u32) -> Result<ChainCore, ChainError> {
+        if recovery <= epoch_end || recovery > MAX_VERSION {
+            return Err(ChainError::BadEpoch);
+        }
+        if proxies == 0 || proxies > MAX_PROXIES {
+            return Err(ChainError::NoProxy);
+        }
+        let replies = (0..proxies).map(|_| Replies::default()).collect();
+        Ok(ChainCore {
+            epoch_end,
+            recovery,
+            answers: Vec::new(),
+            replies,
+        })
+    }
+
+    pub fn answers(&self) -> &[Issued] {
+        &self.answers
+    }
+
+    // (as the crate has it)
+    #[inline(always)]
+    pub fn ask(&mut self, ask: Ask) -> Result<Issued, ChainError> {
+        let replies = self
+            .replies
+            .get_mut(ask.proxy as usize)
+            .ok_or(ChainError::UnknownProxy)?;
+        let expected = replies.latest() + 1;
+        if ask.num > expected {
+            return Err(ChainError::Early { expected });
+        }
+        if ask.num < expected {
+            let place = replies.place_of(ask.num).ok_or(ChainError::Forgotten)?;
+            return Ok(Issued {
+                fresh: false,
+                ..self.answers[place]
+            });
+        }
+        let (prev, version) = match self.answers.last() {
+            None => (self.epoch_end, self.recovery),
+            Some(last) => (last.version, last.version + step(last.at, ask.at)),
+        };
+        if version > MAX_VERSION {
+            return Err(ChainError::Exhausted);
+        }
+        let place = self.answers.len();
+        let issued = Issued {
+            ordinal: place as u64,
+            proxy: ask.proxy,
+            num: ask.num,
+            processed: ask.processed,
+            prev,
+            version,
+            at: ask.at,
+            fresh: true,
+        };
+        replies.keep(place, ask.processed);
+        self.answers.push(issued);
+        Ok(issued)
+    }
+}
+
+fn step(last_at: u64, at: u64) -> u64 {
+    at.saturating_sub(last_at).clamp(1, MAX_STEP)
+}

@@ -1,0 +1,158 @@
+//! Records, events and logs.
+
+use crate::chain::Issued;
+use crate::queue::{Priority, TagLimit};
+use std::fmt;
+
+#[derive(Clone, Copy, PartialEq, Eq)]
+pub struct Record {
+    pub version: u64,
+    pub locked: bool,
+    pub metadata: Option<u64>,
+}
+
+impl Record {
+    pub fn after_report(self, reported: Record) -> Record {
+        if reported.version > self.version {
+            reported
+        } else {
+            self
+        }
+    }
+}
+
+impl fmt::Display for Record {
+    fn fmt(&self, f: &mut fmt::Formatter) -> fmt::Result {
+        let lock = if self.locked { "locked" } else { "unlocked" };
+        match self.metadata {
+            None => write!(f, "{} {lock} none", self.version),
+            Some(metadata) => write!(f, "{} {lock} {metadata}", self.version),
+        }
+    }
+}
+
+#[allow(dead_code)] // (a client may say what nobody here reads)
+pub struct GrvOpts {
+    pub priority: Priority,
+    pub count: u64,
+    pub tags: Vec<Vec<u8>>,
+    pub lock_aware: bool,
+    pub at: u64,
+}
+
+impl GrvOpts {
+    /// A read of which nothing is said.
+    pub fn plain() -> GrvOpts {
+        GrvOpts {
+            priority: Priority::Default,
+            count: 1,
+            tags: Vec::new(),
+            lock_aware: false,
+            at: 0,
+        }
+    }
+}
+
+#[allow(dead_code)] // (a log may have calls that no benchmark makes)
+pub enum Input {
+    Grv(GrvOpts),
+    Ask {
+        num: u64,
+        processed: u64,
+        at: u64,
+    },
+    Report {
+        num: u64,
+        locked: bool,
+        metadata: Option<u64>,
+    },
+    Tell {
+        to: u32,
+    },
+    Learn {
+        from: u32,
+    },
+}
+
+#[allow(dead_code)]
+pub enum CallAnswer {
+    Version {
+        rec: Record,
+        limits: Vec<TagLimit>,
+        locked_out: bool,
+    },
+    Answered(Issued),
+    Acked {
+        rec: Record,
+        raised: bool,
+    },
+    Told,
+    Refused(Refusal),
+}
+
+#[allow(dead_code)]
+#[derive(Clone, Copy, PartialEq, Eq)]
+pub enum Refusal {
+    Early { expected: u64 },
+    Forgotten,
+    UnknownProxy,
+    Exhausted,
+    BadCount,
+    BatchThrottled,
+    Full,
+    ProxyClosed,
+    NotIssued,
+    Stranger,
+    TooLarge,
+    Behind { position: u64 },
+}
+
+impl fmt::Display for Refusal {
+    fn fmt(&self, f: &mut fmt::Formatter) -> fmt::Result {
+        let name = match self {
+            Refusal::Early { expected } => return write!(f, "Early {expected}"),
+            Refusal::Behind { position } => return write!(f, "Behind {position}"),
+            Refusal::Forgotten => "Forgotten",
+            Refusal::UnknownProxy => "UnknownProxy",
+            Refusal::Exhausted => "Exhausted",
+            Refusal::BadCount => "BadCount",
+            Refusal::BatchThrottled => "BatchThrottled",
+            Refusal::Full => "Full",
+            Refusal::ProxyClosed => "ProxyClosed",
+            Refusal::NotIssued => "NotIssued",
+            Refusal::Stranger => "Stranger",
+            Refusal::TooLarge => "TooLarge",
+        };
+        f.write_str(name)
+    }
+}
+
+pub struct Call {
+    pub input: Input,
+    pub asked: u64,
+    pub position: u64,
+    pub answer: CallAnswer,
+}
+
+pub type Log = Vec<Call>;
+
+#[derive(Clone, Copy)]
+pub enum Event {
+    Report {
+        client: u32,
+        call: u64,
+        rec: Record,
+        raised: bool,
+    },
+    Read {
+        client: u32,
+        call: u64,
+        rec: Record,
+    },
+}
+
+impl Event {
+    pub fn is_raise(&self) -> bool {
+        matches!(self, Event::Report { raised: true, .. })
+    }
+}

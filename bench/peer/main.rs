@@ -1,0 +1,37 @@
+//! The work of crates/fdb_bench once more, in plain Rust with std alone and without proofs: peer NAME SIZE.
+
+mod audit;
+mod benchmarks;
+mod chain;
+mod history;
+mod json;
+mod measuring;
+mod queue;
+mod replay;
+
+use std::env;
+use std::process::ExitCode;
+
+fn main() -> ExitCode {
+    let words: Vec<String> = env::args().skip(1).collect();
+    let [name, size] = words.as_slice() else {
+        eprintln!("peer: a benchmark and its size are wanted");
+        return ExitCode::FAILURE;
+    };
+    let Some(benchmark) = benchmarks::of_name(name) else {
+        eprintln!("peer: there is no benchmark {name}");
+        return ExitCode::FAILURE;
+    };
+    let Ok(size) = size.parse() else {
+        eprintln!("peer: {size} is no size");
+        return ExitCode::FAILURE;
+    };
+    let measured = benchmark(size);
+    println!("{name} {size} {}", measured.checksum.0);
+    let (operations, nanos) = (measured.operations, measured.nanos);
+    let each = nanos as f64 / operations as f64;
+    eprintln!(
+        "{name} {size}: {operations} operations, {nanos} ns of processor time, {each:.1} ns each"
+    );
+    ExitCode::SUCCESS
+}

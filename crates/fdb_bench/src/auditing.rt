@@ -1,0 +1,209 @@
+//! Audits of the logs of many clients.
+
+ghost use Rattle.std.specs.Prelude.{◌≤◌, length};
+
+use crate::checksum::Checksum;
+use crate::measured::Measured;
+use crate::stopwatch::Stopwatch;
+use anyhow::{Result, ensure};
+use fdb_chain::{ChainCore, ChainError};
+use fdb_history::{
+    Ask, AuditFault, Call, CallAnswer, ClientLog, Event, GrvOpts, Input, Issued, Priority, Record,
+    Sequence, audit,
+};
+use std::alloc::{AllocError, Global};
+use std::time::CpuClock;
+
+/// How many clients there are, and how many logs an audit may have.
+const CLIENTS: u32 = 64;
+
+const RECOVERY: u64 = 100;
+
+/// How many times the logs are audited.
+const AUDITS: u32 = 10;
+
+/// The record before any report.
+const OPENING: Record = Record {
+    version: RECOVERY,
+    locked: false,
+    metadata: None,
+};
+
+/// Audits the logs of 64 clients with so many calls in all, a few times.
+pub fn audits(clock: &impl CpuClock, alloc: Global, size: u32) -> Result<Measured> {
+    let run = Run::of(alloc, size)?;
+    let logs = run.logs.as_slice();
+    ensure!(logs.len() <= 64, "more logs than an audit takes");
+    let watch = Stopwatch::start(clock)?;
+    let checksum = audit_each_time(alloc, run.chain.answers(), logs)?;
+    let operations = u64::from(size) * u64::from(AUDITS);
+    Ok(watch.measured(clock, operations, checksum)?)
+}
+
+/// Audits the same logs a few times.
+fn audit_each_time(
+    alloc: Global,
+    chain: &[Issued],
+    logs: &[ClientLog],
+) -> Result<Checksum, AuditFault>
+    requires { length logs.now ≤ 64 }
+{
+    let mut checksum = Checksum::EMPTY;
+    for _ in 0..AUDITS {
+        let history = audit(alloc, OPENING, chain, logs)?;
+        checksum = with_events(checksum, history.events.as_slice());
+    }
+    Ok(checksum)
+}
+
+/// The checksum with some events.
+fn with_events(before: Checksum, events: &[Event]) -> Checksum {
+    let mut checksum = before;
+    for event in events {
+        checksum = checksum.with(event_word(event));
+    }
+    checksum
+}
+
+/// A word for an event.
+fn event_word(event: &Event) -> u64 {
+    match event {
+        Event::Report {
+            client,
+            call,
+            rec,
+            raised,
+        } => place_word(*client, *call, rec).wrapping_mul(31) ^ u64::from(*raised),
+        Event::Read { client, call, rec } => place_word(*client, *call, rec),
+    }
+}
+
+/// A word for a client's call of a record.
+fn place_word(client: u32, call: u64, rec: &Record) -> u64 {
+    rec.version
+        .wrapping_mul(31)
+        .wrapping_add(call)
+        .wrapping_mul(31)
+        .wrapping_add(u64::from(client))
+}
+
+/// A run: its chain, its live record, and the logs of its clients.
+#[derive(Drop)]
+struct Run {
+    chain: ChainCore,
+    live: Record,
+    /// How many reports have raised the live record.
+    position: u64,
+    logs: Vec<ClientLog>,
+}
+
+impl Run {
+    /// A run with so many calls: each client in turn draws a version, raises the register with it and reads it.
+    fn of(alloc: Global, size: u32) -> Result<Run, ChainError> {
+        let mut run = Run {
+            chain: ChainCore::new(alloc, 0, RECOVERY, CLIENTS)?,
+            live: OPENING,
+            position: 0,
+            logs: empty_logs(alloc)?,
+        };
+        for place in 0..size {
+            let turn = place / 3;
+            let (client, num) = (turn % CLIENTS, u64::from(turn / CLIENTS) + 1);
+            let call = match place % 3 {
+                0 => run.ask(client, num)?,
+                1 => run.report(num),
+                _ => run.read(alloc),
+            };
+            run.log(client, call)?;
+        }
+        Ok(run)
+    }
+
+    /// A client's request for a commit version.
+    fn ask(&mut self, client: u32, num: u64) -> Result<Call, ChainError> {
+        let processed = num.saturating_sub(8);
+        let at = self.position.wrapping_mul(3);
+        let issued = self.chain.ask(Ask {
+            proxy: client,
+            num,
+            processed,
+            at,
+        })?;
+        Ok(self.call(
+            Input::Ask { num, processed, at },
+            CallAnswer::Answered(issued),
+        ))
+    }
+
+    /// A report of the newest commit version, under its number.
+    fn report(&mut self, num: u64) -> Call {
+        let version = self
+            .chain
+            .answers()
+            .last()
+            .map_or(0, |issued| issued.version);
+        let rec = Record {
+            version,
+            locked: false,
+            metadata: None,
+        };
+        let raised = version > self.live.version;
+        if raised {
+            self.live = rec;
+            self.position = self.position.saturating_add(1);
+        }
+        let input = Input::Report {
+            num,
+            locked: false,
+            metadata: None,
+        };
+        self.call(input, CallAnswer::Acked { rec, raised })
+    }
+
+    /// A read of the live record.
+    fn read(&mut self, alloc: Global) -> Call {
+        let input = Input::Grv(GrvOpts {
+            priority: Priority::Default,
+            count: 1,
+            tags: Sequence::new(alloc),
+            lock_aware: false,
+            at: 0,
+        });
+        let answer = CallAnswer::Version {
+            rec: self.live,
+            limits: Sequence::new(alloc),
+            locked_out: false,
+        };
+        self.call(input, answer)
+    }
+
+    /// A call that was answered at the newest position.
+    fn call(&self, input: Input, answer: CallAnswer) -> Call {
+        Call {
+            input,
+            asked: self.position,
+            position: self.position,
+            answer,
+        }
+    }
+
+    /// Adds a call to a client's log, asked at the position that the client had come to.
+    fn log(&mut self, client: u32, call: Call) -> Result<(), AllocError> {
+        if let Some(log) = self.logs.get_mut(client as usize) {
+            let asked = log.calls.as_slice().last().map_or(0, |last| last.position);
+            log.calls.push(Call { asked, ..call })?;
+        }
+        Ok(())
+    }
+}
+
+/// A log without calls for each client.
+fn empty_logs(alloc: Global) -> Result<Vec<ClientLog>, AllocError> {
+    let mut logs = Vec::new(alloc);
+    for _ in 0..CLIENTS {
+        logs.push(ClientLog {
+            calls: Sequence::new(alloc),
+        })?;
+    }
+    Ok(logs)
+}

@@ -1,0 +1,128 @@
+//! The benchmarks by their names, and the sizes that they may have.
+
+use crate::measured::Measured;
+use crate::{asking, auditing, queueing, replaying, throttling};
+use anyhow::{Context, Result, ensure};
+use std::alloc::Global;
+use std::sync::Wait;
+use std::thread::Threads;
+use std::time::CpuClock;
+
+/// What is measured.
+#[derive(Clone, Copy, Debug, PartialEq, Eq)]
+pub enum Benchmark {
+    /// Fresh requests for commit versions by one proxy. The size is how many there are.
+    FreshOfOne,
+    /// Fresh requests by 64 proxies. The size is how many there are.
+    FreshOfMany,
+    /// Repeats of kept numbers. The size is how many there are, and how many answers are kept.
+    Repeats,
+    /// Requests and repeats by proxies that go on processing answers. The size is how many there are.
+    Processed,
+    /// Offers and windows at a queue that is nearly full. The size is its room.
+    Windows,
+    /// A flood that pushes out all that may be pushed out. The size is the room of the queue.
+    PushOuts,
+    /// Throttles that are set and looked up. The size is how many there are.
+    Throttles,
+    /// Questions how many windows a request waits. The size is how many there are.
+    Waits,
+    /// A script from its bytes to the printed bytes. The size is the number of its commands.
+    Replay,
+    /// An audit of 64 logs. The size is the number of their calls.
+    Audit,
+}
+
+impl Benchmark {
+    /// All of them.
+    pub const ALL: [Benchmark; 10] = [
+        Benchmark::FreshOfOne,
+        Benchmark::FreshOfMany,
+        Benchmark::Repeats,
+        Benchmark::Processed,
+        Benchmark::Windows,
+        Benchmark::PushOuts,
+        Benchmark::Throttles,
+        Benchmark::Waits,
+        Benchmark::Replay,
+        Benchmark::Audit,
+    ];
+
+    /// Its name.
+    pub fn name(self) -> &'static str {
+        match self {
+            Benchmark::FreshOfOne => "fresh_of_one",
+            Benchmark::FreshOfMany => "fresh_of_many",
+            Benchmark::Repeats => "repeats",
+            Benchmark::Processed => "processed",
+            Benchmark::Windows => "windows",
+            Benchmark::PushOuts => "push_outs",
+            Benchmark::Throttles => "throttles",
+            Benchmark::Waits => "waits",
+            Benchmark::Replay => "replay",
+            Benchmark::Audit => "audit",
+        }
+    }
+
+    /// The one of a name.
+    pub fn of_name(name: &str) -> Option<Benchmark> {
+        for benchmark in Benchmark::ALL {
+            if benchmark.name() == name {
+                return Some(benchmark);
+            }
+        }
+        None
+    }
+
+    /// A size at which it takes milliseconds at most.
+    pub fn small_size(self) -> u32 {
+        match self {
+            Benchmark::Windows | Benchmark::PushOuts | Benchmark::Throttles => 100,
+            Benchmark::Replay | Benchmark::Audit => 300,
+            _ => 1_000,
+        }
+    }
+
+    /// The greatest size that it may have.
+    fn greatest_size(self) -> u32 {
+        match self {
+            Benchmark::Windows | Benchmark::PushOuts | Benchmark::Throttles => 100_000,
+            Benchmark::Replay => 10_000,
+            _ => 10_000_000,
+        }
+    }
+
+    /// The size that a word says, or why it may not be.
+    pub fn size_of(self, word: &str) -> Result<u32> {
+        let size = word
+            .parse::<u32>()
+            .context(format_args!("the size {word:?}"))?;
+        let greatest = self.greatest_size();
+        ensure!(
+            size > 0 && size <= greatest,
+            "the size {size} is not 1 to {greatest}"
+        );
+        Ok(size)
+    }
+
+    /// Runs it.
+    pub fn run<R: CpuClock + Threads + Wait + Sync>(
+        self,
+        rt: &R,
+        alloc: Global,
+        size: u32,
+    ) -> Result<Measured> {
+        match self {
+            Benchmark::FreshOfOne => asking::fresh(rt, alloc, 1, size),
+            Benchmark::FreshOfMany => asking::fresh(rt, alloc, asking::MANY, size),
+            Benchmark::Repeats => asking::repeats(rt, alloc, size),
+            Benchmark::Processed => asking::processed(rt, alloc, size),
+            Benchmark::Windows => queueing::windows(rt, alloc, size),
+            Benchmark::PushOuts => queueing::push_outs(rt, alloc, size),
+            Benchmark::Throttles => throttling::throttles(rt, alloc, size),
+            Benchmark::Waits => queueing::waits(rt, alloc, size),
+            Benchmark::Replay => replaying::replay(rt, alloc, size),
+            Benchmark::Audit => auditing::audits(rt, alloc, size),
+        }
+    }
+}

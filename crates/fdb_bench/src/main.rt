@@ -1,0 +1,67 @@
+//! Benchmarks of the crates below: `fdb_bench NAME [SIZE]` runs one, and `fdb_bench` runs each at a small size.
+//!
+//! For each run standard output has the benchmark, its size and the checksum of what was computed, which is the same
+//! every time; and standard error the number of operations and the processor time that they took.
+#![tactic(auto)]
+
+mod asking;
+mod auditing;
+mod benchmark;
+mod checksum;
+mod draws;
+mod measured;
+mod queueing;
+mod replaying;
+mod scripted;
+mod stopwatch;
+mod throttling;
+
+use anyhow::{Result, anyhow, ensure};
+use benchmark::Benchmark;
+use std::alloc::Global;
+use std::env;
+use std::sync::Wait;
+use std::thread::Threads;
+use std::time::CpuClock;
+
+fn main(rt: HostRuntime) -> Result<()> {
+    let mut words = env::args(&rt)?.skip(1);
+    let Some(name) = words.next() else {
+        return run_each(&rt, rt.alloc());
+    };
+    let Some(benchmark) = Benchmark::of_name(name.as_str()) else {
+        return Err(anyhow!("there is no benchmark {name}"));
+    };
+    let size = match words.next() {
+        None => benchmark.small_size(),
+        Some(word) => benchmark.size_of(word.as_str())?,
+    };
+    ensure!(
+        words.next().is_none(),
+        "more words than a benchmark and its size"
+    );
+    run_one(&rt, rt.alloc(), benchmark, size)
+}
+
+/// Runs each benchmark at its small size.
+fn run_each<R>(rt: &R, alloc: Global) -> Result<()>
+where
+    R: Print + Eprint + CpuClock + Threads + Wait + Sync,
+{
+    for benchmark in Benchmark::ALL {
+        run_one(rt, alloc, benchmark, benchmark.small_size())?;
+    }
+    Ok(())
+}
+
+/// Runs a benchmark, and prints what it computed and what it took.
+fn run_one<R>(rt: &R, alloc: Global, benchmark: Benchmark, size: u32) -> Result<()>
+where
+    R: Print + Eprint + CpuClock + Threads + Wait + Sync,
+{
+    let measured = benchmark.run(rt, alloc, size)?;
+    let (name, checksum) = (benchmark.name(), measured.checksum);
+    println!(rt; "{name} {size} {checksum}")?;
+    eprintln!(rt; "{name} {size}: {measured}")?;
+    Ok(())
+}

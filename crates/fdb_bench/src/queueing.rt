@@ -1,0 +1,197 @@
+//! The queue of a GRV proxy: offers, windows, push-outs and waits.
+
+use crate::checksum::Checksum;
+use crate::draws::Draws;
+use crate::measured::Measured;
+use crate::stopwatch::Stopwatch;
+use anyhow::Result;
+use fdb_history::Priority;
+use fdb_queue::{GrvQueue, QueueConfig, QueueError, Req};
+use std::alloc::Global;
+use std::time::CpuClock;
+
+/// How many offers there are for each request that there is room for.
+const OFFERS_PER_ROOM: u32 = 20;
+
+/// How many offers there are for each window.
+const OFFERS_PER_WINDOW: u32 = 100;
+
+/// The microseconds between two windows.
+const ELAPSED: u64 = 10_000;
+
+/// How many floods there are.
+const FLOODS: u32 = 10;
+
+/// How many questions there are for each window.
+const WAITS_PER_WINDOW: u32 = 8;
+
+/// Offers of all priorities, and windows that start about as much as is offered, at a queue that is nearly full.
+pub fn windows(clock: &impl CpuClock, alloc: Global, room: u32) -> Result<Measured> {
+    let mut queue = nearly_full(alloc, room)?;
+    let offers = room.saturating_mul(OFFERS_PER_ROOM);
+    let watch = Stopwatch::start(clock)?;
+    let checksum = offer_and_start(&mut queue, offers)?;
+    Ok(watch.measured(clock, u64::from(offers), checksum)?)
+}
+
+/// Floods of system requests into a queue that is filled with batch and default requests: each pushes one out, until
+/// none is left and the others are refused.
+pub fn push_outs(clock: &impl CpuClock, alloc: Global, room: u32) -> Result<Measured> {
+    let mut checksum = Checksum::EMPTY;
+    let watch = Stopwatch::start(clock)?;
+    for _ in 0..FLOODS {
+        checksum = flood(alloc, room, checksum)?;
+    }
+    let operations = u64::from(FLOODS) * u64::from(room) * 3;
+    Ok(watch.measured(clock, operations, checksum)?)
+}
+
+/// Questions how many windows the head of the row waits, with a window after every few.
+pub fn waits(clock: &impl CpuClock, alloc: Global, size: u32) -> Result<Measured> {
+    let config = QueueConfig {
+        normal: 10,
+        batch: 10,
+        room: 1,
+    };
+    let mut queue = GrvQueue::new(alloc, config)?;
+    let checksum = offered(
+        &mut queue,
+        Checksum::EMPTY,
+        request_of(Priority::Default, 100_000, 0),
+    )?;
+    let watch = Stopwatch::start(clock)?;
+    let checksum = ask_and_wait(&mut queue, size, checksum)?;
+    Ok(watch.measured(clock, u64::from(size), checksum)?)
+}
+
+/// A queue in which nine tenths of the room is taken.
+fn nearly_full(alloc: Global, room: u32) -> Result<GrvQueue<u64>, QueueError> {
+    let config = QueueConfig {
+        normal: 260,
+        batch: 250,
+        room: u64::from(room),
+    };
+    let mut queue = GrvQueue::new(alloc, config)?;
+    let mut checksum = Checksum::EMPTY;
+    for place in 0..room - room / 10 {
+        checksum = offered(&mut queue, checksum, filling(place))?;
+    }
+    Ok(queue)
+}
+
+/// Makes so many offers, and holds a window after every few.
+fn offer_and_start(queue: &mut GrvQueue<u64>, offers: u32) -> Result<Checksum, QueueError> {
+    let mut checksum = Checksum::EMPTY;
+    let mut draws = Draws::START;
+    for place in 0..offers {
+        checksum = offered(queue, checksum, mixed(&mut draws, place))?;
+        if place % OFFERS_PER_WINDOW == 0 {
+            checksum = started(queue, checksum, ELAPSED)?;
+        }
+    }
+    Ok(checksum)
+}
+
+/// Fills a queue, and floods it with twice as many system requests as there is room for.
+fn flood(alloc: Global, room: u32, before: Checksum) -> Result<Checksum, QueueError> {
+    let config = QueueConfig {
+        normal: 100_000,
+        batch: 100_000,
+        room: u64::from(room),
+    };
+    let mut queue = GrvQueue::new(alloc, config)?;
+    let mut checksum = before;
+    for place in 0..room {
+        checksum = offered(&mut queue, checksum, filling(place))?;
+    }
+    for place in 0..room.saturating_mul(2) {
+        let request = request_of(Priority::System, 1, u64::from(place));
+        checksum = offered(&mut queue, checksum, request)?;
+    }
+    Ok(checksum)
+}
+
+/// Asks so many times how many windows the head waits, and holds a short window after every few.
+fn ask_and_wait(
+    queue: &mut GrvQueue<u64>,
+    size: u32,
+    before: Checksum,
+) -> Result<Checksum, QueueError> {
+    let mut checksum = before;
+    let mut draws = Draws::START;
+    for place in 0..size {
+        let elapsed = draws.next_number() % ELAPSED + 1;
+        checksum = checksum.with(queue.waits(elapsed).unwrap_or(0));
+        if place % WAITS_PER_WINDOW == 0 {
+            checksum = started(queue, checksum, 1)?;
+        }
+    }
+    Ok(checksum)
+}
+
+/// Makes an offer, and adds what came of it: the request that was pushed out or refused.
+fn offered(
+    queue: &mut GrvQueue<u64>,
+    checksum: Checksum,
+    request: Req<u64>,
+) -> Result<Checksum, QueueError> {
+    match queue.offer(request) {
+        Ok(None) => Ok(checksum.with(0)),
+        Ok(Some(out)) => Ok(checksum.with(request_word(&out).wrapping_add(1))),
+        Err((QueueError::Memory, _)) => Err(QueueError::Memory),
+        Err((_, refused)) => Ok(checksum.with(request_word(&refused).wrapping_add(2))),
+    }
+}
+
+/// Holds a window, and adds what it started.
+fn started(
+    queue: &mut GrvQueue<u64>,
+    before: Checksum,
+    elapsed: u64,
+) -> Result<Checksum, QueueError> {
+    let started = queue.window(elapsed)?;
+    let mut checksum = before;
+    for request in &started {
+        checksum = checksum.with(request_word(request));
+    }
+    Ok(checksum)
+}
+
+/// A word for a request.
+fn request_word(request: &Req<u64>) -> u64 {
+    request
+        .payload
+        .wrapping_mul(31)
+        .wrapping_add(request.count.wrapping_mul(3))
+        .wrapping_add(u64::from(request.priority as u8))
+}
+
+/// A request of a priority and a count, that carries a number.
+fn request_of(priority: Priority, count: u64, payload: u64) -> Req<u64> {
+    Req {
+        priority,
+        count,
+        payload,
+    }
+}
+
+/// The request at a place of a filling: batch and default in turn.
+fn filling(place: u32) -> Req<u64> {
+    let priority = if place % 2 == 0 {
+        Priority::Batch
+    } else {
+        Priority::Default
+    };
+    request_of(priority, u64::from(place % 4) + 1, u64::from(place))
+}
+
+/// The request at a place of the mix: one in ten a system request, six default, three batch.
+fn mixed(draws: &mut Draws, place: u32) -> Req<u64> {
+    let drawn = draws.next_number();
+    let priority = match drawn % 10 {
+        0 => Priority::System,
+        1..=6 => Priority::Default,
+        _ => Priority::Batch,
+    };
+    request_of(priority, drawn / 10 % 4 + 1, u64::from(place))
+}

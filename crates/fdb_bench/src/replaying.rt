@@ -1,0 +1,54 @@
+//! Scripts, from their bytes to the printed bytes.
+
+use crate::checksum::Checksum;
+use crate::measured::Measured;
+use crate::scripted;
+use crate::stopwatch::Stopwatch;
+use anyhow::Result;
+use fdb_history::OpenGate;
+use std::alloc::Global;
+use std::sync::Wait;
+use std::thread::Threads;
+use std::time::CpuClock;
+
+/// How many times the script is replayed.
+const REPLAYS: u32 = 10;
+
+/// Replays a script of so many commands, a few times. The time is that of the replays, and the checksum is over each
+/// byte that the last of them wrote.
+pub fn replay<R: CpuClock + Threads + Wait + Sync>(
+    rt: &R,
+    alloc: Global,
+    commands: u32,
+) -> Result<Measured> {
+    let script = scripted::script(alloc, commands)?;
+    let mut written = Vec::new(alloc);
+    let watch = Stopwatch::start(rt)?;
+    for _ in 0..REPLAYS {
+        written.clear();
+        fdb_replay::replay(
+            rt,
+            alloc,
+            script.as_bytes(),
+            1,
+            false,
+            &OpenGate,
+            &mut written,
+        )?;
+    }
+    let operations = u64::from(commands) * u64::from(REPLAYS);
+    let measured = watch.measured(rt, operations, Checksum::EMPTY)?;
+    Ok(Measured {
+        checksum: of_bytes(&written).value(),
+        ..measured
+    })
+}
+
+/// The checksum of some bytes.
+fn of_bytes(bytes: &[u8]) -> Checksum {
+    let mut checksum = Checksum::EMPTY;
+    for byte in bytes {
+        checksum = checksum.with(u64::from(*byte));
+    }
+    checksum
+}
