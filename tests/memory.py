@@ -42,12 +42,13 @@ def run_refused(words, preloaded, number, goes_on, given):
 
 
 def swept(words, preloaded, given, without, wanted, goes_on, step):
-    """Refuses allocations until a run ends without one; `step` gives the next number. A run is to end as `wanted`, and
-    as `without` where an allocation was refused."""
+    """Refuses allocations until a run ends without one; `step` gives the next number. A run is to end as `wanted`, or as
+    `without` where an allocation was refused that it could not do without, as a sort can do without its buffer."""
     number, got_there = 1, True
     for _ in range(MOST_RUNS):
         ran, got_there = run_refused(words, preloaded, number, goes_on, given)
-        yield number, fault_of(ran, without if got_there else wanted)
+        fault = fault_of(ran, wanted)
+        yield number, fault_of(ran, without) if fault and got_there else fault
         if not got_there:
             return
         number = step(number)
