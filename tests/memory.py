@@ -56,7 +56,7 @@ def swept(words, preloaded, given, without, wanted, goes_on, step):
 
 
 def refused(program):
-    """A refused allocation ends the run with status 3 and its line, and a run without one is as ever."""
+    """A run that is refused memory ends with status 3 and its line, or as ever where it can do without."""
     each, further = lambda at: at + 1, lambda at: at + 1 + at // 12
     outputs = first_script(), done(first_output())
     large = written(0, 100, LARGE), done(printed(0, 100, LARGE))
