@@ -11,7 +11,7 @@ use Rattle.fdb_queue.specs.Queue.{Queue}
 use Rattle.fdb_queue.specs.Waiting.{Requests, row, first, with_last}
 
 -- Whether a count may be admitted: it is in range, and a batch request's is not above what the normal rate can come to
--- while nothing else waits, so that no batch request waits for ever.
+-- while nothing else waits, so that none waits for ever while nothing else does.
 abbrev pub is_count : QueueConfig → Priority → ℕ → Bool
 is_count config System count = nat_le 1 count && nat_le count MAX_COUNT
 is_count config Default count = nat_le 1 count && nat_le count MAX_COUNT

@@ -9,7 +9,7 @@ pub enum QueueError {
     /// A limit, the room or the time since the last window is out of range.
     #[error("the configuration is out of range")]
     BadConfig,
-    /// The request's count is out of range, or above what a batch request may ever start with.
+    /// The request's count is out of range, or above what a batch request is sure to start with once nothing else waits.
     #[error("the request's count is out of range")]
     BadCount,
     /// No batch request is let in, since the batch limit is 0.

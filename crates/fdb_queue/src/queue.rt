@@ -137,7 +137,7 @@ impl<T> GrvQueue<T> {
     /// How many windows of `elapsed` microseconds, with no offer between them, start nothing before one starts something. It
     /// is computed from the head of the row and takes constant time and no memory.
     ///
-    /// It is `None` where that is not certain or nothing waits: in an empty row, for a system request, which any window
+    /// It is `None` where the head does not wait for its own rate alone: in an empty row, for a system request, which any window
     /// starts, for a batch request that the normal rate may hold or whose own limit is 0, and for a time out of range.
     pub fn waits(&self, elapsed: u64) -> Option<u64>
         ensures covered { IsSome result ↔ (IsElapsed elapsed × IsSomeAnd (first (row self.now.waiting)) (λ head. IsSure self.now.config head.priority head.count)) }

@@ -1,4 +1,4 @@
-//! Worked examples, and calls that are refused memory. Each test passes also where any one allocation is refused.
+//! Worked examples, and calls that are refused memory.
 
 mod throttles;
 mod waits;
