@@ -50,6 +50,31 @@ blocked-fourth = refl
 blocked-fifth : names (window (after_windows 1000000 4 blocked)) ≡ 0 ∷ []
 blocked-fifth = refl
 
+-- Limits of 100,000: no window starts more by a rate, whatever its budget, and no budget comes to more while somebody waits.
+abbrev burst : Queue ℕ
+burst = admitted (admitted (new_queue (record { normal = 100000; batch = 100000; room = 3 })) (asks System 60000 0)) (asks Default 50000 1)
+
+burst-first : names (window burst) ≡ 0 ∷ []
+burst-first = refl
+
+burst-budgets : (after_window 10000000 burst).budgets ≡ record { normal = 200000000000; batch = 200000000000 }
+burst-budgets = refl
+
+abbrev burst_again : Queue ℕ
+burst_again = admitted (after_window 10000000 burst) (asks System 60000 2)
+
+burst-again : names (window burst_again) ≡ 2 ∷ []
+burst-again = refl
+
+burst-again-budgets : (after_window 10000000 burst_again).budgets ≡ record { normal = 200000000000; batch = 200000000000 }
+burst-again-budgets = refl
+
+burst-last : names (window (after_window 10000000 burst_again)) ≡ 1 ∷ []
+burst-last = refl
+
+burst-idle : (after_windows 10000000 2 burst_again).budgets ≡ record { normal = 20000000; batch = 20000000 }
+burst-idle = refl
+
 -- A full queue of two batch requests: a default one pushes out the older, and a batch one is refused.
 abbrev full : Queue ℕ
 full = admitted (admitted (new_queue (record { normal = 1; batch = 1; room = 2 })) (asks Batch 1 0)) (asks Batch 1 1)

@@ -1,5 +1,5 @@
 -- Windows that start nothing.
-use Rattle.std.proofs.Common.{◌≡◌, ℕ, zero, suc, ◌+◌, ◌-◌, ◌*◌, ◌≤◌, ◌<◌, ◌==◌, ◌&&◌, inl, inr, Bool, true, false, List, [], ◌∷◌, ◌++◌, length, refl, sym, ap, ◌∙◌, arith, zero-add}
+use Rattle.std.proofs.Common.{◌≡◌, ℕ, zero, suc, ◌+◌, ◌-◌, ◌*◌, ◌≤◌, ◌<◌, ◌==◌, ◌&&◌, inl, inr, Bool, true, false, List, [], ◌∷◌, ◌++◌, length, take, refl, sym, ap, ◌∙◌, arith, zero-add, length-append}
 use native.Mathlib.Nat.{suc-mul, zero-mul, mul-pos}
 use Rattle.std.specs.Int.{div_ceil}
 use Rattle.std.specs.Prelude.{nat_le, All, Some}
@@ -16,6 +16,7 @@ use Rattle.fdb_queue.specs.declared.request.Req.{Req}
 use Rattle.fdb_queue.specs.Budgets.{can_start, budget_after, cut}
 use Rattle.fdb_queue.specs.Config.{IsConfig}
 use Rattle.fdb_queue.specs.Kept.{IsQueue, IsAdmitted}
+use Rattle.fdb_queue.specs.Laws.{list_of}
 use Rattle.fdb_queue.specs.Queue.{Queue}
 use Rattle.fdb_queue.specs.Waiting.{Requests, row, total, first}
 use Rattle.fdb_queue.specs.Waits.{after_windows, StartsAfter, IsSure, limit_of, budget_of}
@@ -221,15 +222,28 @@ head_by : {T : Type 0} (queue : Queue T) (request : Req T) (left : List (Req T))
     → IsHead queue request left
 head_by queue request left h is sure = record { row_is = is; config = h.config; sure = sure; waiting = waiting_by queue.config queue.waiting.system queue.waiting.default_ queue.waiting.batch request left h.system h.default_ h.batch is sure }
 
+-- whose own list it heads waits for the rate of its priority
+waiting_in : {T : Type 0} (config : QueueConfig) (priority : Priority) (count : ℕ) (system default_ batch : List (Req T)) (request : Req T)
+    → take 1 (list_of priority (record { system = system; default_ = default_; batch = batch })) ≡ request ∷ [] → IsSure config priority count
+    → IsWaiting priority (record { system = system; default_ = default_; batch = batch })
+waiting_in config System count system default_ batch request is sure = absurd sure
+waiting_in config Default count system [] batch request is sure = cc
+waiting_in config Default count system (x ∷ default_) batch request is sure = grind (arith, nat_tests)
+waiting_in config Batch count system default_ [] request is sure = cc
+waiting_in config Batch count system default_ (x ∷ batch) request is sure = grind (arith, nat_tests, length-append)
+
 pub bounded : {T : Type 0} (queue : Queue T) (budgets : Budgets) (request : Req T) (left : List (Req T)) (elapsed idle : ℕ)
-    → IsQueue queue → 1 ≤ elapsed → row queue.waiting ≡ request ∷ left → IsSure queue.config request.priority request.count
+    → IsConfig queue.config → 1 ≤ elapsed → row queue.waiting ≡ request ∷ left → take 1 (list_of request.priority queue.waiting) ≡ request ∷ []
+    → IsSure queue.config request.priority request.count
     → ((before : ℕ) → before < idle → window (after_windows elapsed before (record queue { budgets = budgets })) ≡ [])
     → idle ≤ div_ceil (request.count * RATE_WINDOW) (elapsed * limit_of queue.config request.priority)
-bounded queue budgets request left elapsed idle h time is sure all =
-    let own = head_by queue request left h is sure in
-    let here : IsHead (record queue { budgets = budgets }) request left = record { row_is = own.row_is; config = own.config; sure = own.sure; waiting = own.waiting } in
+bounded queue budgets request left elapsed idle config time is own sure all =
+    let here : IsHead (record queue { budgets = budgets }) request left = record {
+      row_is = is; config = config; sure = sure;
+      waiting = waiting_in queue.config request.priority request.count queue.waiting.system queue.waiting.default_ queue.waiting.batch request own sure;
+    } in
     let step = elapsed * limit_of queue.config request.priority in
-    let grants : 0 < step = granted elapsed queue.config request.priority request.count time h.config sure in
+    let grants : 0 < step = granted elapsed queue.config request.priority request.count time config sure in
     let within = idle_within elapsed (record queue { budgets = budgets }) request left idle step here refl grants all in
     let ceil = (div_ceil_times (request.count * RATE_WINDOW) step grants).0 in
     below_factor idle (div_ceil (request.count * RATE_WINDOW) step) step (omega arith)

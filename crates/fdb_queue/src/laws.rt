@@ -16,7 +16,8 @@ ghost use Rattle.std.specs.Int.{div_ceil};
 ghost use Rattle.fdb_queue.specs.Waits.{after_windows, IsSure, limit_of};
 ghost use Rattle.fdb_queue.specs.declared.budgets.Budgets.{Budgets};
 ghost use Rattle.fdb_queue.specs.Window.{may_start, fits, window, after_window};
-ghost use Rattle.fdb_queue.specs.declared.config.TheConstants.{IDLE_BURST, MAX_BURST, MAX_STARTED, RATE_WINDOW};
+ghost use Rattle.fdb_queue.specs.Config.{IsConfig};
+ghost use Rattle.fdb_queue.specs.declared.config.TheConstants.{MAX_STARTED, RATE_WINDOW};
 ghost use Rattle.fdb_queue.specs.declared.request.Req.{Req};
 ghost use Rattle.fdb_history.specs.declared.grv.Priority.TheVariants.{Default};
 
@@ -39,14 +40,14 @@ pub fn windows_are_bounded<T>()
     ensures { (queue : Queue T) → IsQueue queue → total (window queue) ≤ 1000000000 }
 {}
 
-/// After a window no budget exceeds its bound, and one for which nothing waits stays small.
+/// After a window no budget exceeds its bound, 100,000 transactions, and one for which nothing waits no more than 10.
 pub fn budgets_are_bounded<T>()
-    ensures normal { (queue : Queue T) (elapsed : ℕ) → (after_window elapsed queue).budgets.normal ≤ MAX_BURST * RATE_WINDOW }
-    ensures batch { (queue : Queue T) (elapsed : ℕ) → (after_window elapsed queue).budgets.batch ≤ MAX_BURST * RATE_WINDOW }
+    ensures normal { (queue : Queue T) (elapsed : ℕ) → (after_window elapsed queue).budgets.normal ≤ 200000000000 }
+    ensures batch { (queue : Queue T) (elapsed : ℕ) → (after_window elapsed queue).budgets.batch ≤ 200000000000 }
     ensures idle_normal { (queue : Queue T) (elapsed : ℕ) → (after_window elapsed queue).waiting.system ≡ [] → (after_window elapsed queue).waiting.default_ ≡ []
-        → (after_window elapsed queue).budgets.normal ≤ IDLE_BURST * RATE_WINDOW }
+        → (after_window elapsed queue).budgets.normal ≤ 20000000 }
     ensures idle_batch { (queue : Queue T) (elapsed : ℕ) → row (after_window elapsed queue).waiting ≡ []
-        → (after_window elapsed queue).budgets.batch ≤ IDLE_BURST * RATE_WINDOW }
+        → (after_window elapsed queue).budgets.batch ≤ 20000000 }
 {}
 
 /// What a queue keeps to, it keeps to whatever is let in and started: no more requests wait than there is room for, each
@@ -71,12 +72,13 @@ pub fn nobody_is_lost<T>()
         → IsPermutation (request ∷ row queue.waiting) (option_to_list (pushed_out queue request) ++ row (admitted queue request).waiting) }
 {}
 
-/// A request that is first in the row and sure to start waits no more windows of one length than its count divided by what
+/// A request that is first in the row, in its own list, and sure to start waits no more windows of one length than its count divided by what
 /// its limit grants in one, rounded up: whatever the budgets are, more windows with no offer between them do not all
 /// start nothing.
 pub fn waits_are_bounded<T>()
     ensures { (queue : Queue T) (budgets : Budgets) (first : Req T) (left : List (Req T)) (elapsed idle : ℕ)
-        → IsQueue queue → 1 ≤ elapsed → row queue.waiting ≡ first ∷ left → IsSure queue.config first.priority first.count
+        → IsConfig queue.config → 1 ≤ elapsed → row queue.waiting ≡ first ∷ left → take 1 (list_of first.priority queue.waiting) ≡ first ∷ []
+        → IsSure queue.config first.priority first.count
         → ((before : ℕ) → before < idle → window (after_windows elapsed before (record queue { budgets = budgets })) ≡ [])
         → idle ≤ div_ceil (first.count * RATE_WINDOW) (elapsed * limit_of queue.config first.priority) }
 {}

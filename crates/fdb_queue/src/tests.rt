@@ -209,12 +209,32 @@ fn the_greatest_count_starts(rt: HostRuntime) -> Result<(), Fail> {
     Ok(())
 }
 
+/// The greatest burst bounds what a window starts, whatever the budget, and a budget while somebody waits for it.
+#[test]
+fn a_burst_has_its_greatest(rt: HostRuntime) -> Result<(), Fail> {
+    let mut queue = queue(rt.alloc(), 100_000, 100_000, 3)?;
+    let offers = [offer_of(SYSTEM, 60_000, 0), offer_of(DEFAULT, 50_000, 1)];
+    offer_each(&rt, &mut queue, &offers);
+    // 60,000 and 50,000 are above 100,000; a budget that gained 10,000,000 * (100,000 - 60,000) is cut to 100,000 * 2,000,000
+    let most = 200_000_000_000;
+    let blocked = [held(10_000_000, &[0], most, most)];
+    hold_each(&rt, &mut queue, "no budget", &blocked)?;
+    offer_each(&rt, &mut queue, &[offer_of(SYSTEM, 60_000, 2)]);
+    let rows = [
+        held(10_000_000, &[2], most, most),
+        held(10_000_000, &[1], 20_000_000, 20_000_000),
+    ];
+    hold_each(&rt, &mut queue, "the greatest budget", &rows)?;
+    Ok(())
+}
+
 #[test]
 fn counts_in_and_out_of_range(rt: HostRuntime) -> Result<(), Fail> {
     let mut queue = queue(rt.alloc(), 1, 1, 6)?;
     let bad = Err(QueueError::BadCount);
     let table = [
         answered(bad, offer_of(SYSTEM, 0, 0)),
+        answered(bad, offer_of(DEFAULT, 0, 0)),
         answered(bad, offer_of(DEFAULT, 100_001, 1)),
         answered(bad, offer_of(SYSTEM, 100_001, 2)),
         answered(bad, offer_of(BATCH, 0, 3)),

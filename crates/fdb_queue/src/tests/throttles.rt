@@ -4,6 +4,7 @@ use super::{BATCH, DEFAULT, SYSTEM, queue};
 use crate::{GrvQueue, QueueError};
 use fdb_history::{Priority, Tag, TagLimit};
 use std::alloc::{AllocError, Global};
+use std::process::Abort;
 use std::test::Fail;
 
 /// A tag, by a second call where memory is refused to the first.
@@ -15,8 +16,9 @@ fn tag_of(alloc: Global, text: &[u8]) -> Result<Tag, AllocError> {
     Ok(Tag::from(bytes))
 }
 
-/// Sets a throttle, by a second call where memory is refused to the first.
+/// Sets a throttle, by a second call where memory is refused to the first. A refused call has changed nothing.
 fn set(
+    rt: &impl Abort,
     alloc: Global,
     queue: &mut GrvQueue<u32>,
     priority: Priority,
@@ -24,7 +26,14 @@ fn set(
     rate: u64,
     expires: u64,
 ) -> Result<(), QueueError> {
-    match queue.set_throttle(priority, tag_of(alloc, text)?, rate, expires) {
+    let asked = [tag_of(alloc, text)?];
+    let before = limits(queue, priority, &asked, 0)?;
+    let outcome = queue.set_throttle(priority, tag_of(alloc, text)?, rate, expires);
+    if outcome.is_err() {
+        let after = limits(queue, priority, &asked, 0)?;
+        assert_eq!(rt; after, before, "after a refused throttle");
+    }
+    match outcome {
         Err(QueueError::Memory) => {
             queue.set_throttle(priority, tag_of(alloc, text)?, rate, expires)
         }
@@ -49,34 +58,34 @@ fn limits(
 fn throttles_hold_until_they_expire(rt: HostRuntime) -> Result<(), Fail> {
     let alloc = rt.alloc();
     let mut queue = queue(alloc, 1, 1, 1)?;
-    set(alloc, &mut queue, DEFAULT, b"t", 4, 9000)?;
-    set(alloc, &mut queue, DEFAULT, b"t", 5, 5000)?;
-    set(alloc, &mut queue, SYSTEM, b"t", 6, 9000)?;
-    set(alloc, &mut queue, BATCH, &[1; 16], 1, 1)?;
-    let refusal = set(alloc, &mut queue, BATCH, &[1; 17], 1, 1).err();
+    set(&rt, alloc, &mut queue, DEFAULT, b"t", 4, 9000)?;
+    set(&rt, alloc, &mut queue, DEFAULT, b"t", 5, 5000)?;
+    set(&rt, alloc, &mut queue, SYSTEM, b"t", 6, 9000)?;
+    set(&rt, alloc, &mut queue, BATCH, &[1; 16], 1, 1)?;
+    let refusal = set(&rt, alloc, &mut queue, BATCH, &[1; 17], 1, 1).err();
     assert_eq!(rt; refusal, Some(QueueError::TagTooLong));
     let asked = [
         tag_of(alloc, b"t")?,
         tag_of(alloc, b"u")?,
         tag_of(alloc, b"t")?,
     ];
-    // the rates that are told for t, u and t
-    let table: [(Priority, u64, &[u64]); 4] = [
-        (DEFAULT, 4999, &[5, 5]),
+    // the rates and expiries that are told for t, u and t
+    let table: [(Priority, u64, &[(u64, u64)]); 4] = [
+        (DEFAULT, 4999, &[(5, 5000), (5, 5000)]),
         (DEFAULT, 5000, &[]),
-        (SYSTEM, 5000, &[6, 6]),
+        (SYSTEM, 5000, &[(6, 9000), (6, 9000)]),
         (BATCH, 4999, &[]),
     ];
-    for (priority, at, rates) in table {
+    for (priority, at, wanted) in table {
         let told = limits(&queue, priority, &asked, at)?;
-        assert_eq!(rt; told.len(), rates.len(), "{priority:?} at {at}");
-        for (limit, rate) in told.iter().zip(rates) {
+        assert_eq!(rt; told.len(), wanted.len(), "{priority:?} at {at}");
+        for (limit, wanted) in told.iter().zip(wanted) {
             assert_eq!(rt;
                 limit.tag.as_slice(),
                 b"t".as_slice(),
                 "{priority:?} at {at}"
             );
-            assert_eq!(rt; limit.rate, *rate, "{priority:?} at {at}");
+            assert_eq!(rt; (limit.rate, limit.expires), *wanted, "{priority:?} at {at}");
         }
     }
     Ok(())
@@ -88,7 +97,7 @@ fn refused_memory_is_borne(rt: HostRuntime) -> Result<(), Fail> {
     let alloc = rt.alloc();
     let mut queue = queue(alloc, 1, 1, 1)?;
     for name in 0..40u8 {
-        set(alloc, &mut queue, DEFAULT, &[name], name as u64, 1)?;
+        set(&rt, alloc, &mut queue, DEFAULT, &[name], name as u64, 1)?;
     }
     for name in 0..40u8 {
         let tag = tag_of(alloc, &[name])?;

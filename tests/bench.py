@@ -1,0 +1,54 @@
+"""The words of the benchmarks: what each run prints, and what is refused."""
+import os
+import re
+
+from harness import DONE, REFUSED, ROOT, run
+
+PROGRAM = f"{ROOT}/crates/fdb_bench/out/fdb_bench"
+COSTS = re.compile(r"waits 64: \d+ operations, \d+ ns .*\n")
+
+# words, and what standard error has to say
+REFUSALS = [
+    (["window"], "there is no benchmark window"),
+    ([""], "there is no benchmark "),
+    (["waits", "0"], "the size 0 is not 1 to 10000000"),
+    (["waits", "10000001"], "the size 10000001 is not 1 to 10000000"),
+    (["windows", "100001"], "the size 100001 is not 1 to 100000"),
+    (["replay", "10001"], "the size 10001 is not 1 to 10000"),
+    (["waits", "-1"], 'the size "-1"'),
+    (["waits", "4294967296"], 'the size "4294967296"'),
+    (["waits", "1e3"], 'the size "1e3"'),
+    (["waits", ""], 'the size ""'),
+    (["waits", "64", "64"], "more words than a benchmark and its size"),
+]
+
+
+def refusal_fault(words, why):
+    """Returns how a run on words that are to be refused differs from what is wanted, or None."""
+    ran = run([PROGRAM, *words])
+    said = ran.err.decode()
+    if ran.status != REFUSED or ran.out or why not in said:
+        return f"status {ran.status}, {ran.out!r} and {said!r}"
+    return None
+
+
+def one_benchmark():
+    """Returns what is wrong with two runs of one benchmark, or None."""
+    first, again = (run([PROGRAM, "waits", "64"]) for _ in range(2))
+    if (first.status, again.status) != (DONE, DONE):
+        return f"status {first.status} and {again.status}"
+    if not re.fullmatch(rb"waits 64 \d+\n", first.out) or first.out != again.out:
+        return f"it printed {first.out!r} and then {again.out!r}"
+    if not COSTS.fullmatch(first.err.decode()):
+        return f"it said {first.err!r}"
+    return None
+
+
+def words(_program):
+    """Each run says what it computed; other words are refused, with nothing on standard output."""
+    if not os.access(PROGRAM, os.X_OK):
+        yield "the program", f"{PROGRAM} is not there: rt ci builds it"
+        return
+    yield "one benchmark of a size", one_benchmark()
+    for given, why in REFUSALS:
+        yield f"the words {given}", refusal_fault(given, why)
