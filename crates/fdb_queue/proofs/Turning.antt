@@ -239,7 +239,9 @@ pub bounded : {T : Type 0} (queue : Queue T) (budgets : Budgets) (request : Req 
     → idle ≤ div_ceil (request.count * RATE_WINDOW) (elapsed * limit_of queue.config request.priority)
 bounded queue budgets request left elapsed idle config time is own sure all =
     let here : IsHead (record queue { budgets = budgets }) request left = record {
-      row_is = is; config = config; sure = sure;
+      row_is = is;
+      config = config;
+      sure = sure;
       waiting = waiting_in queue.config request.priority request.count queue.waiting.system queue.waiting.default_ queue.waiting.batch request own sure;
     } in
     let step = elapsed * limit_of queue.config request.priority in
