@@ -294,33 +294,31 @@ fn a_batch_limit_of_0_lets_no_batch_request_in(rt: HostRuntime) -> Result<(), Fa
 
 #[test]
 fn configurations_in_and_out_of_range(rt: HostRuntime) -> Result<(), Fail> {
+    let bad = Some(QueueError::BadConfig);
     let table = [
-        (1, 0, 1, true),
-        (100_000, 100_000, 100_000, true),
-        (0, 0, 1, false),
-        (100_001, 0, 1, false),
-        (1, 100_001, 1, false),
-        (1, 0, 0, false),
-        (1, 0, 100_001, false),
+        (1, 0, 1, None),
+        (100_000, 100_000, 100_000, None),
+        (0, 0, 1, bad),
+        (100_001, 0, 1, bad),
+        (1, 100_001, 1, bad),
+        (1, 0, 0, bad),
+        (1, 0, 100_001, bad),
     ];
-    for (normal, batch, room, good) in table {
-        let cause = queue(rt.alloc(), normal, batch, room).err();
-        let wanted = if good {
-            None
-        } else {
-            Some(QueueError::BadConfig)
-        };
-        assert_eq!(rt; cause, wanted, "{normal} {batch} {room}");
+    for (normal, batch, room, wanted) in table {
+        let refusal = queue(rt.alloc(), normal, batch, room).err();
+        assert_eq!(rt; refusal, wanted, "{normal} {batch} {room}");
     }
+    Ok(())
+}
+
+#[test]
+fn times_in_and_out_of_range(rt: HostRuntime) -> Result<(), Fail> {
     let mut queue = queue(rt.alloc(), 1, 1, 1)?;
     for elapsed in [0, 10_000_001] {
-        assert_eq!(rt;
-            queue.window(elapsed).err(),
-            Some(QueueError::BadConfig),
-            "{elapsed}"
-        );
+        let refusal = queue.window(elapsed).err();
+        assert_eq!(rt; refusal, Some(QueueError::BadConfig), "{elapsed}");
+        assert_eq!(rt; queue.budgets(), Budgets::default(), "{elapsed}");
     }
-    assert_eq!(rt; queue.budgets(), Budgets::default());
     for elapsed in [1, 10_000_000] {
         assert_eq!(rt; queue.window(elapsed)?.len(), 0, "{elapsed}");
     }
@@ -345,41 +343,38 @@ fn a_window_has_room_for_ten_thousand(rt: HostRuntime) -> Result<(), Fail> {
     Ok(())
 }
 
+/// Offers 20 requests of each priority to an empty queue with room for 60, and then one more that pushes out the oldest batch
+/// request.
+fn overfill(rt: &impl Abort, queue: &mut GrvQueue<u32>) {
+    for payload in 0..20 {
+        for priority in [BATCH, DEFAULT, SYSTEM] {
+            offer_each(rt, queue, &[offer_of(priority, 1, payload)]);
+        }
+    }
+    offer_each(rt, queue, &[answered(Ok(Some(0)), offer_of(SYSTEM, 1, 20))]);
+}
+
+/// The priority and the payload of what starts at a place: 21 system requests, 20 default ones, and 19 batch ones from
+/// number 1 on.
+fn wanted_at(place: usize) -> (Priority, usize) {
+    match place {
+        0..21 => (SYSTEM, place),
+        21..41 => (DEFAULT, place - 21),
+        _ => (BATCH, place - 40),
+    }
+}
+
 /// Enough requests that each list grows more than once, and windows that start many.
 #[test]
 fn refused_memory_is_borne(rt: HostRuntime) -> Result<(), Fail> {
     let mut queue = queue(rt.alloc(), 100_000, 100_000, 60)?;
     for round in 0..3 {
-        for payload in 0..20 {
-            for priority in [BATCH, DEFAULT, SYSTEM] {
-                offer_each(&rt, &mut queue, &[offer_of(priority, 1, payload)]);
-            }
-        }
-        let request = Req {
-            priority: SYSTEM,
-            count: 1,
-            payload: 20,
-        };
-        let out = made_offer(&rt, &mut queue, request)?;
-        assert_eq!(rt;
-            out.map(|request| request.payload),
-            Some(0),
-            "pushed out in round {round}"
-        );
+        overfill(&rt, &mut queue);
         let started = window(&rt, &mut queue, 1)?;
         assert_eq!(rt; started.len(), 60, "in round {round}");
         for (place, request) in started.iter().enumerate() {
-            // 21 system requests, 20 default ones, and 19 batch ones from number 1 on
-            let (priority, payload) = match place {
-                0..21 => (SYSTEM, place),
-                21..41 => (DEFAULT, place - 21),
-                _ => (BATCH, place - 40),
-            };
-            assert_eq!(rt;
-                (request.priority, request.payload as usize),
-                (priority, payload),
-                "{place} in round {round}"
-            );
+            let shown = (request.priority, request.payload as usize);
+            assert_eq!(rt; shown, wanted_at(place), "{place} in round {round}");
         }
     }
     Ok(())
