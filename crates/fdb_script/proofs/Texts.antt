@@ -44,26 +44,25 @@ own_command : (round client number : ℕ) (command : Command) (commands : List C
 own_command round client number command commands call calls own = rw (eq-eqb command.client client own) refl
 
 -- another client's command is passed over
-pub passed_over : (round client number : ℕ) (commands : List Command) (calls : List Call) (default : Command) → number < length commands → (get_or commands number default).client ≢ client
+pub passed_over : (round client number : ℕ) (commands : List Command) (calls : List Call) (command : Command) → number < length commands → command ≡ get_or commands number command → command.client ≢ client
     → (client_lines round client number (drop number commands) calls ≡ client_lines round client (number + 1) (drop (number + 1) commands) calls)
     × (own_count client (drop number commands) ≡ own_count client (drop (number + 1) commands))
-passed_over round client number commands calls default within other =
-    let command = get_or commands number default in
+passed_over round client number commands calls command within here other =
     let rest = drop (number + 1) commands in
-    rw (drop_more commands number default within) (
+    let left : drop number commands ≡ command ∷ rest = drop_more commands number command within ∙ ap (λ c. c ∷ rest) (sym here) in
+    rw left (
       other_command round client number command rest calls other,
       other_count client command rest other,
     )
 
 -- a command of the client's own is answered by its next call
-pub replied : (round client number : ℕ) (commands : List Command) (call : Call) (calls : List Call) (default : Command) → number < length commands → (get_or commands number default).client ≡ client
-    → (client_lines round client number (drop number commands) (call ∷ calls)
-    ≡ line (reply_text round client number (get_or commands number default).act call) ++ client_lines round client (number + 1) (drop (number + 1) commands) calls)
+pub replied : (round client number : ℕ) (commands : List Command) (call : Call) (calls : List Call) (command : Command) → number < length commands → command ≡ get_or commands number command → command.client ≡ client
+    → (client_lines round client number (drop number commands) (call ∷ calls) ≡ line (reply_text round client number command.act call) ++ client_lines round client (number + 1) (drop (number + 1) commands) calls)
     × (drop (own_count client (drop number commands)) (call ∷ calls) ≡ drop (own_count client (drop (number + 1) commands)) calls)
-replied round client number commands call calls default within own =
-    let command = get_or commands number default in
+replied round client number commands call calls command within here own =
     let rest = drop (number + 1) commands in
-    rw (drop_more commands number default within) (own_command round client number command rest call calls own, ap (λ n. drop n (call ∷ calls)) (own_count_more client command rest own))
+    let left : drop number commands ≡ command ∷ rest = drop_more commands number command within ∙ ap (λ c. c ∷ rest) (sym here) in
+    rw left (own_command round client number command rest call calls own, ap (λ n. drop n (call ∷ calls)) (own_count_more client command rest own))
 
 -- ---- client by client
 

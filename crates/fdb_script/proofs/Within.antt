@@ -7,13 +7,13 @@ use Rattle.std.proofs.lemmas.Bool.{and_parts, le-leb, leb-true}
 use Rattle.std.proofs.lemmas.List.Sums.{sum_by-cons}
 use Rattle.std.proofs.lemmas.Option.{cond_some, none-some, same_Some, option_and_then_some}
 use Rattle.serde_json.specs.Data.{Data}
-use Rattle.serde_json.specs.Find.{get}
+use Rattle.serde_json.specs.Find.{as_bool, as_str, get}
 use Rattle.fdb_history.specs.declared.grv.Priority.{Priority}
 use Rattle.fdb_history.specs.declared.register.TheConstants.{MAX_VERSION}
 use Rattle.fdb_queue.specs.Config.{IsConfig, IsElapsed}
 use Rattle.fdb_queue.specs.declared.config.QueueConfig.{QueueConfig}
 use Rattle.fdb_script.specs.Plan.{IsPlan, is_tag, is_act, is_command}
-use Rattle.fdb_script.specs.Reading.{array_within, ask_of, ask_with, grv_of, reask_of, report_of, tell_of, act_of, array_of, arrays_of, checked, command_of, commands_from, every, Frame, frame_of, frame_with, grv_with, is_frame, member, member_or, or_absent, reask_with, report_with, rounds_from, tag_of, tags_of, then_commands, then_rounds, throttle_of, throttle_with, throttles_of, whole_below}
+use Rattle.fdb_script.specs.Reading.{array_within, ask_of, ask_with, grv_of, reask_of, report_of, tell_of, act_named, act_of, array_of, arrays_of, checked, command_of, commands_from, every, Frame, frame_of, frame_with, grv_with, is_frame, member, member_or, or_absent, reask_with, report_with, rounds_from, tag_of, tags_of, then_commands, then_rounds, throttle_of, throttle_with, throttles_of, whole, whole_below}
 use Rattle.fdb_script.specs.declared.error.ScriptError.{ScriptError}
 use Rattle.fdb_script.specs.declared.script.Act.{Act}
 use Rattle.fdb_script.specs.declared.script.Act.TheVariants.{Tell}
@@ -33,8 +33,8 @@ both_true : (a b : Bool) → a ≡ true → b ≡ true → (a && b) ≡ true
 both_true a b first second = rw (first, second) refl
 
 chosen : {T : Type 0} (P : Type 0) (b : Bool) (first other : Option T) (value : T) → (first ≡ Some value → P) → (other ≡ Some value → P) → cond b first other ≡ Some value → P
-chosen P true first other value yes no e = yes e
-chosen P false first other value yes no e = no e
+chosen P true first other value at_first at_other e = at_first e
+chosen P false first other value at_first at_other e = at_other e
 
 -- each of so many values fits
 abbrev FitAll : {T : Type 0} → (T → Type 0) → ℕ → List T → Type 0
@@ -77,7 +77,7 @@ throttle_tagged (Some tag) (Some priority) (Some rate) (Some expires) throttle t
 throttle_tagged _ _ _ _ throttle tagged e = absurd (none-some throttle e)
 
 tag_fits : (value : Data) (tag : List ℕ) → tag_of value ≡ Some tag → IsTag tag
-tag_fits value tag e = (checked_some is_tag _ tag e).0
+tag_fits value tag e = (checked_some is_tag (as_str value) tag e).0
 
 throttle_fits : (value : Data) (throttle : Throttle) → throttle_of value ≡ Some throttle → IsTagged throttle
 throttle_fits value throttle e =
@@ -148,11 +148,11 @@ tell_fits clients client found act below e =
 
 client_below : (clients : ℕ) (name : List ℕ) (value : Data) (client : ℕ) → member (whole_below clients) name value ≡ Some client → nat_lt client clients ≡ true
 client_below clients name value client e =
-    option_and_then_some (whole_below clients) (get name value) client e (λ found there read. (checked_some (λ number. nat_lt number clients) _ client read).0)
+    option_and_then_some (whole_below clients) (get name value) client e (λ found there read. (checked_some (λ number. nat_lt number clients) (whole found) client read).0)
 
 act_fits : (clients client : ℕ) (value : Data) (act : Act) → act_of clients client value ≡ Some act → IsAct clients client act
 act_fits clients client value act e =
-    option_and_then_some _ _ act e (λ name found named.
+    option_and_then_some (λ name. act_named clients client name value) (member as_str (codes "do") value) act e (λ name found named.
     let P = IsAct clients client act in
     chosen P (pointwise nat_eq name (codes "grv")) (grv_of value) _ act (grv_fits clients client _ _ _ _ _ act (tags_fit value))
     (chosen P (pointwise nat_eq name (codes "ask")) (ask_of value) _ act (ask_fits clients client _ _ act)

@@ -1,6 +1,6 @@
 //! Values of a kind, and the members of an object that are such values.
 
-ghost use Rattle.std.specs.Prelude.{◌≡◌, ◌≤◌, ◌<◌, map, IfSome};
+ghost use Rattle.std.specs.Prelude.{◌≡◌, ◌≤◌, false, map, IfSome};
 ghost use Rattle.std.specs.Option.{option_map};
 ghost use Rattle.serde_json.specs.Find.{as_bool, as_str};
 ghost use Rattle.serde_json.specs.View.{view};
@@ -78,9 +78,9 @@ pub(crate) fn within_or(value: &Value, name: &str, absent: u64, low: u64, high: 
 
 /// A member that is the number of a client, one of so many.
 pub(crate) fn client_member(value: &Value, name: &str, clients: u32) -> Option<u32>
-    ensures value { result ≡ member (whole_below clients) name.now (view value.now) }
+    ensures { result ≡ member (whole_below clients) name.now (view value.now) }
 {
-    let client = value.get(name)?.as_u64()?;
+    let client = whole_member(value, name)?;
     if client >= u64::from(clients) {
         return None;
     }

@@ -1,6 +1,7 @@
 //! Tags and priorities.
 
 ghost use Rattle.std.specs.Prelude.{◌≡◌, IfOk, [], map};
+ghost use Rattle.std.specs.List.{list_all};
 ghost use Rattle.serde_json.specs.View.{view};
 ghost use Rattle.fdb_script.specs.Plan.{is_tag, is_tag_byte};
 ghost use Rattle.fdb_script.specs.Reading.{member_or, priority_of, tag_of, tags_of};
@@ -31,13 +32,18 @@ fn is_tag_byte(byte: u8) -> bool
     (b'!'..=b'~').contains(&byte)
 }
 
+/// Whether each of these bytes may stand in a tag.
+fn are_tag_bytes(bytes: &[u8]) -> bool
+    ensures { result ≡ list_all is_tag_byte bytes.now }
+{
+    bytes.iter().all(|byte| is_tag_byte(*byte))
+}
+
 /// Whether these are the bytes of a tag.
 fn is_tag(bytes: &[u8]) -> bool
     ensures { result ≡ is_tag bytes.now }
 {
-    !bytes.is_empty()
-        && bytes.len() as u64 <= MAX_TAG
-        && bytes.iter().all(|byte| is_tag_byte(*byte))
+    !bytes.is_empty() && bytes.len() as u64 <= MAX_TAG && are_tag_bytes(bytes)
 }
 
 /// A tag.

@@ -1,12 +1,12 @@
 //! A script as a whole: its numbers, its throttles, and its rounds as lists of values.
 
-ghost use Rattle.std.specs.Prelude.{◌≡◌, ◌<◌, ◌≤◌, [], codes, length, map, nat_le, sum_by, IfOk, IfSome};
+ghost use Rattle.std.specs.Prelude.{◌≡◌, ◌<◌, ◌≤◌, [], codes, length, map, nat_le, nat_lt, ◌&&◌, sum_by, IfOk, IfSome};
 ghost use Rattle.std.specs.Option.{option_map};
 ghost use Rattle.serde_json.specs.View.{view};
 ghost use Rattle.fdb_history.specs.declared.register.TheConstants.{MAX_VERSION};
 ghost use Rattle.fdb_queue.specs.Config.{IsConfig, IsElapsed};
 ghost use Rattle.fdb_queue.specs.declared.config.TheConstants.{MAX_ELAPSED};
-ghost use Rattle.fdb_script.specs.Reading.{arrays_of, checked, config_of, frame_of, frame_with, is_frame, member, member_or, throttle_of, throttle_with, throttles_of, whole, whole_within};
+ghost use Rattle.fdb_script.specs.Reading.{arrays_of, checked, config_of, frame_of, frame_with, is_frame, member, member_or, priority_of, throttle_of, throttle_with, throttles_of, whole, whole_within};
 ghost use Rattle.fdb_script.specs.declared.script.TheConstants.{MAX_CLIENTS, MAX_COMMANDS};
 
 use crate::reading::members::{items, items_within, member_within, whole_member, within_or};
@@ -145,6 +145,13 @@ fn has_few_commands(rounds: &[&[Value]]) -> bool
     true
 }
 
+/// Whether the epoch before ends before the recovery version, and there are not too many commands.
+fn is_frame(epoch_end: u64, recovery: u64, rounds: &[&[Value]]) -> bool
+    ensures { result ≡ (nat_lt epoch_end recovery && nat_le (sum_by length (map (λ round. map view round.now) rounds.now)) MAX_COMMANDS) }
+{
+    epoch_end < recovery && has_few_commands(rounds)
+}
+
 /// A script of these throttles and rounds.
 fn outline_with<'a>(
     value: &Value,
@@ -168,7 +175,7 @@ fn outline_with<'a>(
     let clients = member_within(value, "clients", 1, MAX_CLIENTS)? as u32;
     let config = config_of(value)?;
     let elapsed = elapsed_of(value)?;
-    if epoch_end >= recovery || !has_few_commands(&rounds) {
+    if !is_frame(epoch_end, recovery, &rounds) {
         return None;
     }
     Some(Outline {
