@@ -21,7 +21,7 @@ pub const MAX_COMMANDS: usize = 10_000;
 /// The most tags of a read in a script.
 pub const MAX_TAGS: usize = 5;
 
-/// A throttle that every GRV proxy is given. A later one of the same priority and tag replaces an earlier one.
+/// A throttle that every GRV proxy is given. Of two with one priority and one tag, the one further down counts.
 #[derive(Clone, Debug, Drop, PartialEq, Eq)]
 pub struct Throttle {
     /// The priority of the requests that are told of it.

@@ -60,7 +60,7 @@ fn what_is_no_command(rt: HostRuntime) -> Result<(), Fail> {
     Ok(())
 }
 
-/// What makes a whole script bad, as members beside those that it has. Of members that stand twice the last one counts.
+/// What makes a whole script bad, put after its good members: where two have one name, the later one is read.
 const NO_SCRIPTS: &[&str] = &[
     r#""epoch_end":100"#,
     r#""epoch_end":null"#,
