@@ -1,8 +1,7 @@
 -- A worked example of the definitions: it is computed by them, so that a wrong definition fails here.
-use Rattle.std.proofs.Common.{◌≡◌, ℕ, zero, suc, ◌<◌, true, false, List, [], ◌∷◌, None, refl, arith}
+use Rattle.std.proofs.Common.{ℕ, zero, suc, ◌<◌, true, false, List, [], ◌∷◌, None, refl, arith}
 use Rattle.std.specs.List.{FoldsTo}
 use Rattle.fdb_history.specs.Log.{calls_of}
-use Rattle.fdb_history.specs.declared.chain.Issued.{Issued}
 use Rattle.fdb_history.specs.declared.grv.GrvOpts.{GrvOpts}
 use Rattle.fdb_history.specs.declared.grv.Priority.TheVariants.{Default}
 use Rattle.fdb_history.specs.declared.log.Call.{Call}

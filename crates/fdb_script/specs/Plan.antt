@@ -1,5 +1,5 @@
 -- What a script says, and its limits. (the format is this product's own)
-use Rattle.std.specs.Prelude.{◌≡◌, ℕ, ◌<◌, ◌≤◌, Bool, true, ◌&&◌, ◌==◌, not, nat_lt, nat_le, IsTrue, List, length, sum_by}
+use Rattle.std.specs.Prelude.{ℕ, ◌<◌, ◌≤◌, Bool, true, ◌&&◌, ◌==◌, not, nat_lt, nat_le, IsTrue, List, length, sum_by}
 use Rattle.std.specs.List.{AllByRecursion, list_all}
 use Rattle.fdb_history.specs.declared.register.TheConstants.{MAX_VERSION}
 use Rattle.fdb_queue.specs.Config.{IsConfig, IsElapsed}
