@@ -17,6 +17,7 @@ BEARING = {
     "fdb_history": r"^tests::\w+$|refused_memory_is_borne",
     "fdb_chain": r"",
     "fdb_queue": r"refused_memory_is_borne",
+    "fdb_script": r"refused_memory_is_borne",
     "fdb_replay": r"refused_memory_is_borne",
 }
 PASSED = done(b"\ntest result: ok\n")

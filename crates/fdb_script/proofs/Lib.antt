@@ -1,0 +1,4 @@
+pub mod Arrays
+pub mod Examples
+pub mod Texts
+pub mod Within

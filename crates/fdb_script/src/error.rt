@@ -1,0 +1,49 @@
+//! Why a script is refused.
+
+ghost use Rattle.std.specs.Prelude.{◌≡◌};
+
+use std::alloc::{AllocError, AllocFailed};
+use thiserror::Error;
+
+/// Why a script is refused, or its text not made.
+#[derive(Clone, Copy, Debug, PartialEq, Eq, Hash, Error)]
+pub enum ScriptError {
+    /// The bytes are no JSON text.
+    #[error("NotJson")]
+    NotJson,
+    /// A command is no command.
+    #[error("BadField {round} {command}")]
+    BadField {
+        /// The round, counted from 0.
+        round: u64,
+        /// The command's place in the round, counted from 0.
+        command: u64,
+    },
+    /// A member of the whole script, or of a throttle, is missing, of another kind or beyond its limit, or a round
+    /// is no list.
+    #[error("BadLimit")]
+    BadLimit,
+    /// Memory was refused.
+    #[error("want of memory")]
+    Memory,
+}
+
+impl From<AllocError> for ScriptError {
+    ghost use Rattle.fdb_script.specs.declared.error.ScriptError.TheVariants.{Memory};
+
+    ghost from_gives = { λ _ e. e ≡ Memory };
+
+    fn from(_error: AllocError) -> Self {
+        ScriptError::Memory
+    }
+}
+
+impl<T: Drop> From<AllocFailed<T>> for ScriptError {
+    ghost use Rattle.fdb_script.specs.declared.error.ScriptError.TheVariants.{Memory};
+
+    ghost from_gives = { λ _ e. e ≡ Memory };
+
+    fn from(_error: AllocFailed<T>) -> Self {
+        ScriptError::Memory
+    }
+}

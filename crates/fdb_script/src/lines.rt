@@ -1,0 +1,223 @@
+//! The lines of the printed text, each without its newline.
+
+ghost use Rattle.std.specs.Prelude.{◌≡◌};
+ghost use Rattle.fdb_script.specs.Text.{fresh_text, raised_text};
+
+use crate::script::Act;
+use fdb_history::{Call, CallAnswer, Event, Input, TagLimit};
+use std::fmt;
+
+/// A tag, each of its bytes as the character of that number.
+#[derive(Clone, Copy)]
+struct TagText<'a>(&'a [u8]);
+
+impl fmt::Display for TagText<'_> {
+    ghost use Rattle.std.specs.Prelude.{Some, encode_utf8};
+    ghost use Rattle.std.specs.List.{flat_map};
+
+    ghost output = { λ tag. Some (flat_map encode_utf8 tag.0.now) };
+
+    fn fmt<W: fmt::Write>(&self, f: &mut fmt::Formatter<W>) -> fmt::Result {
+        for byte in self.0 {
+            f.write_char(char::from(*byte))?;
+        }
+        Ok(())
+    }
+}
+
+/// The limits of a read's tags, each with a space before it.
+#[derive(Clone, Copy)]
+struct LimitsText<'a>(&'a [TagLimit]);
+
+impl fmt::Display for LimitsText<'_> {
+    ghost use Rattle.std.specs.Prelude.{Some};
+    ghost use Rattle.std.specs.List.{flat_map};
+    ghost use Rattle.fdb_script.specs.Text.{limit_text};
+
+    ghost output = { λ limits. Some (flat_map limit_text limits.0.now) };
+
+    fn fmt<W: fmt::Write>(&self, f: &mut fmt::Formatter<W>) -> fmt::Result {
+        for limit in self.0 {
+            let tag = TagText(limit.tag.as_slice());
+            let (rate, expires) = (limit.rate, limit.expires);
+            write!(f, " limit {tag} {rate} {expires}")?;
+        }
+        Ok(())
+    }
+}
+
+/// What is printed of a call's answer.
+#[derive(Clone, Copy)]
+struct AnswerText<'a>(&'a Call);
+
+impl fmt::Display for AnswerText<'_> {
+    ghost use Rattle.std.specs.Prelude.{Some};
+    ghost use Rattle.fdb_script.specs.Text.{answer_text};
+
+    ghost output = { λ call. Some (answer_text call.0.now.input call.0.now.position call.0.now.answer) };
+
+    fn fmt<W: fmt::Write>(&self, f: &mut fmt::Formatter<W>) -> fmt::Result {
+        let position = self.0.position;
+        match &self.0.answer {
+            CallAnswer::Version {
+                rec,
+                locked_out: true,
+                ..
+            } => {
+                let version = rec.version;
+                write!(f, "refused Locked {version} pos {position}")
+            }
+            CallAnswer::Version {
+                rec,
+                limits,
+                locked_out: false,
+            } => {
+                let limits = LimitsText(limits.as_slice());
+                write!(f, "{rec} pos {position}{limits}")
+            }
+            CallAnswer::Answered(issued) => {
+                let (prev, version, ordinal) = (issued.prev, issued.version, issued.ordinal);
+                let fresh = fresh_word(issued.fresh);
+                write!(f, "prev {prev} version {version} ordinal {ordinal} {fresh}")
+            }
+            CallAnswer::Acked { rec, raised } => {
+                let version = rec.version;
+                let raised = raised_word(*raised);
+                write!(f, "{version} {raised} pos {position}")
+            }
+            CallAnswer::Told => match &self.0.input {
+                Input::Tell { to } => write!(f, "{to} pos {position}"),
+                Input::Learn { from } => write!(f, "{from} pos {position}"),
+                _ => write!(f, "pos {position}"),
+            },
+            CallAnswer::Refused(cause) => write!(f, "refused {cause}"),
+        }
+    }
+}
+
+/// Whether an answer was a new one.
+fn fresh_word(fresh: bool) -> &'static str
+    ensures { result.now ≡ fresh_text fresh }
+{
+    if fresh { "fresh" } else { "kept" }
+}
+
+/// Whether a report raised the live committed version.
+fn raised_word(raised: bool) -> &'static str
+    ensures { result.now ≡ raised_text raised }
+{
+    if raised { "raised" } else { "not raised" }
+}
+
+/// The word that a script has for an act.
+#[derive(Clone, Copy)]
+struct ActWord<'a>(&'a Act);
+
+impl fmt::Display for ActWord<'_> {
+    ghost use Rattle.std.specs.Prelude.{Some};
+    ghost use Rattle.fdb_script.specs.Text.{act_text};
+
+    ghost output = { λ word. Some (act_text word.0.now) };
+
+    fn fmt<W: fmt::Write>(&self, f: &mut fmt::Formatter<W>) -> fmt::Result {
+        match self.0 {
+            Act::Grv(_) => f.write_str("grv"),
+            Act::Ask { .. } => f.write_str("ask"),
+            Act::Reask { .. } => f.write_str("reask"),
+            Act::Report { .. } => f.write_str("report"),
+            Act::Tell { .. } => f.write_str("tell"),
+        }
+    }
+}
+
+/// The reply to a command.
+#[derive(Clone, Copy)]
+pub(crate) struct ReplyLine<'a> {
+    /// The round.
+    pub(crate) round: u64,
+    /// The client.
+    pub(crate) client: u64,
+    /// The command's place in the round.
+    pub(crate) number: u64,
+    /// What the client was told to do.
+    pub(crate) act: &'a Act,
+    /// What it called, and was answered.
+    pub(crate) call: &'a Call,
+}
+
+impl fmt::Display for ReplyLine<'_> {
+    ghost use Rattle.std.specs.Prelude.{Some};
+    ghost use Rattle.fdb_script.specs.Text.{reply_text};
+
+    ghost output = { λ line. Some (reply_text line.round line.client line.number line.act.now line.call.now) };
+
+    fn fmt<W: fmt::Write>(&self, f: &mut fmt::Formatter<W>) -> fmt::Result {
+        let (round, client, number) = (self.round, self.client, self.number);
+        let act = ActWord(self.act);
+        let answer = AnswerText(self.call);
+        write!(f, "{round} {client} {number} {act} {answer}")
+    }
+}
+
+/// The line that counts.
+#[derive(Clone, Copy)]
+pub(crate) struct AuditLine {
+    /// How many events there are.
+    pub(crate) events: u64,
+    /// How many of them are reports that raised the live committed version.
+    pub(crate) raised: u64,
+    /// How many commit versions were issued.
+    pub(crate) versions: u64,
+}
+
+impl fmt::Display for AuditLine {
+    ghost use Rattle.std.specs.Prelude.{Some};
+    ghost use Rattle.fdb_script.specs.Text.{counts_text};
+
+    ghost output = { λ line. Some (counts_text line.events line.raised line.versions) };
+
+    fn fmt<W: fmt::Write>(&self, f: &mut fmt::Formatter<W>) -> fmt::Result {
+        let (events, raised, versions) = (self.events, self.raised, self.versions);
+        write!(
+            f,
+            "audit ok events {events} raised {raised} versions {versions}"
+        )
+    }
+}
+
+/// An event of the history.
+#[derive(Clone, Copy)]
+pub(crate) struct HistoryLine<'a> {
+    /// The event's place in the history.
+    pub(crate) number: u64,
+    /// The event.
+    pub(crate) event: &'a Event,
+}
+
+impl fmt::Display for HistoryLine<'_> {
+    ghost use Rattle.std.specs.Prelude.{Some};
+    ghost use Rattle.fdb_script.specs.Text.{history_text};
+
+    ghost output = { λ line. Some (history_text line.number line.event.now) };
+
+    fn fmt<W: fmt::Write>(&self, f: &mut fmt::Formatter<W>) -> fmt::Result {
+        let number = self.number;
+        match self.event {
+            Event::Read { client, call, rec } => {
+                write!(f, "history {number} client {client} call {call} read {rec}")
+            }
+            Event::Report {
+                client,
+                call,
+                rec,
+                raised,
+            } => {
+                let raised = raised_word(*raised);
+                write!(
+                    f,
+                    "history {number} client {client} call {call} report {rec} {raised}"
+                )
+            }
+        }
+    }
+}

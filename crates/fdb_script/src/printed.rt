@@ -1,0 +1,187 @@
+//! The printed text: the replies by round, client and command, the audit line, and the history where it is wanted.
+
+ghost use Rattle.std.specs.Prelude.{◌≡◌, ◌++◌, ◌∷◌, [], ◌==◌, MatchOption, IfOk, IfErr, OnOk, count_by, drop, map, string_bytes};
+ghost use Rattle.fdb_history.specs.Event.{is_raise, raise_count};
+ghost use Rattle.fdb_script.specs.Answering.{Answers};
+ghost use Rattle.fdb_script.specs.Text.{audit_text, calls_after, client_lines, is_learn, replies_of, history_lines, line, reply_lines, round_lines, text};
+
+use crate::error::ScriptError;
+use crate::lines::{AuditLine, HistoryLine, ReplyLine};
+use crate::outcome::Outcome;
+use crate::script::{Command, Script};
+use fdb_history::{Call, ClientLog, Event, Input, Sequence};
+use std::alloc::{AllocError, Global};
+use std::fmt::Write;
+
+/// The text of a run: its replies by round, client and command, the line that counts, and its history where it is
+/// wanted. Only want of memory is refused. Takes time and memory in proportion to the text and the logs.
+pub fn text(
+    alloc: Global,
+    script: &Script,
+    outcome: &Outcome,
+    with_history: bool,
+) -> Result<Vec<u8>, ScriptError>
+    requires { Answers script.now outcome.now.logs.items }
+    ensures ok { IfOk result (λ bytes. bytes.items ≡ text script.now outcome.now with_history) }
+    ensures err { IfErr result (λ e. e ≡ ScriptError.Memory) }
+{
+    let printed = printed_text(alloc, script, outcome, with_history)?;
+    Ok(printed.into_bytes())
+}
+
+/// The text of a script and an outcome, whether or not the outcome's logs answer the script.
+pub(crate) fn printed_text(
+    alloc: Global,
+    script: &Script,
+    outcome: &Outcome,
+    with_history: bool,
+) -> Result<String, AllocError>
+    ensures { IfOk result (λ printed. string_bytes printed ≡ text script.now outcome.now with_history) }
+{
+    let mut printed = String::new(alloc);
+    let mut left = logged_calls(alloc, &outcome.logs)?;
+    push_replies(&mut printed, script.rounds(), &mut left)?;
+    push_audit(&mut printed, outcome)?;
+    if with_history {
+        push_history(&mut printed, outcome.history.events.as_slice())?;
+    }
+    Ok(printed)
+}
+
+/// The calls of each log.
+fn logged_calls(alloc: Global, logs: &[ClientLog]) -> Result<Vec<&[Call]>, AllocError>
+    ensures { IfOk result (λ all. map (λ calls. replies_of calls.now) all.items ≡ map (λ log. replies_of log.calls) logs.now) }
+{
+    let mut all = Vec::new(alloc);
+    for log in logs {
+        all.push(log.calls.as_slice())?;
+    }
+    Ok(all)
+}
+
+/// Appends the replies of all rounds. Of the calls of each client those are left that answer no command.
+fn push_replies(
+    printed: &mut String,
+    rounds: &[Sequence<Command>],
+    left: &mut [&[Call]],
+) -> Result<(), AllocError>
+    ensures { OnOk result (string_bytes printed.new ≡ string_bytes printed.old ++ reply_lines 0 rounds.now (map (λ calls. replies_of calls.now) left.old)) }
+{
+    for (round, commands) in rounds.iter().enumerate() {
+        push_round(printed, round as u64, commands.as_slice(), left)?;
+    }
+    Ok(())
+}
+
+/// Appends the replies of a round, client by client, and leaves each client's calls after the round.
+fn push_round(
+    printed: &mut String,
+    round: u64,
+    commands: &[Command],
+    left: &mut [&[Call]],
+) -> Result<(), AllocError>
+    ensures lines { OnOk result (string_bytes printed.new ≡ string_bytes printed.old ++ round_lines round 0 commands.now (map (λ calls. replies_of calls.now) left.old)) }
+    ensures left { OnOk result (map (λ calls. replies_of calls.now) left.new ≡ calls_after 0 commands.now (map (λ calls. replies_of calls.now) left.old)) }
+{
+    for client in 0..left.len() {
+        left[client] = push_client(printed, round, client as u64, commands, left[client])?;
+    }
+    Ok(())
+}
+
+/// Appends the replies to a client's commands of a round, and gives the calls after them.
+fn push_client<'a>(
+    printed: &mut String,
+    round: u64,
+    client: u64,
+    commands: &[Command],
+    calls: &'a [Call],
+) -> Result<&'a [Call], AllocError>
+    ensures lines { OnOk result (string_bytes printed.new ≡ string_bytes printed.old ++ client_lines round client 0 commands.now (replies_of calls.now)) }
+    ensures left { IfOk result (λ left. replies_of left.now ≡ drop (count_by (λ command. command.client == client) commands.now) (replies_of calls.now)) }
+{
+    let mut left = calls;
+    for (number, command) in commands.iter().enumerate() {
+        if u64::from(command.client) != client {
+            continue;
+        }
+        let Some((call, others)) = next_reply(left) else {
+            return Ok(left);
+        };
+        let line = ReplyLine {
+            round,
+            client,
+            number: number as u64,
+            act: &command.act,
+            call,
+        };
+        writeln!(printed, "{line}")?;
+        left = others;
+    }
+    Ok(left)
+}
+
+/// The next call that answers a command, and the calls after it.
+fn next_reply(calls: &[Call]) -> Option<(&Call, &[Call])>
+    ensures { MatchOption result (replies_of calls.now ≡ []) (λ found. replies_of calls.now ≡ found.0.now ∷ replies_of found.1.now) }
+{
+    let mut left = calls;
+    while let Some((call, others)) = left.split_first() {
+        if !is_learn(&call.input) {
+            return Some((call, others));
+        }
+        left = others;
+    }
+    None
+}
+
+/// Whether a call learnt what another client had seen, which nobody commands.
+fn is_learn(input: &Input) -> bool
+    ensures { result ≡ is_learn input.now }
+{
+    matches!(input, Input::Learn { .. })
+}
+
+/// Appends the line that counts.
+fn push_audit(printed: &mut String, outcome: &Outcome) -> Result<(), AllocError>
+    ensures { OnOk result (string_bytes printed.new ≡ string_bytes printed.old ++ line (audit_text outcome.now)) }
+{
+    let events = outcome.history.events.as_slice();
+    let line = AuditLine {
+        events: events.len() as u64,
+        raised: raised_count(events) as u64,
+        versions: outcome.chain.len() as u64,
+    };
+    writeln!(printed, "{line}")
+}
+
+/// How many reports raised the live committed version.
+fn raised_count(events: &[Event]) -> usize
+    ensures { result ≡ raise_count events.now }
+{
+    events.iter().filter(|event| is_raise(event)).count()
+}
+
+/// Whether an event is a report that raised the live committed version.
+fn is_raise(event: &Event) -> bool
+    ensures { result ≡ is_raise event.now }
+{
+    match event {
+        Event::Report { raised, .. } => *raised,
+        Event::Read { .. } => false,
+    }
+}
+
+/// Appends the history, a line for each event.
+fn push_history(printed: &mut String, events: &[Event]) -> Result<(), AllocError>
+    ensures { OnOk result (string_bytes printed.new ≡ string_bytes printed.old ++ history_lines 0 events.now) }
+{
+    for (number, event) in events.iter().enumerate() {
+        let line = HistoryLine {
+            number: number as u64,
+            event,
+        };
+        writeln!(printed, "{line}")?;
+    }
+    Ok(())
+}

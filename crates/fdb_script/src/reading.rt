@@ -1,0 +1,48 @@
+//! From the bytes of a script to the script.
+
+ghost use Rattle.std.specs.Prelude.{◌≡◌};
+ghost use Rattle.serde_json.specs.View.{view};
+ghost use Rattle.fdb_script.specs.Reading.{frame_of, framed_plan, IsUnlessMemory, Reads};
+
+mod command;
+mod members;
+mod tags;
+mod whole;
+
+use crate::error::ScriptError;
+use crate::script::Script;
+use command::rounds_of;
+use serde_json::Value;
+use std::alloc::Global;
+use whole::outline_of;
+
+/// The script that the bytes stand for. Refuses bytes that are no JSON text, then a fault in the whole, then
+/// the first command that is none.
+pub fn read_script(alloc: Global, bytes: &[u8]) -> Result<Script, ScriptError>
+    ensures { Reads bytes.now result }
+{
+    match Value::from_slice(alloc, bytes) {
+        Ok(value) => script_of(alloc, &value),
+        Err(error) if error.is_memory() => Err(ScriptError::Memory),
+        Err(_) => Err(ScriptError::NotJson),
+    }
+}
+
+/// The script of a JSON value.
+fn script_of(alloc: Global, value: &Value) -> Result<Script, ScriptError>
+    ensures { IsUnlessMemory result (framed_plan (frame_of (view value.now))) }
+{
+    let Some(outline) = outline_of(alloc, value)? else {
+        return Err(ScriptError::BadLimit);
+    };
+    let rounds = rounds_of(alloc, &outline.rounds, outline.clients)?;
+    Ok(Script::new(
+        outline.epoch_end,
+        outline.recovery,
+        outline.clients,
+        outline.config,
+        outline.elapsed,
+        outline.throttles,
+        rounds,
+    ))
+}
