@@ -63,7 +63,7 @@ tells client (input.Report num locked metadata) = false
 tells client (input.Tell to) = to == client
 tells client (input.Learn from) = false
 
--- the tales to a client in the calls of the others, from this teller on: by teller, and then in the order of its calls
+-- the tales to a client in these clients' calls, from this teller on: by teller, and then in the order of its calls
 abbrev pub tales_from : ℕ → ℕ → List (List Call) → List Tale
 tales_from client teller [] = []
 tales_from client teller (calls ∷ others) =

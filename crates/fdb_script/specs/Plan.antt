@@ -29,7 +29,7 @@ is_tag_byte byte = nat_le 33 byte && nat_le byte 126
 abbrev pub is_tag : List ℕ → Bool
 is_tag tag = nat_le 1 (length tag) && nat_le (length tag) MAX_TAG && list_all is_tag_byte tag
 
--- What this client may be told, among so many clients: it reads with few tags, and it tells another client.
+-- Whether an act is one for this client, among so many: a read has few tags, a tell goes to another of the clients.
 abbrev pub is_act : ℕ → ℕ → Act → Bool
 is_act clients client (Grv opts) = nat_le (length opts.tags) MAX_TAGS && list_all is_tag opts.tags
 is_act clients client (Ask processed at) = true

@@ -142,22 +142,22 @@ act_of clients client value = option_and_then (λ name. act_named clients client
 abbrev pub command_of : ℕ → Data → Option Command
 command_of clients value = option_and_then (λ client. option_map (λ act. record { client = client; act = act }) (act_of clients client value)) (member (whole_below clients) (codes "client") value)
 
--- The commands of a round from this place on, or the first of them that is none.
 abbrev pub then_commands : ℕ → ℕ → Option Command → Result (List Command) ScriptError → Result (List Command) ScriptError
 then_commands round place None rest = Err (BadField round place)
 then_commands round place (Some command) (Ok rest) = Ok (command ∷ rest)
 then_commands round place (Some command) (Err error) = Err error
 
+-- The commands of a round from this place on, or the first of them that is none.
 abbrev pub commands_from : ℕ → ℕ → ℕ → List Data → Result (List Command) ScriptError
 commands_from clients round place [] = Ok []
 commands_from clients round place (value ∷ values) = then_commands round place (command_of clients value) (commands_from clients round (place + 1) values)
 
--- The rounds from this one on, or the first command of them that is none.
 abbrev pub then_rounds : Result (List Command) ScriptError → Result (List (List Command)) ScriptError → Result (List (List Command)) ScriptError
 then_rounds (Err error) rest = Err error
 then_rounds (Ok commands) (Ok rest) = Ok (commands ∷ rest)
 then_rounds (Ok commands) (Err error) = Err error
 
+-- The rounds from this one on, or the first command of them that is none.
 abbrev pub rounds_from : ℕ → ℕ → List (List Data) → Result (List (List Command)) ScriptError
 rounds_from clients round [] = Ok []
 rounds_from clients round (values ∷ rest) = then_rounds (commands_from clients round 0 values) (rounds_from clients (round + 1) rest)
@@ -214,12 +214,12 @@ frame_of value =
     (member (whole_within 0 MAX_VERSION) (codes "recovery") value) (member (whole_within 1 MAX_CLIENTS) (codes "clients") value) (config_of value)
     (member_or 1000000 (whole_within 1 MAX_ELAPSED) (codes "elapsed") value))
 
--- the script of a JSON value: what is wrong with the whole comes before what is wrong with a command
 abbrev pub plan_with : Frame → Result (List (List Command)) ScriptError → Result Plan ScriptError
 plan_with frame (Ok rounds) =
     Ok (record { epoch_end = frame.epoch_end; recovery = frame.recovery; clients = frame.clients; config = frame.config; elapsed = frame.elapsed; throttles = frame.throttles; rounds = rounds })
 plan_with frame (Err error) = Err error
 
+-- The script of a JSON value: what is wrong with the whole comes before what is wrong with a command.
 abbrev pub framed_plan : Option Frame → Result Plan ScriptError
 framed_plan None = Err BadLimit
 framed_plan (Some frame) = plan_with frame (rounds_from frame.clients 0 frame.rounds)

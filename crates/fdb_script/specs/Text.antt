@@ -23,6 +23,7 @@ line text = text ++ 10 ∷ []
 
 -- ---- replies
 
+-- a limit; of its tag each byte as the character of that number
 abbrev pub limit_text : TagLimit → List ℕ
 limit_text limit = codes " limit " ++ flat_map encode_utf8 limit.tag ++ codes " " ++ decimal limit.rate ++ codes " " ++ decimal limit.expires
 

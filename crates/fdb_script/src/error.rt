@@ -11,7 +11,7 @@ pub enum ScriptError {
     /// The bytes are no JSON text.
     #[error("NotJson")]
     NotJson,
-    /// A command is no command.
+    /// A command has a fault: the first that has one is named.
     #[error("BadField {round} {command}")]
     BadField {
         /// The round, counted from 0.

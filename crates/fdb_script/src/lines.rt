@@ -159,7 +159,7 @@ impl fmt::Display for ReplyLine<'_> {
     }
 }
 
-/// The line that counts.
+/// The audit line.
 #[derive(Clone, Copy)]
 pub(crate) struct AuditLine {
     /// How many events there are.

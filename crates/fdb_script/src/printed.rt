@@ -13,8 +13,11 @@ use fdb_history::{Call, ClientLog, Event, Input, Sequence};
 use std::alloc::{AllocError, Global};
 use std::fmt::Write;
 
-/// The text of a run: its replies by round, client and command, the line that counts, and its history where it is
-/// wanted. Only want of memory is refused. Takes time and memory in proportion to the text and the logs.
+/// The text of a run: its replies by round, client and command, the audit line, and its history where it is wanted. It
+/// is refused for want of memory alone.
+///
+/// It takes time in proportion to the text and the logs, and to the rounds and commands times the clients; and memory for
+/// the text, and a slice for each client.
 pub fn text(
     alloc: Global,
     script: &Script,
@@ -105,6 +108,7 @@ fn push_client<'a>(
         if u64::from(command.client) != client {
             continue;
         }
+        // Logs that answer the script have a call for each command.
         let Some((call, others)) = next_reply(left) else {
             return Ok(left);
         };
@@ -142,7 +146,7 @@ fn is_learn(input: &Input) -> bool
     matches!(input, Input::Learn { .. })
 }
 
-/// Appends the line that counts.
+/// Appends the audit line.
 fn push_audit(printed: &mut String, outcome: &Outcome) -> Result<(), AllocError>
     ensures { OnOk result (string_bytes printed.new ≡ string_bytes printed.old ++ line (audit_text outcome.now)) }
 {

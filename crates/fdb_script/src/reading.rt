@@ -16,8 +16,11 @@ use serde_json::Value;
 use std::alloc::Global;
 use whole::outline_of;
 
-/// The script that the bytes stand for. Refuses bytes that are no JSON text, then a fault in the whole, then
-/// the first command that is none.
+/// The script that the bytes stand for.
+///
+/// It is refused as `NotJson` where the bytes are no JSON text, then as `BadLimit` for a fault in the whole, then as
+/// `BadField` with the first command that has a fault, and as `Memory` wherever memory is refused. It takes time in
+/// proportion to the bytes: one pass over the JSON value, in which the members of an object are looked up by name.
 pub fn read_script(alloc: Global, bytes: &[u8]) -> Result<Script, ScriptError>
     ensures { Reads bytes.now result }
 {

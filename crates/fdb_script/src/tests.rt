@@ -38,7 +38,7 @@ fn plain_read(alloc: Global) -> Act {
 /// Commands with no member but those that are required, and with all.
 const COMMANDS: &str = r#"{"epoch_end":0,"recovery":100,"clients":3,"rounds":[[],[
 {"do":"grv","client":0},
-{"client":1,"do":"grv","at":7,"priority":"batch","count":0,"tags":["t","!~","t"],"lock_aware":true},
+{"client":1,"do":"grv","at":7,"priority":"batch","count":0,"tags":["t","!~","t","u","v"],"lock_aware":true},
 {"do":"ask","client":0,"at":1000},
 {"do":"ask","client":0,"at":1000,"processed":18446744073709551615,"num":null},
 {"do":"reask","client":0,"num":2,"at":9000},
@@ -52,7 +52,7 @@ fn acts(alloc: Global) -> Result<[(u32, Act); 10], AllocError> {
     let all = Act::Grv(GrvOpts {
         priority: Priority::Batch,
         count: 0,
-        tags: tags(alloc, &["t", "!~", "t"])?,
+        tags: tags(alloc, &["t", "!~", "t", "u", "v"])?,
         lock_aware: true,
         at: 7,
     });
@@ -169,15 +169,16 @@ fn a_script_and_its_parts(rt: HostRuntime) -> Result<(), Fail> {
 }
 
 /// Two clients, of whom the first tells the second.
-const TOLD: &str = r#"{"epoch_end":0,"recovery":100,"clients":2,"rounds":[[
-{"do":"grv","client":1},
+const TOLD: &str = r#"{"epoch_end":0,"recovery":100,"clients":2,
+"throttles":[{"priority":"default","tag":"t","rate":5,"expires":5000}],"rounds":[[
+{"do":"grv","client":1,"count":0},
 {"do":"ask","client":0,"at":1000},
 {"do":"ask","client":0,"at":3000},
 {"do":"reask","client":0,"num":1,"at":9000},
 {"do":"reask","client":0,"num":5,"at":9000},
 {"do":"report","client":0,"num":2,"locked":true,"metadata":7},
 {"do":"tell","client":0,"to":1}],[
-{"do":"grv","client":0},
+{"do":"grv","client":0,"tags":["t"]},
 {"do":"grv","client":1,"lock_aware":true,"tags":["t"]},
 {"do":"report","client":1,"num":1},
 {"do":"report","client":0,"num":1}]]}"#;
@@ -189,7 +190,7 @@ const TOLD_REPLIES: &str = "\
 0 0 4 reask refused Early 3
 0 0 5 report 2100 raised pos 1
 0 0 6 tell 1 pos 1
-0 1 0 grv refused Full
+0 1 0 grv refused BadCount
 1 0 0 grv refused Locked 2100 pos 1
 1 0 3 report 100 not raised pos 1
 1 1 1 grv 2100 locked 7 pos 1 limit t 5 5000

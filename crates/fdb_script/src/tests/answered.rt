@@ -80,29 +80,38 @@ fn report(num: u64, rec: Record, asked: u64, answer: CallAnswer) -> Call {
     call(input, asked, 1, answer)
 }
 
-fn read(
-    alloc: Global,
-    texts: &[&str],
-    position: u64,
-    answer: CallAnswer,
-) -> Result<Call, AllocError> {
-    let opts = GrvOpts {
+/// A read with these tags, and not lock-aware.
+fn opts(alloc: Global, texts: &[&str]) -> Result<GrvOpts, AllocError> {
+    Ok(GrvOpts {
         priority: Priority::Default,
         count: 1,
         tags: tags(alloc, texts)?,
-        lock_aware: !texts.is_empty(),
+        lock_aware: false,
         at: 0,
-    };
-    Ok(call(Input::Grv(opts), position, position, answer))
+    })
+}
+
+fn read(opts: GrvOpts, position: u64, answer: CallAnswer) -> Call {
+    call(Input::Grv(opts), position, position, answer)
+}
+
+/// A read of the locked record, with the limit of the tag `t`.
+fn limited(alloc: Global, locked_out: bool) -> Result<CallAnswer, AllocError> {
+    let mut limits = Sequence::new(alloc);
+    limits.push(TagLimit {
+        tag: Sequence::from(Vec::from_slice(alloc, b"t")?),
+        rate: 5,
+        expires: 5000,
+    })?;
+    Ok(CallAnswer::Version {
+        rec: LOCKED,
+        limits,
+        locked_out,
+    })
 }
 
 fn first_log(alloc: Global) -> Result<ClientLog, AllocError> {
     let acked = |rec, raised| CallAnswer::Acked { rec, raised };
-    let turned_away = CallAnswer::Version {
-        rec: LOCKED,
-        limits: Sequence::new(alloc),
-        locked_out: true,
-    };
     let mut calls = Sequence::new(alloc);
     calls.push(ask(1, 1000, CallAnswer::Answered(FIRST)))?;
     calls.push(ask(2, 3000, CallAnswer::Answered(SECOND)))?;
@@ -110,32 +119,29 @@ fn first_log(alloc: Global) -> Result<ClientLog, AllocError> {
     calls.push(ask(5, 9000, CallAnswer::Refused(Refusal::Early { expected: 3 })))?;
     calls.push(report(2, LOCKED, 0, acked(LOCKED, true)))?;
     calls.push(call(Input::Tell { to: 1 }, 1, 1, CallAnswer::Told))?;
-    calls.push(read(alloc, &[], 1, turned_away)?)?;
+    calls.push(read(opts(alloc, &["t"])?, 1, limited(alloc, true)?))?;
     calls.push(report(1, PLAIN, 1, acked(PLAIN, false)))?;
     Ok(ClientLog { calls })
 }
 
 fn second_log(alloc: Global) -> Result<ClientLog, AllocError> {
-    let mut limits = Sequence::new(alloc);
-    limits.push(TagLimit {
-        tag: Sequence::from(Vec::from_slice(alloc, b"t")?),
-        rate: 5,
-        expires: 5000,
-    })?;
-    let limited = CallAnswer::Version {
-        rec: LOCKED,
-        limits,
-        locked_out: false,
+    let no_count = GrvOpts {
+        count: 0,
+        ..opts(alloc, &[])?
+    };
+    let lock_aware = GrvOpts {
+        lock_aware: true,
+        ..opts(alloc, &["t"])?
     };
     let mut calls = Sequence::new(alloc);
-    calls.push(read(alloc, &[], 0, CallAnswer::Refused(Refusal::Full))?)?;
+    calls.push(read(no_count, 0, CallAnswer::Refused(Refusal::BadCount)))?;
     calls.push(call(Input::Learn { from: 0 }, 0, 1, CallAnswer::Told))?;
-    calls.push(read(alloc, &["t"], 1, limited)?)?;
+    calls.push(read(lock_aware, 1, limited(alloc, false)?))?;
     calls.push(report(1, PLAIN, 1, CallAnswer::Refused(Refusal::NotIssued)))?;
     Ok(ClientLog { calls })
 }
 
-/// Client 0 draws two versions and reports the second, locked; client 1 is turned away first, and then told.
+/// Client 0 draws two versions and reports the second, locked; client 1 is refused first, and then told.
 pub(crate) fn told_outcome(alloc: Global) -> Result<Outcome, AllocError> {
     let mut logs = Vec::new(alloc);
     logs.push(first_log(alloc)?)?;
