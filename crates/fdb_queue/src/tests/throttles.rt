@@ -16,8 +16,15 @@ fn tag_of(alloc: Global, text: &[u8]) -> Result<Tag, AllocError> {
     Ok(Tag::from(bytes))
 }
 
-/// Some tags.
+/// Some tags, by a second call where memory is refused to the first.
 fn tags_of(alloc: Global, texts: &[&[u8]]) -> Result<Vec<Tag>, AllocError> {
+    match tags_once(alloc, texts) {
+        Err(AllocError) => tags_once(alloc, texts),
+        tags => tags,
+    }
+}
+
+fn tags_once(alloc: Global, texts: &[&[u8]]) -> Result<Vec<Tag>, AllocError> {
     let mut tags = Vec::new(alloc);
     for text in texts {
         tags.push(tag_of(alloc, text)?)?;
