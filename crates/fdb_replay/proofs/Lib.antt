@@ -1,11 +1,3 @@
-pub mod Arrays
+pub mod Calls
+pub mod Epochs
 pub mod Input
-pub mod NoneAstray
-pub mod NoneLow
-pub mod Numbers
-pub mod Places
-pub mod Runs
-pub mod Sessions
-pub mod Single
-pub mod Texts
-pub mod Within

@@ -1,8 +1,8 @@
-pub mod Plan
-pub mod Reading
-pub mod Answering
-pub mod Served
 pub mod Outcome
-pub mod Text
 pub mod Replay
-pub mod Session
+pub mod Rounds
+pub mod Service
+pub use Rattle.fdb_script.specs.Answering
+pub use Rattle.fdb_script.specs.Plan
+pub use Rattle.fdb_script.specs.Reading
+pub use Rattle.fdb_script.specs.Text

@@ -1,29 +1,29 @@
 -- What a run promises of its outcome.
-use Rattle.std.specs.Prelude.{◌≡◌, ℕ, false, None, []}
-use Rattle.fdb_history.specs.Audit.{Low}
+use Rattle.std.specs.Prelude.{◌≡◌, ◌≢◌, ℕ, false, None, List}
+use Rattle.fdb_history.specs.Audit.{IsFirstFault, Low}
 use Rattle.fdb_history.specs.Chain.{IsChain}
 use Rattle.fdb_history.specs.Explained.{explained}
 use Rattle.fdb_history.specs.Faults.{Nowhere}
 use Rattle.fdb_history.specs.Linear.{IsLinear}
-use Rattle.fdb_history.specs.Log.{calls_of, fresh_answers}
 use Rattle.fdb_history.specs.Strays.{IsStray}
+use Rattle.fdb_history.specs.declared.chain.Issued.{Issued}
 use Rattle.fdb_history.specs.declared.fault.AuditFault.{AuditFault}
 use Rattle.fdb_history.specs.declared.fault.AuditFault.TheVariants as audit
+use Rattle.fdb_history.specs.declared.log.ClientLog.{ClientLog}
 use Rattle.fdb_history.specs.declared.register.Record.{Record}
-use Rattle.fdb_replay.specs.Answering.{Answers}
-use Rattle.fdb_replay.specs.declared.outcome.Outcome.{Outcome}
-use Rattle.fdb_replay.specs.declared.outcome.RunFault.{RunFault}
-use Rattle.fdb_replay.specs.declared.outcome.RunFault.TheVariants.{Memory, Audit}
-use Rattle.fdb_replay.specs.Plan.{Plan}
-use Rattle.fdb_replay.specs.Served.{AreServed}
+use Rattle.fdb_replay.specs.declared.fault.RunFault.{RunFault}
+use Rattle.fdb_replay.specs.declared.fault.RunFault.TheVariants.{Memory, Audit}
+use Rattle.fdb_script.specs.Answering.{Answers}
+use Rattle.fdb_script.specs.Plan.{Plan}
+use Rattle.fdb_script.specs.declared.outcome.Outcome.{Outcome}
 
 -- the record before any report: the recovery version, unlocked, with no metadata version
 abbrev pub opening : ℕ → Record
 opening recovery = record { version = recovery; locked = false; metadata = None }
 
--- The outcome is that of a run of the script, with a single client.
+-- The outcome is that of a run of the script.
 pub record IsRunOf (plan : Plan) (outcome : Outcome) : Type 0 where
-  -- each client did what it was told, in its order, and nothing else
+  -- each client did what it was told, in its order, and learnt what it was told by others, and nothing else
   pub answers : Answers plan outcome.logs.items
   -- the commit versions are one chain, without gap or fork
   pub one_chain : IsChain plan.epoch_end plan.recovery outcome.chain.items
@@ -35,12 +35,22 @@ pub record IsRunOf (plan : Plan) (outcome : Outcome) : Type 0 where
   pub none_astray : Nowhere (IsStray outcome.chain.items outcome.logs.items)
   -- each commit version that was drawn, but for the first, is above the register that its asker had seen
   pub none_low : Nowhere (Low (opening plan.recovery) outcome.logs.items)
-  -- each request got the answer after those before it, and each report was of the version that was issued
-  pub served : AreServed plan.epoch_end plan.recovery [] (calls_of outcome.logs.items 0)
-  -- the chain has the answers that the client got, and no others
-  pub drawn : outcome.chain.items ≡ fresh_answers (calls_of outcome.logs.items 0)
 
 -- how a run is refused by its audit: want of memory is its own
 abbrev pub run_fault : AuditFault → RunFault
 run_fault audit.Memory = Memory
 run_fault fault = Audit fault
+
+-- The clients did what the script says, and the audit of what they were answered finds this fault first.
+pub record IsFaulty (plan : Plan) (fault : AuditFault) : Type 0 where
+  pub chain : List Issued
+  pub logs : List ClientLog
+  pub answers : Answers plan logs
+  pub one_chain : IsChain plan.epoch_end plan.recovery chain
+  pub first : IsFirstFault (opening plan.recovery) chain logs fault
+  pub not_memory : fault ≢ audit.Memory
+
+-- A run fails for want of memory, or with the fault that its audit finds.
+abbrev pub Fails : Plan → RunFault → Type 0
+Fails plan Memory = Unit {0}
+Fails plan (Audit fault) = IsFaulty plan fault

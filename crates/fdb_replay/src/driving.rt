@@ -3,13 +3,13 @@
 ghost use Rattle.std.specs.Prelude.{◌≡◌, ◌≢◌, ◌<◌, ◌≤◌, ℕ, List, IfOk, IfErr, IfSome, OnOk, false, length, vec_len};
 ghost use Rattle.std.specs.Io.KnownBytes.{Appends};
 ghost use Rattle.fdb_replay.specs.Replay.{Replays, IsRefused};
-ghost use Rattle.fdb_replay.specs.declared.script.ScriptError.{ScriptError};
+ghost use Rattle.fdb_script.specs.declared.error.ScriptError.{ScriptError};
 ghost use Rattle.fdb_replay.specs.declared.driving.TheConstants.{MAX_SCRIPT_BYTES};
 
-use crate::outcome::RunFault;
+use crate::fault::RunFault;
 use crate::replaying::{ReplayFault, replay};
-use crate::script::ScriptError;
 use fdb_history::{AuditFault, OpenGate};
+use fdb_script::ScriptError;
 use std::alloc::Global;
 use std::io::{ErrorKind, Read, Write};
 use std::sync::Wait;
@@ -54,8 +54,8 @@ impl From<ReplayFault> for Fault {
     ghost use Rattle.std.specs.Prelude.{◌≢◌};
     ghost use Rattle.fdb_replay.specs.declared.driving.Fault.TheVariants.{Script, Writing};
     ghost use Rattle.fdb_replay.specs.declared.replaying.ReplayFault.TheVariants as replay;
-    ghost use Rattle.fdb_replay.specs.declared.script.ScriptError.{ScriptError};
-    ghost use Rattle.fdb_replay.specs.declared.script.ScriptError.TheVariants.{Memory};
+    ghost use Rattle.fdb_script.specs.declared.error.ScriptError.{ScriptError};
+    ghost use Rattle.fdb_script.specs.declared.error.ScriptError.TheVariants.{Memory};
 
     ghost from_gives = { λ cause fault. (cause ≡ replay.Write → fault ≡ Writing)
         × ((error : ScriptError) → fault ≡ Script error → (cause ≡ replay.Script error) × (error ≢ Memory)) };

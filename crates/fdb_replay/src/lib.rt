@@ -1,20 +1,18 @@
 //! A script of clients, replayed against the read-version service from the script's bytes to the printed lines.
 #![tactic(auto)]
 
+mod client;
 mod driving;
-mod lines;
-mod outcome;
-mod printed;
-mod reader;
+mod fault;
+mod live;
 mod replaying;
+mod rounds;
 mod running;
-mod script;
-mod session;
+mod service;
 #[cfg(test)]
 mod tests;
 
 pub use driving::{MAX_SCRIPT_BYTES, drive};
-pub use outcome::{Outcome, RunFault};
+pub use fault::RunFault;
 pub use replaying::{ReplayFault, replay};
 pub use running::run;
-pub use script::{Act, Command, MAX_COMMANDS, MAX_ROUNDS, Script, ScriptError};

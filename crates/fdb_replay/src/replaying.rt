@@ -4,12 +4,10 @@ ghost use Rattle.std.specs.Prelude.{◌≡◌, ◌≢◌, ℕ, ◌<◌, ◌≤�
 ghost use Rattle.std.specs.Io.KnownBytes.{Appends};
 ghost use Rattle.fdb_replay.specs.Replay.{Replays, Refuses};
 
-use crate::outcome::RunFault;
-use crate::printed::text;
-use crate::reader::read_script;
+use crate::fault::RunFault;
 use crate::running::run;
-use crate::script::ScriptError;
 use fdb_history::Gate;
+use fdb_script::{ScriptError, read_script, text};
 use std::alloc::Global;
 use std::io::Write;
 use std::sync::Wait;
@@ -32,7 +30,7 @@ pub enum ReplayFault {
 
 /// Reads a script, plays it, and writes the replies, the audit line and, where it is wanted, the history.
 ///
-/// Refuses a script that does not stand for one, then a run for want of memory, then a writer that fails.
+/// Refuses a script that does not stand for one, then a run that fails, then a writer that fails.
 /// Nothing is written before the run is done.
 pub fn replay<R: Threads + Wait + Sync, G: Gate, W: Write>(
     rt: &R,
@@ -58,10 +56,11 @@ pub fn replay<R: Threads + Wait + Sync, G: Gate, W: Write>(
         Ok(outcome) => outcome,
         Err(fault) => return Err(ReplayFault::Run(fault)),
     };
-    let Ok(lines) = text(alloc, &script, &outcome, with_history) else {
-        return Err(ReplayFault::Script(ScriptError::Memory));
+    let lines = match text(alloc, &script, &outcome, with_history) {
+        Ok(lines) => lines,
+        Err(error) => return Err(ReplayFault::Script(error)),
     };
-    match writer.write_all(lines.as_bytes()) {
+    match writer.write_all(&lines) {
         Ok(()) => Ok(()),
         Err(_) => Err(ReplayFault::Write),
     }

@@ -1,26 +1,31 @@
 //! A run of a script.
 
-ghost use Rattle.std.specs.Prelude.{◌≡◌, ◌<◌, ◌≤◌, List, length, IfOk, IfErr, Ok};
-ghost use Rattle.fdb_history.specs.Audit.{IsAudited, Low};
-ghost use Rattle.fdb_history.specs.Faults.{Nowhere};
-ghost use Rattle.fdb_history.specs.Linear.{IsLinear};
-ghost use Rattle.fdb_history.specs.Strays.{IsStray};
-ghost use Rattle.fdb_history.specs.declared.event.Event.{Event};
-ghost use Rattle.fdb_replay.specs.Outcome.{IsRunOf};
+ghost use Rattle.std.specs.Prelude.{◌≡◌, ◌<◌, ◌≤◌, length, map, replicate, [], IfOk, IfErr, Ok};
+ghost use Rattle.fdb_history.specs.Chain.{IsChain};
+ghost use Rattle.fdb_replay.specs.Outcome.{IsRunOf, Fails};
+ghost use Rattle.fdb_replay.specs.Rounds.{logs_of};
+ghost use Rattle.fdb_script.specs.Answering.{Answers};
+ghost use Rattle.fdb_script.specs.Plan.{Plan};
 
-use crate::outcome::{Outcome, RunFault};
-use crate::script::Script;
-use crate::session::{Played, Session, opening};
-use fdb_history::{Gate, Record, audit};
-use std::alloc::Global;
+use crate::client::Client;
+use crate::fault::RunFault;
+use crate::live::opening;
+use crate::rounds::play_round;
+use crate::service::Service;
+use fdb_history::{ClientLog, Gate, Issued, audit};
+use fdb_script::{Outcome, Script};
+use std::alloc::{AllocError, Global};
 use std::sync::Wait;
 use std::thread::Threads;
 
 /// Plays a script, audits what it leaves, and answers it: the logs of its clients, the chain of commit versions, and
-/// a history that explains them, in the fixed order. The script's only client is served in the calling thread, so that
-/// the runtime, the number of GRV proxies and the gate are not used yet.
+/// a history that explains them, in the fixed order. It plays the rounds in order, in a round the clients by number, and
+/// the commands of each in order; what was told in a round is learnt at its end.
 ///
-/// Fails only for want of memory.
+/// All is served in the calling thread, so that the runtime, the number of GRV proxies and the gate are not used yet; a
+/// read is answered at once, whatever its priority and count are.
+///
+/// It fails for want of memory, or with the fault that the audit finds.
 pub fn run<R: Threads + Wait + Sync, G: Gate>(
     rt: &R,
     alloc: Global,
@@ -31,31 +36,57 @@ pub fn run<R: Threads + Wait + Sync, G: Gate>(
     requires some_proxy { 0 < proxies }
     requires few_proxies { proxies ≤ 16 }
     ensures ok { IfOk result (IsRunOf script.now) }
-    ensures err { IfErr result (λ fault. fault ≡ RunFault.Memory) }
+    ensures err { IfErr result (Fails script.now) }
 {
-    // A single client is served here and now.
+    // Everybody is served here and now.
     let _ = rt;
     let _ = proxies;
     let _ = gate;
-    let mut session = Session::new(alloc, script.epoch_end(), script.recovery())?;
-    for round in script.rounds() {
-        session = session.play(alloc, round.as_slice())?;
+    let mut service = Service::new(alloc, script)?;
+    let mut clients = new_clients(alloc, script.clients())?;
+    for commands in script.rounds() {
+        play_round(alloc, &mut service, &mut clients, commands.as_slice())?;
     }
-    let played = session.finish(alloc)?;
-    audited(alloc, opening(script.recovery()), played)
+    let chain = Vec::from_slice(alloc, service.core.answers())?;
+    audited(alloc, script, chain, logs_of(alloc, clients)?)
+}
+
+/// So many clients that have called nobody yet.
+fn new_clients(alloc: Global, clients: u32) -> Result<Vec<Client>, AllocError>
+    ensures { IfOk result (λ all. all.items ≡ replicate clients []) }
+{
+    let mut all = Vec::new(alloc);
+    for _ in 0..clients {
+        all.push(Client::new(alloc))?;
+    }
+    Ok(all)
+}
+
+/// The logs of all clients.
+fn logs_of(alloc: Global, clients: Vec<Client>) -> Result<Vec<ClientLog>, AllocError>
+    ensures { IfOk result (λ logs. logs.items ≡ logs_of clients.items) }
+{
+    let mut logs = Vec::new(alloc);
+    for client in clients {
+        logs.push(client.into_log())?;
+    }
+    Ok(logs)
 }
 
 /// The outcome, with the history that the audit finds.
-fn audited(alloc: Global, start: Record, played: Played) -> Result<Outcome, RunFault>
-    requires { length played.logs.items ≤ 64 }
-    ensures chain { IfOk result (λ outcome. outcome.chain.items ≡ played.chain.items) }
-    ensures logs { IfOk result (λ outcome. outcome.logs.items ≡ played.logs.items) }
-    ensures audited { IfOk result (λ outcome. IsAudited start played.chain.items played.logs.items (Ok outcome.history)) }
-    ensures linear { IfOk result (λ outcome. IsLinear start played.logs.items outcome.history.events) }
-    ensures err { (history : List Event) → IsLinear start played.logs.items history → Nowhere (IsStray played.chain.items played.logs.items)
-        → Nowhere (Low start played.logs.items) → IfErr result (λ fault. fault ≡ RunFault.Memory) }
+fn audited(
+    alloc: Global,
+    script: &Script,
+    chain: Vec<Issued>,
+    logs: Vec<ClientLog>,
+) -> Result<Outcome, RunFault>
+    requires few { length logs.items ≤ 64 }
+    requires answers { Answers script.now logs.items }
+    requires one_chain { IsChain script.now.epoch_end script.now.recovery chain.items }
+    ensures ok { IfOk result (IsRunOf script.now) }
+    ensures err { IfErr result (Fails script.now) }
 {
-    let Played { chain, logs } = played;
+    let start = opening(script.recovery());
     let history = audit(alloc, start, chain.as_slice(), logs.as_slice())?;
     Ok(Outcome {
         chain,

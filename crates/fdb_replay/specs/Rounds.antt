@@ -1,0 +1,42 @@
+-- A round of a run, as the calls of all clients. (private to this crate)
+use Rattle.std.specs.Prelude.{ℕ, ◌+◌, List, [], ◌∷◌, ◌++◌, length, drop, map}
+use Rattle.std.proofs.Common.{set, get_or}
+use Rattle.std.specs.List.{FoldsTo, flat_map}
+use Rattle.fdb_history.specs.declared.log.Call.{Call}
+use Rattle.fdb_history.specs.declared.log.ClientLog.{ClientLog}
+use Rattle.fdb_history.specs.declared.log.Input.{Input}
+use Rattle.fdb_history.specs.declared.log.Input.TheVariants as input
+use Rattle.fdb_replay.specs.declared.rounds.Told.{Told}
+use Rattle.fdb_script.specs.Answering.{AnswersCommand, commands_of, learns}
+use Rattle.fdb_script.specs.declared.script.Command.{Command}
+
+-- the logs that have these calls
+abbrev pub logs_of : List (List Call) → List ClientLog
+logs_of calls = map (λ own. record { calls = own }) calls
+
+-- each client, from this one on, has done what it was told
+abbrev pub PerformsFrom : ℕ → List Command → List (List Call) → List (List Call) → Type 0
+PerformsFrom client commands [] [] = Unit {0}
+PerformsFrom client commands (calls ∷ before) (more ∷ after) = FoldsTo AnswersCommand calls (commands_of client commands) more × PerformsFrom (client + 1) commands before after
+PerformsFrom client commands _ _ = ⊥
+
+-- what a client tells by a call with this input
+abbrev pub told_by : ℕ → ℕ → Input → List Told
+told_by from position (input.Tell to) = record { to = to; from = from; position = position } ∷ []
+told_by from position (input.Grv opts) = []
+told_by from position (input.Ask num processed at) = []
+told_by from position (input.Report num locked metadata) = []
+told_by from position (input.Learn teller) = []
+
+abbrev pub told_in : ℕ → List Call → List Told
+told_in from calls = flat_map (λ call. told_by from call.position call.input) calls
+
+-- what all clients, from this one on, tell in the calls that they have more than before
+abbrev pub all_told : ℕ → List (List Call) → List (List Call) → List Told
+all_told from [] after = []
+all_told from (calls ∷ before) [] = []
+all_told from (calls ∷ before) (more ∷ after) = told_in from (drop (length calls) more) ++ all_told (from + 1) before after
+
+-- the calls of all clients, once what was told is learnt
+abbrev pub teach : List (List Call) → Told → List (List Call)
+teach calls told = set calls told.to (learns (get_or calls told.to []) (record { teller = told.from; position = told.position }))
