@@ -1,3 +1,5 @@
 pub mod Calls
 pub mod Epochs
 pub mod Input
+pub mod Learnt
+pub mod Performed

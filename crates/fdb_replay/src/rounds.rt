@@ -37,10 +37,11 @@ pub(crate) fn play_round(
     ensures err { IfErr result (λ fault. fault ≡ RunFault.Memory) }
 {
     let mut tales = Vec::new(alloc);
-    for client in 0..clients.len() {
-        let since = clients[client].calls().len();
-        play_client(service, &mut clients[client], client as u32, commands)?;
-        add_told(&mut tales, client as u32, &clients[client].calls()[since..])?;
+    for number in 0..clients.len() {
+        let client = &mut clients[number];
+        let since = client.calls().len();
+        play_client(service, client, number as u32, commands)?;
+        add_told(&mut tales, number as u32, &client.calls()[since..])?;
     }
     learn_all(clients, &tales)
 }
@@ -87,8 +88,9 @@ fn learn_all(clients: &mut [Client], tales: &[Told]) -> Result<(), RunFault>
     ensures err { IfErr result (λ fault. fault ≡ RunFault.Memory) }
 {
     for told in tales {
-        if let Some(client) = clients.get_mut(told.to as usize) {
-            client.learn(told.from, told.position)?;
+        let to = told.to as usize;
+        if to < clients.len() {
+            clients[to].learn(told.from, told.position)?;
         }
     }
     Ok(())
