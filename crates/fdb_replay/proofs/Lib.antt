@@ -3,3 +3,4 @@ pub mod Epochs
 pub mod Input
 pub mod Learnt
 pub mod Performed
+pub mod Runs

@@ -1,6 +1,6 @@
 //! What serves the clients of a run.
 
-ghost use Rattle.std.specs.Prelude.{◌≡◌, ◌&&◌, not, ◌∷◌, IfOk, IfErr, IsTrue, OnOk, Result, Err};
+ghost use Rattle.std.specs.Prelude.{◌≡◌, ◌≤◌, ◌&&◌, not, ◌∷◌, IfOk, IfErr, IsTrue, OnOk, Result, Err};
 ghost use Rattle.std.specs.List.{AllByRecursion};
 ghost use Rattle.fdb_chain.specs.ChainCore.{IsAnswer, new_chain};
 ghost use Rattle.fdb_history.specs.Answer.{answer_to, chain_after};
@@ -33,6 +33,7 @@ impl Service {
     /// A service that nobody has called yet. There is a commit proxy for each client.
     pub(crate) fn new(alloc: Global, script: &Script) -> Result<Service, RunFault>
         ensures chain { IfOk result (λ service. service.core ≡ new_chain script.now.epoch_end script.now.recovery script.now.clients) }
+        ensures few { OnOk result (script.now.clients ≤ 64) }
         ensures live { IfOk result (λ service. service.live ≡ opened script.now.recovery) }
         ensures err { IfErr result (λ fault. fault ≡ RunFault.Memory) }
     {

@@ -26,6 +26,6 @@ returns-clause-ok c =
     let commands = c.args.commands.now in
     let all : length now ≤ c.loop-number.number = omega (arith, c.loop-number-test.false, c.loop-number.auto.clients) in
     let answered = round_answered commands old now (fold teach now tales) tales c.loop-number.number all c.loop-number.invariant.performed (learnt old now tales) in
-    on_ok_weaker c.learn_all.result _ _
+    on_ok_weaker c.learn_all.result
     (λ is. subst (λ learnt. AnswersRound (logs_of old) commands (logs_of learnt)) (sym (is ∙ ap (fold teach now) c.deref.ensures.value)) answered)
     c.learn_all.ensures.ok
