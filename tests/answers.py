@@ -246,6 +246,16 @@ def large():
     yield "repeats of kept answers", [[*asks[:300], *repeats]], {}
 
 
+def crowd_at_all_limits(size):
+    """Writes a script of this many bytes with as much as may be of all else: the rest is in a text that is ignored."""
+    throttles = [{"priority": "default", "tag": f"tag-{it}", "rate": it, "expires": HIGHEST} for it in range(MOST_THROTTLES)]
+    reads = [do("grv", it % 64, tags=[f"tag-{it % MOST_THROTTLES}"] * 5) for it in range(MOST_COMMANDS // 2)]
+    rounds = several([*mixed(64)[: MOST_COMMANDS // 2], *reads], 1)
+    top = {"clients": 64, "normal": 100_000, "batch": 100_000, "room": 100_000, "elapsed": 10_000_000, "throttles": throttles}
+    empty = written(rounds, **top, note="")
+    return written(rounds, **top, note="a" * (size - len(empty)))
+
+
 def large_scripts(program):
     """As many commands as a script may have, with and without the history, in a few seconds each."""
     for name, rounds, top in large():

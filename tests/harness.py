@@ -9,7 +9,7 @@ EXAMPLES = f"{ROOT}/examples"
 SECONDS = 20
 NOT_ENDED = -1000
 
-DONE, REFUSED, NO_MEMORY, NO_STREAM = 0, 1, 3, 5
+DONE, REFUSED, OTHER_WORDS, NO_MEMORY, NO_STREAM = 0, 1, 2, 3, 5
 
 
 class Ran(NamedTuple):
@@ -49,9 +49,9 @@ def run(words, given=b"", seconds=SECONDS, **how):
     return Ran(ran.returncode, ran.stdout or b"", ran.stderr or b"")
 
 
-def under(redirections, words, given=b"", **how):
-    """Runs a command with the shell's redirections, as '>&-'."""
-    return run(["sh", "-c", f'exec "$0" "$@" {redirections}', *words], given, **how)
+def under(redirections, program, given=b"", words=(), **how):
+    """Runs the program with these words and the shell's redirections, as '>&-'."""
+    return run(["sh", "-c", f'exec "$0" "$@" {redirections}', program, *words], given, **how)
 
 
 def fault_of(ran, wanted):
@@ -89,6 +89,7 @@ def refused(why):
 READING_FAILED = faulted(NO_STREAM, "reading failed")
 WRITING_FAILED = faulted(NO_STREAM, "writing failed")
 OUT_OF_MEMORY = faulted(NO_MEMORY, "want of memory")
+WORDS_REFUSED = faulted(OTHER_WORDS, "words refused")
 
 
 def members(**texts):

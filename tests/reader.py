@@ -25,9 +25,9 @@ def value_of(given):
     try:
         text = given.decode()
         value = json.loads(text, parse_int=number_of, parse_float=double_of, parse_constant=no_number)
-        # Python reads half a pair of surrogates, also into members that others overwrite; such a text cannot be encoded.
-        for string in STRING.findall(text):
-            json.loads(string).encode()
+        # Python reads half a pair of surrogates, here into a member that may be overwritten; such a text cannot be encoded.
+        for escaped in (it for it in STRING.findall(text) if "\\u" in it):
+            json.loads(escaped).encode()
     except (ValueError, RecursionError):
         raise Refused("NotJson") from None
     if depth_of(text) > DEEPEST:
