@@ -146,7 +146,7 @@ ACCEPTED = [
     ("ignored members of a tell", script(one(command("tell", to="1", at="null", tags="5", locked="[]")), clients="2"), replies("0 0 0 tell 1 pos 0")),
     ("ignored members of a throttle", throttled(expires='6,"at":null,"count":-1'), limited("t")),
     ("an ignored pair of surrogates", script(ONE, note='"\\ud83d\\ude00"'), ONE_READ),
-    ("ignored numbers that a double holds", script(ONE, note="[1e308,-1e308,1e-400,0e999,-0,-0.0,18446744073709551616]"), ONE_READ),
+    ("ignored numbers that a double holds", script(ONE, note="[1e308,-1e308,1e-400,1e-99999999999,0e999,0e99999999999,-0,-0.0,18446744073709551616]"), ONE_READ),
     ("an ignored list, 127 deep with the script", script(ONE, note="[" * 126 + "]" * 126), ONE_READ),
     ("an ignored object, 127 deep with the script", script(ONE, note='{"a":' * 125 + "[]" + "}" * 125), ONE_READ),
     ("an ignored list, 127 deep with its command", script(one(command("grv", note="[" * 123 + "]" * 123))), ONE_READ),

@@ -6,7 +6,8 @@ NO_NUMBERS = ["-1", "-0", "1.0", "1.5", "1e3", "1E0", ABOVE_64_BITS, "1e30", '"1
 NO_FLAGS = ["0", "1", '"true"', '""', "null", "[]", "{}", "[true]"]
 NO_LISTS = ["null", "{}", '"[]"', "0", "true"]
 NO_PRIORITIES = ['"high"', '"Default"', '"default "', '""', "null", "0", "true", '["default"]', "{}"]
-NO_TAGS = ['""', '"0123456789abcdefg"', '" "', '"a b"', '"\\u0020"', '"\\u007f"', '"\x7f"', '"\\u0000"', '"\\n"', '"é"', '"éééééééé"', '"\\u0100"', '"😀"', "null", "5", "true", '["t"]', "{}"]
+NO_LETTERS = ['" "', '"a b"', '"\\u0020"', '"\\u007f"', '"\x7f"', '"\\u0000"', '"\\n"', '"é"', '"éééééééé"', '"\\u0100"', '"😀"']
+NO_TAGS = [*NO_LETTERS, '""', '"0123456789abcdefg"', "null", "5", "true", '["t"]', "{}"]
 
 
 def tried(program, cases, why=None):
@@ -69,12 +70,13 @@ NO_VALUES = [
     ("a number of 400 digits", "1" * 400),
     *[(f"the text {it}", it) for it in ['"\\ud800"', '"\\udfff"', '"\\ud800x"', '"\\ud800\\n"', '"\\ud800\\u0041"', '"\\ud800\\ud800"', '"\\udc00\\ud800"', '"x\\uDBFF"']],
 ]
+AT = '"at":1'
 # Where such a value is put.
 CORNERS = [
     ("ignored", lambda text: script(f"[{round_of(GRV)}]", note=text)),
     ("overwritten", lambda text: GOOD.replace('"clients":', f'"clients":{text},"clients":')),
     ("ignored in a command", lambda text: script(f"[[{command('grv', note=text)}]]")),
-    ("overwritten in a command", lambda text: script(f"[[{command('ask', at=text + ',' + chr(34) + 'at' + chr(34) + ':1')}]]")),
+    ("overwritten in a command", lambda text: script(f"[{round_of(command('ask', at=text + ',' + AT))}]")),
     ("ignored in a throttle", lambda text: script(throttles=f"[{throttle(note=text)}]")),
     ("behind a fault of the top level", lambda text: script(clients="0", note=text)),
 ]

@@ -3,7 +3,8 @@ import os
 import subprocess
 
 from answers import crowd_at_all_limits
-from harness import DONE, NO_STREAM, READING_FAILED, REFUSED, WRITING_FAILED, Ran, done, fault_of, first_output, first_script, refused, run, script, under, written
+from harness import DONE, NO_STREAM, READING_FAILED, REFUSED, WRITING_FAILED, Ran
+from harness import done, fault_of, first_output, first_script, refused, run, script, under, written
 from model import expected
 from reader import MOST_COMMANDS
 
@@ -62,12 +63,13 @@ def broken(program):
     ]
     for name, redirections, given, wanted in cases:
         yield name, fault_of(under(redirections, program, given), wanted)
-    for name, given in (("two clients", reads), ("a first script", first)):
+    for name, given in (("two clients", reads), ("the first script", first)):
         ran = under("> /dev/full", program, given, ["--history", "--proxies", "2"])
         yield f"standard output full, the history of {name}", fault_of(ran, WRITING_FAILED)
     yield "standard output with no reader", fault_of(unread(program, first), Ran(NO_STREAM, None, WRITING_FAILED.err))
-    yield "standard output that is closed half way", fault_of(half_read(program, large), Ran(NO_STREAM, None, WRITING_FAILED.err))
-    yield "standard output that is closed half way, with the history", fault_of(half_read(program, reads, "--history"), Ran(NO_STREAM, None, WRITING_FAILED.err))
+    half_written = Ran(NO_STREAM, None, WRITING_FAILED.err)
+    yield "standard output that is closed half way", fault_of(half_read(program, large), half_written)
+    yield "standard output that is closed half way, with the history", fault_of(half_read(program, reads, "--history"), half_written)
     yield "a script that comes byte by byte", fault_of(byte_by_byte(program, first), Ran(DONE, first_output(), b""))
 
 
