@@ -5,9 +5,10 @@ import random
 import drawn
 from harness import ASK, EXAMPLES, GRV, Ran, command, done, fault_of, first_output, members, read, round_of, run, script, without_history, written
 from model import expected
-from reader import HIGHEST, MOST_COMMANDS, MOST_ROUNDS, MOST_THROTTLES
 
 SMALL, SPOILT, LARGE_SECONDS = 400, 400, 5
+HIGHEST = 2**64 - 1
+MOST_ROUNDS, MOST_COMMANDS, MOST_THROTTLES = 10_000, 10_000, 1_000
 
 
 class Example:
@@ -76,8 +77,9 @@ def limited(tag, rate=5, expires=6):
     return replies(f"0 0 0 grv 100 unlocked none pos 0 limit {tag} {rate} {expires}", events=1)
 
 
-# The limits of the members of the top level that change no reply so far.
+# What changes no reply so far, since no read waits: the limits of the members of the top level, and any count.
 EDGES = {"normal": ["1", "100000"], "batch": ["0", "100000"], "room": ["1", "100000"], "elapsed": ["1", "10000000"]}
+COUNTS = ["0", "1", "100000", "100001", "18446744073709551615"]
 REPORTED = [
     ("not locked, without metadata", {"locked": "false", "metadata": "null"}, "unlocked none"),
     ("locked", {"locked": "true"}, "locked none"),
@@ -123,7 +125,7 @@ ACCEPTED = [
     ("a read with the usual members", script(one(command("grv", at="0", priority='"default"', count="1", tags="[]", lock_aware="false"))), ONE_READ),
     ("a read at the greatest moment", script(one(command("grv", at="18446744073709551615"))), ONE_READ),
     *[(f"a read of priority {it}", script(one(command("grv", priority=f'"{it}"'))), ONE_READ) for it in ("system", "default", "batch")],
-    *[(f"a read for {it} transactions", script(one(command("grv", count=it))), ONE_READ) for it in ("1", "100000")],
+    *[(f"a read for {it} transactions", script(one(command("grv", count=it))), ONE_READ) for it in COUNTS],
     ("a lock-aware read", script(one(command("grv", lock_aware="true"))), ONE_READ),
     ("a read with 5 tags", script(one(command("grv", tags='["t","u","t","u","t"]'))), ONE_READ),
     *[(f"{name} {it}", script(ONE, **{name: it}), ONE_READ) for name, texts in EDGES.items() for it in texts],

@@ -2,11 +2,10 @@
 import os
 import subprocess
 
-from answers import crowd_at_all_limits
+from answers import MOST_COMMANDS, crowd_at_all_limits
 from harness import DONE, NO_STREAM, READING_FAILED, REFUSED, WRITING_FAILED, Ran
 from harness import done, fault_of, first_output, first_script, refused, run, script, under, written
 from model import expected
-from reader import MOST_COMMANDS
 
 MOST_BYTES = 16_777_216
 
