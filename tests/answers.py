@@ -183,16 +183,17 @@ def stored(program):
         return fault_of(run([program], stdin=it), done(first_output()))
 
 
-def compared(program, given, history):
-    """Runs a script, and returns how it differs from the model."""
-    return fault_of(run([program, *["--history"] * history], given), expected(given, history))
+def compared(program, given, *words):
+    """Runs a script with these words, and returns how that differs from the model."""
+    return fault_of(run([program, *words], given), expected(given, "--history" in words))
 
 
 def random_scripts(program):
     """Small scripts of 1 to 4 clients with all commands, the same in each run, from the start and near the end of the versions."""
     for seed in range(SMALL):
         given = drawn.lawful(random.Random(seed)).encode()
-        yield f"seed {seed}", compared(program, given, seed % 2 == 0)
+        words = [[], ["--history"], ["--proxies", str(seed % 16 + 1), "--history"]][seed % 3]
+        yield f"seed {seed}", compared(program, given, *words)
 
 
 def spoilt_scripts(program):
@@ -200,7 +201,7 @@ def spoilt_scripts(program):
     for seed in range(SPOILT):
         dice = random.Random(f"spoilt {seed}")
         given = drawn.spoilt(dice, drawn.lawful(dice)).encode()
-        yield f"seed {seed}", compared(program, given, False)
+        yield f"seed {seed}", compared(program, given)
 
 
 def do(what, client=0, **said):
