@@ -96,6 +96,16 @@ def reported(said, record):
     return script(one(*commands)), replies(*lines, events=2, raised=1, versions=2)
 
 
+IGNORED = ["null", "true", "0", "-1.5e3", '"\\u00e9\\n"', '"é"', "[]", '[[1,{}],"x"]', "{}", '{"rounds":5}']
+
+
+def ignoring(text):
+    """Writes a script with this value in members that are not looked at: of no meaning, or of one elsewhere."""
+    throttle = members(priority='"batch"', tag='"t"', rate="5", expires="6", note=text, at=text, count=text)
+    read = command("grv", note=text, num=text, to=text, processed=text, locked=text, metadata=text)
+    return script(one(read), throttles=f"[{throttle}]", note=text, Clients=text, at=text, tags=text)
+
+
 # A name, the script's text, and what it prints.
 ACCEPTED = [
     ("no rounds", script(), NO_REPLY),
@@ -143,8 +153,7 @@ ACCEPTED = [
     ("spaces around", " \t\r\n" + script(ONE) + "\n \t\r", ONE_READ),
     ("spaces within", script(ONE).replace(",", " ,\n").replace(":", "\t: ").replace("[", "[ "), ONE_READ),
     ("escapes in names and texts", script(ONE).replace('"do":"grv"', '"d\\u006f":"g\\u0072v"').replace("rounds", "ro\\u0075nds"), ONE_READ),
-    ("ignored members of the top level", script(ONE, note='"é\\n"', more='{"rounds":5}', Clients="7", depth="-1.5e3"), ONE_READ),
-    ("ignored members of a command", script(one(command("grv", note="[[1]]", num="-1", to="null", processed="1.5"))), ONE_READ),
+    *[(f"ignored members {it}", ignoring(it), ONE_READ) for it in IGNORED],
     ("ignored members of a tell", script(one(command("tell", to="1", at="null", tags="5", locked="[]")), clients="2"), replies("0 0 0 tell 1 pos 0")),
     ("ignored members of a throttle", throttled(expires='6,"at":null,"count":-1'), limited("t")),
     ("an ignored pair of surrogates", script(ONE, note='"\\ud83d\\ude00"'), ONE_READ),
