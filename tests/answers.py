@@ -244,10 +244,8 @@ def large():
     throttles = [{"priority": "default", "tag": f"tag-{it}", "rate": it, "expires": it} for it in range(MOST_THROTTLES)]
     tags = lambda it: [f"tag-{(it * step) % (MOST_THROTTLES + 100)}" for step in (1, 7, 1, 11, 3)]
     yield "mixed commands of 64 clients in one round", [crowd], {"clients": 64}
-    yield "mixed commands of 64 clients in ten rounds", several(crowd, 1000), {"clients": 64}
     yield "each command of 64 clients in a round of its own", several(crowd, 1), {"clients": 64}
-    yield "mixed commands of one client in one round", [alone], {}
-    yield "each command of one client in a round of its own", several(alone, 1), {}
+    yield "mixed commands of one client in ten rounds", several(alone, 1000), {}
     yield "tells in each round", [turn(it) for it in range(MOST_COMMANDS // 4)], {"clients": 64}
     yield "tells alone, of 63 clients to one", [[do("tell", it % 63 + 1, to=0) for it in range(MOST_COMMANDS)]], {"clients": 64}
     yield "reads of 5 tags under 1,000 throttles", [[do("grv", at=500, tags=tags(it)) for it in range(MOST_COMMANDS)]], {"throttles": throttles}
