@@ -6,7 +6,7 @@ import drawn
 from harness import ASK, EXAMPLES, GRV, Ran, command, done, fault_of, first_output, members, read, round_of, run, script, without_history, written
 from model import expected
 
-SMALL, SPOILT, LARGE_SECONDS = 400, 400, 5
+SMALL, SPOILT, LARGE_SECONDS = 300, 300, 5
 HIGHEST = 2**64 - 1
 MOST_ROUNDS, MOST_COMMANDS, MOST_THROTTLES = 10_000, 10_000, 1_000
 
