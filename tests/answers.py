@@ -2,40 +2,108 @@
 import os
 import random
 
-from harness import ASK, EXAMPLES, GRV, Ran, command, done, fault_of, first_output, read, round_of, run, script
-from model import LAST_VERSION, printed
+import drawn
+from harness import ASK, EXAMPLES, GRV, Ran, command, done, fault_of, first_output, members, read, round_of, run, script, without_history, written
+from model import expected
 
-LARGE_SECONDS = 5
+SMALL, SPOILT, LARGE_SECONDS = 300, 300, 5
 HIGHEST = 2**64 - 1
-MOST_ROUNDS = 10_000
-MOST_COMMANDS = 10_000
+MOST_ROUNDS, MOST_COMMANDS, MOST_THROTTLES = 10_000, 10_000, 1_000
+
+
+class Example:
+    """A script of examples/: NAME.json prints NAME.out, with the words of NAME.args and the status of NAME.status."""
+
+    def __init__(self, name):
+        beside = lambda ending: f"{EXAMPLES}/{name}.{ending}"
+        self.name, self.given = name, read(beside("json"))
+        self.words = read(beside("args")).decode().split() if os.path.isfile(beside("args")) else []
+        status = int(read(beside("status"))) if os.path.isfile(beside("status")) else 0
+        self.wanted = Ran(status, read(beside("out")), None if status else b"")
+
+    def words_for(self, proxies):
+        """Returns the words with this number of proxies in the place of the one that they say."""
+        at = self.words.index("--proxies") if "--proxies" in self.words else len(self.words)
+        return [*self.words[:at], "--proxies", str(proxies), *self.words[at + 2 :]]
+
+
+def all_examples():
+    return [Example(file[: -len(".json")]) for file in sorted(os.listdir(EXAMPLES)) if file.endswith(".json")]
 
 
 def examples(program):
-    """Each script of examples/ prints its NAME.out, with the words of NAME.args and the status of NAME.status."""
-    for file in sorted(os.listdir(EXAMPLES)):
-        name, kind = os.path.splitext(file)
-        if kind != ".json":
-            continue
-        beside = lambda ending: f"{EXAMPLES}/{name}.{ending}"
-        words = read(beside("args")).decode().splitlines() if os.path.isfile(beside("args")) else []
-        status = int(read(beside("status"))) if os.path.isfile(beside("status")) else 0
-        wanted = Ran(status, read(beside("out")), None if status else b"")
-        yield name, fault_of(run([program, *words], read(beside("json"))), wanted)
+    """The program prints the worked scripts' outputs, and so does the model, which the other scripts are compared with."""
+    for it in all_examples():
+        yield it.name, fault_of(run([program, *it.words], it.given), it.wanted)
+        yield f"{it.name} by the model", fault_of(expected(it.given, "--history" in it.words), it.wanted)
 
 
-NO_REPLY = b"audit ok events 0 raised 0 versions 0\n"
-ONE_READ = b"0 0 0 grv 100 unlocked none pos 0\naudit ok events 1 raised 0 versions 0\n"
-ONE_ASK = b"0 0 0 ask prev 0 version 100 ordinal 0 fresh\naudit ok events 0 raised 0 versions 1\n"
-TOP_READ = b"0 0 0 grv 9223372036854775807 unlocked none pos 0\naudit ok events 1 raised 0 versions 0\n"
-NOT_ISSUED = b"0 0 0 report refused NotIssued\naudit ok events 0 raised 0 versions 0\n"
+def proxies(program):
+    """No number of proxies changes what a worked script prints."""
+    for it in all_examples():
+        for count in (1, 2, 4, 16):
+            yield f"{it.name} with {count} proxies", fault_of(run([program, *it.words_for(count)], it.given), it.wanted)
 
-ONE = "[" + round_of(GRV) + "]"
-BAD = "[[5]]"
+
+def replies(*lines, events=0, raised=0, versions=0):
+    return "".join(f"{line}\n" for line in [*lines, f"audit ok events {events} raised {raised} versions {versions}"]).encode()
+
+
+NO_REPLY = replies()
+ONE_READ = replies("0 0 0 grv 100 unlocked none pos 0", events=1)
+ONE_ASK = replies("0 0 0 ask prev 0 version 100 ordinal 0 fresh", versions=1)
+ONE_REASK = replies("0 0 0 reask prev 0 version 100 ordinal 0 fresh", versions=1)
+TOP_READ = replies("0 0 0 grv 9223372036854775807 unlocked none pos 0", events=1)
+NOT_ISSUED = replies("0 0 0 report refused NotIssued")
+EARLY = replies("0 0 0 reask refused Early 1")
 
 
 def one(*commands):
     return f"[{round_of(*commands)}]"
+
+
+ONE = one(GRV)
+BAD = "[[5]]"
+THROTTLE = members(priority='"default"', tag='"t"', rate="5", expires="6")
+
+
+def throttled(tag='"t"', rate="5", expires="6", **read):
+    """Writes a script of one throttle and one read with this tag."""
+    throttle = members(priority='"default"', tag=tag, rate=rate, expires=expires)
+    return script(one(command("grv", **{"at": "5", "tags": f"[{tag}]", **read})), throttles=f"[{throttle}]")
+
+
+def limited(tag, rate=5, expires=6):
+    return replies(f"0 0 0 grv 100 unlocked none pos 0 limit {tag} {rate} {expires}", events=1)
+
+
+# What changes no reply so far, since no read waits: the limits of the members of the top level, and any count.
+EDGES = {"normal": ["1", "100000"], "batch": ["0", "100000"], "room": ["1", "100000"], "elapsed": ["1", "10000000"]}
+COUNTS = ["0", "1", "100000", "100001", "18446744073709551615"]
+REPORTED = [
+    ("not locked, without metadata", {"locked": "false", "metadata": "null"}, "unlocked none"),
+    ("locked", {"locked": "true"}, "locked none"),
+    ("metadata 0", {"metadata": "0"}, "unlocked 0"),
+    ("the greatest metadata", {"metadata": "18446744073709551615"}, "unlocked 18446744073709551615"),
+]
+
+
+def reported(said, record):
+    """Returns a script that reports a record like this and reads it, and what it prints."""
+    commands = [ASK, ASK, command("report", num="2", **said), command("grv", lock_aware="true")]
+    drawn = ["0 0 0 ask prev 0 version 100 ordinal 0 fresh", "0 0 1 ask prev 100 version 101 ordinal 1 fresh"]
+    lines = [*drawn, "0 0 2 report 101 raised pos 1", f"0 0 3 grv 101 {record} pos 1"]
+    return script(one(*commands)), replies(*lines, events=2, raised=1, versions=2)
+
+
+IGNORED = ["null", "true", "0", "-1.5e3", '"\\u00e9\\n"', '"é"', "[]", '[[1,{}],"x"]', "{}", '{"rounds":5}']
+
+
+def ignoring(text):
+    """Writes a script with this value in members that are not looked at: of no meaning, or of one elsewhere."""
+    throttle = members(priority='"batch"', tag='"t"', rate="5", expires="6", note=text, at=text, count=text)
+    read = command("grv", note=text, num=text, to=text, processed=text, locked=text, metadata=text)
+    return script(one(read), throttles=f"[{throttle}]", note=text, Clients=text, at=text, tags=text)
 
 
 # A name, the script's text, and what it prints.
@@ -46,27 +114,69 @@ ACCEPTED = [
     ("the greatest epoch_end", script(ONE, epoch_end="99"), ONE_READ),
     ("the greatest recovery", script(ONE, recovery="9223372036854775807"), TOP_READ),
     ("the greatest epoch_end and recovery", script(ONE, epoch_end="9223372036854775806", recovery="9223372036854775807"), TOP_READ),
+    ("2 clients, of which one acts", script(ONE, clients="2"), ONE_READ),
+    ("64 clients", script(ONE, clients="64"), ONE_READ),
+    ("the last of 64 clients", script(one(command("grv", client="63")), clients="64"), ONE_READ.replace(b"0 0 0 ", b"0 63 0 ")),
+    ("the last of 64 clients is told", script(one(command("tell", to="63")), clients="64"), replies("0 0 0 tell 63 pos 0")),
+    ("the last of 64 clients tells", script(one(command("tell", client="63", to="0")), clients="64"), replies("0 63 0 tell 0 pos 0")),
     ("the least moment", script(one(command("ask", at="0"))), ONE_ASK),
     ("the greatest moment", script(one(command("ask", at="18446744073709551615"))), ONE_ASK),
     ("the greatest processed", script(one(command("ask", at="1", processed="18446744073709551615"))), ONE_ASK),
+    ("processed 0 as said", script(one(command("ask", at="1", processed="0"))), ONE_ASK),
+    ("a reask of the next number", script(one(command("reask", num="1", at="1"))), ONE_REASK),
+    ("a reask with its greatest members", script(one(command("reask", num="1", at="18446744073709551615", processed="18446744073709551615"))), ONE_REASK),
+    ("a reask of number 0", script(one(command("reask", num="0", at="1"))), replies("0 0 0 reask refused Forgotten")),
+    ("a reask of number 2", script(one(command("reask", num="2", at="1"))), EARLY),
+    ("a reask of the greatest number", script(one(command("reask", num="18446744073709551615", at="1"))), EARLY),
     ("the greatest number in a report", script(one(command("report", num="18446744073709551615"))), NOT_ISSUED),
     ("a report of number 0", script(one(command("report", num="0"))), NOT_ISSUED),
-    ("processed 0 as said", script(one(command("ask", at="1", processed="0"))), ONE_ASK),
-    ("a read with the usual members", script(one(command("grv", at="5", priority='"default"', count="1", tags="[]", lock_aware="false"))), ONE_READ),
     ("a report with the usual members", script(one(command("report", num="7", locked="false", metadata="null"))), NOT_ISSUED),
+    *[(f"a report {name}", *reported(said, record)) for name, said, record in REPORTED],
+    ("a read with the usual members", script(one(command("grv", at="0", priority='"default"', count="1", tags="[]", lock_aware="false"))), ONE_READ),
+    ("a read at the greatest moment", script(one(command("grv", at="18446744073709551615"))), ONE_READ),
+    *[(f"a read of priority {it}", script(one(command("grv", priority=f'"{it}"'))), ONE_READ) for it in ("system", "default", "batch")],
+    *[(f"a read for {it} transactions", script(one(command("grv", count=it))), ONE_READ) for it in COUNTS],
+    ("a lock-aware read", script(one(command("grv", lock_aware="true"))), ONE_READ),
+    ("a read with 5 tags", script(one(command("grv", tags='["t","u","t","u","t"]'))), ONE_READ),
+    *[(f"{name} {it}", script(ONE, **{name: it}), ONE_READ) for name, texts in EDGES.items() for it in texts],
+    ("no throttles", script(ONE, throttles="[]"), ONE_READ),
+    ("a tag of 1 byte", throttled('"t"'), limited("t")),
+    ("a tag of 16 bytes", throttled('"0123456789abcdef"'), limited("0123456789abcdef")),
+    ("tags of the first and last bytes", throttled('"!~"'), limited("!~")),
+    ("a tag of escapes", throttled('"\\"\\\\\\/\\u0074"'), limited('"\\/t')),
+    ("the least of a throttle", throttled(rate="0", expires="0"), ONE_READ),
+    ("the most of a throttle", throttled(rate="18446744073709551615", expires="18446744073709551615"), limited("t", HIGHEST, HIGHEST)),
+    ("the moment of expiry", throttled(at="6"), ONE_READ),
+    ("the moment before expiry", throttled(at="5"), limited("t")),
+    ("a throttle of another priority", throttled(priority='"batch"'), ONE_READ),
+    ("a throttle of another tag", throttled(tags='["T"]'), ONE_READ),
     ("spaces around", " \t\r\n" + script(ONE) + "\n \t\r", ONE_READ),
     ("spaces within", script(ONE).replace(",", " ,\n").replace(":", "\t: ").replace("[", "[ "), ONE_READ),
     ("escapes in names and texts", script(ONE).replace('"do":"grv"', '"d\\u006f":"g\\u0072v"').replace("rounds", "ro\\u0075nds"), ONE_READ),
-    ("ignored members of the top level", script(ONE, note='"é\\n"', more='{"rounds":5}', Clients="7", depth="-1.5e3"), ONE_READ),
-    ("ignored members of a command", script(one(command("grv", note="[[1]]", num="-1", to="null", processed="1.5"))), ONE_READ),
-    ("an ignored member 100 deep", script(ONE, deep="[" * 100 + "]" * 100), ONE_READ),
+    *[(f"ignored members {it}", ignoring(it), ONE_READ) for it in IGNORED],
+    ("ignored members of a tell", script(one(command("tell", to="1", at="null", tags="5", locked="[]")), clients="2"), replies("0 0 0 tell 1 pos 0")),
+    ("ignored members of a throttle", throttled(expires='6,"at":null,"count":-1'), limited("t")),
+    ("an ignored pair of surrogates", script(ONE, note='"\\ud83d\\ude00"'), ONE_READ),
+    ("ignored numbers that a double holds", script(ONE, note="[1e308,-1e308,1e-400,1e-99999999999,0e999,0e99999999999,-0,-0.0,18446744073709551616]"), ONE_READ),
+    ("an ignored list, 127 deep with the script", script(ONE, note="[" * 126 + "]" * 126), ONE_READ),
+    ("an ignored object, 127 deep with the script", script(ONE, note='{"a":' * 125 + "[]" + "}" * 125), ONE_READ),
+    ("an ignored list, 127 deep with its command", script(one(command("grv", note="[" * 123 + "]" * 123))), ONE_READ),
+    ("an overwritten member, 127 deep", script(ONE, clients="[" * 126 + "]" * 126 + ',"clients":1'), ONE_READ),
+    ("brackets in an ignored text", script(ONE, note=f'"{"[" * 200}"'), ONE_READ),
     ("members in another order", '{"rounds":[[{"client":0,"do":"grv"}]],"clients":1,"recovery":100,"epoch_end":0}', ONE_READ),
     ("clients twice", script(ONE).replace('"clients":1', '"clients":0,"clients":1'), ONE_READ),
     ("recovery twice", script(ONE).replace('"recovery":100', '"recovery":7,"recovery":100'), ONE_READ),
     ("rounds twice", script(ONE).replace('"rounds":', f'"rounds":{BAD},"rounds":'), ONE_READ),
+    ("normal twice", script(ONE, normal='0,"normal":1'), ONE_READ),
+    ("throttles twice", script(ONE, throttles='5,"throttles":[]'), ONE_READ),
+    ("a throttle's tag twice", throttled(rate='5,"tag":"","tag":"t"'), limited("t")),
     ("do twice", script(ONE).replace('"do":', '"do":"other","do":'), ONE_READ),
+    ("client twice", script(ONE).replace('"client":0', '"client":9,"client":0'), ONE_READ),
     ("a moment twice", script(one(ASK)).replace('"at":', '"at":-1,"at":'), ONE_ASK),
+    ("tags twice", script(one(command("grv", tags='[5],"tags":["t"]'))), ONE_READ),
+    ("to twice", script(one(command("tell", to='0,"to":1')), clients="2"), replies("0 0 0 tell 1 pos 0")),
     ("the most rounds", script("[" + ",".join(["[]"] * MOST_ROUNDS) + "]"), NO_REPLY),
+    ("the most throttles", script(ONE, throttles=round_of(*[THROTTLE] * MOST_THROTTLES)), ONE_READ),
 ]
 
 
@@ -82,63 +192,84 @@ def stored(program):
         return fault_of(run([program], stdin=it), done(first_output()))
 
 
-def written(epoch_end, recovery, rounds):
-    """Writes the script of these commands, which are pairs as the model takes them. What an ask says is processed changes no reply."""
-    ask = lambda at: {"at": str(at), "processed": str(at % 9)}
-    members = {"grv": lambda _: {}, "ask": ask, "report": lambda num: {"num": str(num)}}
-    text = ",".join(round_of(*[command(do, **members[do](value)) for do, value in it]) for it in rounds)
-    return script(f"[{text}]", epoch_end=str(epoch_end), recovery=str(recovery)).encode()
-
-
-def compared(program, epoch_end, recovery, rounds, seconds):
-    ran = run([program], written(epoch_end, recovery, rounds), seconds)
-    return fault_of(ran, done(printed(epoch_end, recovery, rounds)))
-
-
-def some_commands(dice, count):
-    """Draws reads, asks at moments that mostly go on, and reports of numbers old and new, some of them not issued."""
-    commands, moment, asks = [], dice.choice([0, 10**6, HIGHEST - 10**7]), 0
-    for _ in range(count):
-        do = dice.choice(["grv", "ask", "report"])
-        if do == "ask":
-            moment += dice.choice([0, 1, 7, 1000, 4_999_999, 5_000_000, 5_000_001, 10**9, -3, -(10**7)])
-            moment, asks = min(max(moment, 0), HIGHEST), asks + 1
-        value = {"grv": None, "ask": moment, "report": dice.choice([asks, asks - 1, asks + 1, dice.randrange(asks + 2)])}[do]
-        commands.append((do, max(value, 0) if do == "report" else value))
-    return commands
-
-
-def in_rounds(dice, commands):
-    """Cuts the commands into rounds, some of them empty."""
-    cuts = sorted(dice.randrange(len(commands) + 1) for _ in range(dice.randrange(6)))
-    return [commands[a:b] for a, b in zip([0, *cuts], [*cuts, len(commands)])]
+def compared(program, given, *words):
+    """Runs a script with these words, and returns how that differs from the model."""
+    return fault_of(run([program, *words], given), expected(given, "--history" in words))
 
 
 def random_scripts(program):
-    """Small scripts of every kind, the same in each run, from the start and near the end of the versions."""
-    for seed in range(300):
-        dice = random.Random(seed)
-        recovery = dice.choice([1, 100, 10**9, LAST_VERSION - 20_000_000, LAST_VERSION - 6, LAST_VERSION])
-        epoch_end = dice.choice([0, recovery // 2, recovery - 1])
-        rounds = in_rounds(dice, some_commands(dice, dice.randrange(1, 40)))
-        yield f"seed {seed}", compared(program, epoch_end, recovery, rounds, LARGE_SECONDS)
+    """Small scripts of 1 to 4 clients with all commands, the same in each run, from the start and near the end of the versions."""
+    for seed in range(SMALL):
+        given = drawn.lawful(random.Random(seed)).encode()
+        words = [[], ["--history"], ["--proxies", str(seed % 16 + 1), "--history"]][seed % 3]
+        yield f"seed {seed}", compared(program, given, *words)
+
+
+def spoilt_scripts(program):
+    """Such scripts with a word or a mark changed: most are refused, and for what, the model says."""
+    for seed in range(SPOILT):
+        dice = random.Random(f"spoilt {seed}")
+        given = drawn.spoilt(dice, drawn.lawful(dice)).encode()
+        yield f"seed {seed}", compared(program, given)
+
+
+def do(what, client=0, **said):
+    return {"do": what, "client": client, **said}
+
+
+def several(commands, size):
+    """Cuts commands into rounds of this size."""
+    return [commands[at : at + size] for at in range(0, len(commands), size)]
+
+
+def mixed(clients):
+    drawing = drawn.Drawing(random.Random(7), clients)
+    return [drawing.command() for _ in range(MOST_COMMANDS)]
+
+
+def turn(at):
+    """What one client of 64 does in a round, and whom it tells of it."""
+    client = at % 64
+    acts = [do("tell", client, to=(client + 1) % 64), do("ask", client, at=1000 * at), do("report", client, num=at // 64 + 1)]
+    return [*acts, do("tell", client, to=(client + 7) % 64)]
+
+
+def large():
+    """Names scripts of as many commands as there may be, with their rounds and the further members of their top level."""
+    half = MOST_COMMANDS // 2
+    crowd, alone = mixed(64), mixed(1)
+    asks = [do("ask", at=1000 * it) for it in range(MOST_COMMANDS)]
+    late = [do("report", num=half - it) for it in range(half)]
+    repeats = [do("reask", num=it % 300 + 1, at=0) for it in range(MOST_COMMANDS - 300)]
+    throttles = [{"priority": "default", "tag": f"tag-{it}", "rate": it, "expires": it} for it in range(MOST_THROTTLES)]
+    tags = lambda it: [f"tag-{(it * step) % (MOST_THROTTLES + 100)}" for step in (1, 7, 1, 11, 3)]
+    yield "mixed commands of 64 clients in one round", [crowd], {"clients": 64}
+    yield "each command of 64 clients in a round of its own", several(crowd, 1), {"clients": 64}
+    yield "mixed commands of one client in ten rounds", several(alone, 1000), {}
+    yield "tells in each round", [turn(it) for it in range(MOST_COMMANDS // 4)], {"clients": 64}
+    yield "tells alone, of 63 clients to one", [[do("tell", it % 63 + 1, to=0) for it in range(MOST_COMMANDS)]], {"clients": 64}
+    yield "reads of 5 tags under 1,000 throttles", [[do("grv", at=500, tags=tags(it)) for it in range(MOST_COMMANDS)]], {"throttles": throttles}
+    yield "reads alone", [[do("grv")] * MOST_COMMANDS], {}
+    yield "asks alone", [asks], {}
+    yield "each ask with its report", [[it for at in range(half) for it in (do("ask", at=9 * at), do("report", num=at + 1))]], {}
+    yield "reports from the last to the first", [[*asks[:half], *late]], {}
+    yield "repeats of kept answers", [[*asks[:300], *repeats]], {}
+
+
+def crowd_at_all_limits(size):
+    """Writes a script of this many bytes with as much as may be of all else: the rest is in a text that is ignored."""
+    throttles = [{"priority": "default", "tag": f"tag-{it}", "rate": it, "expires": HIGHEST} for it in range(MOST_THROTTLES)]
+    reads = [do("grv", it % 64, tags=[f"tag-{it % MOST_THROTTLES}"] * 5) for it in range(MOST_COMMANDS // 2)]
+    rounds = several([*mixed(64)[: MOST_COMMANDS // 2], *reads], 1)
+    top = {"clients": 64, "normal": 100_000, "batch": 100_000, "room": 100_000, "elapsed": 10_000_000, "throttles": throttles}
+    empty = written(rounds, **top, note="")
+    return written(rounds, **top, note="a" * (size - len(empty)))
 
 
 def large_scripts(program):
-    """As many commands as a script may have, in a few seconds each."""
-    mixed = some_commands(random.Random(7), MOST_COMMANDS)
-    asks = [("ask", 1000 * i) for i in range(MOST_COMMANDS)]
-    pairs = [it for i in range(MOST_COMMANDS // 2) for it in (("ask", 1000 * i), ("report", i + 1))]
-    late = [("ask", 9 * i) for i in range(MOST_COMMANDS // 2)] + [("report", MOST_COMMANDS // 2 - i) for i in range(MOST_COMMANDS // 2)]
-    several = lambda commands, size: [commands[at : at + size] for at in range(0, len(commands), size)]
-    cases = [
-        ("mixed commands in one round", [mixed]),
-        ("mixed commands in ten rounds", several(mixed, 1000)),
-        ("each command in a round of its own", several(mixed, 1)),
-        ("asks alone", [asks]),
-        ("reads alone", [[("grv", None)] * MOST_COMMANDS]),
-        ("each ask with its report", [pairs]),
-        ("reports from the last to the first", [late]),
-    ]
-    for name, rounds in cases:
-        yield name, compared(program, 0, 100, rounds, LARGE_SECONDS)
+    """As many commands as a script may have, with and without the history, in a few seconds each."""
+    for name, rounds, top in large():
+        given = written(rounds, **top)
+        wanted = expected(given, True)
+        yield name, fault_of(run([program], given, LARGE_SECONDS), done(without_history(wanted.out)))
+        yield f"{name}, with the history", fault_of(run([program, "--history"], given, LARGE_SECONDS), wanted)

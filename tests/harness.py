@@ -1,4 +1,5 @@
 """Runs the program, says what was wrong with a run, and writes scripts."""
+import json
 import os
 import subprocess
 from typing import NamedTuple
@@ -8,7 +9,7 @@ EXAMPLES = f"{ROOT}/examples"
 SECONDS = 20
 NOT_ENDED = -1000
 
-DONE, REFUSED, NO_MEMORY, NO_STREAM = 0, 1, 3, 5
+DONE, REFUSED, OTHER_WORDS, NO_MEMORY, NO_STREAM = 0, 1, 2, 3, 5
 
 
 class Ran(NamedTuple):
@@ -29,7 +30,12 @@ def first_script():
 
 
 def first_output():
-    return read(f"{EXAMPLES}/first.out")
+    """What the first script prints without words."""
+    return without_history(read(f"{EXAMPLES}/first.out"))
+
+
+def without_history(out):
+    return out.partition(b"history ")[0]
 
 
 def run(words, given=b"", seconds=SECONDS, **how):
@@ -43,9 +49,9 @@ def run(words, given=b"", seconds=SECONDS, **how):
     return Ran(ran.returncode, ran.stdout or b"", ran.stderr or b"")
 
 
-def under(redirections, program, given=b"", **how):
-    """Runs the program with the shell's redirections, as '>&-'."""
-    return run(["sh", "-c", f'exec "$0" {redirections}', program], given, **how)
+def under(redirections, program, given=b"", words=(), **how):
+    """Runs the program with these words and the shell's redirections, as '>&-'."""
+    return run(["sh", "-c", f'exec "$0" "$@" {redirections}', program, *words], given, **how)
 
 
 def fault_of(ran, wanted):
@@ -83,6 +89,7 @@ def refused(why):
 READING_FAILED = faulted(NO_STREAM, "reading failed")
 WRITING_FAILED = faulted(NO_STREAM, "writing failed")
 OUT_OF_MEMORY = faulted(NO_MEMORY, "want of memory")
+WORDS_REFUSED = faulted(OTHER_WORDS, "words refused")
 
 
 def members(**texts):
@@ -94,6 +101,11 @@ def script(rounds="[]", **changed):
     """Writes a script from the JSON texts of its members."""
     top = {"epoch_end": "0", "recovery": "100", "clients": "1", "rounds": rounds}
     return members(**{**top, **changed})
+
+
+def written(rounds, **changed):
+    """Writes a script from its values: rounds of commands that are dicts, and members of the top level."""
+    return json.dumps({"epoch_end": 0, "recovery": 100, "clients": 1, **changed, "rounds": rounds}).encode()
 
 
 def command(do, **changed):

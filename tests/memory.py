@@ -5,12 +5,19 @@ import shutil
 import subprocess
 import tempfile
 
-from harness import OUT_OF_MEMORY, ROOT, done, fault_of, first_output, first_script, refused as refused_script, run
-from answers import written
-from model import printed
+from answers import do
+from harness import OUT_OF_MEMORY, ROOT, WORDS_REFUSED, done, fault_of, first_output, first_script, refused as refused_script, run, written
+from model import expected
 
 SOURCE = f"{ROOT}/tests/refuse.c"
-LARGE = [[("ask", 9 * it) for it in range(500)], [("report", it + 1) for it in range(500)], [("grv", None)] * 500]
+LARGE = [[do("ask", at=9 * it) for it in range(500)], [do("report", num=it + 1) for it in range(500)], [do("grv")] * 500]
+# Two clients with throttles, tags and tells, of whose calls some are refused.
+THROTTLES = [{"priority": "default", "tag": tag, "rate": 5, "expires": 5000} for tag in ("t", "sixteen-bytes-ab", "t")]
+TWO = [
+    [do("ask", at=1000), do("ask", at=3000), do("report", num=2, locked=True, metadata=7), do("tell", to=1), do("reask", num=2, at=1)],
+    [do("grv", 1, tags=["t", "u", "sixteen-bytes-ab", "t"], lock_aware=True), do("grv", 1), do("ask", 1, at=5), do("tell", 1, to=0)],
+    [do("report", num=3), do("reask", num=9, at=1), do("grv", priority="batch", tags=["t"]), do("tell", to=1), do("tell", to=1)],
+]
 MOST_RUNS = 2_000
 # The tests that pass whichever single allocation is refused: of each crate those whose names match.
 BEARING = {
@@ -59,19 +66,20 @@ def swept(words, preloaded, given, without, wanted, goes_on, step):
 def refused(program):
     """A run that is refused memory ends with status 3 and its line, or as ever where it can do without."""
     each, further = lambda at: at + 1, lambda at: at + 1 + at // 12
-    outputs = first_script(), done(first_output())
-    large = written(0, 100, LARGE), done(printed(0, 100, LARGE))
+    first, two, large = first_script(), written(TWO, clients=2, throttles=THROTTLES), written(LARGE)
     sweeps = [
-        ("the first script", *outputs, each),
-        ("a script that is refused", first_script().replace(b'"num":2', b'"num":-2'), refused_script("BadField 0 4"), each),
-        ("a large script", *large, further),
+        ("the first script", [], first, done(first_output()), each),
+        ("a script that is refused", [], first.replace(b'"num":2', b'"num":-2'), refused_script("BadField 0 4"), each),
+        ("words that are refused", ["--proxies", "17"], first, WORDS_REFUSED, each),
+        ("two clients", ["--proxies", "2", "--history"], two, expected(two, True), each),
+        ("a large script", ["--history"], large, expected(large, True), further),
     ]
     with tempfile.TemporaryDirectory(prefix="refuse-") as folder:
         preloaded = built(folder)
-        for name, given, wanted, step in sweeps:
+        for name, words, given, wanted, step in sweeps:
             for goes_on in (False, True):
                 what = f"{name}, from allocation" if goes_on else f"{name}, allocation"
-                for number, fault in swept([program], preloaded, given, OUT_OF_MEMORY, wanted, goes_on, step):
+                for number, fault in swept([program, *words], preloaded, given, OUT_OF_MEMORY, wanted, goes_on, step):
                     yield f"{what} {number}", fault
 
 

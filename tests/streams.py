@@ -2,8 +2,10 @@
 import os
 import subprocess
 
-from harness import DONE, NO_STREAM, READING_FAILED, REFUSED, WRITING_FAILED, Ran, done, fault_of, first_output, first_script, refused, run, script, under
-from answers import MOST_COMMANDS, written
+from answers import MOST_COMMANDS, crowd_at_all_limits
+from harness import DONE, NO_STREAM, READING_FAILED, REFUSED, WRITING_FAILED, Ran
+from harness import done, fault_of, first_output, first_script, refused, run, script, under, written
+from model import expected
 
 MOST_BYTES = 16_777_216
 
@@ -23,9 +25,11 @@ def sizes(program):
         ("no JSON, one byte more", b"x" * (MOST_BYTES + 1), READING_FAILED),
         ("four times the size", padded(4 * MOST_BYTES), READING_FAILED),
     ]
-    for name, given, expected in cases:
-        yield name, fault_of(run([program], given), expected)
+    for name, given, ends in cases:
+        yield name, fault_of(run([program], given), ends)
     yield "input that never ends", fault_of(under("< /dev/zero", program), READING_FAILED)
+    full = crowd_at_all_limits(MOST_BYTES)
+    yield "a script at all its limits", fault_of(run([program, "--proxies", "16", "--history"], full), expected(full, True))
 
 
 def with_note(size):
@@ -37,7 +41,8 @@ def with_note(size):
 def broken(program):
     """A stream that fails ends the run with status 5 and a line; a standard error that fails changes no status."""
     first = first_script()
-    large = written(0, 100, [[("ask", it) for it in range(MOST_COMMANDS)]])
+    large = written([[{"do": "ask", "client": 0, "at": it} for it in range(MOST_COMMANDS)]])
+    reads = written([[{"do": "grv", "client": 1}] * MOST_COMMANDS], clients=2)
     no_error_line = Ran(NO_STREAM, b"", b"")
     cases = [
         ("standard output closed", ">&-", first, WRITING_FAILED),
@@ -57,8 +62,13 @@ def broken(program):
     ]
     for name, redirections, given, wanted in cases:
         yield name, fault_of(under(redirections, program, given), wanted)
+    for name, given in (("two clients", reads), ("the first script", first)):
+        ran = under("> /dev/full", program, given, ["--history", "--proxies", "2"])
+        yield f"standard output full, the history of {name}", fault_of(ran, WRITING_FAILED)
     yield "standard output with no reader", fault_of(unread(program, first), Ran(NO_STREAM, None, WRITING_FAILED.err))
-    yield "standard output that is closed half way", fault_of(half_read(program, large), Ran(NO_STREAM, None, WRITING_FAILED.err))
+    half_written = Ran(NO_STREAM, None, WRITING_FAILED.err)
+    yield "standard output that is closed half way", fault_of(half_read(program, large), half_written)
+    yield "standard output that is closed half way, with the history", fault_of(half_read(program, reads, "--history"), half_written)
     yield "a script that comes byte by byte", fault_of(byte_by_byte(program, first), Ran(DONE, first_output(), b""))
 
 
@@ -72,9 +82,9 @@ def unread(program, given):
         os.close(writer)
 
 
-def half_read(program, given):
+def half_read(program, given, *words):
     """Runs the program on a large script with a reader that goes away after one byte."""
-    return run(["bash", "-c", 'set -o pipefail; "$0" | head -c 1 > /dev/null', program], given)
+    return run(["bash", "-c", 'set -o pipefail; "$0" "$@" | head -c 1 > /dev/null', program, *words], given)
 
 
 def byte_by_byte(program, given):

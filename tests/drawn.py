@@ -1,0 +1,121 @@
+"""Random scripts, the same from the same dice: lawful ones, in which calls meet refusals, and spoilt ones."""
+import json
+import re
+
+from reader import HIGHEST, LAST_VERSION
+
+TAGS = ["t", "u", "!~", '"\\/', "sixteen-bytes-ab"]
+PRIORITIES = ["default", "default", "batch", "system"]
+MOMENTS = [0, 1, 4999, 5000, 10**6, HIGHEST - 1, HIGHEST]
+STEPS = [0, 1, 7, 1000, 4_999_999, 5_000_000, 5_000_001, 10**9, -3, -(10**7)]
+RECOVERIES = [1, 100, 100, 100, 10**9, 10**9, LAST_VERSION - 20_000_000, LAST_VERSION - 6, LAST_VERSION]
+# What may be said of the queue, which has no effect so far.
+QUEUE = {"normal": [1, 100_000], "batch": [0, 100_000], "room": [1, 100_000], "elapsed": [1, 10_000_000]}
+IGNORED = {"note": {"client": [None, 1e-3]}, "to ": "é😀\n", "Do": -1, "": [[], {}]}
+
+
+class Drawing:
+    """Draws the commands of some clients, and counts what each has asked for, so that numbers are old, new or too high."""
+
+    def __init__(self, dice, clients):
+        self.dice, self.clients = dice, clients
+        self.moment, self.asks = dice.choice([0, 10**6, HIGHEST - 10**7]), [0] * clients
+
+    def at(self):
+        self.moment = min(max(self.moment + self.dice.choice(STEPS), 0), HIGHEST)
+        return self.moment
+
+    def num(self, client):
+        asks = self.asks[client]
+        lately = [asks, asks, asks - 1, asks + 1, self.dice.randrange(asks + 2)]
+        return max(0, self.dice.choice(lately)) if self.dice.random() < 0.95 else self.dice.choice([0, asks + 2, HIGHEST])
+
+    def processed(self, client):
+        return self.dice.choice([0, 0, 0, max(0, self.asks[client] - 2), self.num(client)])
+
+    def grv(self, _):
+        tags = [self.dice.choice(TAGS) for _ in range(self.dice.choice([0, 1, 2, 5]))]
+        count, priority, at = self.dice.choice([0, 1, 100_001, HIGHEST]), self.dice.choice(PRIORITIES), self.dice.choice(MOMENTS)
+        return {}, {"at": at, "priority": priority, "count": count, "tags": tags, "lock_aware": self.dice.choice([True, False])}
+
+    def ask(self, client):
+        self.asks[client] += 1
+        return {"at": self.at()}, {"processed": self.processed(client)}
+
+    def reask(self, client):
+        num = self.num(client)
+        self.asks[client] += num == self.asks[client] + 1
+        return {"num": num, "at": self.at()}, {"processed": self.processed(client)}
+
+    def report(self, client):
+        metadata = self.dice.choice([None, None, 0, 7, HIGHEST])
+        return {"num": self.num(client)}, {"locked": self.dice.random() < 0.4, "metadata": metadata}
+
+    def tell(self, client):
+        return {"to": self.dice.choice([it for it in range(self.clients) if it != client])}, {}
+
+    def command(self):
+        client = self.dice.randrange(self.clients)
+        do = self.dice.choice(["grv", "ask", "ask", "reask", "report", "report", "tell" if self.clients > 1 else "grv"])
+        if not self.asks[client] and do in ("reask", "report") and self.dice.random() < 0.7:
+            do = "ask"
+        required, optional = getattr(self, do)(client)
+        given = {**some(self.dice, optional, 0.6), **some(self.dice, IGNORED, 0.05)}
+        return shuffled(self.dice, {"do": do, "client": client, **required, **given})
+
+
+def some(dice, members, share):
+    return {name: it for name, it in members.items() if dice.random() < share}
+
+
+def shuffled(dice, members):
+    return dict(dice.sample(list(members.items()), len(members)))
+
+
+def in_rounds(dice, commands):
+    """Cuts the commands into rounds, some of them empty."""
+    cuts = sorted(dice.randrange(len(commands) + 1) for _ in range(dice.randrange(6)))
+    return [commands[a:b] for a, b in zip([0, *cuts], [*cuts, len(commands)])]
+
+
+def throttles(dice, count):
+    draw = lambda: {"priority": dice.choice(PRIORITIES), "tag": dice.choice(TAGS), "rate": dice.choice([0, 5, HIGHEST]), "expires": dice.choice(MOMENTS)}
+    return [shuffled(dice, draw()) for _ in range(count)]
+
+
+def lawful(dice):
+    """Draws the text of a script of 1 to 4 clients and up to 40 commands."""
+    recovery = dice.choice(RECOVERIES)
+    drawing = Drawing(dice, dice.choice([1, 2, 3, 4]))
+    rounds = in_rounds(dice, [drawing.command() for _ in range(dice.randrange(1, 41))])
+    required = {"epoch_end": dice.choice([0, recovery // 2, recovery - 1]), "recovery": recovery, "clients": drawing.clients, "rounds": rounds}
+    queue = {name: dice.choice(edges) for name, edges in QUEUE.items()}
+    optional = {**queue, "throttles": throttles(dice, dice.choice([0, 1, 6, 12])), **IGNORED}
+    members = shuffled(dice, {**required, **some(dice, optional, 0.7)})
+    return json.dumps(members, ensure_ascii=dice.choice([True, False]), indent=dice.choice([None, 0, "\t"]))
+
+
+TOKEN = re.compile(r'"[^"\\]*(?:\\.[^"\\]*)*"|[-+.\w]+|[][{},:]')
+MARKS = list("[]{},:")
+NUMBERS = ["0", "1", "2", "63", "64", "65", "-0", "-1", "1.0", "1e3", "18446744073709551615", "18446744073709551616", "1e309", "01"]
+LISTS = ["[]", "{}", "[[]]", '["t"]', '["t","t","t","t","t","t"]', "[{}]", "5", "null", "true", "false"]
+TEXTS = ['""', '" "', '"t"', '"\\u0074"', '"\\ud800"', '"seventeen-bytes-ab"', '"\u00e9"', '"grv"', '"ask"', '"reask"', '"tell"', '"batch"']
+NAMES = ['"do"', '"client"', '"clients"', '"at"', '"num"', '"to"', '"rounds"', '"throttles"', '"tags"', '"tag"', '"locked"', '"priority"', '"x"']
+
+
+def spoilt(dice, text):
+    """Changes one or two words or marks of a text. Most such texts are refused, and some mean something else."""
+    tokens = TOKEN.findall(text)
+    for _ in range(dice.choice([1, 1, 2])):
+        is_name = lambda at: tokens[at + 1 : at + 2] == [":"]
+        words = [at for at, token in enumerate(tokens) if token not in MARKS]
+        word, anywhere, change = dice.choice(words), dice.randrange(len(tokens)), dice.random()
+        if change < 0.8:
+            tokens[word] = dice.choice(NAMES if is_name(word) else dice.choice([NUMBERS, LISTS, TEXTS]))
+        elif change < 0.9:
+            tokens[word] = tokens[dice.choice([at for at in words if is_name(at) == is_name(word)])]
+        elif change < 0.95:
+            del tokens[anywhere]
+        else:
+            tokens.insert(anywhere, dice.choice(tokens))
+    return "".join(tokens)
