@@ -1,4 +1,5 @@
 pub mod Arrays
+pub mod Given
 pub mod Input
 pub mod NoneAstray
 pub mod NoneLow

@@ -6,3 +6,4 @@ pub mod Outcome
 pub mod Text
 pub mod Replay
 pub mod Session
+pub mod Words

@@ -12,9 +12,11 @@ mod script;
 mod session;
 #[cfg(test)]
 mod tests;
+mod words;
 
 pub use driving::{MAX_SCRIPT_BYTES, drive};
 pub use outcome::{Outcome, RunFault};
 pub use replaying::{ReplayFault, replay};
 pub use running::run;
 pub use script::{Act, Command, MAX_COMMANDS, MAX_ROUNDS, Script, ScriptError};
+pub use words::command_line;
