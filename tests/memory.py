@@ -5,9 +5,10 @@ import shutil
 import subprocess
 import tempfile
 
-from harness import OUT_OF_MEMORY, ROOT, done, fault_of, first_output, first_script, refused as refused_script, run
+from harness import EXAMPLES, OUT_OF_MEMORY, READING_FAILED, ROOT, done, fault_of, first_output, first_script, refused as refused_script, run
 from answers import written
 from model import printed
+from words import HISTORY, WORDS_REFUSED
 
 SOURCE = f"{ROOT}/tests/refuse.c"
 LARGE = [[("ask", 9 * it) for it in range(500)], [("report", it + 1) for it in range(500)], [("grv", None)] * 500]
@@ -61,17 +62,22 @@ def refused(program):
     each, further = lambda at: at + 1, lambda at: at + 1 + at // 12
     outputs = first_script(), done(first_output())
     large = written(0, 100, LARGE), done(printed(0, 100, LARGE))
+    by_words = ["--history", "--proxies=2", f"{EXAMPLES}/first.json"]
     sweeps = [
-        ("the first script", *outputs, each),
-        ("a script that is refused", first_script().replace(b'"num":2', b'"num":-2'), refused_script("BadField 0 4"), each),
-        ("a large script", *large, further),
+        ("the first script", [], *outputs, each),
+        ("a script that is refused", [], first_script().replace(b'"num":2', b'"num":-2'), refused_script("BadField 0 4"), each),
+        ("a large script", [], *large, further),
+        ("a file that words name", by_words, b"", done(first_output() + HISTORY), each),
+        ("a file that is not there", ["/none.json"], b"", READING_FAILED, each),
+        ("words that are refused", ["--none"], b"", WORDS_REFUSED, each),
+        ("help", ["--help"], b"", done(run([program, "--help"]).out), each),
     ]
     with tempfile.TemporaryDirectory(prefix="refuse-") as folder:
         preloaded = built(folder)
-        for name, given, wanted, step in sweeps:
+        for name, words, given, wanted, step in sweeps:
             for goes_on in (False, True):
                 what = f"{name}, from allocation" if goes_on else f"{name}, allocation"
-                for number, fault in swept([program], preloaded, given, OUT_OF_MEMORY, wanted, goes_on, step):
+                for number, fault in swept([program, *words], preloaded, given, OUT_OF_MEMORY, wanted, goes_on, step):
                     yield f"{what} {number}", fault
 
 

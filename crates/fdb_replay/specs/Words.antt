@@ -1,7 +1,7 @@
 -- What the words of the command line ask for. clap reads them, and its definitions say what it makes of words:
 -- the matches of a command on them, and the kinds of error that it gives at them. Here stand the command, what is read
 -- of its matches, and what the program does then.
-use Rattle.std.specs.Prelude.{◌≡◌, ◌≢◌, ◌⊎◌, ◌≤◌, ⊤, ℕ, Bool, true, false, List, [], ◌∷◌, Option, Some, None, IfSome, length, codes, pos, option_map}
+use Rattle.std.specs.Prelude.{◌≡◌, ◌≢◌, ◌⊎◌, ◌≤◌, ⊤, ℕ, Bool, true, false, List, [], Option, Some, None, IfSome, length, codes, pos, option_map}
 use Rattle.std.specs.Io.KnownBytes.{Appends}
 use Rattle.std.specs.Option.{option_map_or}
 use Rattle.std.specs.Str.{bytes_eq}

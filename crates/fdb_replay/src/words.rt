@@ -11,7 +11,7 @@ use std::env::Env;
 use std::{env, io};
 
 /// What the words of a command line ask for.
-#[derive(Debug, Drop)]
+#[derive(Drop)]
 pub(crate) enum Request<'a> {
     /// A replay.
     Replay(Words<'a>),
@@ -20,7 +20,7 @@ pub(crate) enum Request<'a> {
 }
 
 /// The words of a replay.
-#[derive(Clone, Copy, Debug, PartialEq, Eq)]
+#[derive(Clone, Copy)]
 pub(crate) struct Words<'a> {
     /// The file that has the script; where there is none, standard input has it.
     pub(crate) script: Option<&'a str>,
@@ -31,7 +31,7 @@ pub(crate) struct Words<'a> {
 }
 
 /// Why words ask for nothing.
-#[derive(Clone, Copy, Debug, PartialEq, Eq)]
+#[derive(Clone, Copy)]
 pub(crate) enum WordsFault {
     /// They are refused.
     Refused,

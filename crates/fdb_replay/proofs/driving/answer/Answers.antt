@@ -1,4 +1,4 @@
-use Rattle.std.proofs.Common.{◌≡◌, true, is_some, map, string_bytes}
+use Rattle.std.proofs.Common.{map, string_bytes}
 use Rattle.fdb_replay.specs.Words.{AskReplay}
 use Rattle.fdb_replay.proofs.Given.{file_named}
 use Rattle.fdb_replay.proofs.driving.answer.Goals as goal

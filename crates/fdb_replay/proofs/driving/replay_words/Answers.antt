@@ -1,4 +1,4 @@
-use Rattle.std.proofs.Common.{List, ℕ, ◌≤◌, length, Bool, subst, option_map, arith}
+use Rattle.std.proofs.Common.{◌≤◌, length, subst, arith}
 use Rattle.std.proofs.KnownBytes.{Appends-kept}
 use Rattle.fdb_replay.specs.Replay.{Replays}
 use Rattle.fdb_replay.specs.declared.driving.TheConstants.{MAX_SCRIPT_BYTES}

@@ -1,9 +1,9 @@
-use Rattle.std.proofs.Common.{rules, ◌≡◌, ◌∙◌, ap, sym, map, string_bytes, codes, List, [], Some, None, Option, ℕ}
+use Rattle.std.proofs.Common.{◌≡◌, ◌∙◌, ap, sym, map, string_bytes, codes, []}
 use Rattle.std.specs.Str.Parse.{ParsesUnsigned, ExplainsUnsignedError, HasUnsignedDigitsIfOk}
 use Rattle.clap.specs.Faults.{is_simple_and_free}
 use Rattle.clap.specs.Words.{App, app_of, fault_of, first_of, found_of, is_simple, matches_of, one_of, one_text, rows_of}
 use Rattle.clap.proofs.WalkLemmas.{first_value-rows, one_text-rows}
-use Rattle.fdb_replay.specs.Words.{command as command_read, faults, proxies_named, wants_history}
+use Rattle.fdb_replay.specs.Words.{command as command_read, faults}
 use Rattle.fdb_replay.proofs.Given.{count_read, flag_read, texts_are}
 use Rattle.fdb_replay.proofs.words.parse.Goals as goal
 
