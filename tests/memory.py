@@ -6,7 +6,7 @@ import subprocess
 import tempfile
 
 from answers import do
-from harness import OUT_OF_MEMORY, ROOT, WORDS_REFUSED, done, fault_of, first_output, first_script, refused as refused_script, run, written
+from harness import EXAMPLES, OUT_OF_MEMORY, READING_FAILED, ROOT, WORDS_REFUSED, done, fault_of, first_output, first_script, refused as refused_script, run, written
 from model import expected
 
 SOURCE = f"{ROOT}/tests/refuse.c"
@@ -67,12 +67,16 @@ def refused(program):
     """A run that is refused memory ends with status 3 and its line, or as ever where it can do without."""
     each, further = lambda at: at + 1, lambda at: at + 1 + at // 12
     first, two, large = first_script(), written(TWO, clients=2, throttles=THROTTLES), written(LARGE)
+    by_words = ["--history", "--proxies=2", f"{EXAMPLES}/first.json"]
     sweeps = [
         ("the first script", [], first, done(first_output()), each),
         ("a script that is refused", [], first.replace(b'"num":2', b'"num":-2'), refused_script("BadField 0 4"), each),
-        ("words that are refused", ["--proxies", "17"], first, WORDS_REFUSED, each),
         ("two clients", ["--proxies", "2", "--history"], two, expected(two, True), each),
         ("a large script", ["--history"], large, expected(large, True), further),
+        ("a file that words name", by_words, b"", expected(first, True), each),
+        ("a file that is not there", ["/none.json"], b"", READING_FAILED, each),
+        ("words that are refused", ["--proxies", "17"], first, WORDS_REFUSED, each),
+        ("help", ["--help"], b"", done(run([program, "--help"]).out), each),
     ]
     with tempfile.TemporaryDirectory(prefix="refuse-") as folder:
         preloaded = built(folder)

@@ -1,5 +1,6 @@
 pub mod Calls
 pub mod Epochs
+pub mod Given
 pub mod Input
 pub mod Learnt
 pub mod Performed

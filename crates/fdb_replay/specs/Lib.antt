@@ -2,6 +2,7 @@ pub mod Outcome
 pub mod Replay
 pub mod Rounds
 pub mod Service
+pub mod Words
 pub use Rattle.fdb_script.specs.Answering
 pub use Rattle.fdb_script.specs.Plan
 pub use Rattle.fdb_script.specs.Reading

@@ -1,16 +1,19 @@
 //! The program, over a reader and two writers.
 
-ghost use Rattle.std.specs.Prelude.{◌≡◌, ◌≢◌, ◌<◌, ◌≤◌, ℕ, List, IfOk, IfErr, IfSome, OnOk, false, length, vec_len};
-ghost use Rattle.std.specs.Io.KnownBytes.{Appends};
-ghost use Rattle.fdb_replay.specs.Replay.{Replays, IsRefused};
+ghost use Rattle.std.specs.Prelude.{◌≡◌, ◌≢◌, ◌<◌, ◌≤◌, IfOk, IfErr, IfSome, OnOk, OnErr, IsOkAnd, MatchResult, true, is_some, map, option_map, string_bytes, vec_len};
+ghost use Rattle.std.specs.IoError.{error_kind};
+ghost use Rattle.fdb_replay.specs.Words.{AreTaken, AreWrong, AskInVain, IsDone, IsInput, IsNoScript, ReadsInput, Replayed};
 ghost use Rattle.fdb_script.specs.declared.error.ScriptError.{ScriptError};
 ghost use Rattle.fdb_replay.specs.declared.driving.TheConstants.{MAX_SCRIPT_BYTES};
 
 use crate::fault::RunFault;
 use crate::replaying::{ReplayFault, replay};
+use crate::words::{Request, Words, WordsFault, parse};
 use fdb_history::{AuditFault, OpenGate};
 use fdb_script::ScriptError;
 use std::alloc::Global;
+use std::fs::{File, Files};
+use std::io;
 use std::io::{ErrorKind, Read, Write};
 use std::sync::Wait;
 use std::thread::Threads;
@@ -24,6 +27,8 @@ pub const MAX_SCRIPT_BYTES: usize = 16_777_216;
 enum Fault {
     #[error("script refused: {0}")]
     Script(ScriptError),
+    #[error("words refused")]
+    Words,
     #[error("want of memory")]
     Memory,
     #[error("audit fault: {0}")]
@@ -35,14 +40,40 @@ enum Fault {
 }
 
 impl Fault {
+    /// Why the words could not be had.
+    fn of_words(error: &io::Error) -> Fault
+        ensures some { result ≢ Fault.Words → result ≡ Fault.Memory }
+        ensures words { result ≡ Fault.Words → error_kind error.now ≢ ErrorKind.OutOfMemory }
+    {
+        match error.kind() {
+            ErrorKind::OutOfMemory => Fault::Memory,
+            _ => Fault::Words,
+        }
+    }
+
+    /// Why the script could not be read.
+    fn of_reading(error: &io::Error) -> Fault
+        ensures script { (error : ScriptError) → result ≢ Fault.Script error }
+        ensures words { result ≢ Fault.Words }
+    {
+        match error.kind() {
+            ErrorKind::OutOfMemory => Fault::Memory,
+            _ => Fault::Reading,
+        }
+    }
+
     /// The status that the program ends with.
     fn status(self) -> u8
         ensures fault { 0 < result }
+        ensures script { result ≡ 1 → (error : ScriptError) × (self ≡ Fault.Script error) }
+        ensures words { result ≡ 2 → self ≡ Fault.Words }
+        ensures no_words { self ≡ Fault.Words → result ≡ 2 }
+        ensures memory { self ≡ Fault.Memory → result ≡ 3 }
         ensures writing { self ≡ Fault.Writing → result ≡ 5 }
-        ensures refused { result ≡ 1 → (error : ScriptError) × (self ≡ Fault.Script error) }
     {
         match self {
             Fault::Script(_) => 1,
+            Fault::Words => 2,
             Fault::Memory => 3,
             Fault::Audit(_) => 4,
             Fault::Reading | Fault::Writing => 5,
@@ -50,14 +81,28 @@ impl Fault {
     }
 }
 
+impl From<WordsFault> for Fault {
+    ghost use Rattle.fdb_replay.specs.declared.driving.Fault.TheVariants.{Memory, Words};
+    ghost use Rattle.fdb_replay.specs.declared.words.WordsFault.TheVariants as cause;
+
+    ghost from_gives = { λ fault made. (fault ≡ cause.Refused → made ≡ Words) × (fault ≡ cause.Memory → made ≡ Memory) };
+
+    fn from(fault: WordsFault) -> Self {
+        match fault {
+            WordsFault::Refused => Fault::Words,
+            WordsFault::Memory => Fault::Memory,
+        }
+    }
+}
+
 impl From<ReplayFault> for Fault {
     ghost use Rattle.std.specs.Prelude.{◌≢◌};
-    ghost use Rattle.fdb_replay.specs.declared.driving.Fault.TheVariants.{Script, Writing};
+    ghost use Rattle.fdb_replay.specs.declared.driving.Fault.TheVariants.{Script, Words, Writing};
     ghost use Rattle.fdb_replay.specs.declared.replaying.ReplayFault.TheVariants as replay;
     ghost use Rattle.fdb_script.specs.declared.error.ScriptError.{ScriptError};
     ghost use Rattle.fdb_script.specs.declared.error.ScriptError.TheVariants.{Memory};
 
-    ghost from_gives = { λ cause fault. (cause ≡ replay.Write → fault ≡ Writing)
+    ghost from_gives = { λ cause fault. (cause ≡ replay.Write → fault ≡ Writing) × (fault ≢ Words)
         × ((error : ScriptError) → fault ≡ Script error → (cause ≡ replay.Script error) × (error ≢ Memory)) };
 
     fn from(fault: ReplayFault) -> Self {
@@ -72,24 +117,34 @@ impl From<ReplayFault> for Fault {
     }
 }
 
-/// Reads a script from the input, replays it, and writes the lines to `out`. Answers the status of the program:
-/// 0 where all of it is done, 1 where the script is refused, 3 for want of memory, 4 for an audit fault, and 5 where
-/// reading or writing failed, a script of more than [`MAX_SCRIPT_BYTES`] included. Whatever is not 0 is told
-/// by a line to `err`; where that line cannot be written, the status is the same.
-pub fn drive<R: Threads + Wait + Sync, I: Read, O: Write, E: Write>(
+/// Does what the words of the command line ask for, which are given without the program's own name, or with why they
+/// could not be had. Replays a script, from the file that the words name or else from the input, and writes the lines
+/// to `out`; or writes the help there.
+///
+/// Answers the status of the program: 0 where all of it is done, 1 where the script is refused, 2 where the words are,
+/// 3 for want of memory, 4 for an audit fault, and 5 where reading or writing failed, a file that cannot be opened and
+/// a script of more than [`MAX_SCRIPT_BYTES`] included. Faults are looked for in the order words, reading, script, run,
+/// writing. Whatever is not 0 is told by a line to `err`; where that line cannot be written, the status is the same.
+pub fn drive<R: Threads + Wait + Sync + Files, I: Read, O: Write, E: Write>(
     rt: &R,
     alloc: Global,
+    words: io::Result<Vec<String>>,
     input: &mut I,
     out: &mut O,
     err: &mut E,
 ) -> u8
-    ensures done { result ≡ 0 → IfSome (I.remaining input.old) (λ bytes. (length bytes ≤ MAX_SCRIPT_BYTES)
-        × (written : List ℕ) × Replays bytes false written × Appends (O.contents out.old) (O.contents out.new) written) }
+    ensures asked { result ≢ 2 → result ≢ 3 → IsOkAnd words (λ list. AreTaken (map string_bytes list.items)) }
+    ensures done { result ≡ 0 → IsOkAnd words (λ list.
+        IsDone (map string_bytes list.items) (I.remaining input.old) (O.contents out.old) (O.contents out.new)) }
+    ensures refused { result ≡ 1 → IsOkAnd words (λ list. AskInVain (map string_bytes list.items) (I.remaining input.old)) }
+    ensures wrong { result ≡ 2 → MatchResult words (λ list. AreWrong (map string_bytes list.items))
+        (λ error. error_kind error ≢ ErrorKind.OutOfMemory) }
+    ensures unread { OnErr words (input.new ≡ input.old) }
+    ensures left { IfOk words (λ list. (ReadsInput (map string_bytes list.items) → ⊥) → input.new ≡ input.old) }
     ensures quiet { result ≡ 0 → err.new ≡ err.old }
     ensures unwritten { result ≢ 0 → result ≢ 5 → out.new ≡ out.old }
-    ensures refused { result ≡ 1 → IfSome (I.remaining input.old) IsRefused }
 {
-    match replay_input(rt, alloc, input, out) {
+    match answer(rt, alloc, words, input, out) {
         Ok(()) => 0,
         Err(fault) => {
             let _ = writeln!(err, "fdb_replay: {fault}");
@@ -98,23 +153,99 @@ pub fn drive<R: Threads + Wait + Sync, I: Read, O: Write, E: Write>(
     }
 }
 
-/// Replays the script that the input has, and flushes what was written.
-fn replay_input<R: Threads + Wait + Sync, I: Read, O: Write>(
+/// Does what the words ask for, and flushes what was written.
+fn answer<R: Threads + Wait + Sync + Files, I: Read, O: Write>(
     rt: &R,
     alloc: Global,
+    words: io::Result<Vec<String>>,
     input: &mut I,
     out: &mut O,
 ) -> Result<(), Fault>
-    ensures ok { OnOk result (IfSome (I.remaining input.old) (λ bytes. (length bytes ≤ MAX_SCRIPT_BYTES)
-        × (written : List ℕ) × Replays bytes false written × Appends (O.contents out.old) (O.contents out.new) written)) }
+    ensures asked { MatchResult result (λ _. IsOkAnd words (λ list. AreTaken (map string_bytes list.items)))
+        (λ fault. fault ≢ Fault.Words → fault ≢ Fault.Memory → IsOkAnd words (λ list. AreTaken (map string_bytes list.items))) }
+    ensures done { OnOk result (IsOkAnd words (λ list.
+        IsDone (map string_bytes list.items) (I.remaining input.old) (O.contents out.old) (O.contents out.new))) }
+    ensures refused { IfErr result (λ fault. (error : ScriptError) → fault ≡ Fault.Script error
+        → IsOkAnd words (λ list. AskInVain (map string_bytes list.items) (I.remaining input.old))) }
+    ensures wrong { IfErr result (λ fault. fault ≡ Fault.Words → MatchResult words (λ list. AreWrong (map string_bytes list.items))
+        (λ error. error_kind error ≢ ErrorKind.OutOfMemory)) }
+    ensures unread { OnErr words (input.new ≡ input.old) }
+    ensures left { IfOk words (λ list. (ReadsInput (map string_bytes list.items) → ⊥) → input.new ≡ input.old) }
     ensures unwritten { IfErr result (λ fault. fault ≢ Fault.Writing → out.new ≡ out.old) }
-    ensures refused { IfErr result (λ fault. (error : ScriptError) → fault ≡ Fault.Script error → IfSome (I.remaining input.old) IsRefused) }
 {
-    let bytes = read_all(alloc, input)?;
-    replay(rt, alloc, &bytes, 1, false, &OpenGate, out)?;
+    let words = match words {
+        Ok(words) => words,
+        Err(error) => return Err(Fault::of_words(&error)),
+    };
+    match parse(alloc, &words)? {
+        Request::Help(help) => show(&help, out),
+        Request::Replay(words) => replay_words(rt, alloc, words, input, out),
+    }
+}
+
+/// Writes the help, and flushes it.
+fn show<O: Write>(help: &clap::Error, out: &mut O) -> Result<(), Fault>
+    ensures { IfErr result (λ fault. fault ≡ Fault.Writing) }
+{
+    match write!(out, "{help}").and_then(|()| out.flush()) {
+        Ok(()) => Ok(()),
+        Err(_) => Err(Fault::Writing),
+    }
+}
+
+/// Replays the script that the words name, or else the input's, and flushes what was written.
+fn replay_words<R: Threads + Wait + Sync + Files, I: Read, O: Write>(
+    rt: &R,
+    alloc: Global,
+    words: Words<'_>,
+    input: &mut I,
+    out: &mut O,
+) -> Result<(), Fault>
+    requires some_proxy { 1 ≤ words.proxies }
+    requires few_proxies { words.proxies ≤ 16 }
+    ensures ok { OnOk result (Replayed (option_map (λ path. path.now) words.entry.script) words.entry.history
+        (I.remaining input.old) (O.contents out.old) (O.contents out.new)) }
+    ensures refused { IfErr result (λ fault. (error : ScriptError) → fault ≡ Fault.Script error
+        → IsNoScript (option_map (λ path. path.now) words.entry.script) (I.remaining input.old)) }
+    ensures taken { IfErr result (λ fault. fault ≢ Fault.Words) }
+    ensures unwritten { IfErr result (λ fault. fault ≢ Fault.Writing → out.new ≡ out.old) }
+    ensures left { is_some words.entry.script ≡ true → input.new ≡ input.old }
+{
+    let bytes = script_bytes(rt, alloc, words.script, input)?;
+    replay(
+        rt,
+        alloc,
+        &bytes,
+        words.proxies,
+        words.history,
+        &OpenGate,
+        out,
+    )?;
     match out.flush() {
         Ok(()) => Ok(()),
         Err(_) => Err(Fault::Writing),
+    }
+}
+
+/// All bytes of the file that is named, or else of the input, if they are no more than a script may have.
+fn script_bytes<R: Files, I: Read>(
+    rt: &R,
+    alloc: Global,
+    script: Option<&str>,
+    input: &mut I,
+) -> Result<Vec<u8>, Fault>
+    ensures all { IfOk result (λ bytes. IsInput (option_map (λ path. path.now) script.entry) (I.remaining input.old) bytes.items) }
+    ensures in_range { IfOk result (λ bytes. vec_len bytes ≤ MAX_SCRIPT_BYTES) }
+    ensures err { IfErr result (λ fault. (error : ScriptError) → fault ≢ Fault.Script error) }
+    ensures taken { IfErr result (λ fault. fault ≢ Fault.Words) }
+    ensures left { is_some script.entry ≡ true → input.new ≡ input.old }
+{
+    let Some(path) = script else {
+        return read_all(alloc, input);
+    };
+    match File::open(rt, path) {
+        Ok(mut file) => read_all(alloc, &mut file),
+        Err(error) => Err(Fault::of_reading(&error)),
     }
 }
 
@@ -123,12 +254,13 @@ fn read_all<I: Read>(alloc: Global, input: &mut I) -> Result<Vec<u8>, Fault>
     ensures all { IfOk result (λ bytes. IfSome (I.remaining input.old) (λ all. all ≡ bytes.items)) }
     ensures in_range { IfOk result (λ bytes. vec_len bytes ≤ MAX_SCRIPT_BYTES) }
     ensures err { IfErr result (λ fault. (error : ScriptError) → fault ≢ Fault.Script error) }
+    ensures taken { IfErr result (λ fault. fault ≢ Fault.Words) }
 {
     let mut bytes = Vec::new(alloc);
     let mut limited = input.take(MAX_SCRIPT_BYTES as u64 + 1);
     match limited.read_to_end(&mut bytes) {
         Ok(_) if bytes.len() <= MAX_SCRIPT_BYTES => Ok(bytes),
-        Err(error) if error.kind() == ErrorKind::OutOfMemory => Err(Fault::Memory),
-        _ => Err(Fault::Reading),
+        Ok(_) => Err(Fault::Reading),
+        Err(error) => Err(Fault::of_reading(&error)),
     }
 }

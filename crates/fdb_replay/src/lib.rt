@@ -11,8 +11,10 @@ mod running;
 mod service;
 #[cfg(test)]
 mod tests;
+mod words;
 
 pub use driving::{MAX_SCRIPT_BYTES, drive};
 pub use fault::RunFault;
 pub use replaying::{ReplayFault, replay};
 pub use running::run;
+pub use words::command_line;

@@ -1,6 +1,7 @@
 //! What no clause says: values from outside, that a call can succeed, and readers and writers that fail.
 
 mod streams;
+mod words;
 
 use crate::reader::read_script;
 use crate::{
@@ -11,6 +12,8 @@ use fdb_history::{
     Sequence,
 };
 use std::alloc::Global;
+use std::fs::Files;
+use std::io;
 use std::io::Read;
 use std::process::Abort;
 use std::str::from_utf8;
@@ -217,10 +220,24 @@ struct Ran {
     err: Vec<u8>,
 }
 
-/// Drives the program over what a reader gives.
-fn driven<R: Threads + Wait + Sync, I: Read>(rt: &R, alloc: Global, input: &mut I) -> Ran {
+/// The words of a command line, each a copy.
+fn words_of(alloc: Global, words: &[&str]) -> io::Result<Vec<String>> {
+    let mut list = Vec::new(alloc);
+    for word in words {
+        list.push(String::from_str(alloc, word)?)?;
+    }
+    Ok(list)
+}
+
+/// Drives the program over its words and what a reader gives.
+fn driven<R: Threads + Wait + Sync + Files, I: Read>(
+    rt: &R,
+    alloc: Global,
+    words: io::Result<Vec<String>>,
+    input: &mut I,
+) -> Ran {
     let (mut out, mut err) = (Vec::new(alloc), Vec::new(alloc));
-    let status = drive(rt, alloc, input, &mut out, &mut err);
+    let status = drive(rt, alloc, words, input, &mut out, &mut err);
     Ran { status, out, err }
 }
 
@@ -303,7 +320,8 @@ audit ok events 3 raised 1 versions 2
 #[test]
 fn scripts_and_what_is_written(rt: HostRuntime) -> Result<(), Fail> {
     for (script, status, text) in CASES {
-        let ran = driven(&rt, rt.alloc(), &mut script.as_bytes());
+        let words = words_of(rt.alloc(), &[]);
+        let ran = driven(&rt, rt.alloc(), words, &mut script.as_bytes());
         assert_ran(&rt, &ran, *status, text, script)?;
     }
     Ok(())

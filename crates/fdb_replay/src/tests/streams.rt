@@ -1,6 +1,6 @@
 //! Readers and writers that give and take in pieces, and fail.
 
-use super::{REPLIES, SCRIPT, assert_ran, driven};
+use super::{REPLIES, SCRIPT, assert_ran, driven, words_of};
 use crate::{MAX_SCRIPT_BYTES, ReplayFault, drive, replay};
 use fdb_history::OpenGate;
 use std::alloc::Global;
@@ -59,7 +59,7 @@ fn readers_of_every_kind(rt: HostRuntime) -> Result<(), Fail> {
                 interrupted: false,
                 fails,
             };
-            let ran = driven(&rt, rt.alloc(), &mut input);
+            let ran = driven(&rt, rt.alloc(), words_of(rt.alloc(), &[]), &mut input);
             let (status, text) = if fails {
                 (5, READING_FAILED)
             } else {
@@ -68,7 +68,7 @@ fn readers_of_every_kind(rt: HostRuntime) -> Result<(), Fail> {
             assert_ran(&rt, &ran, status, text, "in pieces")?;
         }
     }
-    let ran = driven(&rt, rt.alloc(), &mut Endless);
+    let ran = driven(&rt, rt.alloc(), words_of(rt.alloc(), &[]), &mut Endless);
     assert_ran(&rt, &ran, 5, READING_FAILED, "without an end")
 }
 
@@ -127,7 +127,9 @@ fn writers_that_fail(rt: HostRuntime) -> Result<(), Fail> {
 
         let mut out = Hundreds::new(rt.alloc(), fails_at);
         let mut err = Vec::new(rt.alloc());
-        let status = drive(&rt, rt.alloc(), &mut SCRIPT.as_bytes(), &mut out, &mut err);
+        let words = words_of(rt.alloc(), &[]);
+        let mut input = SCRIPT.as_bytes();
+        let status = drive(&rt, rt.alloc(), words, &mut input, &mut out, &mut err);
         let (wanted, said) = if fails_at <= 4 {
             (5, "fdb_replay: writing failed\n")
         } else {
@@ -140,10 +142,10 @@ fn writers_that_fail(rt: HostRuntime) -> Result<(), Fail> {
         }
     }
     let (mut out, mut err) = (Vec::new(rt.alloc()), Hundreds::new(rt.alloc(), 1));
-    assert_eq!(rt;
-        drive(&rt, rt.alloc(), &mut b"{".as_slice(), &mut out, &mut err),
-        1
-    );
+    let words = words_of(rt.alloc(), &[]);
+    let mut input = b"{".as_slice();
+    let status = drive(&rt, rt.alloc(), words, &mut input, &mut out, &mut err);
+    assert_eq!(rt; status, 1);
     assert!(rt; out.is_empty());
     Ok(())
 }

@@ -1,0 +1,115 @@
+-- What the words of the command line ask for. clap reads them, and its definitions say what it makes of words:
+-- the matches of a command on them, and the kinds of error that it gives at them. Here stand the command, what is read
+-- of its matches, and what the program does then.
+use Rattle.std.specs.Prelude.{◌≡◌, ◌≢◌, ◌⊎◌, ◌≤◌, ⊤, ℕ, Bool, true, false, List, [], Option, Some, None, IfSome, length, codes, pos, option_map}
+use Rattle.std.specs.Io.KnownBytes.{Appends}
+use Rattle.std.specs.Option.{option_map_or}
+use Rattle.std.specs.Str.{bytes_eq}
+use Rattle.std.specs.Str.Parse.{digits_value, without_leading_plus}
+use Rattle.clap.specs.Simple.{on_top}
+use Rattle.clap.specs.Words.{App, IsAmong, Kinds, Rule, Text, fault_of, first_of, matches_of, new_app, new_rule, one_of, with_rule}
+use Rattle.clap.specs.declared.builder.action.ArgAction.TheVariants.{SetTrue}
+use Rattle.clap.specs.declared.builder.value_parser.ValueParser.TheVariants as parser
+use Rattle.clap.specs.declared.error.kind.ErrorKind.TheVariants.{DisplayHelp}
+use Rattle.fdb_replay.specs.Replay.{IsRefused, Replays}
+use Rattle.fdb_replay.specs.declared.driving.TheConstants.{MAX_SCRIPT_BYTES}
+use Rattle.fdb_replay.specs.declared.words.Request.{Request}
+use Rattle.fdb_replay.specs.declared.words.Request.TheVariants as request
+use Rattle.fdb_replay.specs.declared.words.Words.{Words}
+
+-- SCRIPT, --proxies N and --history, as clap is told of them
+abbrev pub script_argument : Rule
+script_argument = record (new_rule (codes "script")) { value_names = 1 }
+
+abbrev pub proxies_argument : Rule
+proxies_argument = record (new_rule (codes "proxies")) {
+  long = Some (codes "proxies");
+  value_names = 1;
+  parser = Some (parser.Signed (pos 1) (pos 16));
+}
+
+abbrev pub history_argument : Rule
+history_argument = record (new_rule (codes "history")) {
+  long = Some (codes "history");
+  action = Some SetTrue;
+  parser = Some parser.Bool;
+}
+
+-- the command: its words come without the program's own name
+abbrev pub command : App
+command = with_rule (with_rule (with_rule
+    (on_top (λ top. record top { no_binary_name = true }) (new_app (codes "fdb_replay")))
+    script_argument) proxies_argument) history_argument
+
+-- the kinds of error that clap gives at the words; none where it takes them
+abbrev pub faults : List Text → Kinds
+faults words = fault_of command words
+
+-- help is asked for
+abbrev pub AsksHelp : List Text → Type 0
+AsksHelp words = IsAmong DisplayHelp (faults words)
+
+-- the words are refused
+abbrev pub AreWrong : List Text → Type 0
+AreWrong words = (kind : _) × (kind ≢ DisplayHelp) × IsAmong kind (faults words)
+
+-- the file that has the script; None where standard input has it
+abbrev pub script_named : List Text → Option Text
+script_named words = first_of (codes "script") (matches_of command words)
+
+-- the number of GRV proxies, which is 1 unless it is said
+abbrev pub proxies_named : List Text → ℕ
+proxies_named words = option_map_or (λ digits. digits_value 10 (without_leading_plus digits)) (one_of (codes "proxies") (matches_of command words)) 1
+
+-- the history is written too
+abbrev pub wants_history : List Text → Bool
+wants_history words = option_map_or (λ value. bytes_eq value (codes "true")) (one_of (codes "history") (matches_of command words)) false
+
+-- the words ask for a replay, with these
+pub record AskReplay (words : List Text) (asked : Words) : Type 0 where
+  pub taken : faults words ≡ []
+  pub script : option_map (λ path. path.now) asked.script ≡ script_named words
+  pub proxies : asked.proxies ≡ proxies_named words
+  pub some_proxy : 1 ≤ asked.proxies
+  pub few_proxies : asked.proxies ≤ 16
+  pub history : asked.history ≡ wants_history words
+
+-- the words ask for this
+abbrev pub Ask : List Text → Request → Type 0
+Ask words (request.Replay asked) = AskReplay words asked
+Ask words (request.Help help) = AsksHelp words
+
+-- the words ask for something
+abbrev pub AreTaken : List Text → Type 0
+AreTaken words = (faults words ≡ []) ⊎ AsksHelp words
+
+-- standard input is to be read
+abbrev pub ReadsInput : List Text → Type 0
+ReadsInput words = (faults words ≡ []) × (script_named words ≡ None)
+
+-- where no file is named, all bytes of the input are read; no clause can know the bytes of a file
+abbrev pub IsInput : Option Text → Option (List ℕ) → List ℕ → Type 0
+IsInput (Some path) remaining bytes = ⊤
+IsInput None remaining bytes = IfSome remaining (λ all. all ≡ bytes)
+
+-- a script was read and replayed, and what was written is its text, with the history where that is wanted
+pub record Replayed (script : Option Text) (with_history : Bool) (remaining before after : Option (List ℕ)) : Type 0 where
+  pub bytes : List ℕ
+  pub few : length bytes ≤ MAX_SCRIPT_BYTES
+  pub read : IsInput script remaining bytes
+  pub written : List ℕ
+  pub replayed : Replays bytes with_history written
+  pub appended : Appends before after written
+
+-- what was read stands for no script
+abbrev pub IsNoScript : Option Text → Option (List ℕ) → Type 0
+IsNoScript script remaining = (bytes : List ℕ) × IsInput script remaining bytes × IsRefused bytes
+
+-- what the words ask for is done
+abbrev pub IsDone : List Text → Option (List ℕ) → Option (List ℕ) → Option (List ℕ) → Type 0
+IsDone words remaining before after = AsksHelp words
+    ⊎ ((faults words ≡ []) × Replayed (script_named words) (wants_history words) remaining before after)
+
+-- the words ask for a replay of what stands for no script
+abbrev pub AskInVain : List Text → Option (List ℕ) → Type 0
+AskInVain words remaining = (faults words ≡ []) × IsNoScript (script_named words) remaining

@@ -1,0 +1,92 @@
+//! The words of the command line, and what they ask for.
+
+ghost use Rattle.std.specs.Prelude.{◌≡◌, IfOk, IfErr, map, string_bytes};
+ghost use Rattle.clap.specs.Words.{app_of};
+ghost use Rattle.fdb_replay.specs.Words.{AreWrong, Ask, command as command_read};
+
+use clap::error::ErrorKind;
+use clap::{Arg, ArgAction, Command, Error, value_parser};
+use std::alloc::{AllocError, Global};
+use std::env::Env;
+use std::{env, io};
+
+/// What the words of a command line ask for.
+#[derive(Drop)]
+pub(crate) enum Request<'a> {
+    /// A replay.
+    Replay(Words<'a>),
+    /// The help, which is this error's text.
+    Help(Error),
+}
+
+/// The words of a replay.
+#[derive(Clone, Copy)]
+pub(crate) struct Words<'a> {
+    /// The file that has the script; where there is none, standard input has it.
+    pub(crate) script: Option<&'a str>,
+    /// The proxies that a sequencer serves, 1 to 16.
+    pub(crate) proxies: u32,
+    /// Whether the history is written too.
+    pub(crate) history: bool,
+}
+
+/// Why words ask for nothing.
+#[derive(Clone, Copy)]
+pub(crate) enum WordsFault {
+    /// They are refused.
+    Refused,
+    /// There was no memory to read them.
+    Memory,
+}
+
+/// The words of the command line behind the program's own name. Words that are not UTF-8 are an error.
+pub fn command_line<R: Env + Alloc<A = Global>>(rt: &R) -> io::Result<Vec<String>> {
+    Ok(env::args(rt)?.skip(1).collect(rt.alloc())?)
+}
+
+/// What the words ask for, the program's own name left out.
+pub(crate) fn parse<'a>(alloc: Global, words: &'a [String]) -> Result<Request<'a>, WordsFault>
+    ensures ok { IfOk result (Ask (map string_bytes words.entry.now)) }
+    ensures err { IfErr result (λ fault. fault ≡ WordsFault.Refused → AreWrong (map string_bytes words.entry.now)) }
+{
+    let Ok(command) = command(alloc) else {
+        return Err(WordsFault::Memory);
+    };
+    match command.try_get_matches_from(words) {
+        Ok(matches) => Ok(Request::Replay(Words {
+            script: matches.get_str("script"),
+            proxies: matches.get_one::<u32>("proxies").unwrap_or(1),
+            history: matches.get_flag("history"),
+        })),
+        Err(error) => match error.kind() {
+            ErrorKind::DisplayHelp => Ok(Request::Help(error)),
+            ErrorKind::OutOfMemory => Err(WordsFault::Memory),
+            _ => Err(WordsFault::Refused),
+        },
+    }
+}
+
+/// The command that clap is given.
+fn command<'a>(alloc: Global) -> Result<Command<'a>, AllocError>
+    ensures { IfOk result (λ c. app_of c ≡ command_read) }
+{
+    let script = Arg::new(alloc, "script").value_name("SCRIPT").help(
+        "The file that has the script; standard input, if left out",
+    );
+    let proxies = Arg::new(alloc, "proxies")
+        .long("proxies")
+        .value_name("N")
+        .value_parser(value_parser!(u32).range(1..=16))
+        .help("The number of GRV proxies, from 1 to 16 [default: 1]");
+    let history = Arg::new(alloc, "history")
+        .long("history")
+        .action(ArgAction::SetTrue)
+        .value_parser(value_parser!(bool))
+        .help("Write the history too");
+    Command::new(alloc, "fdb_replay")
+        .about("Replays a script of clients, and writes what each of them was answered")
+        .no_binary_name(true)
+        .arg(script)?
+        .arg(proxies)?
+        .arg(history)
+}

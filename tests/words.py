@@ -1,0 +1,165 @@
+"""The words of the command line: what they ask for, and which are refused."""
+import os
+import subprocess
+import tempfile
+
+from harness import DONE, NO_STREAM, READING_FAILED, WORDS_REFUSED, WRITING_FAILED, Ran, done, fault_of, first_output, first_script, refused, run, script, under
+
+# The history of the first script: it reads the recovery record, reports twice, and reads what the second one left.
+HISTORY = b"""history 0 client 0 call 0 read 100 unlocked none
+history 1 client 0 call 2 report 100 unlocked none not raised
+history 2 client 0 call 4 report 2100 unlocked none raised
+history 3 client 0 call 5 read 2100 unlocked none
+"""
+NO_COMMANDS = b"audit ok events 0 raised 0 versions 0\n"
+
+# `+3` and `-3` as clap has them: an integer may have a plus, and a word that begins with a minus is an option's.
+COUNTS_TAKEN = ["1", "2", "15", "16", "+3", "016"]
+COUNTS_REFUSED = ["0", "17", "-1", "x", "", " 1", "1 ", "1.0", "1e0", "0x1", "4294967297", "18446744073709551617"]
+REFUSED = [
+    ("--proxies",),
+    ("--proxies", "--history"),
+    ("--proxies", "1", "--proxies", "1"),
+    ("--proxies=1", "--proxies=2"),
+    ("--history", "--history"),
+    ("--history=true",),
+    ("--history=",),
+    ("--proxy", "1"),
+    ("--hist",),
+    ("--version",),
+    ("-V",),
+    ("-p", "1"),
+    ("-1",),
+    ("--History",),
+    ("FILE", "FILE"),
+    ("FILE", ""),
+    ("FILE", "--", "FILE"),
+    ("FILE", "1"),
+]
+# FILE stands for a file that has the first script; standard input has a script without commands.
+TAKEN = [
+    (("FILE",), first_output()),
+    (("--", "FILE"), first_output()),
+    (("FILE", "--"), first_output()),
+    (("FILE", "--history"), first_output() + HISTORY),
+    (("--history", "FILE"), first_output() + HISTORY),
+    (("--history", "--", "FILE"), first_output() + HISTORY),
+    (("--proxies", "16", "FILE"), first_output()),
+    (("FILE", "--proxies", "16"), first_output()),
+    (("FILE", "--proxies=16", "--history"), first_output() + HISTORY),
+    (("--history", "FILE", "--proxies", "2"), first_output() + HISTORY),
+    ((), NO_COMMANDS),
+    (("--",), NO_COMMANDS),
+    (("--history",), NO_COMMANDS),
+    (("--proxies", "16", "--history"), NO_COMMANDS),
+]
+
+
+def words(program):
+    """Words ask for a replay or for help, or are refused before anything is read."""
+    with tempfile.TemporaryDirectory(prefix="words-") as folder:
+        file = f"{folder}/script.json"
+        with open(file, "wb") as it:
+            it.write(first_script())
+        yield from asked(program, file)
+        yield from named(program, folder)
+    yield from unwanted(program, file)
+    yield from helped(program)
+
+
+def asked(program, file):
+    """Words that ask for a replay."""
+    for given, wanted in TAKEN:
+        filled = [file if it == "FILE" else it for it in given]
+        yield f"the words {given}", fault_of(run([program, *filled], script().encode()), done(wanted))
+    for count in COUNTS_TAKEN:
+        for given in (["--proxies", count], [f"--proxies={count}"]):
+            yield f"the words {given}", fault_of(run([program, *given], first_script()), done(first_output()))
+
+
+def named(program, folder):
+    """What the file that is named may be."""
+    first = done(first_output())
+    yield "no such file", fault_of(run([program, f"{folder}/none.json"], first_script()), READING_FAILED)
+    yield "the empty name", fault_of(run([program, ""], first_script()), READING_FAILED)
+    yield "a hyphen is a file's name", fault_of(run([program, "-"], first_script(), cwd=folder), READING_FAILED)
+    yield "a name that is too long", fault_of(run([program, "x" * 5_000], first_script()), READING_FAILED)
+    yield "a folder", fault_of(run([program, folder], first_script()), READING_FAILED)
+    yield "a file in place of a folder", fault_of(run([program, f"{folder}/script.json/x"], first_script()), READING_FAILED)
+    yield "a file without an end", fault_of(run([program, "/dev/zero"], first_script()), READING_FAILED)
+    for name, text, wanted in [
+        ("-", first_script(), first),
+        ("--history", first_script(), first),
+        ("é\n.json", first_script(), first),
+        ("empty.json", b"", refused("NotJson")),
+        ("limits.json", b"{}", refused("BadLimit")),
+        ("field.json", script("[[5]]").encode(), refused("BadField 0 0")),
+    ]:
+        with open(f"{folder}/{name}", "wb") as it:
+            it.write(text)
+        yield f"the file {name!r}", fault_of(run([program, "--", name], script().encode(), cwd=folder), wanted)
+    yield "a pipe", fault_of(under("/dev/stdin", program, first_script()), first)
+    yield "standard input is closed", fault_of(under(f"{folder}/script.json <&-", program), first)
+    yield "standard input is a folder", fault_of(under(f"{folder}/script.json < /", program), first)
+    yield "a full standard output", fault_of(under(f"{folder}/script.json --history > /dev/full", program), WRITING_FAILED)
+    yield "what is not asked for is not read", left_unread(program, f"{folder}/script.json")
+
+
+def left_unread(program, file):
+    """Runs the program on a file with a pipe as standard input, and returns what it took from that or did wrong."""
+    reader, writer = os.pipe()
+    os.write(writer, b"left")
+    os.close(writer)
+    with os.fdopen(reader, "rb") as pipe:
+        fault = fault_of(run([program, file], stdin=pipe), done(first_output()))
+        return fault or (None if pipe.read() == b"left" else "standard input was read")
+
+
+def unwanted(program, file):
+    """Words that are refused, also where reading, the script or writing would fail."""
+    for given in REFUSED:
+        filled = [file if it == "FILE" else it for it in given]
+        yield f"the words {given}", fault_of(run([program, *filled], first_script()), WORDS_REFUSED)
+    for count in COUNTS_REFUSED:
+        for given in (["--proxies", count], [f"--proxies={count}"]):
+            yield f"the words {given}", fault_of(run([program, *given], first_script()), WORDS_REFUSED)
+    for given in ([b"\xff"], [b"--history", b"script\xc3"], [b"--proxies", b"\xff"], [b"--help", b"\xff"]):
+        yield f"the words {given}", fault_of(run([program, *given], first_script()), WORDS_REFUSED)
+    yield "refused words, input a folder", fault_of(under("--none < /", program), WORDS_REFUSED)
+    yield "refused words, no JSON", fault_of(run([program, "--none"], b"{"), WORDS_REFUSED)
+    yield "refused words, output full", fault_of(under("--none > /dev/full", program), WORDS_REFUSED)
+    yield "refused words, error full", fault_of(under("--none 2> /dev/full", program), Ran(2, b"", b""))
+    yield "no words at all, not even a name", fault_of(nameless(program, first_script()), done(first_output()))
+
+
+def nameless(program, given):
+    """Runs the program with an empty list of words, where this system allows that."""
+    reader, writer = os.pipe()
+    os.write(writer, given)
+    os.close(writer)
+    try:
+        ran = subprocess.run([], executable=program, stdin=reader, capture_output=True, timeout=20)
+        return Ran(ran.returncode, ran.stdout, ran.stderr)
+    finally:
+        os.close(reader)
+
+
+def helped(program):
+    """Help goes to standard output with status 0, whatever else is asked for by words in front that are taken."""
+    ran = run([program, "--help"], b"{")
+    yield "help", fault_of(ran, Ran(DONE, None, b"")) or told(ran.out.decode())
+    short = run([program, "-h"], b"{")
+    yield "help by -h", fault_of(short, Ran(DONE, ran.out, b""))
+    yield "help behind other words", fault_of(run([program, "--history", "none.json", "--help"]), Ran(DONE, ran.out, b""))
+    yield "help in front of refused words", fault_of(run([program, "--help", "--none"]), Ran(DONE, ran.out, b""))
+    yield "help behind refused words", fault_of(run([program, "--none", "--help"]), WORDS_REFUSED)
+    yield "help behind --", fault_of(run([program, "--", "--help"]), READING_FAILED)
+    yield "help, output full", fault_of(under("--help > /dev/full", program), WRITING_FAILED)
+    yield "help, output closed", fault_of(under("--help >&-", program), WRITING_FAILED)
+    yield "help, all closed", fault_of(under("--help <&- >&- 2>&-", program), Ran(NO_STREAM, b"", b""))
+
+
+def told(text):
+    """Returns what the help leaves out, or None."""
+    wanted = ["Usage: fdb_replay [OPTIONS] [SCRIPT]", "[SCRIPT]", "--proxies <N>", "[default: 1]", "--history", "-h, --help"]
+    return next((f"it leaves out {it!r}: {text!r}" for it in wanted if it not in text), None)
