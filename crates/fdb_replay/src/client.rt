@@ -83,7 +83,11 @@ impl Client {
                 locked,
                 metadata,
             } => self.report(service, *num, *locked, *metadata),
-            Act::Tell { to } => self.add(Input::Tell { to: *to }, self.position(), CallAnswer::Told),
+            Act::Tell { to } => self.add(
+                Input::Tell { to: *to },
+                self.position(),
+                CallAnswer::Told,
+            ),
         }
     }
 

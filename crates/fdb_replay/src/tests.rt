@@ -3,14 +3,12 @@
 mod streams;
 mod words;
 
-use crate::reader::read_script;
-use crate::{
-    Act, Command, Outcome, ReplayFault, RunFault, Script, ScriptError, drive, replay, run,
-};
+use crate::{ReplayFault, RunFault, drive, replay, run};
 use fdb_history::{
     AuditFault, Call, CallAnswer, Event, GrvOpts, Input, Issued, OpenGate, Priority, Record,
     Sequence,
 };
+use fdb_script::{Outcome, Script, ScriptError, read_script};
 use std::alloc::Global;
 use std::fs::Files;
 use std::io;
@@ -184,31 +182,53 @@ fn the_first_script_as_values(rt: HostRuntime) -> Result<(), Fail> {
     Ok(())
 }
 
-#[test]
-fn a_script_and_its_parts(rt: HostRuntime) -> Result<(), Fail> {
-    let bytes =
-        br#" { "rounds" : [[], [{"client":0, "at":7, "processed":3, "do":"ask"}], [{"do":"grv","client":0}]],
-        "clients":1, "recovery":9223372036854775807, "epoch_end":9223372036854775806, "other":[{}] } "#;
-    let script = read_script(rt.alloc(), bytes)?;
-    assert_eq!(rt; script.epoch_end(), 9_223_372_036_854_775_806);
-    assert_eq!(rt; script.recovery(), 9_223_372_036_854_775_807);
-    assert_eq!(rt; script.clients(), 1);
-    let act = Act::Ask {
-        processed: 3,
-        at: 7,
-    };
-    let rounds = [
-        [].as_slice(),
-        &[Command { client: 0, act }],
-        &[Command {
-            client: 0,
-            act: Act::Grv,
-        }],
-    ];
-    assert_eq!(rt; script.rounds().len(), 3);
-    for (commands, wanted) in script.rounds().iter().zip(rounds) {
-        assert_eq!(rt; commands.as_slice(), wanted);
+/// Client 0 reports a commit version and tells client 1, which reads in the next round.
+const TOLD: &str = r#"{"epoch_end":0,"recovery":100,"clients":2,"rounds":[[
+{"do":"ask","client":0,"at":1000},
+{"do":"ask","client":0,"at":3000},
+{"do":"report","client":0,"num":2},
+{"do":"tell","client":0,"to":1}],
+[{"do":"grv","client":1}]]}"#;
+
+/// A tell or a learn, up to position 1.
+fn told_call(input: Input, asked: u64) -> Call {
+    Call {
+        input,
+        asked,
+        position: 1,
+        answer: CallAnswer::Told,
     }
+}
+
+#[test]
+fn two_clients_as_values(rt: HostRuntime) -> Result<(), Fail> {
+    let script = read_script(rt.alloc(), TOLD.as_bytes())?;
+    let outcome = run(&rt, rt.alloc(), &script, 2, &OpenGate)?;
+    let [first, second] = first_issued();
+    assert_eq!(rt; outcome.chain.as_slice(), [first, second].as_slice());
+    let teller = [
+        ask_call(first),
+        ask_call(second),
+        report_call(2, 1, plain(2100), true),
+        told_call(Input::Tell { to: 1 }, 1),
+    ];
+    let learner = [
+        told_call(Input::Learn { from: 0 }, 0),
+        read_call(rt.alloc(), 1, plain(2100)),
+    ];
+    let wanted = [teller.as_slice(), learner.as_slice()];
+    assert_eq!(rt; outcome.logs.len(), 2);
+    for (log, calls) in outcome.logs.iter().zip(wanted) {
+        assert_eq!(rt; log.calls.as_slice(), calls);
+    }
+    let rec = plain(2100);
+    let read = Event::Read {
+        client: 1,
+        call: 1,
+        rec,
+    };
+    let events = [report_event(2, rec, true), read];
+    assert_eq!(rt; outcome.history.events.as_slice(), events.as_slice());
     Ok(())
 }
 
@@ -289,7 +309,7 @@ audit ok events 0 raised 0 versions 3
 audit ok events 0 raised 0 versions 2
 ",
     ),
-    // What was not issued cannot be reported. A report's `locked` says nothing at this stage.
+    // What was not issued cannot be reported. A locked record is not given to whoever is not aware of locks.
     (
         r#"{"epoch_end":99,"recovery":100,"clients":1,"rounds":[[{"do":"report","client":0,"num":1},
         {"do":"ask","client":0,"at":0},{"do":"ask","client":0,"at":0,"processed":1},{"do":"report","client":0,"num":0},
@@ -304,8 +324,38 @@ audit ok events 0 raised 0 versions 2
 0 0 4 report 101 raised pos 1
 0 0 5 report 100 not raised pos 1
 0 0 6 report refused NotIssued
-0 0 7 grv 101 unlocked none pos 1
+0 0 7 grv refused Locked 101 pos 1
 audit ok events 3 raised 1 versions 2
+",
+    ),
+    (
+        TOLD,
+        0,
+        "\
+0 0 0 ask prev 0 version 100 ordinal 0 fresh
+0 0 1 ask prev 100 version 2100 ordinal 1 fresh
+0 0 2 report 2100 raised pos 1
+0 0 3 tell 1 pos 1
+1 1 0 grv 2100 unlocked none pos 1
+audit ok events 2 raised 1 versions 2
+",
+    ),
+    // Of two throttles for one priority and tag the later counts, up to its expiry. A number that is kept is given again.
+    (
+        r#"{"epoch_end":0,"recovery":100,"clients":1,
+        "throttles":[{"priority":"default","tag":"t","rate":9,"expires":9000},{"priority":"default","tag":"t","rate":5,"expires":5000}],
+        "rounds":[[{"do":"ask","client":0,"at":1000},{"do":"reask","client":0,"num":1,"at":9000},
+        {"do":"reask","client":0,"num":3,"at":9000},{"do":"grv","client":0,"at":4999,"tags":["t","u","t"]},
+        {"do":"grv","client":0,"at":5000,"tags":["t"]},{"do":"grv","client":0,"at":4999,"tags":["t"],"priority":"batch"}]]}"#,
+        0,
+        "\
+0 0 0 ask prev 0 version 100 ordinal 0 fresh
+0 0 1 reask prev 0 version 100 ordinal 0 kept
+0 0 2 reask refused Early 2
+0 0 3 grv 100 unlocked none pos 0 limit t 5 5000 limit t 5 5000
+0 0 4 grv 100 unlocked none pos 0
+0 0 5 grv 100 unlocked none pos 0
+audit ok events 3 raised 0 versions 1
 ",
     ),
     ("", 1, "fdb_replay: script refused: NotJson\n"),
