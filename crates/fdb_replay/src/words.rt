@@ -24,7 +24,7 @@ pub(crate) enum Request<'a> {
 pub(crate) struct Words<'a> {
     /// The file that has the script; where there is none, standard input has it.
     pub(crate) script: Option<&'a str>,
-    /// The proxies that a sequencer serves, 1 to 16.
+    /// The number of GRV proxies, 1 to 16.
     pub(crate) proxies: u32,
     /// Whether the history is written too.
     pub(crate) history: bool,
@@ -78,6 +78,7 @@ fn command<'a>(alloc: Global) -> Result<Command<'a>, AllocError>
         .value_name("N")
         .value_parser(value_parser!(u32).range(1..=16))
         .help("The number of GRV proxies, from 1 to 16 [default: 1]");
+    // (the parser of a flag is written out, so that the contract knows its values)
     let history = Arg::new(alloc, "history")
         .long("history")
         .action(ArgAction::SetTrue)
