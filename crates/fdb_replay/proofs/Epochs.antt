@@ -1,6 +1,6 @@
 -- A chain stays in its epoch.
-use Rattle.std.proofs.Common.{◌≡◌, Bool, true, false, Result, Ok, Err, refl, ap, ◌∙◌, if◌then◌else◌, List, ◌∷◌, [], ◌++◌}
-use Rattle.fdb_history.specs.Answer.{Chain, chain_after, with_answer}
+use Rattle.std.proofs.Common.{Bool, true, false, Result, Ok, Err, refl, ◌∙◌, if◌then◌else◌, ◌∷◌, [], ◌++◌}
+use Rattle.fdb_history.specs.Answer.{Chain, chain_after}
 use Rattle.fdb_history.specs.declared.chain.Issued.{Issued}
 use Rattle.fdb_history.specs.declared.log.Refusal.{Refusal}
 use Rattle.fdb_replay.specs.Service.{SameEpoch}

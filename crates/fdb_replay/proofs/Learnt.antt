@@ -1,12 +1,10 @@
 -- What is learnt tale by tale is what each client learns of all tales.
-use Rattle.std.proofs.Common.{◌≡◌, ◌≢◌, ℕ, zero, suc, ◌+◌, ◌<◌, ◌==◌, Bool, true, false, List, [], ◌∷◌, ◌++◌, cond, length, map, filter, fold, drop, set, get_or, refl, ap, sym, ◌∙◌, append_assoc, arith, if◌then◌else◌}
+use Rattle.std.proofs.Common.{◌≡◌, ◌≢◌, ℕ, zero, suc, ◌+◌, ◌<◌, ◌==◌, Bool, true, false, List, [], ◌∷◌, ◌++◌, length, map, filter, fold, drop, set, get_or, refl, ap, sym, ◌∙◌, arith}
 use Rattle.std.proofs.lemmas.Bool.{eq-eqb, ne_eqb}
 use Rattle.fdb_history.specs.declared.log.Call.{Call}
-use Rattle.fdb_history.specs.declared.log.CallAnswer.{CallAnswer}
-use Rattle.fdb_history.specs.declared.log.ClientLog.{ClientLog}
 use Rattle.fdb_history.specs.declared.log.Input.{Input}
 use Rattle.fdb_history.specs.declared.log.Input.TheVariants as input
-use Rattle.fdb_replay.specs.Rounds.{all_told, logs_of, teach, told_by, told_in}
+use Rattle.fdb_replay.specs.Rounds.{all_told, logs_of, teach, told_in}
 use Rattle.fdb_replay.specs.declared.rounds.Told.{Told}
 use Rattle.fdb_script.specs.Answering.{Tale, added_calls, learnt_from, learns, tales_from, tells}
 

@@ -1,5 +1,5 @@
 -- A round is performed client by client.
-use Rattle.std.proofs.Common.{◌≡◌, ℕ, zero, suc, ◌+◌, ◌<◌, ◌≤◌, List, [], ◌∷◌, ◌++◌, length, map, drop, take, set, get_or, refl, ap, sym, ◌∙◌, subst, append_assoc, arith}
+use Rattle.std.proofs.Common.{◌≡◌, ℕ, zero, suc, ◌+◌, ◌<◌, ◌≤◌, List, [], ◌∷◌, ◌++◌, length, drop, take, set, get_or, refl, ap, sym, ◌∙◌, subst, append_assoc, arith}
 use Rattle.std.specs.List.{FoldsTo}
 use Rattle.std.proofs.lemmas.List.{append-nil, drop_all, drop_more, drop-set-lt, length-append, length-map, length-set, take_all, take_more_set}
 use Rattle.fdb_history.specs.Log.{calls_of}
@@ -7,7 +7,7 @@ use Rattle.fdb_history.specs.declared.log.Call.{Call}
 use Rattle.fdb_history.specs.declared.log.ClientLog.{ClientLog}
 use Rattle.fdb_replay.specs.Rounds.{PerformsFrom, all_told, logs_of, told_in}
 use Rattle.fdb_replay.specs.declared.rounds.Told.{Told}
-use Rattle.fdb_script.specs.Answering.{AnswersCommand, AnswersRound, Performs, added_calls, commands_of, learnt_from}
+use Rattle.fdb_script.specs.Answering.{AnswersCommand, AnswersRound, added_calls, commands_of, learnt_from}
 use Rattle.fdb_script.specs.declared.script.Command.{Command}
 
 -- who does what it is told has no fewer calls than before

@@ -1,5 +1,5 @@
 -- A run has played all rounds, and is audited.
-use Rattle.std.proofs.Common.{◌≡◌, ℕ, zero, suc, ◌+◌, ◌<◌, ◌≤◌, List, [], ◌∷◌, ◌++◌, length, map, replicate, drop, take, get_or, refl, ap, sym, ◌∙◌, subst, drop-cons, add-one, arith}
+use Rattle.std.proofs.Common.{◌≡◌, ℕ, zero, suc, ◌+◌, ◌<◌, ◌≤◌, List, [], ◌∷◌, ◌++◌, length, replicate, drop, take, get_or, refl, ap, sym, ◌∙◌, subst, drop-cons, add-one, arith}
 use Rattle.std.specs.List.{FoldsTo}
 use Rattle.std.proofs.lemmas.List.{append-nil, drop_all, take_all}
 use Rattle.fdb_history.specs.Audit.{IsFirstFault}
@@ -9,7 +9,7 @@ use Rattle.fdb_history.specs.declared.fault.AuditFault.{AuditFault}
 use Rattle.fdb_history.specs.declared.fault.AuditFault.TheVariants.{Order, Clash, Gap, Wrong, Stray, NotAbove, Memory}
 use Rattle.fdb_history.specs.declared.log.Call.{Call}
 use Rattle.fdb_history.specs.declared.log.ClientLog.{ClientLog}
-use Rattle.fdb_replay.specs.Outcome.{Fails, IsFaulty, opening, run_fault}
+use Rattle.fdb_replay.specs.Outcome.{Fails, opening, run_fault}
 use Rattle.fdb_replay.specs.Rounds.{logs_of}
 use Rattle.fdb_script.specs.Answering.{Answers, AnswersRound}
 use Rattle.fdb_script.specs.Plan.{Plan}

@@ -1,6 +1,5 @@
-use Rattle.std.proofs.Common.{◌≡◌, Ok, Err, ap, ◌∙◌}
+use Rattle.std.proofs.Common.{◌≡◌, ap, ◌∙◌}
 use Rattle.std.proofs.lemmas.Result.{err_from_is_err_and}
-use Rattle.fdb_history.specs.Audit.{IsAudited}
 use Rattle.fdb_replay.specs.Outcome.{opening}
 use Rattle.fdb_replay.proofs.Runs.{fails}
 use Rattle.fdb_replay.proofs.running.audited.Goals as goal
