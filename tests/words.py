@@ -11,6 +11,8 @@ history 1 client 0 call 2 report 100 unlocked none not raised
 history 2 client 0 call 4 report 2100 unlocked none raised
 history 3 client 0 call 5 read 2100 unlocked none
 """
+# A script may have so many bytes.
+MOST_BYTES = 16_777_216
 NO_COMMANDS = b"audit ok events 0 raised 0 versions 0\n"
 
 # `+3` and `-3` as clap has them: an integer may have a plus, and a word that begins with a minus is an option's.
@@ -94,6 +96,8 @@ def named(program, folder):
         ("empty.json", b"", refused("NotJson")),
         ("limits.json", b"{}", refused("BadLimit")),
         ("field.json", script("[[5]]").encode(), refused("BadField 0 0")),
+        ("most.json", first_script().rjust(MOST_BYTES), first),
+        ("more.json", first_script().rjust(MOST_BYTES + 1), READING_FAILED),
     ]:
         with open(f"{folder}/{name}", "wb") as it:
             it.write(text)

@@ -1,4 +1,4 @@
--- What is read of an input up to a limit that it does not reach is all of it; and what a writer got and flushed.
+-- What is read of an input up to a limit that it does not reach is all of it.
 use Rattle.std.proofs.Common.{◌≡◌, ℕ, ◌<◌, min, List, [], ◌++◌, Option, None, Some, IfSome, length, take, ap, sym, ◌∙◌, subst, arith}
 use Rattle.std.specs.Option.{option_map}
 use Rattle.std.proofs.lemmas.List.{length-take, take_all}
@@ -15,8 +15,3 @@ pub all_read_from : (left entry : Option (List ℕ)) (limit most : ℕ) (start b
 all_read_from left entry limit most start bytes same_left same_limit empty read below =
     let front : IfSome (option_map (take limit) left) (λ more. bytes ≡ more) = subst (λ s. IfSome (option_map (take limit) left) (λ more. bytes ≡ s ++ more)) empty read in
     subst (λ known. IfSome known (λ all. all ≡ bytes)) same_left (all_read left limit bytes front (omega arith))
-
--- what holds of the bytes that were read holds of the input
-pub of_input : (remaining : Option (List ℕ)) (bytes : List ℕ) (P : List ℕ → Type 0) → IfSome remaining (λ all. all ≡ bytes) → P bytes → IfSome remaining P
-of_input None bytes P all p = tt
-of_input (Some xs) bytes P all p = subst P (sym all) p

@@ -1,7 +1,7 @@
 -- What the words of the command line ask for. clap reads them, and its definitions say what it makes of words:
 -- the matches of a command on them, and the kinds of error that it gives at them. Here stand the command, what is read
 -- of its matches, and what the program does then.
-use Rattle.std.specs.Prelude.{◌≡◌, ◌≢◌, ◌⊎◌, ◌≤◌, ⊤, ℕ, Bool, true, false, List, [], Option, Some, None, IfSome, length, codes, pos, option_map}
+use Rattle.std.specs.Prelude.{◌≡◌, ◌≢◌, ◌⊎◌, ◌≤◌, ⊤, ℕ, Bool, true, false, List, [], Option, Some, None, IfSome, Ok, length, codes, pos, option_map}
 use Rattle.std.specs.Io.KnownBytes.{Appends}
 use Rattle.std.specs.Option.{option_map_or}
 use Rattle.std.specs.Str.{bytes_eq}
@@ -11,11 +11,15 @@ use Rattle.clap.specs.Words.{App, IsAmong, Kinds, Rule, Text, fault_of, first_of
 use Rattle.clap.specs.declared.builder.action.ArgAction.TheVariants.{SetTrue}
 use Rattle.clap.specs.declared.builder.value_parser.ValueParser.TheVariants as parser
 use Rattle.clap.specs.declared.error.kind.ErrorKind.TheVariants.{DisplayHelp}
+use Rattle.fdb_history.specs.declared.fault.AuditFault.{AuditFault}
+use Rattle.fdb_replay.specs.Outcome.{IsFaulty}
 use Rattle.fdb_replay.specs.Replay.{IsRefused, Replays}
 use Rattle.fdb_replay.specs.declared.driving.TheConstants.{MAX_SCRIPT_BYTES}
 use Rattle.fdb_replay.specs.declared.words.Request.{Request}
 use Rattle.fdb_replay.specs.declared.words.Request.TheVariants as request
 use Rattle.fdb_replay.specs.declared.words.Words.{Words}
+use Rattle.fdb_script.specs.Plan.{Plan}
+use Rattle.fdb_script.specs.Reading.{Reads}
 
 -- SCRIPT, --proxies N and --history, as clap is told of them
 abbrev pub script_argument : Rule
@@ -113,3 +117,11 @@ IsDone words remaining before after = AsksHelp words
 -- the words ask for a replay of what stands for no script
 abbrev pub AskInVain : List Text → Option (List ℕ) → Type 0
 AskInVain words remaining = (faults words ≡ []) × IsNoScript (script_named words) remaining
+
+-- what was read is a script, and a run of it has a fault that its audit found
+abbrev pub IsFaultyRun : Option Text → Option (List ℕ) → Type 0
+IsFaultyRun script remaining = (bytes : List ℕ) × IsInput script remaining bytes × (plan : Plan) × Reads bytes (Ok plan) × (found : AuditFault) × IsFaulty plan found
+
+-- the words ask for a replay of such a script
+abbrev pub AskFaulty : List Text → Option (List ℕ) → Type 0
+AskFaulty words remaining = (faults words ≡ []) × IsFaultyRun (script_named words) remaining

@@ -2,7 +2,8 @@
 
 ghost use Rattle.std.specs.Prelude.{◌≡◌, ◌≢◌, ◌<◌, ◌≤◌, IfOk, IfErr, IfSome, OnOk, OnErr, IsOkAnd, MatchResult, true, is_some, map, option_map, string_bytes, vec_len};
 ghost use Rattle.std.specs.IoError.{error_kind};
-ghost use Rattle.fdb_replay.specs.Words.{AreTaken, AreWrong, AskInVain, IsDone, IsInput, IsNoScript, ReadsInput, Replayed};
+ghost use Rattle.fdb_replay.specs.Words.{AreTaken, AreWrong, AskFaulty, AskInVain, IsDone, IsFaultyRun, IsInput, IsNoScript, ReadsInput, Replayed};
+ghost use Rattle.fdb_history.specs.declared.fault.AuditFault.{AuditFault};
 ghost use Rattle.fdb_script.specs.declared.error.ScriptError.{ScriptError};
 ghost use Rattle.fdb_replay.specs.declared.driving.TheConstants.{MAX_SCRIPT_BYTES};
 
@@ -24,7 +25,7 @@ pub const MAX_SCRIPT_BYTES: usize = 16_777_216;
 
 /// Why the program ends with another status than 0.
 #[derive(Clone, Copy, Debug, PartialEq, Eq, Hash, Error)]
-enum Fault {
+pub(crate) enum Fault {
     #[error("script refused: {0}")]
     Script(ScriptError),
     #[error("words refused")]
@@ -55,6 +56,7 @@ impl Fault {
     fn of_reading(error: &io::Error) -> Fault
         ensures script { (error : ScriptError) → result ≢ Fault.Script error }
         ensures words { result ≢ Fault.Words }
+        ensures audit { (found : AuditFault) → result ≢ Fault.Audit found }
     {
         match error.kind() {
             ErrorKind::OutOfMemory => Fault::Memory,
@@ -63,12 +65,16 @@ impl Fault {
     }
 
     /// The status that the program ends with.
-    fn status(self) -> u8
+    pub(crate) fn status(self) -> u8
         ensures fault { 0 < result }
         ensures script { result ≡ 1 → (error : ScriptError) × (self ≡ Fault.Script error) }
+        ensures no_script { (error : ScriptError) → self ≡ Fault.Script error → result ≡ 1 }
         ensures words { result ≡ 2 → self ≡ Fault.Words }
         ensures no_words { self ≡ Fault.Words → result ≡ 2 }
         ensures memory { self ≡ Fault.Memory → result ≡ 3 }
+        ensures audit { result ≡ 4 → (found : AuditFault) × (self ≡ Fault.Audit found) }
+        ensures no_audit { (found : AuditFault) → self ≡ Fault.Audit found → result ≡ 4 }
+        ensures reading { self ≡ Fault.Reading → result ≡ 5 }
         ensures writing { self ≡ Fault.Writing → result ≡ 5 }
     {
         match self {
@@ -97,13 +103,18 @@ impl From<WordsFault> for Fault {
 
 impl From<ReplayFault> for Fault {
     ghost use Rattle.std.specs.Prelude.{◌≢◌};
-    ghost use Rattle.fdb_replay.specs.declared.driving.Fault.TheVariants.{Script, Words, Writing};
+    ghost use Rattle.fdb_history.specs.declared.fault.AuditFault.{AuditFault};
+    ghost use Rattle.fdb_replay.specs.declared.driving.Fault.TheVariants as made;
+    ghost use Rattle.fdb_replay.specs.declared.fault.RunFault.TheVariants as run;
     ghost use Rattle.fdb_replay.specs.declared.replaying.ReplayFault.TheVariants as replay;
     ghost use Rattle.fdb_script.specs.declared.error.ScriptError.{ScriptError};
     ghost use Rattle.fdb_script.specs.declared.error.ScriptError.TheVariants.{Memory};
 
-    ghost from_gives = { λ cause fault. (cause ≡ replay.Write → fault ≡ Writing) × (fault ≢ Words)
-        × ((error : ScriptError) → fault ≡ Script error → (cause ≡ replay.Script error) × (error ≢ Memory)) };
+    ghost from_gives = { λ cause fault. (cause ≡ replay.Write → fault ≡ made.Writing) × (fault ≢ made.Words)
+        × ((error : ScriptError) → fault ≡ made.Script error → (cause ≡ replay.Script error) × (error ≢ Memory))
+        × (cause ≡ replay.Run run.Memory → fault ≡ made.Memory)
+        × ((found : AuditFault) → cause ≡ replay.Run (run.Audit found) → fault ≡ made.Audit found)
+        × ((found : AuditFault) → fault ≡ made.Audit found → cause ≡ replay.Run (run.Audit found)) };
 
     fn from(fault: ReplayFault) -> Self {
         match fault {
@@ -137,6 +148,7 @@ pub fn drive<R: Threads + Wait + Sync + Files, I: Read, O: Write, E: Write>(
     ensures done { result ≡ 0 → IsOkAnd words (λ list.
         IsDone (map string_bytes list.items) (I.remaining input.old) (O.contents out.old) (O.contents out.new)) }
     ensures refused { result ≡ 1 → IsOkAnd words (λ list. AskInVain (map string_bytes list.items) (I.remaining input.old)) }
+    ensures faulty { result ≡ 4 → IsOkAnd words (λ list. AskFaulty (map string_bytes list.items) (I.remaining input.old)) }
     ensures wrong { result ≡ 2 → MatchResult words (λ list. AreWrong (map string_bytes list.items))
         (λ error. error_kind error ≢ ErrorKind.OutOfMemory) }
     ensures unread { OnErr words (input.new ≡ input.old) }
@@ -167,6 +179,8 @@ fn answer<R: Threads + Wait + Sync + Files, I: Read, O: Write>(
         IsDone (map string_bytes list.items) (I.remaining input.old) (O.contents out.old) (O.contents out.new))) }
     ensures refused { IfErr result (λ fault. (error : ScriptError) → fault ≡ Fault.Script error
         → IsOkAnd words (λ list. AskInVain (map string_bytes list.items) (I.remaining input.old))) }
+    ensures faulty { IfErr result (λ fault. (found : AuditFault) → fault ≡ Fault.Audit found
+        → IsOkAnd words (λ list. AskFaulty (map string_bytes list.items) (I.remaining input.old))) }
     ensures wrong { IfErr result (λ fault. fault ≡ Fault.Words → MatchResult words (λ list. AreWrong (map string_bytes list.items))
         (λ error. error_kind error ≢ ErrorKind.OutOfMemory)) }
     ensures unread { OnErr words (input.new ≡ input.old) }
@@ -207,6 +221,8 @@ fn replay_words<R: Threads + Wait + Sync + Files, I: Read, O: Write>(
         (I.remaining input.old) (O.contents out.old) (O.contents out.new)) }
     ensures refused { IfErr result (λ fault. (error : ScriptError) → fault ≡ Fault.Script error
         → IsNoScript (option_map (λ path. path.now) words.entry.script) (I.remaining input.old)) }
+    ensures faulty { IfErr result (λ fault. (found : AuditFault) → fault ≡ Fault.Audit found
+        → IsFaultyRun (option_map (λ path. path.now) words.entry.script) (I.remaining input.old)) }
     ensures taken { IfErr result (λ fault. fault ≢ Fault.Words) }
     ensures unwritten { IfErr result (λ fault. fault ≢ Fault.Writing → out.new ≡ out.old) }
     ensures left { is_some words.entry.script ≡ true → input.new ≡ input.old }
@@ -237,6 +253,7 @@ fn script_bytes<R: Files, I: Read>(
     ensures all { IfOk result (λ bytes. IsInput (option_map (λ path. path.now) script.entry) (I.remaining input.old) bytes.items) }
     ensures in_range { IfOk result (λ bytes. vec_len bytes ≤ MAX_SCRIPT_BYTES) }
     ensures err { IfErr result (λ fault. (error : ScriptError) → fault ≢ Fault.Script error) }
+    ensures audit { IfErr result (λ fault. (found : AuditFault) → fault ≢ Fault.Audit found) }
     ensures taken { IfErr result (λ fault. fault ≢ Fault.Words) }
     ensures left { is_some script.entry ≡ true → input.new ≡ input.old }
 {
@@ -254,6 +271,7 @@ fn read_all<I: Read>(alloc: Global, input: &mut I) -> Result<Vec<u8>, Fault>
     ensures all { IfOk result (λ bytes. IfSome (I.remaining input.old) (λ all. all ≡ bytes.items)) }
     ensures in_range { IfOk result (λ bytes. vec_len bytes ≤ MAX_SCRIPT_BYTES) }
     ensures err { IfErr result (λ fault. (error : ScriptError) → fault ≢ Fault.Script error) }
+    ensures audit { IfErr result (λ fault. (found : AuditFault) → fault ≢ Fault.Audit found) }
     ensures taken { IfErr result (λ fault. fault ≢ Fault.Words) }
 {
     let mut bytes = Vec::new(alloc);

@@ -4,10 +4,13 @@ use super::{REPLIES, SCRIPT, assert_ran, driven, words_of};
 use crate::{MAX_SCRIPT_BYTES, ReplayFault, drive, replay};
 use fdb_history::OpenGate;
 use std::alloc::Global;
+use std::fs::Files;
 use std::io;
 use std::io::{ErrorKind, Read, Write};
 use std::str::from_utf8;
+use std::sync::Wait;
 use std::test::Fail;
+use std::thread::Threads;
 
 /// A reader that gives its bytes in pieces. It may be interrupted before each of them, and may fail at its end.
 #[derive(Drop)]
@@ -147,5 +150,32 @@ fn writers_that_fail(rt: HostRuntime) -> Result<(), Fail> {
     let status = drive(&rt, rt.alloc(), words, &mut input, &mut out, &mut err);
     assert_eq!(rt; status, 1);
     assert!(rt; out.is_empty());
+    Ok(())
+}
+
+/// Asks for the help, over a writer that fails at a call.
+fn helped<R: Threads + Wait + Sync + Files>(
+    rt: &R,
+    alloc: Global,
+    fails_at: usize,
+) -> (u8, Hundreds) {
+    let (mut out, mut err) = (Hundreds::new(alloc, fails_at), Vec::new(alloc));
+    let words = words_of(alloc, &["--help"]);
+    let status = drive(rt, alloc, words, &mut [].as_slice(), &mut out, &mut err);
+    (status, out)
+}
+
+// The last call is the flush, before which the whole help is taken.
+#[test]
+fn help_that_cannot_be_written(rt: HostRuntime) -> Result<(), Fail> {
+    let (status, whole) = helped(&rt, rt.alloc(), 0);
+    assert_eq!(rt; status, 0);
+    assert!(rt; whole.calls > 1);
+    for fails_at in 1..=whole.calls {
+        let (status, cut) = helped(&rt, rt.alloc(), fails_at);
+        assert_eq!(rt; status, 5, "call {fails_at}");
+        let is_whole = cut.taken == whole.taken;
+        assert_eq!(rt; is_whole, fails_at == whole.calls, "call {fails_at}");
+    }
     Ok(())
 }

@@ -33,6 +33,7 @@ fn words_that_are_refused(rt: HostRuntime) -> Result<(), Fail> {
         &["--proxies"],
         &["--history", "--history"],
         &["one.json", "two.json"],
+        &["--none"],
     ];
     for words in cases {
         let given = words_of(rt.alloc(), words);
