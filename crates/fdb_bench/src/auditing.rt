@@ -34,9 +34,22 @@ pub fn audits(clock: &impl CpuClock, alloc: Global, size: u32) -> Result<Measure
     let run = Run::of(alloc, size)?;
     let logs = run.logs.as_slice();
     ensure!(logs.len() <= 64, "more logs than an audit takes");
-    let watch = Stopwatch::start(clock)?;
-    let checksum = audit_each_time(alloc, run.chain.answers(), logs)?;
     let operations = u64::from(size) * u64::from(AUDITS);
+    time_audits(clock, alloc, run.chain.answers(), logs, operations)
+}
+
+/// Takes the time that the audits take.
+fn time_audits(
+    clock: &impl CpuClock,
+    alloc: Global,
+    chain: &[Issued],
+    logs: &[ClientLog],
+    operations: u64,
+) -> Result<Measured>
+    requires { length logs.now ≤ 64 }
+{
+    let watch = Stopwatch::start(clock)?;
+    let checksum = audit_each_time(alloc, chain, logs)?;
     Ok(watch.measured(clock, operations, checksum)?)
 }
 
@@ -107,16 +120,21 @@ impl Run {
             logs: empty_logs(alloc)?,
         };
         for place in 0..size {
-            let turn = place / 3;
-            let (client, num) = (turn % CLIENTS, u64::from(turn / CLIENTS) + 1);
-            let call = match place % 3 {
-                0 => run.ask(client, num)?,
-                1 => run.report(num),
-                _ => run.read(alloc),
-            };
-            run.log(client, call)?;
+            run.play(alloc, place)?;
         }
         Ok(run)
+    }
+
+    /// The call at a place.
+    fn play(&mut self, alloc: Global, place: u32) -> Result<(), ChainError> {
+        let turn = place / 3;
+        let (client, num) = (turn % CLIENTS, u64::from(turn / CLIENTS) + 1);
+        let call = match place % 3 {
+            0 => self.ask(client, num)?,
+            1 => self.report(num),
+            _ => self.read(alloc),
+        };
+        Ok(self.log(client, call)?)
     }
 
     /// A client's request for a commit version.

@@ -28,21 +28,26 @@ const WAITS_PER_WINDOW: u32 = 8;
 /// Offers of all priorities, and windows that start about as much as is offered, at a queue that is nearly full.
 pub fn windows(clock: &impl CpuClock, alloc: Global, room: u32) -> Result<Measured> {
     let mut queue = nearly_full(alloc, room)?;
-    let offers = room.saturating_mul(OFFERS_PER_ROOM);
+    time_windows(clock, &mut queue, room.saturating_mul(OFFERS_PER_ROOM))
+}
+
+/// Takes the time of so many offers and their windows.
+fn time_windows(
+    clock: &impl CpuClock,
+    queue: &mut GrvQueue<u64>,
+    offers: u32,
+) -> Result<Measured> {
     let watch = Stopwatch::start(clock)?;
-    let checksum = offer_and_start(&mut queue, offers)?;
+    let checksum = offer_and_start(queue, offers)?;
     Ok(watch.measured(clock, u64::from(offers), checksum)?)
 }
 
 /// Floods of system requests into a queue that is filled with batch and default requests: each pushes one out, until
 /// none is left and the others are refused.
 pub fn push_outs(clock: &impl CpuClock, alloc: Global, room: u32) -> Result<Measured> {
-    let mut checksum = Checksum::EMPTY;
-    let watch = Stopwatch::start(clock)?;
-    for _ in 0..FLOODS {
-        checksum = flood(alloc, room, checksum)?;
-    }
     let operations = u64::from(FLOODS) * u64::from(room) * 3;
+    let watch = Stopwatch::start(clock)?;
+    let checksum = flood_each_time(alloc, room)?;
     Ok(watch.measured(clock, operations, checksum)?)
 }
 
@@ -54,13 +59,19 @@ pub fn waits(clock: &impl CpuClock, alloc: Global, size: u32) -> Result<Measured
         room: 1,
     };
     let mut queue = GrvQueue::new(alloc, config)?;
-    let checksum = offered(
-        &mut queue,
-        Checksum::EMPTY,
-        request_of(Priority::Default, 100_000, 0),
-    )?;
+    time_waits(clock, &mut queue, size)
+}
+
+/// Offers the head of the row, and takes the time of so many questions.
+fn time_waits(
+    clock: &impl CpuClock,
+    queue: &mut GrvQueue<u64>,
+    size: u32,
+) -> Result<Measured> {
+    let head = request_of(Priority::Default, 100_000, 0);
+    let before = offered(queue, Checksum::EMPTY, head)?;
     let watch = Stopwatch::start(clock)?;
-    let checksum = ask_and_wait(&mut queue, size, checksum)?;
+    let checksum = ask_and_wait(queue, size, before)?;
     Ok(watch.measured(clock, u64::from(size), checksum)?)
 }
 
@@ -72,11 +83,21 @@ fn nearly_full(alloc: Global, room: u32) -> Result<GrvQueue<u64>, QueueError> {
         room: u64::from(room),
     };
     let mut queue = GrvQueue::new(alloc, config)?;
-    let mut checksum = Checksum::EMPTY;
-    for place in 0..room - room / 10 {
-        checksum = offered(&mut queue, checksum, filling(place))?;
-    }
+    fill(&mut queue, room - room / 10, Checksum::EMPTY)?;
     Ok(queue)
+}
+
+/// Offers so many requests of a filling.
+fn fill(
+    queue: &mut GrvQueue<u64>,
+    offers: u32,
+    before: Checksum,
+) -> Result<Checksum, QueueError> {
+    let mut checksum = before;
+    for place in 0..offers {
+        checksum = offered(queue, checksum, filling(place))?;
+    }
+    Ok(checksum)
 }
 
 /// Makes so many offers, and holds a window after every few.
@@ -92,6 +113,15 @@ fn offer_and_start(queue: &mut GrvQueue<u64>, offers: u32) -> Result<Checksum, Q
     Ok(checksum)
 }
 
+/// Floods a few queues, one after another.
+fn flood_each_time(alloc: Global, room: u32) -> Result<Checksum, QueueError> {
+    let mut checksum = Checksum::EMPTY;
+    for _ in 0..FLOODS {
+        checksum = flood(alloc, room, checksum)?;
+    }
+    Ok(checksum)
+}
+
 /// Fills a queue, and floods it with twice as many system requests as there is room for.
 fn flood(alloc: Global, room: u32, before: Checksum) -> Result<Checksum, QueueError> {
     let config = QueueConfig {
@@ -100,13 +130,20 @@ fn flood(alloc: Global, room: u32, before: Checksum) -> Result<Checksum, QueueEr
         room: u64::from(room),
     };
     let mut queue = GrvQueue::new(alloc, config)?;
+    let filled = fill(&mut queue, room, before)?;
+    push_out(&mut queue, room.saturating_mul(2), filled)
+}
+
+/// Offers so many system requests.
+fn push_out(
+    queue: &mut GrvQueue<u64>,
+    offers: u32,
+    before: Checksum,
+) -> Result<Checksum, QueueError> {
     let mut checksum = before;
-    for place in 0..room {
-        checksum = offered(&mut queue, checksum, filling(place))?;
-    }
-    for place in 0..room.saturating_mul(2) {
+    for place in 0..offers {
         let request = request_of(Priority::System, 1, u64::from(place));
-        checksum = offered(&mut queue, checksum, request)?;
+        checksum = offered(queue, checksum, request)?;
     }
     Ok(checksum)
 }

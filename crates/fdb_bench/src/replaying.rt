@@ -6,6 +6,7 @@ use crate::scripted;
 use crate::stopwatch::Stopwatch;
 use anyhow::Result;
 use fdb_history::OpenGate;
+use fdb_replay::ReplayFault;
 use std::alloc::Global;
 use std::sync::Wait;
 use std::thread::Threads;
@@ -24,24 +25,27 @@ pub fn replay<R: CpuClock + Threads + Wait + Sync>(
     let script = scripted::script(alloc, commands)?;
     let mut written = Vec::new(alloc);
     let watch = Stopwatch::start(rt)?;
-    for _ in 0..REPLAYS {
-        written.clear();
-        fdb_replay::replay(
-            rt,
-            alloc,
-            script.as_bytes(),
-            1,
-            false,
-            &OpenGate,
-            &mut written,
-        )?;
-    }
+    replay_each_time(rt, alloc, script.as_bytes(), &mut written)?;
     let operations = u64::from(commands) * u64::from(REPLAYS);
     let measured = watch.measured(rt, operations, Checksum::EMPTY)?;
     Ok(Measured {
         checksum: of_bytes(&written).value(),
         ..measured
     })
+}
+
+/// Replays a script a few times. What the last of them wrote is left.
+fn replay_each_time<R: CpuClock + Threads + Wait + Sync>(
+    rt: &R,
+    alloc: Global,
+    script: &[u8],
+    written: &mut Vec<u8>,
+) -> Result<(), ReplayFault> {
+    for _ in 0..REPLAYS {
+        written.clear();
+        fdb_replay::replay(rt, alloc, script, 1, false, &OpenGate, written)?;
+    }
+    Ok(())
 }
 
 /// The checksum of some bytes.

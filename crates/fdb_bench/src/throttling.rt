@@ -26,13 +26,23 @@ pub fn throttles(clock: &impl CpuClock, alloc: Global, size: u32) -> Result<Meas
         batch: 1,
         room: 1,
     };
-    let mut queue = GrvQueue::new(alloc, config)?;
     let tags = tags(alloc, size)?;
     let given = copies(alloc, tags.as_slice())?;
-    let watch = Stopwatch::start(clock)?;
-    set_each(&mut queue, given)?;
-    let checksum = look_up(&queue, tags.as_slice())?;
     let operations = u64::from(size) * u64::from(PASSES + 1);
+    let mut queue = GrvQueue::new(alloc, config)?;
+    time_throttles(clock, &mut queue, given, tags.as_slice(), operations)
+}
+
+/// Takes the time that the throttles take.
+fn time_throttles(
+    clock: &impl CpuClock,
+    queue: &mut GrvQueue<u64>,
+    given: Vec<Tag>,
+    tags: &[Tag],
+    operations: u64,
+) -> Result<Measured> {
+    let watch = Stopwatch::start(clock)?;
+    let checksum = set_and_look_up(queue, given, tags)?;
     Ok(watch.measured(clock, operations, checksum)?)
 }
 
@@ -55,6 +65,16 @@ fn copies(alloc: Global, tags: &[Tag]) -> Result<Vec<Tag>, AllocError> {
         copies.push(tag.clone()?)?;
     }
     Ok(copies)
+}
+
+/// Sets a throttle for each tag, and looks up all of them over and over.
+fn set_and_look_up(
+    queue: &mut GrvQueue<u64>,
+    given: Vec<Tag>,
+    tags: &[Tag],
+) -> Result<Checksum, QueueError> {
+    set_each(queue, given)?;
+    look_up(queue, tags)
 }
 
 /// Sets a throttle for each tag.
