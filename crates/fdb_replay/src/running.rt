@@ -50,11 +50,7 @@ pub fn run<R: Threads + Wait + Sync, G: Gate>(
 }
 
 /// The logs of a script's clients, once a service has served all its rounds.
-fn played(
-    alloc: Global,
-    service: &mut Service,
-    script: &Script,
-) -> Result<Vec<ClientLog>, RunFault>
+fn played(alloc: Global, service: &mut Service, script: &Script) -> Result<Vec<ClientLog>, RunFault>
     requires { script.now.clients ≤ 64 }
     ensures few { IfOk result (λ logs. length logs.items ≤ 64) }
     ensures answers { IfOk result (λ logs. Answers script.now logs.items) }

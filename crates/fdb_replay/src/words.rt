@@ -1,11 +1,12 @@
 //! The words of the command line, and what they ask for.
 
-ghost use Rattle.std.specs.Prelude.{◌≡◌, false, IfOk, IfErr, map, string_bytes};
-ghost use Rattle.clap.specs.Words.{app_of, rule_of};
-ghost use Rattle.fdb_replay.specs.Words.{AreWrong, Ask, command as command_read, history_argument, proxies_argument, script_argument};
+ghost use Rattle.std.specs.Prelude.{◌≡◌, false, [], List, IfOk, IfErr, map, string_bytes};
+ghost use Rattle.clap.specs.Words.{IsParsedFrom, Text, app_of, found_of, matches_of, rows_of, rule_of};
+ghost use Rattle.clap.specs.declared.builder.command.Command.{Command};
+ghost use Rattle.fdb_replay.specs.Words.{AreWrong, Ask, AskReplay, command as command_read, faults, history_argument, proxies_argument, script_argument};
 
 use clap::error::ErrorKind;
-use clap::{Arg, ArgAction, Command, Error, value_parser};
+use clap::{Arg, ArgAction, ArgMatches, Command, Error, value_parser};
 use std::alloc::{AllocError, Global};
 use std::env::Env;
 use std::{env, io};
@@ -53,16 +54,24 @@ pub(crate) fn parse<'a>(alloc: Global, words: &'a [String]) -> Result<Request<'a
         return Err(WordsFault::Memory);
     };
     match command.try_get_matches_from(words) {
-        Ok(matches) => Ok(Request::Replay(Words {
-            script: matches.get_str("script"),
-            proxies: matches.get_one::<u32>("proxies").unwrap_or(1),
-            history: matches.get_flag("history"),
-        })),
+        Ok(matches) => Ok(Request::Replay(words_of(&matches))),
         Err(error) => match error.kind() {
             ErrorKind::DisplayHelp => Ok(Request::Help(error)),
             ErrorKind::OutOfMemory => Err(WordsFault::Memory),
             _ => Err(WordsFault::Refused),
         },
+    }
+}
+
+/// What a replay is asked for, by the matches of the words.
+fn words_of<'a>(matches: &ArgMatches<'a>) -> Words<'a>
+    ensures { (old : Command) (words : List Text) → IsParsedFrom old matches.now → app_of old ≡ command_read
+        → rows_of (found_of matches.now) ≡ matches_of command_read words → faults words ≡ [] → AskReplay words result }
+{
+    Words {
+        script: matches.get_str("script"),
+        proxies: matches.get_one::<u32>("proxies").unwrap_or(1),
+        history: matches.get_flag("history"),
     }
 }
 
@@ -83,9 +92,9 @@ fn script_argument<'a>(alloc: Global) -> Arg<'a>
     ensures rule { rule_of result ≡ script_argument }
     ensures own { result.global ≡ false }
 {
-    Arg::new(alloc, "script")
-        .value_name("SCRIPT")
-        .help("The file that has the script; standard input, if left out")
+    Arg::new(alloc, "script").value_name("SCRIPT").help(
+        "The file that has the script; standard input, if left out",
+    )
 }
 
 /// The argument --proxies N.
