@@ -1,6 +1,7 @@
 //! A run of a script.
 
 ghost use Rattle.std.specs.Prelude.{◌≡◌, ◌<◌, ◌≤◌, length, map, replicate, [], OnOk, IfOk, IfErr, Ok};
+ghost use Rattle.fdb_chain.specs.ChainCore.{new_chain};
 ghost use Rattle.fdb_history.specs.Chain.{IsChain};
 ghost use Rattle.fdb_replay.specs.Outcome.{IsRunOf, Fails};
 ghost use Rattle.fdb_replay.specs.Rounds.{logs_of};
@@ -44,7 +45,17 @@ pub fn run<R: Threads + Wait + Sync, G: Gate>(
     let _ = proxies;
     let _ = gate;
     let mut service = Service::new(alloc, script)?;
-    let logs = played(alloc, &mut service, script)?;
+    served(alloc, &mut service, script)
+}
+
+/// The outcome of a script that a service serves which nobody has called yet.
+fn served(alloc: Global, service: &mut Service, script: &Script) -> Result<Outcome, RunFault>
+    requires opened { service.old.core ≡ new_chain script.now.epoch_end script.now.recovery script.now.clients }
+    requires few { script.now.clients ≤ 64 }
+    ensures ok { IfOk result (IsRunOf script.now) }
+    ensures err { IfErr result (Fails script.now) }
+{
+    let logs = played(alloc, service, script)?;
     let chain = service.chain(alloc)?;
     audited(alloc, script, chain, logs)
 }
