@@ -1,7 +1,7 @@
 -- A run has played all rounds, and is audited.
-use Rattle.std.proofs.Common.{◌≡◌, ℕ, zero, suc, ◌+◌, ◌<◌, ◌≤◌, List, [], ◌∷◌, ◌++◌, length, replicate, drop, take, get_or, refl, ap, sym, ◌∙◌, subst, drop-cons, add-one, arith}
+use Rattle.std.proofs.Common.{◌≡◌, ℕ, zero, suc, ◌+◌, ◌<◌, List, [], ◌∷◌, ◌++◌, length, replicate, drop, take, get_or, refl, ap, sym, ◌∙◌, subst, arith}
 use Rattle.std.specs.List.{FoldsTo}
-use Rattle.std.proofs.lemmas.List.{append-nil, drop_all, take_all}
+use Rattle.std.proofs.lemmas.List.{append-nil, drop_all, drop_more, take_all}
 use Rattle.fdb_history.specs.Audit.{IsFirstFault}
 use Rattle.fdb_history.specs.Chain.{IsChain}
 use Rattle.fdb_history.specs.declared.chain.Issued.{Issued}
@@ -17,27 +17,22 @@ use Rattle.fdb_script.specs.declared.script.Command.{Command}
 
 -- ---- the rounds
 
--- whoever answers the rounds that are left has answered the script
-abbrev pub Forwards : Plan → List (List Call) → ℕ → Type 0
-Forwards plan clients round = (last : List ClientLog) → FoldsTo AnswersRound (logs_of clients) (drop round plan.rounds) last → Answers plan last
-
 no_calls : (clients : ℕ) → logs_of (replicate clients []) ≡ replicate clients (record { calls = [] })
 no_calls zero = refl
 no_calls (suc n) = ap (λ others. record { calls = [] } ∷ others) (no_calls n)
 
-pub from_the_start : (plan : Plan) (clients : List (List Call)) → clients ≡ replicate plan.clients [] → Forwards plan clients 0
-from_the_start plan clients new = λ last rest. subst (λ logs. FoldsTo AnswersRound logs plan.rounds last) (ap logs_of new ∙ no_calls plan.clients) rest
+-- who plays all rounds from the start answers the script
+pub from_the_start : (plan : Plan) (clients : List (List Call)) (last : List ClientLog) → clients ≡ replicate plan.clients [] → FoldsTo AnswersRound (logs_of clients) plan.rounds last
+    → Answers plan last
+from_the_start plan clients last new played = subst (λ logs. FoldsTo AnswersRound logs plan.rounds last) (ap logs_of new ∙ no_calls plan.clients) played
 
-pub one_round_more : (plan : Plan) (round : ℕ) (commands : List Command) (before after : List (List Call)) → round < length plan.rounds → commands ≡ get_or plan.rounds round commands
-    → AnswersRound (logs_of before) commands (logs_of after) → Forwards plan before round → Forwards plan after (round + 1)
-one_round_more plan round commands before after within here answered so_far =
-    let left : drop round plan.rounds ≡ commands ∷ drop (round + 1) plan.rounds =
-    drop-cons plan.rounds round commands within ∙ ap (λ first. first ∷ drop (suc round) plan.rounds) (sym here) ∙ ap (λ n. commands ∷ drop n plan.rounds) (sym (add-one round)) in
-    λ last rest. so_far last (subst (λ rounds. FoldsTo AnswersRound (logs_of before) rounds last) (sym left) (logs_of after, answered, rest))
-
-pub all_answered : (plan : Plan) (clients : List (List Call)) (round : ℕ) → length plan.rounds ≤ round → Forwards plan clients round → Answers plan (logs_of clients)
-all_answered plan clients round all so_far =
-    so_far (logs_of clients) (subst (λ left. FoldsTo AnswersRound (logs_of clients) left (logs_of clients)) (sym (drop_all round plan.rounds all)) refl)
+-- who plays a round and then those behind it has played those from it on
+pub one_round_more : (rounds : List (List Command)) (round : ℕ) (commands : List Command) (before after : List (List Call)) (last : List ClientLog) → round < length rounds
+    → commands ≡ get_or rounds round commands → AnswersRound (logs_of before) commands (logs_of after) → FoldsTo AnswersRound (logs_of after) (drop (round + 1) rounds) last
+    → FoldsTo AnswersRound (logs_of before) (drop round rounds) last
+one_round_more rounds round commands before after last within here answered rest =
+    let left : drop round rounds ≡ commands ∷ drop (round + 1) rounds = drop_more rounds round commands within ∙ ap (λ first. first ∷ drop (round + 1) rounds) (sym here) in
+    subst (λ left. FoldsTo AnswersRound (logs_of before) left last) (sym left) (logs_of after, answered, rest)
 
 -- what is lent whole comes back whole
 pub lent_whole : (old new : List (List Call)) (len : ℕ) → len ≡ length old → length new ≡ length old → take len (new ++ drop (length new) old) ≡ new

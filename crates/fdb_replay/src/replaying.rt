@@ -1,13 +1,14 @@
 //! From the bytes of a script to the printed lines.
 
-ghost use Rattle.std.specs.Prelude.{◌≡◌, ◌≢◌, ℕ, ◌<◌, ◌≤◌, List, OnOk, IfErr};
+ghost use Rattle.std.specs.Prelude.{◌≡◌, ◌≢◌, ℕ, ◌<◌, ◌≤◌, List, OnOk, IfOk, IfErr, Ok};
 ghost use Rattle.std.specs.Io.KnownBytes.{Appends};
 ghost use Rattle.fdb_replay.specs.Replay.{Replays, Refuses};
+ghost use Rattle.fdb_script.specs.Reading.{Reads};
 
 use crate::fault::RunFault;
 use crate::running::run;
 use fdb_history::Gate;
-use fdb_script::{ScriptError, read_script, text};
+use fdb_script::{Script, ScriptError, read_script, text};
 use std::alloc::Global;
 use std::io::Write;
 use std::sync::Wait;
@@ -48,20 +49,53 @@ pub fn replay<R: Threads + Wait + Sync, G: Gate, W: Write>(
     ensures err { IfErr result (Refuses bytes.now) }
     ensures unwritten { IfErr result (λ fault. fault ≢ ReplayFault.Write → writer.new ≡ writer.old) }
 {
-    let script = match read_script(alloc, bytes) {
-        Ok(script) => script,
-        Err(error) => return Err(ReplayFault::Script(error)),
-    };
-    let outcome = match run(rt, alloc, &script, proxies, gate) {
-        Ok(outcome) => outcome,
-        Err(fault) => return Err(ReplayFault::Run(fault)),
-    };
-    let lines = match text(alloc, &script, &outcome, with_history) {
-        Ok(lines) => lines,
-        Err(error) => return Err(ReplayFault::Script(error)),
-    };
+    let lines = replayed_text(rt, alloc, bytes, proxies, with_history, gate)?;
     match writer.write_all(&lines) {
         Ok(()) => Ok(()),
         Err(_) => Err(ReplayFault::Write),
+    }
+}
+
+/// The text of a run of the script that these bytes stand for.
+fn replayed_text<R: Threads + Wait + Sync, G: Gate>(
+    rt: &R,
+    alloc: Global,
+    bytes: &[u8],
+    proxies: u32,
+    with_history: bool,
+    gate: &G,
+) -> Result<Vec<u8>, ReplayFault>
+    requires some_proxy { 0 < proxies }
+    requires few_proxies { proxies ≤ 16 }
+    ensures ok { IfOk result (λ lines. Replays bytes.now with_history lines.items) }
+    ensures err { IfErr result (Refuses bytes.now) }
+{
+    match read_script(alloc, bytes) {
+        Ok(script) => run_text(rt, alloc, &script, proxies, with_history, gate),
+        Err(error) => Err(ReplayFault::Script(error)),
+    }
+}
+
+/// The text of a run of a script, whatever bytes it was read from.
+fn run_text<R: Threads + Wait + Sync, G: Gate>(
+    rt: &R,
+    alloc: Global,
+    script: &Script,
+    proxies: u32,
+    with_history: bool,
+    gate: &G,
+) -> Result<Vec<u8>, ReplayFault>
+    requires some_proxy { 0 < proxies }
+    requires few_proxies { proxies ≤ 16 }
+    ensures ok { (bytes : List ℕ) → Reads bytes (Ok script.now) → IfOk result (λ lines. Replays bytes with_history lines.items) }
+    ensures err { (bytes : List ℕ) → Reads bytes (Ok script.now) → IfErr result (Refuses bytes) }
+{
+    let outcome = match run(rt, alloc, script, proxies, gate) {
+        Ok(outcome) => outcome,
+        Err(fault) => return Err(ReplayFault::Run(fault)),
+    };
+    match text(alloc, script, &outcome, with_history) {
+        Ok(lines) => Ok(lines),
+        Err(error) => Err(ReplayFault::Script(error)),
     }
 }

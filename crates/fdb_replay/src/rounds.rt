@@ -9,7 +9,7 @@ ghost use Rattle.fdb_script.specs.Answering.{AnswersCommand, AnswersRound, comma
 use crate::client::Client;
 use crate::fault::RunFault;
 use crate::service::Service;
-use fdb_history::{Call, Input};
+use fdb_history::{Call, Input, Sequence};
 use fdb_script::Command;
 use std::alloc::Global;
 
@@ -24,8 +24,26 @@ pub(crate) struct Told {
     pub(crate) position: u64,
 }
 
+/// Plays rounds, one after another.
+pub(crate) fn play_rounds(
+    alloc: Global,
+    service: &mut Service,
+    clients: &mut [Client],
+    rounds: &[Sequence<Command>],
+) -> Result<(), RunFault>
+    requires few { length clients.old ≤ 64 }
+    ensures ok { OnOk result (FoldsTo AnswersRound (logs_of clients.old) rounds.now (logs_of clients.new)) }
+    ensures epoch { OnOk result (SameEpoch service.old.core service.new.core) }
+    ensures err { IfErr result (λ fault. fault ≡ RunFault.Memory) }
+{
+    for commands in rounds {
+        play_round(alloc, service, clients, commands.as_slice())?;
+    }
+    Ok(())
+}
+
 /// Plays a round. What was told in it is learnt at its end.
-pub(crate) fn play_round(
+fn play_round(
     alloc: Global,
     service: &mut Service,
     clients: &mut [Client],

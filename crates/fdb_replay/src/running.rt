@@ -1,16 +1,18 @@
 //! A run of a script.
 
-ghost use Rattle.std.specs.Prelude.{◌≡◌, ◌<◌, ◌≤◌, length, map, replicate, [], IfOk, IfErr, Ok};
+ghost use Rattle.std.specs.Prelude.{◌≡◌, ◌<◌, ◌≤◌, length, map, replicate, [], OnOk, IfOk, IfErr, Ok};
+ghost use Rattle.fdb_chain.specs.ChainCore.{new_chain};
 ghost use Rattle.fdb_history.specs.Chain.{IsChain};
 ghost use Rattle.fdb_replay.specs.Outcome.{IsRunOf, Fails};
 ghost use Rattle.fdb_replay.specs.Rounds.{logs_of};
+ghost use Rattle.fdb_replay.specs.Service.{SameEpoch};
 ghost use Rattle.fdb_script.specs.Answering.{Answers};
 ghost use Rattle.fdb_script.specs.Plan.{Plan};
 
 use crate::client::Client;
 use crate::fault::RunFault;
 use crate::live::opening;
-use crate::rounds::play_round;
+use crate::rounds::play_rounds;
 use crate::service::Service;
 use fdb_history::{ClientLog, Gate, Issued, audit};
 use fdb_script::{Outcome, Script};
@@ -43,12 +45,32 @@ pub fn run<R: Threads + Wait + Sync, G: Gate>(
     let _ = proxies;
     let _ = gate;
     let mut service = Service::new(alloc, script)?;
+    served(alloc, &mut service, script)
+}
+
+/// The outcome of a script that a service serves which nobody has called yet.
+fn served(alloc: Global, service: &mut Service, script: &Script) -> Result<Outcome, RunFault>
+    requires opened { service.old.core ≡ new_chain script.now.epoch_end script.now.recovery script.now.clients }
+    requires few { script.now.clients ≤ 64 }
+    ensures ok { IfOk result (IsRunOf script.now) }
+    ensures err { IfErr result (Fails script.now) }
+{
+    let logs = played(alloc, service, script)?;
+    let chain = service.chain(alloc)?;
+    audited(alloc, script, chain, logs)
+}
+
+/// The logs of a script's clients, once a service has served all its rounds.
+fn played(alloc: Global, service: &mut Service, script: &Script) -> Result<Vec<ClientLog>, RunFault>
+    requires { script.now.clients ≤ 64 }
+    ensures few { IfOk result (λ logs. length logs.items ≤ 64) }
+    ensures answers { IfOk result (λ logs. Answers script.now logs.items) }
+    ensures epoch { OnOk result (SameEpoch service.old.core service.new.core) }
+    ensures err { IfErr result (λ fault. fault ≡ RunFault.Memory) }
+{
     let mut clients = new_clients(alloc, script.clients())?;
-    for commands in script.rounds() {
-        play_round(alloc, &mut service, &mut clients, commands.as_slice())?;
-    }
-    let chain = Vec::from_slice(alloc, service.core.answers())?;
-    audited(alloc, script, chain, logs_of(alloc, clients)?)
+    play_rounds(alloc, service, &mut clients, script.rounds())?;
+    Ok(logs_of(alloc, clients)?)
 }
 
 /// So many clients that have called nobody yet.

@@ -4,6 +4,7 @@ ghost use Rattle.std.specs.Prelude.{◌≡◌, ◌≤◌, ◌&&◌, not, ◌∷�
 ghost use Rattle.std.specs.List.{AllByRecursion};
 ghost use Rattle.fdb_chain.specs.ChainCore.{IsAnswer, new_chain};
 ghost use Rattle.fdb_history.specs.Answer.{answer_to, chain_after};
+ghost use Rattle.fdb_history.specs.Chain.{IsChain};
 ghost use Rattle.fdb_history.specs.Strays.{logged_as};
 ghost use Rattle.fdb_history.specs.declared.chain.Issued.{Issued};
 ghost use Rattle.fdb_history.specs.declared.log.Refusal.{Refusal};
@@ -15,10 +16,10 @@ ghost use Rattle.fdb_replay.specs.Service.{SameEpoch, opened, throttle_of};
 use crate::fault::RunFault;
 use crate::live::Live;
 use fdb_chain::{ChainCore, ChainError};
-use fdb_history::{Ask, CallAnswer, GrvOpts, Record, Refusal, Sequence};
+use fdb_history::{Ask, CallAnswer, GrvOpts, Issued, Record, Refusal, Sequence};
 use fdb_queue::{GrvQueue, QueueConfig, QueueError};
 use fdb_script::{Script, Throttle};
-use std::alloc::Global;
+use std::alloc::{AllocError, Global};
 
 /// The commit versions, the live committed version, and the throttles that reads are told of.
 #[derive(Drop)]
@@ -80,6 +81,13 @@ impl Service {
             Ok(issued) => Ok(CallAnswer::Answered(issued)),
             Err(cause) => Ok(CallAnswer::Refused(refusal_of(cause)?)),
         }
+    }
+
+    /// The commit versions that were drawn, in order.
+    pub(crate) fn chain(&self, alloc: Global) -> Result<Vec<Issued>, AllocError>
+        ensures { IfOk result (λ chain. IsChain self.now.core.epoch_end self.now.core.recovery chain.items) }
+    {
+        Vec::from_slice(alloc, self.core.answers())
     }
 
     /// The position of the live committed version: how many reports have raised it.

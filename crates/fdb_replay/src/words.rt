@@ -1,11 +1,12 @@
 //! The words of the command line, and what they ask for.
 
-ghost use Rattle.std.specs.Prelude.{◌≡◌, IfOk, IfErr, map, string_bytes};
-ghost use Rattle.clap.specs.Words.{app_of};
-ghost use Rattle.fdb_replay.specs.Words.{AreWrong, Ask, command as command_read};
+ghost use Rattle.std.specs.Prelude.{◌≡◌, false, [], List, IfOk, IfErr, map, string_bytes};
+ghost use Rattle.clap.specs.Words.{IsParsedFrom, Text, app_of, found_of, matches_of, rows_of, rule_of};
+ghost use Rattle.clap.specs.declared.builder.command.Command.{Command};
+ghost use Rattle.fdb_replay.specs.Words.{AreWrong, Ask, AskReplay, command as command_read, faults, history_argument, proxies_argument, script_argument};
 
 use clap::error::ErrorKind;
-use clap::{Arg, ArgAction, Command, Error, value_parser};
+use clap::{Arg, ArgAction, ArgMatches, Command, Error, value_parser};
 use std::alloc::{AllocError, Global};
 use std::env::Env;
 use std::{env, io};
@@ -53,11 +54,7 @@ pub(crate) fn parse<'a>(alloc: Global, words: &'a [String]) -> Result<Request<'a
         return Err(WordsFault::Memory);
     };
     match command.try_get_matches_from(words) {
-        Ok(matches) => Ok(Request::Replay(Words {
-            script: matches.get_str("script"),
-            proxies: matches.get_one::<u32>("proxies").unwrap_or(1),
-            history: matches.get_flag("history"),
-        })),
+        Ok(matches) => Ok(Request::Replay(words_of(&matches))),
         Err(error) => match error.kind() {
             ErrorKind::DisplayHelp => Ok(Request::Help(error)),
             ErrorKind::OutOfMemory => Err(WordsFault::Memory),
@@ -66,28 +63,60 @@ pub(crate) fn parse<'a>(alloc: Global, words: &'a [String]) -> Result<Request<'a
     }
 }
 
+/// What a replay is asked for, by the matches of the words.
+fn words_of<'a>(matches: &ArgMatches<'a>) -> Words<'a>
+    ensures { (old : Command) (words : List Text) → IsParsedFrom old matches.now → app_of old ≡ command_read
+        → rows_of (found_of matches.now) ≡ matches_of command_read words → faults words ≡ [] → AskReplay words result }
+{
+    Words {
+        script: matches.get_str("script"),
+        proxies: matches.get_one::<u32>("proxies").unwrap_or(1),
+        history: matches.get_flag("history"),
+    }
+}
+
 /// The command that clap is given.
 fn command<'a>(alloc: Global) -> Result<Command<'a>, AllocError>
     ensures { IfOk result (λ c. app_of c ≡ command_read) }
 {
-    let script = Arg::new(alloc, "script").value_name("SCRIPT").help(
-        "The file that has the script; standard input, if left out",
-    );
-    let proxies = Arg::new(alloc, "proxies")
-        .long("proxies")
-        .value_name("N")
-        .value_parser(value_parser!(u32).range(1..=16))
-        .help("The number of GRV proxies, from 1 to 16 [default: 1]");
-    // (the parser of a flag is written out, so that the contract knows its values)
-    let history = Arg::new(alloc, "history")
-        .long("history")
-        .action(ArgAction::SetTrue)
-        .value_parser(value_parser!(bool))
-        .help("Write the history too");
     Command::new(alloc, "fdb_replay")
         .about("Replays a script of clients, and writes what each of them was answered")
         .no_binary_name(true)
-        .arg(script)?
-        .arg(proxies)?
-        .arg(history)
+        .arg(script_argument(alloc))?
+        .arg(proxies_argument(alloc))?
+        .arg(history_argument(alloc))
+}
+
+/// The argument SCRIPT.
+fn script_argument<'a>(alloc: Global) -> Arg<'a>
+    ensures rule { rule_of result ≡ script_argument }
+    ensures own { result.global ≡ false }
+{
+    Arg::new(alloc, "script").value_name("SCRIPT").help(
+        "The file that has the script; standard input, if left out",
+    )
+}
+
+/// The argument --proxies N.
+fn proxies_argument<'a>(alloc: Global) -> Arg<'a>
+    ensures rule { rule_of result ≡ proxies_argument }
+    ensures own { result.global ≡ false }
+{
+    Arg::new(alloc, "proxies")
+        .long("proxies")
+        .value_name("N")
+        .value_parser(value_parser!(u32).range(1..=16))
+        .help("The number of GRV proxies, from 1 to 16 [default: 1]")
+}
+
+/// The flag --history. Its parser is written out, so that the contract knows its values.
+fn history_argument<'a>(alloc: Global) -> Arg<'a>
+    ensures rule { rule_of result ≡ history_argument }
+    ensures own { result.global ≡ false }
+{
+    Arg::new(alloc, "history")
+        .long("history")
+        .action(ArgAction::SetTrue)
+        .value_parser(value_parser!(bool))
+        .help("Write the history too")
 }
