@@ -32,11 +32,7 @@ pub fn windows(clock: &impl CpuClock, alloc: Global, room: u32) -> Result<Measur
 }
 
 /// Takes the time of so many offers and their windows.
-fn time_windows(
-    clock: &impl CpuClock,
-    queue: &mut GrvQueue<u64>,
-    offers: u32,
-) -> Result<Measured> {
+fn time_windows(clock: &impl CpuClock, queue: &mut GrvQueue<u64>, offers: u32) -> Result<Measured> {
     let watch = Stopwatch::start(clock)?;
     let checksum = offer_and_start(queue, offers)?;
     Ok(watch.measured(clock, u64::from(offers), checksum)?)
@@ -63,11 +59,7 @@ pub fn waits(clock: &impl CpuClock, alloc: Global, size: u32) -> Result<Measured
 }
 
 /// Offers the head of the row, and takes the time of so many questions.
-fn time_waits(
-    clock: &impl CpuClock,
-    queue: &mut GrvQueue<u64>,
-    size: u32,
-) -> Result<Measured> {
+fn time_waits(clock: &impl CpuClock, queue: &mut GrvQueue<u64>, size: u32) -> Result<Measured> {
     let head = request_of(Priority::Default, 100_000, 0);
     let before = offered(queue, Checksum::EMPTY, head)?;
     let watch = Stopwatch::start(clock)?;
@@ -88,11 +80,7 @@ fn nearly_full(alloc: Global, room: u32) -> Result<GrvQueue<u64>, QueueError> {
 }
 
 /// Offers so many requests of a filling.
-fn fill(
-    queue: &mut GrvQueue<u64>,
-    offers: u32,
-    before: Checksum,
-) -> Result<Checksum, QueueError> {
+fn fill(queue: &mut GrvQueue<u64>, offers: u32, before: Checksum) -> Result<Checksum, QueueError> {
     let mut checksum = before;
     for place in 0..offers {
         checksum = offered(queue, checksum, filling(place))?;
