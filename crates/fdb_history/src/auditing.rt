@@ -31,8 +31,8 @@ use registers::Registers;
 use std::alloc::{AllocError, Global};
 
 /// The history of the logs of a run, in the fixed order, or the first fault that stands in them or in the chain of
-/// commit versions that was issued to them. The log at a place of `logs` is the client's of that number, and `start` is the record
-/// that the register began with.
+/// commit versions that was issued to them. There are at most 64 logs, and the one at a place is
+/// that of the client of this number. `start` is the record that the register began with.
 ///
 /// The faults are looked for in the order of [`AuditFault`], each kind in all logs before the next: the least client
 /// and in it the least call, or the least position, is named. Memory may be refused at any time. It takes time in

@@ -6,7 +6,7 @@ use thiserror::Error;
 /// list of logs and calls are places in a log, both counted from 0.
 #[derive(Clone, Copy, Debug, PartialEq, Eq, Hash, Error)]
 pub enum AuditFault {
-    /// A call was answered from before what its client had seen.
+    /// A call was answered from before what its client had seen, or raised the register without going on.
     #[error("Order {client} {call}")]
     Order {
         /// The client.
@@ -34,7 +34,8 @@ pub enum AuditFault {
         /// The call.
         call: u64,
     },
-    /// An answer that its input, the chain or the client's own log does not bear out.
+    /// An answer that its input, the chain or the client's own log does not bear out. Where the chain has an entry of the
+    /// client that none of its calls drew, the call is the end of its log, and call 0 where it has no log.
     #[error("Stray {client} {call}")]
     Stray {
         /// The client.
@@ -42,7 +43,7 @@ pub enum AuditFault {
         /// The call.
         call: u64,
     },
-    /// A commit version that is not above what its asker had seen.
+    /// A commit version that was drawn, but for the first of the chain, and is not above what its asker had seen.
     #[error("NotAbove {client} {call}")]
     NotAbove {
         /// The client.

@@ -35,7 +35,7 @@ impl Replies {
         }
     }
 
-    /// No replies for each of so many proxies.
+    /// No replies for each of so many proxies. It is refused for want of memory alone.
     pub fn of_each(alloc: Global, proxies: u32) -> Result<Vec<Replies>, AllocError>
         ensures count { IfOk result (λ all. length all.items ≡ proxies) }
         ensures empty { IfOk result (λ all. All (λ own. own ≡ no_replies) all.items) }

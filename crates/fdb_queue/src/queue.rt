@@ -71,7 +71,7 @@ impl<T> GrvQueue<T> {
     /// It is refused as `BadCount`, `BatchThrottled` or `Full`, the first of these that stands, else for memory. It is
     /// then handed back, and the queue is as it was. It takes constant time, the growth of the list aside.
     pub fn offer(&mut self, request: Req<T>) -> Result<Option<Req<T>>, (QueueError, Req<T>)>
-        // It is let in exactly where the definition has nothing against it.
+        // It is let in only where the definition has nothing against it.
         ensures let_in { OnOk result (refusal_of self.old request ≡ None) }
         ensures admitted { OnOk result (self.new ≡ admitted self.old request) }
         ensures pushed_out { IfOk result (λ out. out ≡ pushed_out self.old request) }
@@ -196,7 +196,8 @@ impl<T> GrvQueue<T> {
     }
 
     /// The limits of some tags at a priority and a moment: for each tag in order, also for one that stands twice, the
-    /// throttle last set, if it expires later than that moment. It takes logarithmic time for each tag.
+    /// throttle last set, if it expires later than that moment. It is refused for want of memory alone. It takes
+    /// logarithmic time for each tag.
     pub fn throttles(
         &self,
         priority: Priority,

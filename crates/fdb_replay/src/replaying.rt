@@ -31,7 +31,7 @@ pub enum ReplayFault {
 
 /// Reads a script, plays it, and writes the replies, the audit line and, where it is wanted, the history.
 ///
-/// Refuses a script that does not stand for one, then a run that fails, then a writer that fails.
+/// Refuses bytes that stand for no script, then a run that fails, then a writer that fails. There are 1 to 16 GRV proxies.
 /// Nothing is written before the run is done.
 pub fn replay<R: Threads + Wait + Sync, G: Gate, W: Write>(
     rt: &R,

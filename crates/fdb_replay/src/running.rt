@@ -24,8 +24,8 @@ use std::thread::Threads;
 /// a history that explains them, in the fixed order. It plays the rounds in order, in a round the clients by number, and
 /// the commands of each in order; what was told in a round is learnt at its end.
 ///
-/// All is served in the calling thread, so that the runtime, the number of GRV proxies and the gate are not used yet; a
-/// read is answered at once, whatever its priority and count are.
+/// All is served in the calling thread, so that the runtime, the number of GRV proxies, which is 1 to 16, and the gate
+/// are not used yet; a read is answered at once, whatever its priority and count are.
 ///
 /// It fails for want of memory, or with the fault that the audit finds.
 pub fn run<R: Threads + Wait + Sync, G: Gate>(

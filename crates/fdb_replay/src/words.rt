@@ -40,7 +40,8 @@ pub(crate) enum WordsFault {
     Memory,
 }
 
-/// The words of the command line behind the program's own name. Words that are not UTF-8 are an error.
+/// The words of the command line behind the program's own name. Words that are not UTF-8 are an error, and so is want
+/// of memory.
 pub fn command_line<R: Env + Alloc<A = Global>>(rt: &R) -> io::Result<Vec<String>> {
     Ok(env::args(rt)?.skip(1).collect(rt.alloc())?)
 }

@@ -13,8 +13,8 @@ use fdb_history::{Call, ClientLog, Event, Input, Sequence};
 use std::alloc::{AllocError, Global};
 use std::fmt::Write;
 
-/// The text of a run: its replies by round, client and command, the audit line, and its history where it is wanted. It
-/// is refused for want of memory alone.
+/// The text of a run: its replies by round, client and command, the audit line, and its history where it is wanted. The
+/// logs of the outcome have to answer the script. It is refused for want of memory alone.
 ///
 /// It takes time in proportion to the text and the logs, and to the rounds and commands times the clients; and memory for
 /// the text, and a slice for each client.
