@@ -40,21 +40,19 @@ def pairs_of(text):
 
 def fault_of_edit(crate, edit):
     """Returns why an edit does not apply to its crate, or None."""
-    left, pairs = {}, 0
     with open(edit, encoding="utf-8") as it:
         text = it.read()
-    for file, old, new in pairs_of(text):
+    pairs, left = list(pairs_of(text)), {}
+    for file, old, new in pairs:
+        path = f"{ROOT}/crates/{crate}/{file}"
+        if not file.startswith(("src/", "specs/", "proofs/")) or not os.path.isfile(path):
+            return f"there is no file {file!r} in the crate"
         if file not in left:
-            path = f"{ROOT}/crates/{crate}/{file}"
-            if not file.startswith(("src/", "specs/", "proofs/")) or not os.path.isfile(path):
-                return f"there is no file {file!r}"
             with open(path, encoding="utf-8") as it:
                 left[file] = it.read()
         count = left[file].count(old)
         if count != 1:
             return f"this stands in {file} {count} times, and not once: {old!r}"
         left[file] = left[file].replace(old, new)
-        pairs += 1
-    if pairs == 0 or pairs != sum(line.startswith("old:") for line in text.split("\n")):
-        return "it has no pair of 'old:' and 'new:', or an odd line"
-    return None
+    begun = [line[:4] for line in text.split("\n")]
+    return None if pairs and begun.count("old:") == begun.count("new:") == len(pairs) else "its lines are no pairs of 'old:' and 'new:'"
