@@ -1,9 +1,9 @@
-"""What needs no built program: docs/DEFINITIONS.md names each definition, and each planted wrong body still applies."""
+"""What documents say: each definition is named, each planted wrong body applies, and what is shown of the program is so."""
 import os
 import re
 
 from edits import BESIDE, TRIED, crates, edits_in, fault_of_edit
-from harness import ROOT
+from harness import EXAMPLES, ROOT, done, fault_of, run
 
 DEFINED = re.compile(r"^(?:abbrev )?pub (?:record |data )?(?!(?:use|mod)\b)([^\s:({]+)", re.MULTILINE)
 PRIVATE = "Private to a crate"
@@ -79,3 +79,22 @@ def edits(_program):
                 yield f"crates/{crate}/{folder}/{name}.edit", fault_of_edit(crate, file)
         tried = len(edits_in(crate, TRIED)[0])
         yield f"crates/{crate}/{TRIED}", f"it has {tried} edits, and {MOST_TRIED} are the most" if tried > MOST_TRIED else None
+
+
+def blocks():
+    """Yields the blocks of code of README.md and of docs/, each with the document that has it."""
+    for path in [f"{ROOT}/README.md", *files_below("docs", ".md")]:
+        for block in re.findall(r"^```\n(.*?)^```$", text_of(path), re.MULTILINE | re.DOTALL):
+            yield os.path.relpath(path, ROOT), block
+
+
+def shown(program):
+    """A block that shows a run of the program shows what it prints, and one that is a script is one of the examples."""
+    scripts = [text_of(f"{EXAMPLES}/{name}").strip() for name in os.listdir(EXAMPLES) if name.endswith(".json")]
+    for document, block in blocks():
+        first, _, rest = block.partition("\n")
+        if first.startswith("$ ./fdb_replay "):
+            words = first.split()[2:]
+            yield f"{document}: {first}", fault_of(run([program, *words], cwd=ROOT), done(rest.encode()))
+        elif first.startswith("{"):
+            yield f"{document}: {first}", None if block.strip() in scripts else "it is no script of examples/"
