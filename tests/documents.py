@@ -64,9 +64,12 @@ def users_of(crate, file):
     if not os.path.isfile(f"{ROOT}/crates/{crate}/specs/{file}"):
         return "there is no such file"
     module = f"Rattle.{crate}.specs.{file.removesuffix('.antt').replace('/', '.')}."
-    parts = ("src", "specs", "proofs")
-    used = [it for it in crates() if it != crate for part in parts if any(module in text_of(path) for path in files_below(f"crates/{it}/{part}", (".rt", ".antt")))]
-    return f"it is used by {', '.join(sorted({*used}))}" if used else None
+    used = [it for it in crates() if it != crate and any(module in text_of(path) for path in sources_of(it))]
+    return f"it is used by {', '.join(used)}" if used else None
+
+
+def sources_of(crate):
+    return (path for part in ("src", "specs", "proofs") for path in files_below(f"crates/{crate}/{part}", (".rt", ".antt")))
 
 
 def edits(_program):

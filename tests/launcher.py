@@ -13,7 +13,7 @@ TOOLS = "bash sh cat cp mv mkdir sleep find date readlink flock touch sed".split
 NOT_BUILT = 70
 QUICK = 0.1
 
-CRATES = "# lowest first: NAME: lower ones\nlow: thiserror\nother: low\nmiddle: low\nfdb_replay_cli: middle\nbench: low\n"
+CRATES = "# lowest first: NAME: lower ones\nlow: thiserror\nother: low\nkept: low\nmiddle: low\nfdb_replay_cli: kept middle\nbench: low\n"
 # Locks the crate's folder, as rt does, and makes the program in its crate. It fails in the crate that the file `fails` names.
 RT = """#!/bin/sh
 exec 9< .
@@ -21,7 +21,7 @@ flock 9
 name=${PWD##*/}
 echo "$name $1" >> "$ROOM/calls"
 cat > "$ROOM/given"
-echo "rt: proving $name"
+if [ "$name" != kept ]; then echo "rt: proving $name"; fi
 if [ -e "$ROOM/fails" ] && [ "$(cat "$ROOM/fails")" = "$name" ]; then exit 1; fi
 case "$name $1" in
 "low lib")
@@ -52,15 +52,16 @@ exit ${STATUS-0}
 SAID = b"fdb_replay: said\n"
 # What a build says where standard error is no terminal: a line for each crate that the program needs.
 TOLD = rb"""fdb_replay: proving and building the program first, .*
-fdb_replay: \[1/3\] low: 75 functions, \d s
-fdb_replay: \[2/3\] middle: \d s
-fdb_replay: \[3/3\] fdb_replay_cli: \d s
+fdb_replay: \[1/4\] low: 75 functions, \d s
+fdb_replay: \[2/4\] kept: kept
+fdb_replay: \[3/4\] middle: \d s
+fdb_replay: \[4/4\] fdb_replay_cli: \d s
 fdb_replay: built after \d seconds
 fdb_replay: said
 """
 # What a terminal is shown of the first crate, in turn, and how the next line begins.
 SHOWN = [b"0 s so far", b"0 of 75 functions, 0 s so far", b"0 of 75 functions, 1 s so far", rb"54 of 75 functions, \d s so far", rb"75 functions, \d s\r\n"]
-RENEWED = b"(?s)" + b".*".join(rb"\r\x1b\[Kfdb_replay: \[1/3\] low: " + it for it in SHOWN) + rb"\r\x1b\[Kfdb_replay: \[2/3\] middle: 0 s so far"
+RENEWED = b"(?s)" + b".*".join(rb"\r\x1b\[Kfdb_replay: \[1/4\] low: " + it for it in SHOWN) + rb"\r\x1b\[Kfdb_replay: \[2/4\] kept: 0 s so far"
 LOGGED = b"""rt: proving low
 so far: 0 of 75 functions checked; the verdict comes last
 so far: 54 of 75 functions checked
@@ -75,7 +76,7 @@ class Room:
     def __init__(self, folder):
         self.top, self.bin, self.away = f"{folder}/top", f"{folder}/bin", f"{folder}/away"
         self.folder, self.crate = folder, f"{self.top}/crates/fdb_replay_cli"
-        for it in (f"{self.crate}/src", f"{self.top}/crates/low", f"{self.top}/crates/middle", self.bin, self.away):
+        for it in (f"{self.crate}/src", *(f"{self.top}/crates/{it}" for it in ("low", "kept", "middle")), self.bin, self.away):
             os.makedirs(it)
         shutil.copy(f"{ROOT}/fdb_replay", f"{self.top}/fdb_replay")
         self.write(f"{self.top}/crates.txt", CRATES)
@@ -215,7 +216,7 @@ def told_launches(room):
     ran, shown = room.launch_on_terminal(slow="1.2")
     yield "a launch on a terminal", room.fault(ran, room.wanted(given=b"", err=b""), 1)
     yield "what a terminal shows", None if re.search(RENEWED, shown) else repr(shown)
-    yield "the crates are proved in turn", other_text(f"{room.folder}/calls", b"low lib\nmiddle lib\nfdb_replay_cli run\n")
+    yield "the crates are proved in turn", other_text(f"{room.folder}/calls", b"low lib\nkept lib\nmiddle lib\nfdb_replay_cli run\n")
     yield "the log has what rt said", other_text(f"{room.crate}/out/build.log", LOGGED)
     os.remove(f"{room.crate}/out/fdb_replay_cli")
     room.write(f"{room.folder}/fails", "middle")

@@ -3,7 +3,8 @@ import os
 import subprocess
 import tempfile
 
-from harness import NO_STREAM, READING_FAILED, ROOT, WORDS_REFUSED, WRITING_FAILED, Ran, done, fault_of, first_output, first_script, read, refused, run, script, under
+from harness import NO_STREAM, READING_FAILED, ROOT, WORDS_REFUSED, WRITING_FAILED, Ran
+from harness import done, fault_of, first_output, first_script, read, refused, run, script, under
 
 # The history of the first script: it reads the recovery record, reports twice, and reads what the second one left.
 HISTORY = b"""history 0 client 0 call 0 read 100 unlocked none
