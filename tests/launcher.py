@@ -1,5 +1,7 @@
 """The launcher, in a folder of its own with a stand-in for rt and for the program."""
 import os
+import pty
+import re
 import shutil
 import subprocess
 import tempfile
@@ -11,19 +13,34 @@ TOOLS = "bash sh cat cp mv mkdir sleep find date readlink flock touch sed".split
 NOT_BUILT = 70
 QUICK = 0.1
 
-# Locks the crate's folder, as rt does, and makes a program unless the file `fails` is there.
+CRATES = "# lowest first: NAME: lower ones\nlow: thiserror\nother: low\nkept: low\nmiddle: low\nfdb_replay_cli: kept middle\nbench: low\n"
+# Locks the crate's folder, as rt does, and makes the program in its crate. It fails in the crate that the file `fails` names.
 RT = """#!/bin/sh
 exec 9< .
 flock 9
-echo "rt: proving"
-echo "rt: it is on the way" >&2
+name=${PWD##*/}
+echo "$name $1" >> "$ROOM/calls"
 cat > "$ROOM/given"
-if [ -e "$ROOM/fails" ]; then exit 1; fi
-sleep 0.2
-echo built >> "$ROOM/builds"
-mkdir -p out
-cp "$ROOM/stand_in" out/new
-mv out/new out/fdb_replay_cli
+if [ "$name" != kept ]; then echo "rt: proving $name"; fi
+if [ -e "$ROOM/fails" ] && [ "$(cat "$ROOM/fails")" = "$name" ]; then exit 1; fi
+case "$name $1" in
+"low lib")
+    echo "so far: 0 of 75 functions checked; the verdict comes last" >&2
+    sleep ${SLOW-0}
+    printf "so far: 54 of 75 func"
+    sleep ${SLOW-0}
+    echo "tions checked"
+    sleep ${SLOW-0}
+    ;;
+"fdb_replay_cli run")
+    echo "rt: running out/fdb_replay_cli" >&2
+    sleep 0.2
+    echo built >> "$ROOM/builds"
+    mkdir -p out
+    cp "$ROOM/stand_in" out/new
+    mv out/new out/fdb_replay_cli
+    ;;
+esac
 """
 PROGRAM = """#!/bin/sh
 pwd
@@ -33,6 +50,24 @@ echo "fdb_replay: said" >&2
 exit ${STATUS-0}
 """
 SAID = b"fdb_replay: said\n"
+# What a build says where standard error is no terminal: a line for each crate that the program needs.
+TOLD = rb"""fdb_replay: proving and building the program first, .*
+fdb_replay: \[1/4\] low: 75 functions, \d s
+fdb_replay: \[2/4\] kept: kept
+fdb_replay: \[3/4\] middle: \d s
+fdb_replay: \[4/4\] fdb_replay_cli: \d s
+fdb_replay: built after \d seconds
+fdb_replay: said
+"""
+# What a terminal is shown of the first crate, in turn, and how the next line begins.
+SHOWN = [b"0 s so far", b"0 of 75 functions, 0 s so far", b"0 of 75 functions, 1 s so far", rb"54 of 75 functions, \d s so far", rb"75 functions, \d s\r\n"]
+RENEWED = b"(?s)" + b".*".join(rb"\r\x1b\[Kfdb_replay: \[1/4\] low: " + it for it in SHOWN) + rb"\r\x1b\[Kfdb_replay: \[2/4\] kept: 0 s so far"
+LOGGED = b"""rt: proving low
+so far: 0 of 75 functions checked; the verdict comes last
+so far: 54 of 75 functions checked
+rt: proving middle
+rt: running out/fdb_replay_cli
+"""
 
 
 class Room:
@@ -41,10 +76,11 @@ class Room:
     def __init__(self, folder):
         self.top, self.bin, self.away = f"{folder}/top", f"{folder}/bin", f"{folder}/away"
         self.folder, self.crate = folder, f"{self.top}/crates/fdb_replay_cli"
-        for it in (f"{self.crate}/src", self.bin, self.away):
+        for it in (f"{self.crate}/src", *(f"{self.top}/crates/{it}" for it in ("low", "kept", "middle")), self.bin, self.away):
             os.makedirs(it)
         shutil.copy(f"{ROOT}/fdb_replay", f"{self.top}/fdb_replay")
-        for file in ("crates.txt", "HANDLES", "crates/fdb_replay_cli/stdin", "crates/fdb_replay_cli/src/main.rt"):
+        self.write(f"{self.top}/crates.txt", CRATES)
+        for file in ("HANDLES", "crates/fdb_replay_cli/stdin", "crates/fdb_replay_cli/src/main.rt"):
             self.write(f"{self.top}/{file}", f"{file}\n")
         self.write(f"{self.bin}/rt", RT)
         self.write(f"{folder}/stand_in", PROGRAM)
@@ -62,6 +98,15 @@ class Room:
         env = {"PATH": self.bin, "ROOM": self.folder, "STATUS": str(status)}
         return run([by or f"{self.top}/fdb_replay", *words], given, cwd=self.away, env=env)
 
+    def launch_on_terminal(self, slow):
+        """Launches with a terminal as standard error, and returns how that ended and what the terminal was written."""
+        ours, theirs = pty.openpty()
+        env = {"PATH": self.bin, "ROOM": self.folder, "TERM": "xterm", "SLOW": slow}
+        ran = run([f"{self.top}/fdb_replay"], b"", cwd=self.away, env=env, stderr=theirs)
+        os.close(theirs)
+        with os.fdopen(ours, "rb", buffering=0) as it:
+            return ran, read_terminal(it)
+
     def builds(self):
         if not os.path.exists(f"{self.folder}/builds"):
             return 0
@@ -78,6 +123,16 @@ class Room:
         return Ran(status, "".join(f"{it}\n" for it in lines).encode() + given, err)
 
 
+def read_terminal(file):
+    """Reads what a terminal was written, which ends with an error in place of no bytes."""
+    text = b""
+    while True:
+        try:
+            text += file.read(65_536)
+        except OSError:
+            return text
+
+
 def launches(_program):
     """The launcher builds where it must, passes all on where it need not, and says so on standard error alone."""
     with tempfile.TemporaryDirectory(prefix="launch-") as folder:
@@ -87,17 +142,17 @@ def launches(_program):
         yield from after_edits(room)
         yield "two at once, nothing built", two_at_once(room)
         yield from without_a_build(room)
+    with tempfile.TemporaryDirectory(prefix="launch-") as folder:
+        yield from told_launches(Room(os.path.realpath(folder)))
 
 
 def first_launches(room):
-    room.write(f"{room.folder}/fails", "")
+    room.write(f"{room.folder}/fails", "fdb_replay_cli")
     yield "a build that fails", room.fault(room.launch(), Ran(NOT_BUILT, b"", None), 0)
     os.remove(f"{room.folder}/fails")
     ran = room.launch()
     yield "the first launch builds", room.fault(ran, room.wanted(err=None), 1)
-    lines = ran.err.splitlines()
-    is_said = lines[-1:] == [SAID.strip()] and all(it.startswith(b"fdb_replay: ") for it in lines)
-    yield "what it says meanwhile", None if is_said and b"fdb_replay: rt: it is on the way" in lines else repr(ran.err)
+    yield "what it says meanwhile", None if re.fullmatch(TOLD, ran.err) else repr(ran.err)
     with open(f"{room.folder}/given", encoding="utf-8") as it:
         given = it.read()
     yield "what rt reads is not the script", None if "bytes" not in given else repr(given)
@@ -145,7 +200,7 @@ def two_at_once(room):
         fault = fault_of(Ran(started.returncode, out, b""), room.wanted(given=b"", err=b""))
         if fault:
             return fault
-    return None if room.builds() > before else "nothing was built"
+    return None if room.builds() == before + 1 else f"{room.builds() - before} builds in place of one"
 
 
 def without_a_build(room):
@@ -154,3 +209,29 @@ def without_a_build(room):
     yield "a built program needs no rt", room.fault(room.launch(), room.wanted(), builds)
     room.write(f"{room.top}/crates.txt", "edited again\n")
     yield "an old program is not run where there is no rt", room.fault(room.launch(), Ran(NOT_BUILT, b"", None), builds)
+
+
+def told_launches(room):
+    """A terminal has a line for each crate, which is renewed in place; what rt says goes to a log, which a failure names."""
+    ran, shown = room.launch_on_terminal(slow="1.2")
+    yield "a launch on a terminal", room.fault(ran, room.wanted(given=b"", err=b""), 1)
+    yield "what a terminal shows", None if re.search(RENEWED, shown) else repr(shown)
+    yield "the crates are proved in turn", other_text(f"{room.folder}/calls", b"low lib\nkept lib\nmiddle lib\nfdb_replay_cli run\n")
+    yield "the log has what rt said", other_text(f"{room.crate}/out/build.log", LOGGED)
+    os.remove(f"{room.crate}/out/fdb_replay_cli")
+    room.write(f"{room.folder}/fails", "middle")
+    ran = room.launch()
+    last = f"rt failed in crates/middle; what it said is in {room.crate}/out/build.log\n".encode()
+    yield "a failed build", room.fault(ran, Ran(NOT_BUILT, b"", None), 1)
+    yield "it names the crate and the log", None if ran.err.endswith(last) else repr(ran.err)
+    os.remove(f"{room.folder}/fails")
+    shutil.rmtree(f"{room.crate}/out")
+    room.write(f"{room.crate}/out", "in the way")
+    yield "no folder for the log", room.fault(room.launch(), Ran(NOT_BUILT, b"", None), 1)
+
+
+def other_text(file, wanted):
+    """Returns what a file has in place of what it should, or None."""
+    with open(file, "rb") as it:
+        found = it.read()
+    return None if found == wanted else repr(found)

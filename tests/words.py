@@ -3,7 +3,8 @@ import os
 import subprocess
 import tempfile
 
-from harness import DONE, NO_STREAM, READING_FAILED, WORDS_REFUSED, WRITING_FAILED, Ran, done, fault_of, first_output, first_script, refused, run, script, under
+from harness import NO_STREAM, READING_FAILED, ROOT, WORDS_REFUSED, WRITING_FAILED, Ran
+from harness import done, fault_of, first_output, first_script, read, refused, run, script, under
 
 # The history of the first script: it reads the recovery record, reports twice, and reads what the second one left.
 HISTORY = b"""history 0 client 0 call 0 read 100 unlocked none
@@ -14,6 +15,16 @@ history 3 client 0 call 5 read 2100 unlocked none
 # A script may have so many bytes.
 MOST_BYTES = 16_777_216
 NO_COMMANDS = b"audit ok events 0 raised 0 versions 0\n"
+# The whole text of the help.
+HELP = read(f"{ROOT}/tests/help.txt")
+HELPING = [
+    ("--help",),
+    ("-h",),
+    ("--help", "--none"),
+    ("--help", "--help"),
+    ("--history", "none.json", "--help"),
+    ("--history", "--proxies", "2", "none.json", "--help"),
+]
 
 # `+3` and `-3` as clap has them: an integer may have a plus, and a word that begins with a minus is an option's.
 COUNTS_TAKEN = ["1", "2", "15", "16", "+3", "016"]
@@ -37,6 +48,14 @@ REFUSED = [
     ("FILE", ""),
     ("FILE", "--", "FILE"),
     ("FILE", "1"),
+    ("FILE", "--proxies", "2", "--history", "FILE"),
+    ("FILE", "--proxies", "2", "--history", ""),
+    ("FILE", "--history", "--proxies", "2", "--none"),
+    ("--history", "--proxies", "2", "FILE", "--history"),
+    ("--history", "--", "FILE", "--proxies", "2"),
+    ("--proxies", "2", "--history", "--", "FILE", "--help"),
+    ("FILE", "--proxies", "2", "--history", "--proxies", "2"),
+    ("FILE", "--history", "--proxies", "2", "--", *["FILE"] * 1_000),
 ]
 # FILE stands for a file that has the first script; standard input has a script without commands.
 TAKEN = [
@@ -50,6 +69,9 @@ TAKEN = [
     (("FILE", "--proxies", "16"), first_output()),
     (("FILE", "--proxies=16", "--history"), first_output() + HISTORY),
     (("--history", "FILE", "--proxies", "2"), first_output() + HISTORY),
+    (("--history", "--proxies", "2", "--", "FILE"), first_output() + HISTORY),
+    (("--history", "FILE", "--proxies", "2", "--"), first_output() + HISTORY),
+    (("--proxies", "2", "--", "FILE"), first_output()),
     ((), NO_COMMANDS),
     (("--",), NO_COMMANDS),
     (("--history",), NO_COMMANDS),
@@ -123,7 +145,7 @@ def unwanted(program, file):
     """Words that are refused, also where reading, the script or writing would fail."""
     for given in REFUSED:
         filled = [file if it == "FILE" else it for it in given]
-        yield f"the words {given}", fault_of(run([program, *filled], first_script()), WORDS_REFUSED)
+        yield f"the words {given[:9]}", fault_of(run([program, *filled], first_script()), WORDS_REFUSED)
     for count in COUNTS_REFUSED:
         for given in (["--proxies", count], [f"--proxies={count}"]):
             yield f"the words {given}", fault_of(run([program, *given], first_script()), WORDS_REFUSED)
@@ -150,20 +172,12 @@ def nameless(program, given):
 
 def helped(program):
     """Help goes to standard output with status 0, whatever else is asked for by words in front that are taken."""
-    ran = run([program, "--help"], b"{")
-    yield "help", fault_of(ran, Ran(DONE, None, b"")) or told(ran.out.decode())
-    short = run([program, "-h"], b"{")
-    yield "help by -h", fault_of(short, Ran(DONE, ran.out, b""))
-    yield "help behind other words", fault_of(run([program, "--history", "none.json", "--help"]), Ran(DONE, ran.out, b""))
-    yield "help in front of refused words", fault_of(run([program, "--help", "--none"]), Ran(DONE, ran.out, b""))
+    helps = done(HELP)
+    for given in HELPING:
+        yield f"the words {given}", fault_of(run([program, *given], b"{"), helps)
     yield "help behind refused words", fault_of(run([program, "--none", "--help"]), WORDS_REFUSED)
+    yield "help behind five words of which one is refused", fault_of(run([program, "--history", "--proxies", "2", "x", "y", "--help"]), WORDS_REFUSED)
     yield "help behind --", fault_of(run([program, "--", "--help"]), READING_FAILED)
     yield "help, output full", fault_of(under("--help > /dev/full", program), WRITING_FAILED)
     yield "help, output closed", fault_of(under("--help >&-", program), WRITING_FAILED)
     yield "help, all closed", fault_of(under("--help <&- >&- 2>&-", program), Ran(NO_STREAM, b"", b""))
-
-
-def told(text):
-    """Returns what the help leaves out, or None."""
-    wanted = ["Usage: fdb_replay [OPTIONS] [SCRIPT]", "[SCRIPT]", "--proxies <N>", "[default: 1]", "--history", "-h, --help"]
-    return next((f"it leaves out {it!r}: {text!r}" for it in wanted if it not in text), None)

@@ -11,6 +11,17 @@ use std::alloc::{AllocError, Global};
 use std::env::Env;
 use std::{env, io};
 
+/// The end of the help.
+const AFTER_HELP: &str = "Exit status:
+  0  the replies are written, or this help
+  1  the script is refused: NotJson, BadLimit, or BadField with the round and the command
+  2  the words are refused
+  3  want of memory
+  4  the audit found a fault in the run
+  5  reading or writing failed
+
+docs/FORMATS.md has the script, what is written, and what each refusal and fault means.";
+
 /// What the words of a command line ask for.
 #[derive(Drop)]
 pub(crate) enum Request<'a> {
@@ -82,6 +93,7 @@ fn command<'a>(alloc: Global) -> Result<Command<'a>, AllocError>
 {
     Command::new(alloc, "fdb_replay")
         .about("Replays a script of clients, and writes what each of them was answered")
+        .after_help(AFTER_HELP)
         .no_binary_name(true)
         .arg(script_argument(alloc))?
         .arg(proxies_argument(alloc))?

@@ -1,0 +1,103 @@
+"""What documents say: each definition is named, each planted wrong body applies, and what is shown of the program is so."""
+import os
+import re
+
+from edits import BESIDE, TRIED, crates, edits_in, fault_of_edit
+from harness import EXAMPLES, ROOT, done, fault_of, run
+
+DEFINED = re.compile(r"^(?:abbrev )?pub (?:record |data )?(?!(?:use|mod)\b)([^\s:({]+)", re.MULTILINE)
+PRIVATE = "Private to a crate"
+# A file in `code`, with its crate where that is another than the last one; behind 'of', only a name of the file is meant.
+FILE = re.compile(r"(` of )?`(?:(\w+)/specs/)?([\w/]+\.antt)`")
+MOST_TRIED = 12
+
+
+def text_of(file):
+    with open(file, encoding="utf-8") as it:
+        return it.read()
+
+
+def files_below(folder, endings):
+    """Yields the files below a folder of the repository whose names end so."""
+    for at, folders, files in os.walk(f"{ROOT}/{folder}"):
+        folders.sort()
+        yield from (f"{at}/{name}" for name in sorted(files) if name.endswith(endings))
+
+
+def sections():
+    """The sections of docs/DEFINITIONS.md, by title."""
+    parts = re.split(r"^## (.*)$", text_of(f"{ROOT}/docs/DEFINITIONS.md"), flags=re.MULTILINE)
+    return dict(zip(parts[1::2], parts[2::2]))
+
+
+def words_for(crate):
+    """The words in `code` of the sections that name a file of the crate's specs/."""
+    said = [f"{title}\n{text}" for title, text in sections().items()]
+    return {word for it in said if f"`{crate}/specs/" in it for word in re.findall(r"`([^`\n]+)`", it)}
+
+
+def private_files():
+    """The files that docs/DEFINITIONS.md calls private as a whole: a crate, and a file of its specs/."""
+    crate, found = "", []
+    for of, named, file in FILE.findall(sections()[PRIVATE]):
+        crate = named or crate
+        found += [(crate, file)] * (not of)
+    return found
+
+
+def definitions(_program):
+    """Each definition is named in a section about its crate, unless its file is private, and then no other crate uses it."""
+    private = private_files()
+    for crate in crates():
+        words, specs = words_for(crate), f"crates/{crate}/specs"
+        for path in files_below(specs, ".antt"):
+            file = os.path.relpath(path, f"{ROOT}/{specs}")
+            if (crate, file) not in private:
+                missing = [name for name in DEFINED.findall(text_of(path)) if name not in words]
+                yield f"{specs}/{file}", f"docs/DEFINITIONS.md leaves out {', '.join(missing)}" if missing else None
+    for crate, file in private:
+        yield f"crates/{crate}/specs/{file} is private", users_of(crate, file)
+
+
+def users_of(crate, file):
+    """Returns which other crates name a private file, or that there is no such file, or None."""
+    if not os.path.isfile(f"{ROOT}/crates/{crate}/specs/{file}"):
+        return "there is no such file"
+    module = f"Rattle.{crate}.specs.{file.removesuffix('.antt').replace('/', '.')}."
+    used = [it for it in crates() if it != crate and any(module in text_of(path) for path in sources_of(it))]
+    return f"it is used by {', '.join(used)}" if used else None
+
+
+def sources_of(crate):
+    return (path for part in ("src", "specs", "proofs") for path in files_below(f"crates/{crate}/{part}", (".rt", ".antt")))
+
+
+def edits(_program):
+    """Each planted wrong body applies to its crate, and the gate tries few of each crate."""
+    for crate in crates():
+        for folder in (TRIED, BESIDE):
+            found, others = edits_in(crate, folder)
+            yield f"crates/{crate}/{folder}", f"{', '.join(others)}: no edit and no .md" if others else None
+            for name, file in found.items():
+                yield f"crates/{crate}/{folder}/{name}.edit", fault_of_edit(crate, file)
+        tried = len(edits_in(crate, TRIED)[0])
+        yield f"crates/{crate}/{TRIED}", f"it has {tried} edits, and {MOST_TRIED} are the most" if tried > MOST_TRIED else None
+
+
+def blocks():
+    """Yields the blocks of code of README.md and of docs/, each with the document that has it."""
+    for path in [f"{ROOT}/README.md", *files_below("docs", ".md")]:
+        for block in re.findall(r"^```\n(.*?)^```$", text_of(path), re.MULTILINE | re.DOTALL):
+            yield os.path.relpath(path, ROOT), block
+
+
+def shown(program):
+    """A block that shows a run of the program shows what it prints, and one that is a script is one of the examples."""
+    scripts = [text_of(f"{EXAMPLES}/{name}").strip() for name in os.listdir(EXAMPLES) if name.endswith(".json")]
+    for document, block in blocks():
+        first, _, rest = block.partition("\n")
+        if first.startswith("$ ./fdb_replay "):
+            words = first.split()[2:]
+            yield f"{document}: {first}", fault_of(run([program, *words], cwd=ROOT), done(rest.encode()))
+        elif first.startswith("{"):
+            yield f"{document}: {first}", None if block.strip() in scripts else "it is no script of examples/"
