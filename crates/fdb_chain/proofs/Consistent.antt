@@ -8,7 +8,7 @@ use Rattle.fdb_history.specs.Chain.{IsNext}
 use Rattle.fdb_history.specs.declared.chain.Issued.{Issued}
 use Rattle.fdb_chain.specs.ChainCore.{IsConsistent}
 use Rattle.fdb_history.specs.Replies.{KeptReplies, replies_after}
-use Rattle.fdb_chain.proofs.OneChain.{IsChain-append}
+use Rattle.fdb_chain.proofs.OneChain.{IsChain-push}
 use Rattle.fdb_history.proofs.KeptReplies.{AreRepliesOf-other, AreRepliesOf-own}
 
 -- an item of a list of which one was replaced: the new one, or one that was there
@@ -27,7 +27,7 @@ IsConsistent-append epoch_end recovery answers replies answer own kept next know
     record {
       epoch = kept.epoch;
       proxies = rw (length-set replies answer.proxy (replies_after own answer.ordinal answer.processed)) kept.proxies;
-      one_chain = IsChain-append epoch_end recovery answers answer kept.one_chain next;
+      one_chain = IsChain-push epoch_end recovery answers answer kept.one_chain next;
       asked = rw (length-set replies answer.proxy (replies_after own answer.ordinal answer.processed)) (All-push (λ old. old.proxy < length replies) answers answer kept.asked known);
       kept = λ proxy found at_proxy.
           elim (slice_get-set_cases replies answer.proxy proxy _ found known at_proxy) [
