@@ -1,2 +1,1 @@
 pub mod OneChain
-pub mod Consistent

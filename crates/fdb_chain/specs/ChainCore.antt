@@ -1,5 +1,5 @@
 -- The members of a chain, and what a result has to do with the definition's answer.
-use Rattle.std.specs.Prelude.{◌≡◌, ℕ, ◌<◌, ◌≤◌, List, [], slice_get, Some, All, length, Result, Ok, Err, IsOkAnd, IsTrue}
+use Rattle.std.specs.Prelude.{◌≡◌, ℕ, ◌<◌, ◌≤◌, List, [], All, length, Result, Ok, Err, IsOkAnd, IsTrue}
 use Rattle.fdb_history.specs.Answer.{Chain}
 use Rattle.fdb_history.specs.Chain.{IsChain}
 use Rattle.fdb_history.specs.declared.chain.Issued.{Issued}
@@ -9,7 +9,7 @@ use Rattle.fdb_history.specs.declared.register.TheConstants.{MAX_VERSION}
 use Rattle.fdb_chain.specs.declared.chain_core.TheConstants.{MAX_PROXIES}
 use Rattle.fdb_chain.specs.declared.error.ChainError.{ChainError}
 use Rattle.fdb_chain.specs.declared.error.ChainError.TheVariants.{BadEpoch, NoProxy, UnknownProxy, Early, Forgotten, Exhausted, Memory}
-use Rattle.fdb_history.specs.Replies.{KeptReplies, AreRepliesOf}
+use Rattle.fdb_history.specs.Replies.{KeptReplies, AreRepliesOfAll}
 
 -- The recovery version is a version, above the end of the epoch before.
 pub record IsEpoch (epoch_end recovery : ℕ) : Type 0 where
@@ -43,4 +43,4 @@ pub record IsConsistent (epoch_end recovery : ℕ) (answers : List Issued) (repl
   pub proxies : IsProxyCount (length replies)
   pub one_chain : IsChain epoch_end recovery answers
   pub asked : All (λ answer. answer.proxy < length replies) answers
-  pub kept : (proxy : ℕ) (own : KeptReplies) → slice_get replies proxy ≡ Some own → AreRepliesOf proxy answers own
+  pub kept : AreRepliesOfAll answers replies

@@ -183,8 +183,7 @@ impl ChainCore {
         ensures err { OnErr result (self.new ≡ self.old) }
     {
         self.answers.reserve(1)?;
-        let place = answer.ordinal as usize;
-        self.replies[answer.proxy as usize].keep(place, answer.processed)?;
+        Replies::keep_among(self.replies.as_mut_slice(), &answer)?;
         self.answers.push_reserved(answer);
         Ok(())
     }

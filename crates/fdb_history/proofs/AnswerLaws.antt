@@ -1,15 +1,16 @@
 -- The laws of answers: what is kept, and that requests make a chain.
-use Rattle.std.proofs.Common.{◌≡◌, ℕ, zero, suc, ◌+◌, ◌-◌, ◌<◌, ◌≤◌, Bool, true, false, cond, not, ◌&&◌, inl, inr, List, [], ◌∷◌, ◌++◌, reverse, length, take, slice_get, Option, Some, None, Ok, Err, refl, sym, ap, ◌∙◌, subst, le_refl, arith, eqb, ltb, leb, eqb-true, find}
-use Rattle.std.proofs.lemmas.Bool.{cond-true, cond-false, eq-eqb, and_parts, cases_lt, lt-ltb, le-ltb, ltb-false, leb-true, leb-false, le-leb, not_from_true, false_from_ne_true}
+use Rattle.std.proofs.Common.{◌≡◌, ℕ, zero, suc, ◌+◌, ◌-◌, ◌<◌, ◌≤◌, Bool, true, false, cond, not, ◌&&◌, List, [], ◌∷◌, ◌++◌, reverse, length, take, slice_get, Option, Some, None, Ok, Err, refl, sym, ap, ◌∙◌, subst, le_refl, arith, eqb, ltb, leb, eqb-true, find}
+use Rattle.std.proofs.lemmas.Bool.{cond-true, cond-false, eq-eqb, and_parts, lt-ltb, le-ltb, ltb-false, leb-true, leb-false, le-leb, not_from_true, false_from_ne_true}
 use Rattle.std.proofs.lemmas.Option.{same_Some, none-some, slice_get_within, slice_get-get_or, get_or_from_slice_get}
-use Rattle.std.proofs.lemmas.List.{get_or-reverse, length-reverse, length_push, take-append-le, take_at, take_all, take-take}
+use Rattle.std.proofs.lemmas.List.{append-nil, append_assoc, get_or-reverse, length-reverse, take_at, take_all}
 use Rattle.std.proofs.lemmas.List.Sums.{sum_by-cons}
-use Rattle.fdb_history.specs.Chain.{latest, IsNext, IsChain}
+use Rattle.fdb_history.specs.Chain.{latest, IsChain}
 use Rattle.fdb_history.specs.Answer.{Chain, kept_among, kept, next_answer, fresh_answer, kept_answer, answer_to, chain_after, after_asks}
 use Rattle.fdb_history.specs.declared.chain.Ask.{Ask}
 use Rattle.fdb_history.specs.declared.chain.Issued.{Issued}
 use Rattle.fdb_history.specs.declared.log.Refusal.TheVariants.{UnknownProxy, Early, Exhausted}
 use Rattle.fdb_history.specs.declared.register.TheConstants.{MAX_VERSION}
+use Rattle.fdb_history.proofs.ChainLaws.{IsNext-at, GoesOn-push}
 
 -- whether an answer is the one of this proxy with this number
 abbrev pub is_for : ℕ → ℕ → Issued → Bool
@@ -93,8 +94,8 @@ none-before epoch_end recovery answers proxy num place answer chain at of' under
     let both = and_parts (eqb earlier.proxy proxy) (eqb earlier.num num) hit in
     let of'' = eqb-true earlier.proxy proxy both.0 in
     let under' = eqb-true earlier.num num both.1 in
-    let own = (chain place answer at).num ∙ ap (λ p. latest p (take place answers) + 1) of' in
-    let its = (chain k earlier here).num ∙ ap (λ p. latest p (take k answers) + 1) of'' in
+    let own = (IsNext-at epoch_end recovery answers place answer chain at).num ∙ ap (λ p. latest p (take place answers) + 1) of' in
+    let its = (IsNext-at epoch_end recovery answers k earlier chain here).num ∙ ap (λ p. latest p (take k answers) + 1) of'' in
     let more = latest-beyond proxy answers k place earlier here of'' order in
     omega arith)
 
@@ -110,7 +111,7 @@ kept-latest : (epoch_end recovery : ℕ) (answers : List Issued) (proxy num : �
 kept-latest epoch_end recovery answers proxy num answer chain found =
     let in' = kept-found proxy num answers answer found in
     let is = kept-is answers proxy num answer found in
-    let own = (chain in'.place answer in'.at).num ∙ ap (λ p. latest p (take in'.place answers) + 1) is.0 in
+    let own = (IsNext-at epoch_end recovery answers in'.place answer chain in'.at).num ∙ ap (λ p. latest p (take in'.place answers) + 1) is.0 in
     let within = slice_get_within answers in'.place answer in'.at in
     let more = latest-beyond proxy answers in'.place (length answers) answer in'.at is.0 within in
     let all = ap (latest proxy) (take_all (length answers) answers (le_refl (length answers))) in
@@ -126,31 +127,6 @@ repeated-kept chain ask answer is known found =
     (le-ltb (last + 1) ask.num (omega arith))
     ∙ cond-true (leb ask.num last) (kept_answer (kept ask.proxy ask.num chain.answers)) (fresh_answer chain ask) (le-leb ask.num last old)
     ∙ ap kept_answer found
-
-slice_get-append : {X : Type 0} (xs ys : List X) (place : ℕ) → place < length xs → slice_get (xs ++ ys) place ≡ slice_get xs place
-slice_get-append [] ys place inside = absurd (omega arith)
-slice_get-append (x ∷ xs) ys zero inside = refl
-slice_get-append (x ∷ xs) ys (suc place) inside = let inside' : place < length xs = omega arith in slice_get-append xs ys place inside'
-
-slice_get-push : {X : Type 0} (xs : List X) (y : X) (place : ℕ) → length xs ≡ place → slice_get (xs ++ y ∷ []) place ≡ Some y
-slice_get-push [] y zero end = refl
-slice_get-push [] y (suc place) end = absurd (omega arith)
-slice_get-push (x ∷ xs) y zero end = absurd (omega arith)
-slice_get-push (x ∷ xs) y (suc place) end = let end' : length xs ≡ place = omega arith in slice_get-push xs y place end'
-
--- A chain with one more answer, which is the next one, is a chain.
-pub IsChain-push : (epoch_end recovery : ℕ) (answers : List Issued) (next : Issued) → IsChain epoch_end recovery answers → IsNext epoch_end recovery answers next → IsChain epoch_end recovery (answers ++ next ∷ [])
-IsChain-push epoch_end recovery answers next chain is place answer at =
-    let within = slice_get_within (answers ++ next ∷ []) place answer at in
-    elim (cases_lt place (length answers)) [
-      | inl inside ↦
-          let here = sym (slice_get-append answers (next ∷ []) place inside) ∙ at in
-          rw (take-append-le place answers (next ∷ []) (omega arith)) (chain place answer here)
-      | inr past ↦
-          let end : length answers ≡ place = omega (arith, length_push answers next) in
-          let same = same_Some next answer (sym (slice_get-push answers next place end) ∙ at) in
-          rw (take_at answers (next ∷ []) place end) (subst (IsNext epoch_end recovery answers) same is)
-    ]
 
 -- the chain with one more answer
 abbrev with_next : Chain → Ask → Chain
@@ -179,7 +155,7 @@ request-leaves P chain ask =
 pub IsChain-step : (chain : Chain) (ask : Ask) → IsChain chain.epoch_end chain.recovery chain.answers → IsChain chain.epoch_end chain.recovery (chain_after chain (answer_to chain ask)).answers
 IsChain-step chain ask is =
     request-leaves (λ after. IsChain chain.epoch_end chain.recovery after.answers) chain ask is (λ num in_range.
-    IsChain-push chain.epoch_end chain.recovery chain.answers (next_answer chain ask) is
+    GoesOn-push chain.epoch_end chain.recovery [] chain.answers (next_answer chain ask) is
     (record { fresh = refl; ordinal = refl; num = num; prev = refl; version = refl; in_range = in_range }))
 
 -- A request changes no more of a chain than its answers.
@@ -199,36 +175,21 @@ IsChain-asks chain (ask ∷ asks) is =
     let is' = subst (λ (c : Chain). IsChain c.epoch_end c.recovery after.answers) (sym (step-stays chain ask)) (IsChain-step chain ask is) in
     subst (λ (c : Chain). IsChain c.epoch_end c.recovery (after_asks after asks).answers) (step-stays chain ask) (IsChain-asks after asks is')
 
-IsChain-nil : (epoch_end recovery : ℕ) → IsChain epoch_end recovery []
-IsChain-nil epoch_end recovery place answer at = absurd (none-some answer at)
-
 pub IsChain-from_nothing : (chain : Chain) (asks : List Ask) → chain.answers ≡ [] → IsChain chain.epoch_end chain.recovery (after_asks chain asks).answers
 IsChain-from_nothing chain asks none =
-    IsChain-asks chain asks (subst (IsChain chain.epoch_end chain.recovery) (sym none) (IsChain-nil chain.epoch_end chain.recovery))
+    IsChain-asks chain asks (subst (IsChain chain.epoch_end chain.recovery) (sym none) tt)
 
--- the one list begins with the other
-record BeginsWith (front all : List Issued) : Type 0 where
-  fits : length front ≤ length all
-  same : take (length front) all ≡ front
-
-BeginsWith-trans : (a b c : List Issued) → BeginsWith a b → BeginsWith b c → BeginsWith a c
-BeginsWith-trans a b c first second = record {
-  fits = omega arith;
-  same = sym (take-take (length a) (length b) c first.fits) ∙ (ap (take (length a)) second.same ∙ first.same);
-}
-
-BeginsWith-refl : (a : List Issued) → BeginsWith a a
-BeginsWith-refl a = record { fits = le_refl (length a); same = take_all (length a) a (le_refl (length a)) }
-
-asks-begin : (chain : Chain) (asks : List Ask) → BeginsWith chain.answers (after_asks chain asks).answers
-asks-begin chain [] = BeginsWith-refl chain.answers
-asks-begin chain (ask ∷ asks) =
+-- requests add to the answers, and leave those that were given
+asks-add : (chain : Chain) (asks : List Ask) → (more : List Issued) × ((after_asks chain asks).answers ≡ chain.answers ++ more)
+asks-add chain [] = ([], sym (append-nil chain.answers))
+asks-add chain (ask ∷ asks) =
     let after = chain_after chain (answer_to chain ask) in
-    let step = request-leaves (λ c. BeginsWith chain.answers c.answers) chain ask (BeginsWith-refl chain.answers) (λ num in_range. record {
-      fits = omega (arith, length_push chain.answers (next_answer chain ask));
-      same = take_at chain.answers (next_answer chain ask ∷ []) (length chain.answers) refl;
-    }) in
-    BeginsWith-trans chain.answers after.answers (after_asks after asks).answers step (asks-begin after asks)
+    let P : Chain → Type 0 = λ c. (more : List Issued) × (c.answers ≡ chain.answers ++ more) in
+    let first = request-leaves P chain ask ([], sym (append-nil chain.answers)) (λ num in_range. (next_answer chain ask ∷ [], refl)) in
+    let rest = asks-add after asks in
+    (first.0 ++ rest.0, rest.1 ∙ (ap (λ answers. answers ++ rest.0) first.1 ∙ append_assoc chain.answers first.0 rest.0))
 
 pub asks-keep : (chain : Chain) (asks : List Ask) → take (length chain.answers) (after_asks chain asks).answers ≡ chain.answers
-asks-keep chain asks = (asks-begin chain asks).same
+asks-keep chain asks =
+    let added = asks-add chain asks in
+    rw added.1 (take_at chain.answers added.0 (length chain.answers) refl)

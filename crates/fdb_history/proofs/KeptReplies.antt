@@ -1,21 +1,17 @@
 -- The replies of a proxy after one more answer.
-use Rattle.std.proofs.Common.{◌≡◌, ℕ, ◌+◌, ◌-◌, ◌<◌, ◌≤◌, ◌==◌, cond, List, [], ◌∷◌, ◌++◌, length, reverse, All, IfSome, Option, None, Some, slice_get, ap, subst, sym, ◌∙◌, refl, inl, inr, arith, length-append}
+use Rattle.std.proofs.Common.{◌≡◌, ◌⊎◌, ℕ, zero, suc, ◌+◌, ◌-◌, ◌<◌, ◌≤◌, ◌==◌, cond, get_or, set, List, [], ◌∷◌, ◌++◌, length, reverse, All, IfSome, Option, None, Some, slice_get, ap, subst, sym, ◌∙◌, refl, inl, inr, arith, length-append}
 use Rattle.std.specs.Option.{option_and_then}
 use Rattle.std.proofs.lemmas.Bool.{cases_lt, cases_eq}
 use Rattle.std.proofs.lemmas.Bool.Decides.{leb_tells, nat_tests}
 use Rattle.std.proofs.lemmas.List.{reverse-append}
-use Rattle.std.proofs.lemmas.List.Elements.{All-push, All-nil}
+use Rattle.std.proofs.lemmas.List.Elements.{All-push}
 use Rattle.std.proofs.lemmas.List.Sums.{sum_by_push}
-use Rattle.std.proofs.lemmas.Option.{slice_get_cases, slice_get_past}
+use Rattle.std.proofs.lemmas.Option.{none-some, same_Some, slice_get_cases, slice_get_past, slice_get_read}
 use Rattle.fdb_history.specs.Answer.{kept, kept_among}
-use Rattle.fdb_history.specs.Chain.{latest}
+use Rattle.fdb_history.specs.Chain.{latest, IsNext}
 use Rattle.fdb_history.specs.declared.chain.Issued.{Issued}
-use Rattle.fdb_history.specs.Replies.{KeptReplies, AreRepliesOf, no_replies, place_of, reply, replies_after}
+use Rattle.fdb_history.specs.Replies.{KeptReplies, AreRepliesOf, AreRepliesOfAll, place_of, reply, replies_after}
 use Rattle.fdb_history.proofs.Lists.{slice_get-append_left, slice_get-append_seam}
-
--- a proxy that has got no answer
-pub AreRepliesOf-none : (proxy : ℕ) (replies : KeptReplies) → replies ≡ no_replies → AreRepliesOf proxy [] replies
-AreRepliesOf-none proxy replies e = rw e (record { count = refl; in_range = All-nil _; look_up = λ num. grind (arith, nat_tests) })
 
 -- a search begins with the newest answer
 kept-append : (proxy num : ℕ) (answers : List Issued) (answer : Issued) → kept proxy num (answers ++ answer ∷ []) ≡ kept_among proxy num (answer ∷ reverse answers)
@@ -128,3 +124,23 @@ AreRepliesOf-own answers answer replies next own =
       in_range = All-push (λ place. place < length (answers ++ answer ∷ [])) replies.places (length answers) (in_range-append answers answer replies.places own.in_range) (omega (arith, length-append answers (answer ∷ [])));
       look_up = look_up-own answers answer replies next own;
     }
+
+-- an item of a list of which one was replaced: the new one, or one that was there
+slice_get-set_cases : {X : Type 0} (xs : List X) (i j : ℕ) (y x : X) → i < length xs → slice_get (set xs i y) j ≡ Some x → ((j ≡ i) × (y ≡ x)) ⊎ ((j ≡ i → ⊥) × (slice_get xs j ≡ Some x))
+slice_get-set_cases [] i j y x within at = absurd (none-some x at)
+slice_get-set_cases (z ∷ zs) zero zero y x within at = inl (refl, same_Some y x at)
+slice_get-set_cases (z ∷ zs) zero (suc j) y x within at = inr (λ e. cc e, at)
+slice_get-set_cases (z ∷ zs) (suc i) zero y x within at = inr (λ e. cc e, at)
+slice_get-set_cases (z ∷ zs) (suc i) (suc j) y x within at =
+    elim (slice_get-set_cases zs i j y x (omega arith) at) [
+      | inl w ↦ inl (ap suc w.0, w.1)
+      | inr w ↦ inr (λ e. w.0 (omega arith), w.1)
+    ]
+
+-- the replies of all proxies, after the next answer, for one that had these
+pub AreRepliesOfAll-push : (epoch_end recovery : ℕ) (answers : List Issued) (all : List KeptReplies) (answer : Issued) (own : KeptReplies) → answer.proxy < length all → own ≡ get_or all answer.proxy own → IsNext epoch_end recovery answers answer → AreRepliesOfAll answers all → AreRepliesOfAll (answers ++ answer ∷ []) (set all answer.proxy (replies_after own answer.ordinal answer.processed))
+AreRepliesOfAll-push epoch_end recovery answers all answer own known own_is next were proxy found at =
+    elim (slice_get-set_cases all answer.proxy proxy (replies_after own answer.ordinal answer.processed) found known at) [
+      | inl w ↦ rw (w.0, sym w.1 ∙ ap (λ place. replies_after own place answer.processed) next.ordinal) (AreRepliesOf-own answers answer own next.num (were answer.proxy own (slice_get_read all (length all) answer.proxy own refl known own_is)))
+      | inr w ↦ AreRepliesOf-other proxy answers answer found (λ e. w.0 (sym e)) (were proxy found w.1)
+    ]

@@ -1,5 +1,6 @@
 pub mod HistoryLaws
 pub mod ChainLaws
+mod ChainExamples
 pub mod AnswerLaws
 pub mod ExplainedStamps
 pub mod ExplainedClients

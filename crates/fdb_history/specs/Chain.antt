@@ -1,5 +1,5 @@
 -- Commit versions: a list of fresh answers, in the order in which they were given.
-use Rattle.std.specs.Prelude.{◌≡◌, ℕ, ◌+◌, ◌-◌, ◌≤◌, ◌==◌, min, max, true, List, Option, None, Some, length, take, slice_get, count_by}
+use Rattle.std.specs.Prelude.{◌≡◌, ℕ, ◌+◌, ◌-◌, ◌≤◌, ◌==◌, min, max, true, List, [], ◌∷◌, ◌++◌, Option, None, Some, length, slice_get, count_by}
 use Rattle.fdb_history.specs.declared.chain.Issued.{Issued}
 use Rattle.fdb_history.specs.declared.chain.TheConstants.{MAX_STEP}
 use Rattle.fdb_history.specs.declared.register.TheConstants.{MAX_VERSION}
@@ -10,7 +10,7 @@ use Rattle.fdb_history.specs.declared.register.TheConstants.{MAX_VERSION}
 abbrev pub step : ℕ → ℕ → ℕ
 step last_at at = max 1 (min MAX_STEP (at - last_at))
 
--- The answer that was given last.
+-- The answer that was given last. (getVersion of masterserver has its version and its moment: version, lastVersionTime)
 abbrev pub last_answer : List Issued → Option Issued
 last_answer answers = slice_get answers (length answers - 1)
 
@@ -32,6 +32,7 @@ abbrev pub latest : ℕ → List Issued → ℕ
 latest proxy answers = count_by (λ answer. answer.proxy == proxy) answers
 
 -- An answer is the next one after those before it.
+-- (getVersion of masterserver; ordinals, `fresh` and the bound on versions are this product's own)
 pub record IsNext (epoch_end recovery : ℕ) (before : List Issued) (answer : Issued) : Type 0 where
   pub fresh : answer.fresh ≡ true
   pub ordinal : answer.ordinal ≡ length before
@@ -40,6 +41,11 @@ pub record IsNext (epoch_end recovery : ℕ) (before : List Issued) (answer : Is
   pub version : answer.version ≡ version_after recovery (last_answer before) answer.at
   pub in_range : answer.version ≤ MAX_VERSION
 
--- One chain: each answer is the next one after those before it.
+-- Some answers go on from those before them: each is the next one after all before it. (this product's own)
+abbrev pub GoesOn : ℕ → ℕ → List Issued → List Issued → Type 0
+GoesOn epoch_end recovery before [] = Unit {0}
+GoesOn epoch_end recovery before (answer ∷ later) = IsNext epoch_end recovery before answer × GoesOn epoch_end recovery (before ++ answer ∷ []) later
+
+-- One chain: each answer is the next one after those before it, the first after none. (this product's own)
 abbrev pub IsChain : ℕ → ℕ → List Issued → Type 0
-IsChain epoch_end recovery answers = (place : ℕ) (answer : Issued) → slice_get answers place ≡ Some answer → IsNext epoch_end recovery (take place answers) answer
+IsChain epoch_end recovery answers = GoesOn epoch_end recovery [] answers

@@ -1,5 +1,7 @@
--- The replies that are kept for one commit proxy.
-use Rattle.std.specs.Prelude.{◌≡◌, ℕ, ◌-◌, ◌<◌, ◌==◌, nat_le, min, max, List, [], ◌∷◌, ◌++◌, length, Option, None, slice_get, All, if◌then◌else◌}
+-- The replies that are kept for one commit proxy, and for all of them.
+-- (CommitProxyVersionReplies of masterserver, FoundationDB 7.1; the places, and how they are found, are this product's own)
+use Rattle.std.specs.Prelude.{◌≡◌, ℕ, ◌-◌, ◌<◌, ◌==◌, nat_le, min, max, List, [], ◌∷◌, ◌++◌, length, Option, None, Some, slice_get, slice_set, All, if◌then◌else◌}
+use Rattle.std.specs.List.{slice_index_or}
 use Rattle.std.specs.Option.{option_and_then}
 use Rattle.fdb_history.specs.Answer.{kept}
 use Rattle.fdb_history.specs.Chain.{latest}
@@ -40,3 +42,11 @@ pub record AreRepliesOf (proxy : ℕ) (answers : List Issued) (replies : KeptRep
   pub count : length replies.places ≡ latest proxy answers
   pub in_range : All (λ place. place < length answers) replies.places
   pub look_up : (num : ℕ) → kept proxy num answers ≡ reply answers replies num
+
+-- The replies of all proxies, each at its own place.
+abbrev pub AreRepliesOfAll : List Issued → List KeptReplies → Type 0
+AreRepliesOfAll answers all = (proxy : ℕ) (own : KeptReplies) → slice_get all proxy ≡ Some own → AreRepliesOf proxy answers own
+
+-- The replies of all proxies after one more answer: those of the proxy that got it have changed.
+abbrev pub all_after : List KeptReplies → Issued → List KeptReplies
+all_after all answer = slice_set all answer.proxy (replies_after (slice_index_or all answer.proxy no_replies) answer.ordinal answer.processed)

@@ -1,8 +1,11 @@
 //! The replies that are kept for one commit proxy.
 
-ghost use Rattle.std.specs.Prelude.{◌≡◌, ◌<◌, ◌^◌, length, All, OnOk, OnErr, IfOk};
-ghost use Rattle.fdb_history.specs.Replies.{drawn_place, no_replies, place_of, replies_after};
+ghost use Rattle.std.specs.Prelude.{◌≡◌, ℕ, ◌<◌, ◌^◌, ◌∷◌, ◌++◌, [], List, length, All, OnOk, OnErr, IfOk};
+ghost use Rattle.fdb_history.specs.Chain.{IsNext};
+ghost use Rattle.fdb_history.specs.Replies.{AreRepliesOfAll, all_after, drawn_place, no_replies, place_of, replies_after};
+ghost use Rattle.fdb_history.specs.declared.chain.Issued.{Issued};
 
+use crate::chain::Issued;
 use std::alloc::{AllocError, Global};
 use std::marker::Model;
 
@@ -73,6 +76,18 @@ impl Replies {
             return None;
         }
         self.places.get((num - 1) as usize).copied()
+    }
+
+    /// Keeps an answer among the replies of all proxies, for the one that got it, as `keep` does. Where memory is
+    /// refused, nothing has changed.
+    pub fn keep_among(all: &mut [Replies], answer: &Issued) -> Result<(), AllocError>
+        requires { answer.now.proxy < length all.old }
+        ensures ok { OnOk result (all.new ≡ all_after all.old answer.now) }
+        ensures kept { OnOk result ((epoch_end recovery : ℕ) (answers : List Issued) → IsNext epoch_end recovery answers answer.now
+            → AreRepliesOfAll answers all.old → AreRepliesOfAll (answers ++ answer.now ∷ []) all.new) }
+        ensures err { OnErr result (all.new ≡ all.old) }
+    {
+        all[answer.proxy as usize].keep(answer.ordinal as usize, answer.processed)
     }
 
     /// Keeps the place of the proxy's next answer, and erases those that the proxy has processed, though not this
