@@ -268,6 +268,20 @@ exact queue request elapsed limit budget count h time is sure limit_is budget_is
     let ceil = div_ceil_times (missing queue request) (elapsed * limit_of queue.config request.priority) grants in
     rw number (counted elapsed queue request split.0 (div_ceil (missing queue request) (elapsed * limit_of queue.config request.priority)) (elapsed * limit_of queue.config request.priority) own refl ceil.0 (λ some. ceil.1))
 
+-- What is missing is no more than what is needed.
+div_ceil-below : (needed budget step : ℕ) → 0 < step → div_ceil (needed - budget) step ≤ div_ceil needed step
+div_ceil-below needed budget step grants =
+    below_factor (div_ceil (needed - budget) step) (div_ceil needed step) step (omega (arith, (div_ceil_times (needed - budget) step grants).1, (div_ceil_times needed step grants).0))
+
+pub within : {T : Type 0} (queue : Queue T) (request : Req T) (elapsed limit budget count : ℕ) → IsQueue queue → 1 ≤ elapsed
+    → IsSure queue.config request.priority request.count → limit ≡ limit_of queue.config request.priority
+    → count ≡ div_ceil (request.count * RATE_WINDOW - (limit * RATE_WINDOW + budget)) (elapsed * limit) → count ≤ div_ceil (request.count * RATE_WINDOW) (elapsed * limit_of queue.config request.priority)
+within queue request elapsed limit budget count h time sure limit_is count_is =
+    let grants = granted elapsed queue.config request.priority request.count time h.config sure in
+    let below = div_ceil-below (request.count * RATE_WINDOW) (limit * RATE_WINDOW + budget) (elapsed * limit_of queue.config request.priority) grants in
+    let number = rw limit_is at count_is in
+    rw number (rw limit_is at below)
+
 pub count_of : {T : Type 0} (queue : Queue T) (request : Req T) → IsQueue queue → first (row queue.waiting) ≡ Some request → request.count ≤ MAX_COUNT
 count_of {T = T} queue request h is =
     let split = first_split (row queue.waiting) request is in
