@@ -14,8 +14,8 @@ use Rattle.fdb_queue.specs.Admission.{is_count}
 use Rattle.fdb_queue.specs.Kept.{IsQueue, IsAdmitted}
 use Rattle.fdb_queue.specs.Queue.{Queue}
 use Rattle.fdb_queue.specs.Waiting.{row, total}
-use Rattle.fdb_queue.specs.Window.{may_start, each_may_start, fits, window}
-use Rattle.fdb_queue.proofs.Fitting.{total-cons, and_true, and_false, each_after, fits-append, fits-more}
+use Rattle.fdb_queue.specs.Window.{may_start, fits, window}
+use Rattle.fdb_queue.proofs.Fitting.{each_may_start, total-cons, and_true, and_false, each_after, fits-append, fits-more}
 use Rattle.fdb_queue.proofs.Walking.{window_cut, Blocked}
 
 pub prefix : {T : Type 0} (queue : Queue T) → window queue ≡ take (length (window queue)) (row queue.waiting)
