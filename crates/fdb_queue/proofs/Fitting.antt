@@ -1,8 +1,9 @@
 -- Which lists fit into one window, one request at a time.
-use Rattle.std.proofs.Common.{◌≡◌, ℕ, ◌+◌, ◌&&◌, Bool, true, false, List, [], ◌∷◌, ◌++◌, None, map, length, refl, sym, ap, ◌∙◌, arith, length-append, add-zero, ◌⊎◌, inl, inr}
+use Rattle.std.proofs.Common.{◌≡◌, ℕ, ◌+◌, ◌&&◌, Bool, true, false, List, [], ◌∷◌, ◌++◌, None, map, length, refl, sym, ap, ◌∙◌, arith, length-append, add-zero, inl, inr}
 use Rattle.std.specs.Prelude.{nat_le, nat_lt}
 use Rattle.std.specs.List.{list_all, last_or}
 use Rattle.std.specs.Option.{option_map_or}
+use Rattle.std.proofs.lemmas.Bool.{and_parts, and_cases}
 use Rattle.std.proofs.lemmas.Bool.Decides.{nat_tests}
 use Rattle.std.proofs.lemmas.List.Folds.{list_all-map, list_all-append}
 use Rattle.std.proofs.lemmas.List.Sums.{sum_by-cons}
@@ -35,7 +36,7 @@ each_after-append config budgets before (x ∷ xs) ys =
     let sums : before + total (x ∷ xs) ≡ before + x.count + total xs = omega (arith, total-cons x xs) in
     rw (each_after-append config budgets (before + x.count) xs ys, sums) (and_assoc (may_start config budgets x.priority (before + x.count)) (each_after config budgets (before + x.count) xs) (each_after config budgets (before + x.count + total xs) ys))
 
-and-true : (b : Bool) → (b && true) ≡ b
+pub and-true : (b : Bool) → (b && true) ≡ b
 and-true true = refl
 and-true false = refl
 
@@ -92,14 +93,6 @@ each_may_start-after config budgets requests =
     (λ some. ap (λ sum. option_map_or (λ last. may_start config budgets last.priority sum) (last_or None some) true) (omega arith)) (prefixes requests)
     ∙ each_from config budgets 0 requests
 
-pub and_false : (a b : Bool) → (a && b) ≡ false → (a ≡ false) ⊎ (b ≡ false)
-and_false true b h = inr h
-and_false false b h = inl refl
-
-pub and_true : (a b : Bool) → (a && b) ≡ true → (a ≡ true) × (b ≡ true)
-and_true true b h = (refl, h)
-and_true false b h = cc
-
 and-false : (b : Bool) → (b && false) ≡ false
 and-false true = refl
 and-false false = refl
@@ -119,9 +112,9 @@ fits-append queue done more request =
 -- what comes first of what fits fits
 pub fits-prefix : {T : Type 0} (queue : Queue T) (done more : List (Req T)) → fits queue (done ++ more) ≡ true → fits queue done ≡ true
 fits-prefix queue done more h =
-    let both = and_true (nat_le (length (done ++ more)) MAX_STARTED) (each_may_start queue.config queue.budgets (done ++ more)) h in
+    let both = and_parts (nat_le (length (done ++ more)) MAX_STARTED) (each_may_start queue.config queue.budgets (done ++ more)) h in
     let each = sym (each_may_start-after queue.config queue.budgets (done ++ more) ∙ each_after-append queue.config queue.budgets 0 done more) ∙ both.1 in
-    let first = (and_true (each_after queue.config queue.budgets 0 done) (each_after queue.config queue.budgets (0 + total done) more) each).0 in
+    let first = (and_parts (each_after queue.config queue.budgets 0 done) (each_after queue.config queue.budgets (0 + total done) more) each).0 in
     let room : nat_le (length done) MAX_STARTED ≡ true = grind (arith, nat_tests, length-append done more, both.0) in
     rw (room, each_may_start-after queue.config queue.budgets done, first) refl
 
@@ -131,7 +124,7 @@ pub fits-more : {T : Type 0} (queue : Queue T) (done more : List (Req T)) (reque
     → fits queue (done ++ request ∷ more) ≡ false
 fits-more queue done more request blocked =
     fits-append queue done more request
-    ∙ elim (and_false (nat_lt (length done) MAX_STARTED) (may_start queue.config queue.budgets request.priority (total done + request.count)) blocked) [
+    ∙ elim (and_cases (nat_lt (length done) MAX_STARTED) (may_start queue.config queue.budgets request.priority (total done + request.count)) blocked) [
       | inl full ↦ (let over : nat_le (length (done ++ request ∷ more)) MAX_STARTED ≡ false = grind (arith, nat_tests, length-append done (request ∷ more)) in rw over refl)
       | inr held ↦ rw (held, and-false, and-false) refl
     ]
@@ -140,7 +133,7 @@ pub fits-push : {T : Type 0} (queue : Queue T) (done : List (Req T)) (request : 
     → (nat_lt (length done) MAX_STARTED && may_start queue.config queue.budgets request.priority (total done + request.count)) ≡ true
     → fits queue (done ++ request ∷ []) ≡ true
 fits-push queue done request h goes =
-    let parts = and_true (nat_lt (length done) MAX_STARTED) (may_start queue.config queue.budgets request.priority (total done + request.count)) goes in
-    let each = sym (each_may_start-after queue.config queue.budgets done) ∙ (and_true (nat_le (length done) MAX_STARTED) (each_may_start queue.config queue.budgets done) h).1 in
+    let parts = and_parts (nat_lt (length done) MAX_STARTED) (may_start queue.config queue.budgets request.priority (total done + request.count)) goes in
+    let each = sym (each_may_start-after queue.config queue.budgets done) ∙ (and_parts (nat_le (length done) MAX_STARTED) (each_may_start queue.config queue.budgets done) h).1 in
     let room : nat_le (length (done ++ request ∷ [])) MAX_STARTED ≡ true = grind (arith, nat_tests, length-append done (request ∷ []), parts.0) in
     fits-append queue done [] request ∙ rw (room, each, parts.1) refl
