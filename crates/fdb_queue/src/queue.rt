@@ -26,7 +26,7 @@ use std::marker::Model;
 /// three queues, the two `GrvTransactionRateInfo` and the throttled tags).
 ///
 /// Contracts see it as the record `Queue`: its configuration, a list of requests for each priority, the budgets and the throttles.
-#[derive(Debug, Drop)]
+#[derive(Drop)]
 pub struct GrvQueue<T> {
     config: QueueConfig,
     waiting: Waiting<T>,

@@ -9,14 +9,14 @@ use std::collections::BTreeMap;
 use std::marker::Model;
 
 /// What is kept under a tag.
-#[derive(Clone, Copy, Debug, PartialEq, Eq)]
+#[derive(Clone, Copy)]
 struct Limit {
     rate: u64,
     expires: u64,
 }
 
 /// The throttles that were set last for each tag, by priority.
-#[derive(Debug, Drop)]
+#[derive(Drop)]
 pub(crate) struct Throttles {
     system: BTreeMap<Vec<u8>, Limit>,
     default_: BTreeMap<Vec<u8>, Limit>,
