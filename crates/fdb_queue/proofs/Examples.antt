@@ -1,16 +1,21 @@
 -- Worked examples of the definitions: each is computed by them, so that a wrong definition fails here.
-use Rattle.std.proofs.Common.{◌≡◌, ℕ, List, [], ◌∷◌, map, Some, refl}
+use Rattle.std.proofs.Common.{◌≡◌, ℕ, zero, suc, ◌+◌, ◌<◌, true, List, [], ◌∷◌, map, replicate, None, Some, refl, arith}
+use Rattle.std.specs.Prelude.{nat_le}
+use Rattle.std.proofs.lemmas.List.{length-replicate}
 use Rattle.fdb_history.specs.declared.grv.Priority.{Priority}
 use Rattle.fdb_history.specs.declared.grv.Priority.TheVariants.{System, Default, Batch}
 use Rattle.fdb_history.specs.declared.grv.TagLimit.{TagLimit}
-use Rattle.fdb_queue.specs.declared.error.QueueError.TheVariants.{BadCount, Full}
+use Rattle.fdb_queue.specs.declared.error.QueueError.TheVariants.{BadCount, BatchThrottled, Full}
+use Rattle.fdb_queue.specs.declared.config.TheConstants.{MAX_TAG}
 use Rattle.fdb_queue.specs.declared.request.Req.{Req}
 use Rattle.fdb_queue.specs.Admission.{refusal_of, admitted, pushed_out}
+use Rattle.fdb_queue.specs.Config.{IsConfig, IsElapsed}
 use Rattle.fdb_queue.specs.Queue.{Queue, new_queue}
 use Rattle.fdb_queue.specs.Throttles.{Throttle, limits_of}
 use Rattle.fdb_queue.specs.Waiting.{row}
-use Rattle.fdb_queue.specs.Waits.{after_windows}
-use Rattle.fdb_queue.specs.Window.{window, after_window}
+use Rattle.fdb_queue.specs.Waits.{after_windows, StartsAfter, IsSure}
+use Rattle.fdb_queue.specs.Window.{fits, window, after_window}
+use Rattle.fdb_queue.proofs.Fitting.{each_after, each_may_start-after, and-true}
 
 -- a request, and its name
 abbrev asks : Priority → ℕ → ℕ → Req ℕ
@@ -50,6 +55,13 @@ blocked-fourth = refl
 blocked-fifth : names (window (after_windows 1000000 4 blocked)) ≡ 0 ∷ []
 blocked-fifth = refl
 
+blocked-idle : (before : ℕ) → before < 4 → window (after_windows 1000000 before blocked) ≡ []
+blocked-idle zero less = refl
+blocked-idle (suc zero) less = refl
+blocked-idle (suc (suc zero)) less = refl
+blocked-idle (suc (suc (suc zero))) less = refl
+blocked-idle (suc (suc (suc (suc before)))) less = absurd (omega arith)
+
 -- Limits of 100,000: no window starts more by a rate, whatever its budget, and no budget comes to more while somebody waits.
 abbrev burst : Queue ℕ
 burst = admitted (admitted (new_queue (record { normal = 100000; batch = 100000; room = 3 })) (asks System 60000 0)) (asks Default 50000 1)
@@ -75,6 +87,18 @@ burst-last = refl
 burst-idle : (after_windows 10000000 2 burst_again).budgets ≡ record { normal = 20000000; batch = 20000000 }
 burst-idle = refl
 
+-- Of many requests that may start by their priority, as many start as the definition says.
+abbrev systems : ℕ → List (Req ℕ)
+systems count = replicate count (asks System 1 0)
+
+systems-may_start : (count before : ℕ) → each_after three.config three.budgets before (systems count) ≡ true
+systems-may_start zero before = refl
+systems-may_start (suc count) before = systems-may_start count (before + 1)
+
+systems-fit : (count : ℕ) → fits three (systems count) ≡ nat_le count 10000
+systems-fit count =
+    rw (length-replicate count (asks System 1 0), each_may_start-after three.config three.budgets (systems count), systems-may_start count 0) (and-true (nat_le count 10000))
+
 -- A full queue of two batch requests: a default one pushes out the older, and a batch one is refused.
 abbrev full : Queue ℕ
 full = admitted (admitted (new_queue (record { normal = 1; batch = 1; room = 2 })) (asks Batch 1 0)) (asks Batch 1 1)
@@ -91,6 +115,96 @@ full-batch = refl
 -- The count is looked at first, and it may be 11 for a batch request at a limit of 1.
 full-count : refusal_of full (asks Batch 12 2) ≡ Some BadCount
 full-count = refl
+
+full-count-at : refusal_of full (asks Batch 11 2) ≡ Some Full
+full-count-at = refl
+
+-- A system request pushes out a default one where no batch request waits, and never another system request.
+abbrev full_later : Queue ℕ
+full_later = admitted (admitted full (asks System 1 2)) (asks Default 1 3)
+
+full-system : pushed_out full_later (asks System 1 4) ≡ Some (asks Default 1 3)
+full-system = refl
+
+full-systems : refusal_of (admitted full_later (asks System 1 4)) (asks System 1 5) ≡ Some Full
+full-systems = refl
+
+-- A count is from 1 to 100,000.
+count-none : refusal_of three (asks System 0 4) ≡ Some BadCount
+count-none = refl
+
+count-greatest : refusal_of three (asks System 100000 4) ≡ None
+count-greatest = refl
+
+count-above : refusal_of three (asks System 100001 4) ≡ Some BadCount
+count-above = refl
+
+count-default : refusal_of three (asks Default 100000 4) ≡ None
+count-default = refl
+
+count-default-above : refusal_of three (asks Default 100001 4) ≡ Some BadCount
+count-default-above = refl
+
+-- With a batch limit of 0 no batch request is let in.
+throttled-batch : refusal_of (new_queue {T = ℕ} (record { normal = 3; batch = 0; room = 100 })) (asks Batch 1 0) ≡ Some BatchThrottled
+throttled-batch = refl
+
+-- What a queue may be made with: the greatest of each, and one more.
+config-greatest : IsConfig (record { normal = 100000; batch = 100000; room = 100000 })
+config-greatest = record { normal_some = omega arith; normal_in_range = omega arith; batch_in_range = omega arith; room_some = omega arith; room_in_range = omega arith }
+
+config-least : IsConfig (record { normal = 1; batch = 0; room = 1 })
+config-least = record { normal_some = omega arith; normal_in_range = omega arith; batch_in_range = omega arith; room_some = omega arith; room_in_range = omega arith }
+
+config-normal-none : IsConfig (record { normal = 0; batch = 0; room = 1 }) → ⊥
+config-normal-none h = omega arith
+
+config-normal-above : IsConfig (record { normal = 100001; batch = 0; room = 1 }) → ⊥
+config-normal-above h = omega arith
+
+config-batch-above : IsConfig (record { normal = 1; batch = 100001; room = 1 }) → ⊥
+config-batch-above h = omega arith
+
+config-room-none : IsConfig (record { normal = 1; batch = 0; room = 0 }) → ⊥
+config-room-none h = omega arith
+
+config-room-above : IsConfig (record { normal = 1; batch = 0; room = 100001 }) → ⊥
+config-room-above h = omega arith
+
+elapsed-least : IsElapsed 1
+elapsed-least = record { some = omega arith; in_range = omega arith }
+
+elapsed-greatest : IsElapsed 10000000
+elapsed-greatest = record { some = omega arith; in_range = omega arith }
+
+elapsed-none : IsElapsed 0 → ⊥
+elapsed-none h = omega arith
+
+elapsed-above : IsElapsed 10000001 → ⊥
+elapsed-above h = omega arith
+
+tag-longest : MAX_TAG ≡ 16
+tag-longest = refl
+
+-- Who, first in the row, waits for its own rate alone.
+sure-default : IsSure three.config Default 100000
+sure-default = omega arith
+
+sure-default-above : IsSure three.config Default 100001 → ⊥
+sure-default-above h = omega arith
+
+sure-batch : IsSure three.config Batch 3
+sure-batch = (omega arith, omega arith)
+
+sure-batch-above : IsSure three.config Batch 4 → ⊥
+sure-batch-above h = omega (arith, h.0)
+
+sure-batch-throttled : IsSure (record { normal = 3; batch = 0; room = 1 }) Batch 1 → ⊥
+sure-batch-throttled h = omega (arith, h.1)
+
+-- The window after four that start nothing is the first that starts something.
+blocked-waits : StartsAfter 1000000 blocked 4
+blocked-waits = record { idle = blocked-idle; starts = omega arith }
 
 -- A throttle that was set twice: the last one counts until it expires, for each time that the tag stands there.
 abbrev limit : ℕ → ℕ → TagLimit

@@ -10,6 +10,7 @@ use Rattle.std.specs.Option.{option_or}
 use Rattle.std.specs.Global.{Vec}
 use Rattle.std.specs.declared.cmp.Ordering.{Ordering}
 use Rattle.std.specs.declared.cmp.Ordering.TheVariants.{Less, Equal, Greater}
+use Rattle.std.proofs.lemmas.Bool.{cases_Bool}
 use Rattle.std.proofs.lemmas.Slice.Eq.{bytes_eq-Decides}
 use Rattle.std.proofs.lemmas.Map.Text.{is_eq-slice_cmp}
 use Rattle.fdb_history.specs.declared.grv.Priority.{Priority}
@@ -19,7 +20,6 @@ use Rattle.fdb_queue.specs.declared.throttles.Limit.{Limit}
 use Rattle.fdb_queue.specs.Kinds.{kept_for}
 use Rattle.fdb_queue.specs.Throttles.{Throttle, is_for, last_set}
 use Rattle.fdb_queue.specs.Waiting.{is_priority}
-use Rattle.fdb_queue.proofs.Walking.{bool_cases}
 use Rattle.fdb_queue.proofs.Leaving.{is_own}
 
 last_set-append : (xs ys : List Throttle) (priority : Priority) (tag : List ℕ) → last_set (xs ++ ys) priority tag ≡ option_or (last_set xs priority tag) (last_set ys priority tag)
@@ -125,7 +125,7 @@ pub looked_up : (priority : Priority) (entries : List (Vec ℕ × Limit)) (tag :
     → option_map (λ kept. limit_at tag kept) (lookup (is_at (λ (key : Vec ℕ). slice_cmp nat_cmp tag key.items)) entries) ≡ last_set (kept_for priority entries) priority tag
 looked_up priority [] tag = refl
 looked_up priority (e ∷ es) tag =
-    elim (bool_cases (bytes_eq tag e.0.items)) [
+    elim (cases_Bool (bytes_eq tag e.0.items)) [
       | inl same ↦ (let equal : tag ≡ e.0.items = (bytes_eq-Decides tag e.0.items).0 same in
           rw (is_own priority, is_eq-slice_cmp tag e.0.items, same) (ap (λ it. Some (limit_at it e.1)) equal))
       | inr differ ↦ rw (is_own priority, is_eq-slice_cmp tag e.0.items, differ) (looked_up priority es tag)

@@ -1,6 +1,7 @@
 -- Laws of windows.
 use Rattle.std.proofs.Common.{◌≡◌, ℕ, suc, ◌+◌, ◌-◌, ◌*◌, ◌≤◌, ◌<◌, ◌&&◌, ◌⊎◌, inl, inr, true, false, List, [], ◌∷◌, ◌++◌, length, take, refl, sym, ap, ◌∙◌, arith, length-append}
 use Rattle.std.specs.Prelude.{nat_le, nat_lt, All}
+use Rattle.std.proofs.lemmas.Bool.{and_parts, and_cases}
 use Rattle.std.proofs.lemmas.Bool.Decides.{nat_tests}
 use Rattle.std.proofs.lemmas.List.{take_at, append_cancel_left}
 use Rattle.std.proofs.Math.Seq.{take-append-add}
@@ -14,8 +15,8 @@ use Rattle.fdb_queue.specs.Admission.{is_count}
 use Rattle.fdb_queue.specs.Kept.{IsQueue, IsAdmitted}
 use Rattle.fdb_queue.specs.Queue.{Queue}
 use Rattle.fdb_queue.specs.Waiting.{row, total}
-use Rattle.fdb_queue.specs.Window.{may_start, each_may_start, fits, window}
-use Rattle.fdb_queue.proofs.Fitting.{total-cons, and_true, and_false, each_after, fits-append, fits-more}
+use Rattle.fdb_queue.specs.Window.{may_start, fits, window}
+use Rattle.fdb_queue.proofs.Fitting.{each_may_start, total-cons, each_after, fits-append, fits-more}
 use Rattle.fdb_queue.proofs.Walking.{window_cut, Blocked}
 
 pub prefix : {T : Type 0} (queue : Queue T) → window queue ≡ take (length (window queue)) (row queue.waiting)
@@ -28,18 +29,18 @@ fit_window queue = (window_cut queue).1.fit
 
 pub in_range : {T : Type 0} (queue : Queue T) → length (window queue) ≤ MAX_STARTED
 in_range queue =
-    let room = (and_true (nat_le (length (window queue)) MAX_STARTED) (each_may_start queue.config queue.budgets (window queue)) (fit_window queue)).0 in
+    let room = (and_parts (nat_le (length (window queue)) MAX_STARTED) (each_may_start queue.config queue.budgets (window queue)) (fit_window queue)).0 in
     grind (arith, nat_tests)
 
 pub starts : {T : Type 0} (queue : Queue T) (before after : List (Req T)) (request : Req T) → window queue ≡ before ++ request ∷ after
     → may_start queue.config queue.budgets request.priority (total before + request.count) ≡ true
 starts queue before after request is =
     let whole = sym (fits-append queue before after request) ∙ sym (ap (λ some. fits queue some) is) ∙ fit_window queue in
-    let later = (and_true (nat_le (length (before ++ request ∷ after)) MAX_STARTED)
+    let later = (and_parts (nat_le (length (before ++ request ∷ after)) MAX_STARTED)
     (each_after queue.config queue.budgets 0 before && (may_start queue.config queue.budgets request.priority (total before + request.count) && each_after queue.config queue.budgets (total before + request.count) after)) whole).1 in
-    let here = (and_true (each_after queue.config queue.budgets 0 before)
+    let here = (and_parts (each_after queue.config queue.budgets 0 before)
     (may_start queue.config queue.budgets request.priority (total before + request.count) && each_after queue.config queue.budgets (total before + request.count) after) later).1 in
-    (and_true (may_start queue.config queue.budgets request.priority (total before + request.count)) (each_after queue.config queue.budgets (total before + request.count) after) here).0
+    (and_parts (may_start queue.config queue.budgets request.priority (total before + request.count)) (each_after queue.config queue.budgets (total before + request.count) after) here).0
 
 pub head : {T : Type 0} (queue : Queue T) (left : List (Req T)) (next : Req T) → row queue.waiting ≡ window queue ++ next ∷ left
     → (length (window queue) ≡ MAX_STARTED) ⊎ (may_start queue.config queue.budgets next.priority (total (window queue) + next.count) ≡ false)
@@ -48,7 +49,7 @@ head queue left next is =
     let same = append_cancel_left (window queue) cut.0 (next ∷ left) (sym cut.1.both ∙ is) in
     let blocked : Blocked queue (window queue) (next ∷ left) = rw same at cut.1.blocked in
     let room = in_range queue in
-    elim (and_false (nat_lt (length (window queue)) MAX_STARTED) (may_start queue.config queue.budgets next.priority (total (window queue) + next.count)) blocked) [
+    elim (and_cases (nat_lt (length (window queue)) MAX_STARTED) (may_start queue.config queue.budgets next.priority (total (window queue) + next.count)) blocked) [
       | inl full ↦ inl (grind (arith, nat_tests))
       | inr held ↦ inr held
     ]

@@ -1,8 +1,9 @@
 -- Windows that start nothing.
-use Rattle.std.proofs.Common.{◌≡◌, ℕ, zero, suc, ◌+◌, ◌-◌, ◌*◌, ◌≤◌, ◌<◌, ◌==◌, ◌&&◌, inl, inr, Bool, true, false, List, [], ◌∷◌, ◌++◌, length, take, refl, sym, ap, ◌∙◌, arith, zero-add, length-append}
+use Rattle.std.proofs.Common.{◌≡◌, ℕ, zero, suc, ◌+◌, ◌-◌, ◌*◌, ◌≤◌, ◌<◌, ◌==◌, inl, inr, true, false, List, [], ◌∷◌, ◌++◌, length, take, refl, sym, ap, ◌∙◌, arith, zero-add, length-append}
 use native.Mathlib.Nat.{suc-mul, zero-mul, mul-pos}
 use Rattle.std.specs.Int.{div_ceil}
 use Rattle.std.specs.Prelude.{nat_le, All, Some}
+use Rattle.std.proofs.lemmas.Bool.{cases_Bool, cases_lt}
 use Rattle.std.proofs.lemmas.Bool.Decides.{nat_tests}
 use Rattle.std.proofs.lemmas.List.{nil_from_length}
 use Rattle.std.proofs.lemmas.List.Elements.{All-head}
@@ -21,10 +22,10 @@ use Rattle.fdb_queue.specs.Queue.{Queue}
 use Rattle.fdb_queue.specs.Waiting.{Requests, row, total, first}
 use Rattle.fdb_queue.specs.Waits.{after_windows, StartsAfter, IsSure, limit_of, budget_of}
 use Rattle.fdb_queue.specs.Window.{may_start, fits, window, budgets_after, after_window}
-use Rattle.fdb_queue.proofs.Fitting.{fits-more}
+use Rattle.fdb_queue.proofs.Fitting.{and-true, fits-more}
 use Rattle.fdb_queue.proofs.LongestPrefix.{find_longest}
 use Rattle.fdb_queue.proofs.Lawful.{head, counts_in_row}
-use Rattle.fdb_queue.proofs.Walking.{longest, bool_cases}
+use Rattle.fdb_queue.proofs.Walking.{longest}
 
 -- somebody waits for the rate of this priority
 abbrev pub IsWaiting : {T : Type 0} → Priority → Requests T → Type 0
@@ -67,7 +68,7 @@ not_both queue request left is goes none =
 started : {T : Type 0} (queue : Queue T) (request : Req T) (left : List (Req T)) → row queue.waiting ≡ request ∷ left
     → may_start queue.config queue.budgets request.priority request.count ≡ true → 0 < length (window queue)
 started queue request left is goes =
-    elim (bool_cases (length (window queue) == 0)) [
+    elim (cases_Bool (length (window queue) == 0)) [
       | inl none ↦ absurd (not_both queue request left is goes (nil_from_length (window queue) (grind (arith, nat_tests))))
       | inr some ↦ grind (arith, nat_tests)
     ]
@@ -78,10 +79,6 @@ may_by_limit limit budget count small = grind (arith, nat_tests)
 
 normal_suffices : (limit budget count : ℕ) → limit ≤ MAX_BURST → count ≤ limit → can_start limit budget count ≡ true
 normal_suffices limit budget count small within = grind (arith, nat_tests)
-
-and-true : (b : Bool) → (b && true) ≡ b
-and-true true = refl
-and-true false = refl
 
 may_by : (config : QueueConfig) (budgets : Budgets) (priority : Priority) (count : ℕ) → IsConfig config → IsSure config priority count
     → may_start config budgets priority count ≡ nat_le (count * RATE_WINDOW - (limit_of config priority * RATE_WINDOW + budget_of budgets priority)) 0
@@ -167,12 +164,6 @@ one_more n (suc count) step some less =
     let one : suc count * step ≡ count * step + step = suc-mul count step in
     omega arith
 
-is_zero : (n : ℕ) → (n == 0) ≡ true → n ≡ 0
-is_zero n h = grind (arith, nat_tests)
-
-is_more : (n : ℕ) → (n == 0) ≡ false → 0 < n
-is_more n h = grind (arith, nat_tests)
-
 pub idle_within : {T : Type 0} (elapsed : ℕ) (queue : Queue T) (request : Req T) (left : List (Req T)) (count step : ℕ) → IsHead queue request left
     → step ≡ elapsed * limit_of queue.config request.priority → 0 < step → ((before : ℕ) → before < count → window (after_windows elapsed before queue) ≡ []) → count * step < missing queue request + step
 idle_within elapsed queue request left zero step h is grants idle = let none : zero * step ≡ 0 = zero-mul step in omega arith
@@ -183,9 +174,9 @@ idle_within elapsed queue request left (suc count) step h is grants idle =
     let later_raw : count * step < missing (waited elapsed queue) request + step = idle_within elapsed (waited elapsed queue) request left count step (still_head elapsed queue request left h) is grants
     (λ before less. rw (← after) (idle (suc before) (omega arith))) in
     let later = rw next at later_raw in
-    let some : 0 < missing queue request = elim (bool_cases (missing queue request == 0)) [
-      | inl none ↦ (let starts = starts_where queue request left h (is_zero (missing queue request) none) in let empty = ap (λ it. length it) here in absurd (omega arith))
-      | inr more ↦ is_more (missing queue request) more
+    let some : 0 < missing queue request = elim (cases_lt 0 (missing queue request)) [
+      | inl more ↦ more
+      | inr none ↦ (let starts = starts_where queue request left h (omega arith) in let empty = ap (λ it. length it) here in absurd (omega arith))
     ] in
     one_more (missing queue request) count step some later
 
@@ -267,6 +258,20 @@ exact queue request elapsed limit budget count h time is sure limit_is budget_is
     let number : count ≡ div_ceil (missing queue request) (elapsed * limit_of queue.config request.priority) = rw (limit_is, budget_is) at count_is in
     let ceil = div_ceil_times (missing queue request) (elapsed * limit_of queue.config request.priority) grants in
     rw number (counted elapsed queue request split.0 (div_ceil (missing queue request) (elapsed * limit_of queue.config request.priority)) (elapsed * limit_of queue.config request.priority) own refl ceil.0 (λ some. ceil.1))
+
+-- What is missing is no more than what is needed.
+div_ceil-below : (needed budget step : ℕ) → 0 < step → div_ceil (needed - budget) step ≤ div_ceil needed step
+div_ceil-below needed budget step grants =
+    below_factor (div_ceil (needed - budget) step) (div_ceil needed step) step (omega (arith, (div_ceil_times (needed - budget) step grants).1, (div_ceil_times needed step grants).0))
+
+pub within : {T : Type 0} (queue : Queue T) (request : Req T) (elapsed limit budget count : ℕ) → IsQueue queue → 1 ≤ elapsed
+    → IsSure queue.config request.priority request.count → limit ≡ limit_of queue.config request.priority
+    → count ≡ div_ceil (request.count * RATE_WINDOW - (limit * RATE_WINDOW + budget)) (elapsed * limit) → count ≤ div_ceil (request.count * RATE_WINDOW) (elapsed * limit_of queue.config request.priority)
+within queue request elapsed limit budget count h time sure limit_is count_is =
+    let grants = granted elapsed queue.config request.priority request.count time h.config sure in
+    let below = div_ceil-below (request.count * RATE_WINDOW) (limit * RATE_WINDOW + budget) (elapsed * limit_of queue.config request.priority) grants in
+    let number = rw limit_is at count_is in
+    rw number (rw limit_is at below)
 
 pub count_of : {T : Type 0} (queue : Queue T) (request : Req T) → IsQueue queue → first (row queue.waiting) ≡ Some request → request.count ≤ MAX_COUNT
 count_of {T = T} queue request h is =

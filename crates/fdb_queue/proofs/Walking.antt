@@ -1,6 +1,7 @@
 -- A turn that goes along the row starts the window.
 use Rattle.std.proofs.Common.{◌≡◌, ℕ, suc, ◌+◌, ◌-◌, ◌≤◌, ◌<◌, ◌&&◌, ◌⊎◌, inl, inr, Bool, true, false, List, [], ◌∷◌, ◌++◌, length, take, Some, fold, refl, sym, ap, ◌∙◌, arith, add-zero, length-append, append_assoc}
 use Rattle.std.specs.Prelude.{nat_lt, find, unwrap_or}
+use Rattle.std.proofs.lemmas.Bool.{cases_Bool}
 use Rattle.std.proofs.lemmas.List.{append-nil, take-append-le, take_all, take_at}
 use Rattle.std.proofs.Math.Seq.{take-append-add}
 use Rattle.std.proofs.lemmas.List.Folds.{fold_stays}
@@ -17,10 +18,6 @@ use Rattle.fdb_queue.specs.Waiting.{row, total}
 use Rattle.fdb_queue.specs.Window.{may_start, prefixes, fits}
 use Rattle.fdb_queue.proofs.Fitting.{total-cons, fits-more, fits-push}
 use Rattle.fdb_queue.proofs.LongestPrefix.{find_longest}
-
-pub bool_cases : (b : Bool) → (b ≡ true) ⊎ (b ≡ false)
-bool_cases true = inl refl
-bool_cases false = inr refl
 
 -- ---- one step of a turn
 
@@ -88,9 +85,9 @@ first_started turn after x xs runs rest =
 part : {T : Type 0} (config : QueueConfig) (budgets : Budgets) (turn : Turn) (requests : List (Req T)) → IsPart turn (fold (turn_after config budgets) turn requests) requests
 part config budgets turn [] = nothing_started turn turn [] refl refl (λ _. refl) (λ _. refl)
 part config budgets turn (x ∷ xs) =
-    elim (bool_cases turn.ended) [
+    elim (cases_Bool turn.ended) [
       | inl ended ↦ rw (ended_fold config budgets turn (x ∷ xs) ended) (nothing_started turn turn (x ∷ xs) refl refl (λ runs. cc) (λ _. refl))
-      | inr runs ↦ elim (bool_cases (goes_on config budgets turn x)) [
+      | inr runs ↦ elim (cases_Bool (goes_on config budgets turn x)) [
         | inl goes ↦ rw (starts_it config budgets turn x runs goes) (first_started turn (fold (turn_after config budgets) (grown turn x) xs) x xs runs (part config budgets (grown turn x) xs))
         | inr stops ↦ rw (ends_there config budgets turn x runs stops, ended_fold config budgets (ended_at turn) xs refl)
             (nothing_started turn (ended_at turn) (x ∷ xs) refl refl (λ r. cc) (λ ended. cc))
@@ -130,7 +127,7 @@ walk : {T : Type 0} (queue : Queue T) (done rest : List (Req T)) → fits queue 
     → IsWalked queue (done ++ rest) (fold (turn_after queue.config queue.budgets) (turn_of done) rest)
 walk queue done [] fit = walked_at queue done [] (turn_of done) refl refl (find_longest (λ some. fits queue some) done [] fit tt)
 walk {T = T} queue done (x ∷ xs) fit =
-    elim (bool_cases (goes_on queue.config queue.budgets (turn_of done) x)) [
+    elim (cases_Bool (goes_on queue.config queue.budgets (turn_of done) x)) [
       | inl goes ↦
           (let same : grown (turn_of done) x ≡ turn_of (done ++ x ∷ []) = rw (length-append done (x ∷ []), sum_by_push (λ request. request.count) done x) refl in
           let next : IsWalked queue (done ++ x ∷ [] ++ xs) (fold (turn_after queue.config queue.budgets) (turn_of (done ++ x ∷ [])) xs) = walk queue (done ++ x ∷ []) xs (fits-push queue done x fit goes) in
@@ -163,7 +160,7 @@ cut_here queue done rest is fit blocked = record {
 pub cut_at : {T : Type 0} (queue : Queue T) (done rest : List (Req T)) → fits queue done ≡ true → (left : List (Req T)) × IsCut queue (done ++ rest) left
 cut_at queue done [] fit = ([], cut_here queue done [] (rw (find_longest (λ some. fits queue some) done [] fit tt) refl) fit tt)
 cut_at {T = T} queue done (x ∷ xs) fit =
-    elim (bool_cases (goes_on queue.config queue.budgets (turn_of done) x)) [
+    elim (cases_Bool (goes_on queue.config queue.budgets (turn_of done) x)) [
       | inl goes ↦
           (let next : (left : List (Req T)) × IsCut queue (done ++ x ∷ [] ++ xs) left = cut_at queue (done ++ x ∷ []) xs (fits-push queue done x fit goes) in rw append_assoc at next)
       | inr stops ↦ (x ∷ xs, cut_here queue done (x ∷ xs) (rw (find_longest (λ some. fits queue some) done (x ∷ xs) fit (λ more. fits-more queue done more x stops)) refl) fit stops)
@@ -202,14 +199,14 @@ walk_row queue = walk queue [] (row queue.waiting) refl
 -- where a turn has stopped in a list, it starts nothing of the lists after it
 stopped_second : {T : Type 0} (system default_ batch : Turn) (ds bs : List (Req T)) → IsPart system default_ ds → IsPart default_ batch bs
     → default_.requests - system.requests < length ds → batch.requests - default_.requests ≡ 0
-stopped_second system default_ batch ds bs second third less = elim (bool_cases default_.ended) [
+stopped_second system default_ batch ds bs second third less = elim (cases_Bool default_.ended) [
   | inl ended ↦ (let same : batch.requests ≡ default_.requests = ap (λ turn. turn.requests) (third.stays ended) in omega arith)
   | inr runs ↦ (let all = second.whole runs in absurd (omega arith))
 ]
 
 stopped_first : {T : Type 0} (system default_ batch : Turn) (ss ds bs : List (Req T)) → IsPart new_turn system ss → IsPart system default_ ds → IsPart default_ batch bs
     → system.requests < length ss → default_.requests - system.requests + (batch.requests - default_.requests) ≡ 0
-stopped_first system default_ batch ss ds bs first second third less = elim (bool_cases system.ended) [
+stopped_first system default_ batch ss ds bs first second third less = elim (cases_Bool system.ended) [
   | inl ended ↦
       (let same : default_ ≡ system = second.stays ended in
       let still : default_.ended ≡ true = ap (λ turn. turn.ended) same ∙ ended in

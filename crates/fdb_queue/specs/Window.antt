@@ -1,7 +1,8 @@
 -- Which requests a window starts, and what it leaves. (the order is that of `transactionStarter` of GrvProxyServer;
 -- the rates, the budgets and the bounds are this product's own)
-use Rattle.std.specs.Prelude.{ℕ, ◌+◌, Bool, true, ◌&&◌, ◌==◌, nat_le, List, [], ◌∷◌, ◌++◌, map, find, unwrap_or, length, drop}
-use Rattle.std.specs.List.{list_all}
+use Rattle.std.specs.Prelude.{ℕ, ◌+◌, Bool, true, ◌&&◌, ◌==◌, nat_le, List, [], ◌∷◌, ◌++◌, map, find, None, unwrap_or, length, drop}
+use Rattle.std.specs.List.{list_all, last_or}
+use Rattle.std.specs.Option.{option_map_or}
 use Rattle.fdb_history.specs.declared.grv.Priority.{Priority}
 use Rattle.fdb_history.specs.declared.grv.Priority.TheVariants.{System, Default, Batch}
 use Rattle.fdb_queue.specs.declared.config.TheConstants.{MAX_STARTED}
@@ -19,24 +20,20 @@ may_start config budgets System transactions = true
 may_start config budgets Default transactions = can_start config.normal budgets.normal transactions
 may_start config budgets Batch transactions = can_start config.batch budgets.batch transactions && can_start config.normal budgets.normal transactions
 
--- the items of a list, each with those before it
-abbrev pub with_those_before : {X : Type 0} → List X → List (List X × X)
-with_those_before [] = []
-with_those_before (x ∷ xs) = ([], x) ∷ map (λ it. (x ∷ it.0, it.1)) (with_those_before xs)
-
--- whether each of some requests may start, given the sum of the counts before it
-abbrev pub each_may_start : {T : Type 0} → QueueConfig → Budgets → List (Req T) → Bool
-each_may_start config budgets requests =
-    list_all (λ it. may_start config budgets it.1.priority (total it.0 + it.1.count)) (with_those_before requests)
-
--- whether some requests may start in one window, in this order
-abbrev pub fits : {T : Type 0} → Queue T → List (Req T) → Bool
-fits queue requests = nat_le (length requests) MAX_STARTED && each_may_start queue.config queue.budgets requests
-
 -- the prefixes of a list, the longest first
 abbrev pub prefixes : {X : Type 0} → List X → List (List X)
 prefixes [] = [] ∷ []
 prefixes (x ∷ xs) = map (λ rest. x ∷ rest) (prefixes xs) ++ [] ∷ []
+
+-- Whether the last of some requests may start, given the sum of all their counts. Of none there is nothing to ask.
+abbrev pub last_may_start : {T : Type 0} → QueueConfig → Budgets → List (Req T) → Bool
+last_may_start config budgets requests =
+    option_map_or (λ last. may_start config budgets last.priority (total requests)) (last_or None requests) true
+
+-- whether some requests may start in one window, in this order: they are not too many, and the last of each prefix may
+abbrev pub fits : {T : Type 0} → Queue T → List (Req T) → Bool
+fits queue requests =
+    nat_le (length requests) MAX_STARTED && list_all (λ some. last_may_start queue.config queue.budgets some) (prefixes requests)
 
 -- What a window starts: the longest prefix of the row that fits.
 abbrev pub window : {T : Type 0} → Queue T → List (Req T)

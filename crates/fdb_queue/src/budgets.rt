@@ -9,7 +9,7 @@ ghost use Rattle.fdb_queue.specs.declared.config.TheConstants.{MAX_RATE};
 use crate::config::{IDLE_BURST, MAX_BURST, RATE_WINDOW};
 
 /// The budgets of a queue's rates: what each may start beyond its limit, in transactions times `RATE_WINDOW`.
-#[derive(Clone, Copy, Debug, Default, PartialEq, Eq, Hash)]
+#[derive(Clone, Copy, Debug, Default, PartialEq, Eq)]
 pub struct Budgets {
     /// Of the rate that holds default and batch requests.
     pub normal: u64,

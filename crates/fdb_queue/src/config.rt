@@ -7,7 +7,7 @@ ghost use Rattle.fdb_queue.specs.Config.{IsConfig, IsElapsed};
 
 use fdb_history::Priority;
 
-/// The microseconds over which a rate counts. A budget is a whole number of such parts of a transaction.
+/// The microseconds over which a rate counts. A budget counts parts of a transaction, of which `RATE_WINDOW` are one.
 pub const RATE_WINDOW: u64 = 2_000_000;
 
 /// The greatest limit of a rate.
@@ -35,7 +35,7 @@ pub const IDLE_BURST: u64 = 10;
 pub const MAX_TAG: u64 = 16;
 
 /// The rates of a queue, in transactions for each `RATE_WINDOW` of time, and the room in it.
-#[derive(Clone, Copy, Debug, PartialEq, Eq, Hash)]
+#[derive(Clone, Copy, Debug, PartialEq, Eq)]
 pub struct QueueConfig {
     /// The rate that holds default and batch requests: 1 to `MAX_RATE`.
     pub normal: u64,

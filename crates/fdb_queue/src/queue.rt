@@ -1,12 +1,13 @@
 //! The queue of a GRV proxy.
 
-ghost use Rattle.std.specs.Prelude.{◌≡◌, ◌+◌, ◌<◌, ◌≤◌, ◌⊎◌, ◌↔◌, ◌∷◌, ◌++◌, ◌^◌, ◌==◌, [], length, drop, if◌then◌else◌, OnOk, OnErr, IfOk, IfErr, IsSome, IfSome, IsSomeAnd};
+ghost use Rattle.std.specs.Prelude.{◌≡◌, ◌+◌, ◌*◌, ◌<◌, ◌≤◌, ◌⊎◌, ◌↔◌, ◌∷◌, ◌++◌, ◌^◌, ◌==◌, [], length, drop, if◌then◌else◌, OnOk, OnErr, IfOk, IfErr, IsSome, IfSome, IsSomeAnd};
+ghost use Rattle.std.specs.Int.{div_ceil};
 ghost use Rattle.fdb_queue.specs.Admission.{refusal_of, admitted, pushed_out, is_full, IsCause};
 ghost use Rattle.fdb_queue.specs.Config.{IsConfig, IsElapsed};
 ghost use Rattle.fdb_queue.specs.Kept.{IsQueue};
 ghost use Rattle.fdb_queue.specs.Queue.{new_queue};
 ghost use Rattle.fdb_queue.specs.Throttles.{limits_of, SameThrottles};
-ghost use Rattle.fdb_queue.specs.Waiting.{first, row};
+ghost use Rattle.fdb_queue.specs.Waiting.{first, row, total};
 ghost use Rattle.fdb_queue.specs.Waits.{budget_of, IsSure, limit_of, StartsAfter};
 ghost use Rattle.fdb_queue.specs.declared.config.TheConstants.{MAX_COUNT, MAX_ELAPSED};
 ghost use Rattle.fdb_queue.specs.Window.{window, after_window};
@@ -25,7 +26,7 @@ use std::marker::Model;
 /// three queues, the two `GrvTransactionRateInfo` and the throttled tags).
 ///
 /// Contracts see it as the record `Queue`: its configuration, a list of requests for each priority, the budgets and the throttles.
-#[derive(Debug, Drop)]
+#[derive(Drop)]
 pub struct GrvQueue<T> {
     config: QueueConfig,
     waiting: Waiting<T>,
@@ -97,11 +98,12 @@ impl<T> GrvQueue<T> {
     /// since the last window and pay for what was started.
     ///
     /// `elapsed` is that time in microseconds. It is refused as `BadConfig` where it is 0 or above `MAX_ELAPSED`, else for
-    /// memory, which a window that starts nothing does not take; nothing has changed then. It takes time in proportion
-    /// to what it starts.
+    /// memory, which a window that starts nothing does not take; nothing has changed then. The counts that one window starts
+    /// add up to at most 1,000,000,000. It takes time in proportion to what it starts.
     pub fn window(&mut self, elapsed: u64) -> Result<Vec<Req<T>>, QueueError>
         ensures in_range { OnOk result (IsElapsed elapsed) }
         ensures started { IfOk result (λ started. started.items ≡ window self.old) }
+        ensures bounded { IfOk result (λ started. total started.items ≤ 1000000000) }
         ensures after { OnOk result (self.new ≡ after_window elapsed self.old) }
 
         ensures bad_config { (result ≡ Err QueueError.BadConfig) ↔ ((elapsed ≡ 0) ⊎ (MAX_ELAPSED < elapsed)) }
@@ -135,13 +137,16 @@ impl<T> GrvQueue<T> {
     }
 
     /// How many windows of `elapsed` microseconds, with no offer between them, start nothing before one starts something. It
-    /// is computed from the head of the row and takes constant time and no memory.
+    /// is computed from the head of the row and takes constant time and no memory. Whatever the budgets are, it is at most the
+    /// head's count times `RATE_WINDOW`, divided by `elapsed` times the limit (the normal one for a default head, the batch one
+    /// for a batch head) and rounded up.
     ///
     /// It is `None` where the head does not wait for its own rate alone: in an empty row, for a system request, which any window
     /// starts, for a batch request that the normal rate may hold or whose own limit is 0, and for a time out of range.
     pub fn waits(&self, elapsed: u64) -> Option<u64>
         ensures covered { IsSome result ↔ (IsElapsed elapsed × IsSomeAnd (first (row self.now.waiting)) (λ head. IsSure self.now.config head.priority head.count)) }
         ensures exact { IfSome result (λ count. StartsAfter elapsed self.now count) }
+        ensures bounded { IfSome result (λ count. IsSomeAnd (first (row self.now.waiting)) (λ head. count ≤ div_ceil (head.count * RATE_WINDOW) (elapsed * limit_of self.now.config head.priority))) }
     {
         if !config::is_elapsed(elapsed) {
             return None;
@@ -196,8 +201,8 @@ impl<T> GrvQueue<T> {
     }
 
     /// The limits of some tags at a priority and a moment: for each tag in order, also for one that stands twice, the
-    /// throttle last set, if it expires later than that moment. It is refused for want of memory alone. It takes
-    /// logarithmic time for each tag.
+    /// throttle last set, if it expires later than that moment. It is refused for want of memory alone, and only where
+    /// a limit is due. It takes logarithmic time for each tag.
     pub fn throttles(
         &self,
         priority: Priority,
@@ -205,7 +210,7 @@ impl<T> GrvQueue<T> {
         at: u64,
     ) -> Result<Vec<TagLimit>, QueueError>
         ensures ok { IfOk result (λ limits. limits.items ≡ limits_of self.now.throttles priority at tags.now) }
-        ensures err { IfErr result (λ cause. cause ≡ QueueError.Memory) }
+        ensures err { IfErr result (λ cause. (cause ≡ QueueError.Memory) × (0 < length (limits_of self.now.throttles priority at tags.now))) }
     {
         let alloc = self.waiting.allocator();
         let limits = self.throttles.limits(alloc, priority, tags, at)?;

@@ -1,6 +1,6 @@
 //! The throttles of tags.
 
-ghost use Rattle.std.specs.Prelude.{◌≡◌, [], ◌∷◌, OnOk, OnErr, IfOk, option_map, option_to_list};
+ghost use Rattle.std.specs.Prelude.{◌≡◌, ◌<◌, [], ◌∷◌, length, OnOk, OnErr, IfOk, option_map, option_to_list};
 ghost use Rattle.fdb_queue.specs.Throttles.{last_set, limits_of, unexpired, SameThrottles};
 
 use fdb_history::{Priority, Tag, TagLimit};
@@ -9,14 +9,14 @@ use std::collections::BTreeMap;
 use std::marker::Model;
 
 /// What is kept under a tag.
-#[derive(Clone, Copy, Debug, PartialEq, Eq)]
+#[derive(Clone, Copy)]
 struct Limit {
     rate: u64,
     expires: u64,
 }
 
 /// The throttles that were set last for each tag, by priority.
-#[derive(Debug, Drop)]
+#[derive(Drop)]
 pub(crate) struct Throttles {
     system: BTreeMap<Vec<u8>, Limit>,
     default_: BTreeMap<Vec<u8>, Limit>,
@@ -75,9 +75,10 @@ impl Throttles {
         }
     }
 
-    /// The limit of a tag at a moment, if there is one.
+    /// The limit of a tag at a moment, if there is one. Memory is asked for only where there is.
     fn limit(&self, priority: Priority, tag: &Tag, at: u64) -> Result<Option<TagLimit>, AllocError>
-        ensures { IfOk result (λ limit. option_to_list limit ≡ unexpired at (last_set self.now priority tag.now)) }
+        ensures ok { IfOk result (λ limit. option_to_list limit ≡ unexpired at (last_set self.now priority tag.now)) }
+        ensures err { OnErr result (0 < length (unexpired at (last_set self.now priority tag.now))) }
     {
         let Some(kept) = self.get(priority, tag) else {
             return Ok(None);
@@ -92,7 +93,7 @@ impl Throttles {
         }))
     }
 
-    /// The limits of some tags at a moment, in order.
+    /// The limits of some tags at a moment, in order. Memory is asked for only where one is due.
     pub(crate) fn limits(
         &self,
         alloc: Global,
@@ -100,7 +101,8 @@ impl Throttles {
         tags: &[Tag],
         at: u64,
     ) -> Result<Vec<TagLimit>, AllocError>
-        ensures { IfOk result (λ limits. limits.items ≡ limits_of self.now priority at tags.now) }
+        ensures ok { IfOk result (λ limits. limits.items ≡ limits_of self.now priority at tags.now) }
+        ensures err { OnErr result (0 < length (limits_of self.now priority at tags.now)) }
     {
         let mut limits = Vec::new(alloc);
         for tag in tags {

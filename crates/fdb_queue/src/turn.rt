@@ -14,7 +14,7 @@ use fdb_history::Priority;
 use std::collections::VecDeque;
 
 /// What a window has started so far.
-#[derive(Clone, Copy, Debug, PartialEq, Eq, Hash)]
+#[derive(Clone, Copy)]
 pub(crate) struct Turn {
     /// How many requests.
     pub(crate) requests: u64,

@@ -17,7 +17,7 @@ use std::collections::VecDeque;
 use std::marker::Model;
 
 /// How many requests of each priority wait.
-#[derive(Clone, Copy, Debug, Default, PartialEq, Eq, Hash)]
+#[derive(Clone, Copy, Debug, PartialEq, Eq)]
 pub struct Lengths {
     /// System requests.
     pub system: usize,
@@ -28,7 +28,7 @@ pub struct Lengths {
 }
 
 /// How far a window comes in the row.
-#[derive(Clone, Copy, Debug, PartialEq, Eq, Hash)]
+#[derive(Clone, Copy)]
 pub(crate) struct Reach {
     /// How many requests of each priority it starts.
     pub(crate) counts: Lengths,
@@ -39,7 +39,7 @@ pub(crate) struct Reach {
 }
 
 /// The requests that wait: a list for each priority, in which the oldest is the first.
-#[derive(Debug, Drop)]
+#[derive(Drop)]
 pub(crate) struct Waiting<T> {
     system: VecDeque<Req<T>>,
     default_: VecDeque<Req<T>>,

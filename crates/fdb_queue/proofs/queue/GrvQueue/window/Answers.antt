@@ -1,7 +1,8 @@
-use Rattle.std.proofs.Common.{rules, ◌≡◌, ◌<◌, length, true, false}
+use Rattle.std.proofs.Common.{rules, sym, ◌∙◌, ◌≡◌, ◌<◌, length, true, false}
 use Rattle.fdb_queue.specs.Queue.{Queue}
 use Rattle.fdb_queue.specs.Window.{window}
 use Rattle.fdb_queue.proofs.Leaving.{after_is, IsQueue-left, IsReach-throttled, some_started}
+use Rattle.fdb_queue.proofs.Lawful.{bounded}
 use Rattle.fdb_queue.proofs.queue.GrvQueue.window.Goals as goal
 
 pub invariant_of-self-2 : goal.invariant_of-self-2
@@ -21,3 +22,11 @@ returns-in_err-started-clause-else_memory g c time =
     let some_of = some_started queue c.reach-reach.result (IsReach-throttled queue c.reach-reach.result c.reach-reach.ensures) (λ none. (let never : false ≡ true = c.in_err-started.ensures.none none in cc)) in
     let some : 0 < length (window c.args.self.now) = rw (← c.self.view_is) some_of in
     search rules
+
+pub returns-clause-bounded : goal.returns-clause-bounded
+returns-clause-bounded g c =
+    let queue : Queue g.row.T.Denot = record { config = c.self.inside.config; waiting = c.self.inside.waiting; budgets = c.self.inside.budgets; throttles = c.self.inside.throttles } in
+    rw (c.in_ok-started.ensures.taken ∙ sym c.reach-reach.ensures.started) (bounded queue c.self.invariant)
+
+pub returns-clause-started : goal.returns-clause-started
+returns-clause-started g c = rw (← c.self.view_is) (c.in_ok-started.ensures.taken ∙ sym c.reach-reach.ensures.started)
