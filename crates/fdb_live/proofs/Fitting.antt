@@ -1,0 +1,75 @@
+-- The passes of a table that fit, after one of them has changed or a new one has come.
+use Rattle.std.proofs.Common.{◌≡◌, ◌≢◌, ◌⊎◌, ℕ, zero, suc, ◌==◌, Bool, true, false, true≢false, List, [], ◌∷◌, ◌++◌, length, set, if◌then◌else◌, refl, sym, ap, ◌∙◌, subst, ⊎_elim, inl, inr, arith}
+use Rattle.std.proofs.lemmas.Bool.Decides.{nat_tests}
+use mathlib.Core.List.{IsPrefix}
+use mathlib.Core.Option.{some, some-ne-none, some-injective}
+use lib.ListN.{get_elem?, length-set}
+use Rattle.atomic_table.proofs.Lists.{at_set}
+use Rattle.fdb_history.specs.declared.register.Record.{Record}
+use Rattle.fdb_live.specs.Rule.{Fits, spent}
+use Rattle.fdb_live.specs.declared.raise.Raise.{Raise}
+use Rattle.fdb_live.specs.declared.view.View.{View}
+
+pub off : false ≡ true → ⊥
+off e = true≢false (sym e)
+
+pub prefix_nil : (xs : List Raise) → IsPrefix [] xs
+prefix_nil xs = (xs, refl)
+
+-- whoever `from` was is now `to`
+abbrev pub moved : ℕ → ℕ → ℕ → ℕ
+moved from to k = if k == from then to else k
+
+pub moved_here : (from to k : ℕ) → k ≡ from → to ≡ moved from to k
+moved_here from to k e = grind (arith, nat_tests)
+
+pub moved_else : (from to k j : ℕ) → j ≢ from → j ≡ k → j ≡ moved from to k
+moved_else from to k j n e = go (k == from) refl
+  where
+    go : (b : Bool) → (k == from) ≡ b → j ≡ (if b then to else k)
+    go true is = absurd (n (grind (arith, nat_tests)))
+    go false is = e
+
+at_new : {A : Type 0} (l : List A) (a b : A) (j : ℕ) → get_elem? (l ++ a ∷ []) j ≡ some b → (get_elem? l j ≡ some b) ⊎ ((j ≡ length l) × (a ≡ b))
+at_new [] a b zero e = inr (refl, some-injective a b e)
+at_new [] a b (suc j) e = absurd (some-ne-none b (sym e))
+at_new (x ∷ xs) a b zero e = inl e
+at_new (x ∷ xs) a b (suc j) e = ⊎_elim (λ old. inl old) (λ new. inr (ap suc new.0, new.1)) (at_new xs a b j e)
+
+module _ (start : Record) (reporters : ℕ) (log : List Raise) (seat : ℕ) (holder : ℕ → ℕ) where
+  abbrev pub Fit : ℕ → View → Type 0
+  Fit pass v = Fits start reporters log seat holder pass v
+
+  -- each pass but one fits
+  abbrev pub Others : List View → ℕ → Type 0
+  Others views pass = (j : ℕ) (u : View) → j ≢ pass → get_elem? views j ≡ some u → Fit j u
+
+  abbrev pub Each : List View → Type 0
+  Each views = (j : ℕ) (u : View) → get_elem? views j ≡ some u → Fit j u
+
+  pub fits_set : (views : List View) (pass : ℕ) (w : View) → Others views pass → Fit pass w → Each (set views pass w)
+  fits_set views pass w others mine j u e =
+      ⊎_elim
+      (λ (x : (j ≡ pass) × (w ≡ u)). subst (λ (y : ℕ × View). Fit y.0 y.1) (λ i. (sym x.0 i, x.1 i)) mine)
+      (λ (x : (j ≢ pass) × (get_elem? views j ≡ some u)). others j u x.0 x.1)
+      (at_set views pass j w u e)
+
+  pub fits_fork : (views : List View) (pass : ℕ) (left right : View) → Others views pass → Fit pass left → Fit (length views) right → Each (set views pass left ++ right ∷ [])
+  fits_fork views pass left right others mine new j u e =
+      ⊎_elim
+      (λ old. fits_set views pass left others mine j u old)
+      (λ (x : (j ≡ length (set views pass left)) × (right ≡ u)). subst (λ (y : ℕ × View). Fit y.0 y.1) (λ i. (sym (x.0 ∙ length-set views pass left) i, x.1 i)) new)
+      (at_new (set views pass left) right u j e)
+
+  pub fits_spent : (pass : ℕ) → Fit pass spent
+  fits_spent pass = record { opened = λ o. absurd (omega arith); right = λ e. absurd (off e); seen = prefix_nil log; mine = prefix_nil []; theirs = prefix_nil []; own = λ n low high. absurd (omega arith); numbers = omega arith; held = λ n low high. absurd (omega arith) }
+
+  pub fits_merge : (views : List View) (pass other : ℕ) (both : View) → ((j : ℕ) (u : View) → j ≢ pass → j ≢ other → get_elem? views j ≡ some u → Fit j u) → Fit pass both → Each (set (set views pass both) other spent)
+  fits_merge views pass other both others mine = fits_set (set views pass both) other spent rest (fits_spent other)
+    where
+      rest : Others (set views pass both) other
+      rest j u apart e =
+          ⊎_elim
+          (λ (x : (j ≡ pass) × (both ≡ u)). subst (λ (y : ℕ × View). Fit y.0 y.1) (λ i. (sym x.0 i, x.1 i)) mine)
+          (λ (x : (j ≢ pass) × (get_elem? views j ≡ some u)). others j u x.0 apart x.1)
+          (at_set views pass j both u e)

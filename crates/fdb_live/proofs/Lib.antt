@@ -1,0 +1,9 @@
+pub mod Prefixes
+pub mod Logs
+pub mod Fitting
+pub mod Splits
+pub mod Joins
+pub mod Turning
+pub mod Tokens
+pub mod Reports
+pub mod Opening

@@ -1,0 +1,79 @@
+-- Raises that follow one another, and those of one number among them.
+use Rattle.std.proofs.Common.{◌≡◌, ◌≢◌, ℕ, suc, ◌+◌, ◌<◌, ◌≤◌, ◌==◌, Bool, true, false, List, [], ◌∷◌, ◌++◌, length, if◌then◌else◌, refl, sym, ap, ◌∙◌, arith, length-append}
+use Rattle.std.specs.Prelude.{All}
+use Rattle.std.proofs.lemmas.Bool.{and_parts, and_from}
+use Rattle.std.proofs.lemmas.Bool.Decides.{nat_tests}
+use Rattle.std.proofs.lemmas.List.{append-nil, nil_from_length}
+use Rattle.std.proofs.lemmas.List.Elements.{All-nil, All-cons}
+use mathlib.Core.List.{IsPrefix}
+use Rattle.fdb_history.specs.declared.register.Record.{Record}
+use Rattle.fdb_history.specs.Register.{raises}
+use Rattle.fdb_live.specs.Seen.{last_record, rises, raised_by}
+use Rattle.fdb_live.specs.declared.raise.Raise.{Raise}
+
+pub raises_higher : (a b : Record) → raises a b ≡ true → a.version < b.version
+raises_higher a b e = grind (arith, nat_tests)
+
+pub last_record-push : (start : Record) (log : List Raise) (r : Raise) → last_record start (log ++ r ∷ []) ≡ r.rec
+last_record-push start [] r = refl
+last_record-push start (q ∷ log) r = last_record-push q.rec log r
+
+pub rises-push : (start : Record) (log : List Raise) (r : Raise) → rises start log ≡ true → raises (last_record start log) r.rec ≡ true → rises start (log ++ r ∷ []) ≡ true
+rises-push start [] r h up = and_from _ _ up refl
+rises-push start (q ∷ log) r h up =
+    let parts = and_parts (raises start q.rec) (rises q.rec log) h in
+    and_from _ _ parts.0 (rises-push q.rec log r parts.1 up)
+
+-- each raise is a version or more above the one before it
+pub position_below_version : (start : Record) (log : List Raise) → rises start log ≡ true → length log + start.version ≤ (last_record start log).version
+position_below_version start [] h = omega arith
+position_below_version start (q ∷ log) h =
+    let parts = and_parts (raises start q.rec) (rises q.rec log) h in
+    omega (arith, raises_higher start q.rec parts.0, position_below_version q.rec log parts.1)
+
+pub above_start : (start : Record) (log : List Raise) (rec : Record) → rises start log ≡ true → raises (last_record start log) rec ≡ true → start.version < rec.version
+above_start start log rec h up = omega (arith, position_below_version start log h, raises_higher (last_record start log) rec up)
+
+pub above_all : (start : Record) (log : List Raise) (rec : Record) → rises start log ≡ true → raises (last_record start log) rec ≡ true → All (λ r. r.rec.version < rec.version) log
+above_all start [] rec h up = All-nil _
+above_all start (q ∷ log) rec h up =
+    let parts = and_parts (raises start q.rec) (rises q.rec log) h in
+    All-cons (λ r. r.rec.version < rec.version) q log (above_start q.rec log rec parts.1 up) (above_all q.rec log rec parts.1 up)
+
+chosen : (b : Bool) (at : ℕ) (whole front back : List ℕ) → whole ≡ front ++ back → (if b then (at ∷ whole) else whole) ≡ (if b then (at ∷ front) else front) ++ back
+chosen true at whole front back e = ap (λ l. at ∷ l) e
+chosen false at whole front back e = e
+
+pub raised_by-append : (n at : ℕ) (xs ys : List Raise) → raised_by n at (xs ++ ys) ≡ raised_by n at xs ++ raised_by n (at + length xs) ys
+raised_by-append n at [] ys = ap (λ k. raised_by n k ys) (omega arith)
+raised_by-append n at (x ∷ xs) ys =
+    let tail : raised_by n (at + 1) (xs ++ ys) ≡ raised_by n (at + 1) xs ++ raised_by n (at + suc (length xs)) ys =
+    raised_by-append n (at + 1) xs ys ∙ ap (λ k. raised_by n (at + 1) xs ++ raised_by n k ys) (omega arith) in
+    chosen (x.reporter == n) at _ _ _ tail
+
+pub raised_by-push_own : (n at : ℕ) (xs : List Raise) (r : Raise) → r.reporter ≡ n → raised_by n at (xs ++ r ∷ []) ≡ raised_by n at xs ++ (at + length xs) ∷ []
+raised_by-push_own n at xs r own = raised_by-append n at xs (r ∷ []) ∙ ap (λ l. raised_by n at xs ++ l) (one (r.reporter == n) refl)
+  where
+    one : (b : Bool) → (r.reporter == n) ≡ b → (if b then ((at + length xs) ∷ []) else []) ≡ (at + length xs) ∷ []
+    one true e = refl
+    one false e = absurd (grind (arith, nat_tests))
+
+pub raised_by-push_other : (n at : ℕ) (xs : List Raise) (r : Raise) → r.reporter ≢ n → raised_by n at (xs ++ r ∷ []) ≡ raised_by n at xs
+raised_by-push_other n at xs r other = raised_by-append n at xs (r ∷ []) ∙ (ap (λ l. raised_by n at xs ++ l) (none (r.reporter == n) refl) ∙ append-nil _)
+  where
+    none : (b : Bool) → (r.reporter == n) ≡ b → (if b then ((at + length xs) ∷ []) else []) ≡ []
+    none true e = absurd (other (grind (arith, nat_tests)))
+    none false e = refl
+
+nothing_more : (ms bs cs : List ℕ) → ms ≡ (ms ++ bs) ++ cs → ms ≡ ms ++ bs
+nothing_more ms bs cs e =
+    let long = ap length e in
+    let none : bs ≡ [] = nil_from_length bs (omega (arith, long, length-append (ms ++ bs) cs, length-append ms bs)) in
+    sym (ap (λ l. ms ++ l) none ∙ append-nil ms)
+
+-- where the whole has no more of a number than the least, what is between has none either
+pub raised_by-between : (n : ℕ) (xs ys zs : List Raise) → IsPrefix xs ys → IsPrefix ys zs → raised_by n 1 xs ≡ raised_by n 1 zs → raised_by n 1 xs ≡ raised_by n 1 ys
+raised_by-between n xs ys zs p q e =
+    let inner = ap (raised_by n 1) (sym p.1) ∙ raised_by-append n 1 xs p.0 in
+    let outer = ap (raised_by n 1) (sym q.1) ∙ raised_by-append n 1 ys q.0 in
+    nothing_more _ _ _ (e ∙ (outer ∙ ap (λ l. l ++ raised_by n (1 + length ys) q.0) inner)) ∙ sym inner

@@ -1,0 +1,39 @@
+-- The tokens that are made for the reporters, one after another.
+use Rattle.std.proofs.Common.{◌≡◌, ℕ, ◌+◌, ◌<◌, Bool, true, false, List, [], ◌∷◌, ◌++◌, length, Some, slice_get, refl, sym, ap, ◌∙◌, subst, arith}
+use Rattle.std.specs.Prelude.{nat_lt}
+use Rattle.std.proofs.lemmas.Bool.Decides.{nat_tests}
+use Rattle.std.proofs.lemmas.List.Elements.{All-nil}
+use Rattle.fdb_history.proofs.Lists.{slice_get-append_left, slice_get-append_seam}
+use Rattle.fdb_history.specs.declared.register.Record.{Record}
+use Rattle.fdb_live.specs.Seen.{Sight}
+use Rattle.fdb_live.specs.Rule.{view, lowest_of}
+use Rattle.fdb_live.specs.Token.{IsHolder}
+use Rattle.fdb_live.specs.declared.view.View.{View}
+
+abbrev pub token_of : ℕ → Sight
+token_of number = record { reporter = Some number; raises = [] }
+
+abbrev pub AreTokens : List Sight → ℕ → Type 0
+AreTokens items n = (k : ℕ) → k < n → slice_get items k ≡ Some (token_of k)
+
+pub one_more : (items : List Sight) (n : ℕ) (new : Sight) → length items ≡ n → AreTokens items n → new ≡ token_of n → AreTokens (items ++ new ∷ []) (n + 1)
+one_more items n new long all is k below = go (nat_lt k n) refl
+  where
+    go : (b : Bool) → nat_lt k n ≡ b → slice_get (items ++ new ∷ []) k ≡ Some (token_of k)
+    go true e =
+        let before : k < n = grind (arith, nat_tests) in
+        slice_get-append_left items (new ∷ []) k (omega arith) ∙ all k before
+    go false e =
+        let after : k ≡ n = grind (arith, nat_tests) in
+        ap (slice_get (items ++ new ∷ [])) (after ∙ sym long) ∙ (slice_get-append_seam items new ∙ (ap Some is ∙ ap (λ (j : ℕ). Some (token_of j)) (sym after)))
+
+-- the view of such a token
+pub token_holds : (start : Record) (reporters number : ℕ) (w : View) → number < reporters → w ≡ lowest_of (view start reporters number reporters true [] [] []) → IsHolder start reporters (Some number) w
+token_holds start reporters number w below is = subst (IsHolder start reporters (Some number)) (sym is) (record {
+  start_is = refl;
+  reporters_is = refl;
+  opened = omega arith;
+  settled = refl;
+  numbers = (refl, refl);
+  legal = record { rises = refl; numbered = All-nil _ };
+})

@@ -1,0 +1,171 @@
+-- What a report makes of the right to replace and of its token.
+use Rattle.std.proofs.Common.{◌≡◌, ℕ, ◌+◌, ◌<◌, ◌≤◌, Bool, true, false, true≢false, List, [], ◌∷◌, ◌++◌, length, Option, None, Some, refl, sym, ap, ◌∙◌, subst, arith, length-append}
+use Rattle.std.specs.Prelude.{MatchBool, IsSome}
+use Rattle.std.proofs.lemmas.Bool.Decides.{nat_tests}
+use Rattle.std.proofs.lemmas.List.Elements.{All-nil, All-cons, All-append}
+use mathlib.Core.List.{IsPrefix}
+use Rattle.fdb_history.specs.declared.register.Record.{Record}
+use Rattle.fdb_history.specs.Register.{raises}
+use Rattle.fdb_live.specs.declared.fetched.Fetched.{Fetched}
+use Rattle.fdb_live.specs.declared.raise.Raise.{Raise}
+use Rattle.fdb_live.specs.declared.view.View.{View}
+use Rattle.fdb_live.specs.Seen.{Sight, last_record, rises, IsLog, raised_by, IsRaisedBy, IsNotRaisedBy}
+use Rattle.fdb_live.specs.Rule.{having_seen, taken, lowest_of, without_lowest, Looks, Adds}
+use Rattle.fdb_live.specs.Token.{IsHolder, IsRight, IsReported}
+use Rattle.fdb_live.proofs.Logs.{rises-push, position_below_version, above_start, above_all, raised_by-push_own}
+use Rattle.fdb_live.proofs.Prefixes.{prefix_trans}
+
+-- positions never exceed versions
+pub room : (v u : View) (x : Fetched) (rec : Record) → Looks v x x u → 0 < v.reporters → x.rec.version < rec.version → x.position + 1 ≤ rec.version
+room v u x rec l some higher =
+    let r = l.register some in
+    let below = position_below_version v.start u.seen (l.legal some).rises in
+    let same = ap (λ (y : Record). y.version) r.rec in
+    let at = r.position in
+    omega arith
+
+raised_test : (a b : Record) → a.version < b.version → raises a b ≡ true
+raised_test a b h = grind (arith, nat_tests)
+
+unraised_test : (a b : Record) → b.version ≤ a.version → raises a b ≡ false
+unraised_test a b h = grind (arith, nat_tests)
+
+-- what the pass with the right may add
+pub record MayAdd (u : View) (y : Fetched) : Type 0 where
+  pub right : u.replaces ≡ true
+  pub numbered : u.low < u.high
+  pub next : y.position ≡ length u.seen + 1
+  pub raises : raises (last_record u.start u.seen) y.rec ≡ true
+
+pub may_add : (v u : View) (x y : Fetched) → Looks v x x u → 0 < v.reporters → v.replaces ≡ true → v.low < v.high → y.position ≡ x.position + 1 → x.rec.version < y.rec.version → MayAdd u y
+may_add v u x y l some right numbered position higher =
+    let r = l.register some in
+    let low = ap (λ w. w.low) l.is in
+    let high = ap (λ w. w.high) l.is in
+    let at = r.position in record {
+      right = ap (λ w. w.replaces) l.is ∙ right;
+      numbered = omega arith;
+      next = omega arith;
+      raises = subst (λ (z : Record). raises z y.rec ≡ true) (r.rec ∙ sym (ap (λ w. last_record w.start u.seen) l.is)) (raised_test x.rec y.rec higher);
+    }
+
+pub reported_lower : (v u : View) (x : Fetched) (rec : Record) → Looks v x x u → 0 < v.reporters → rec.version ≤ x.rec.version → IsReported v rec false x.position u
+reported_lower v u x rec l some lower =
+    let r = l.register some in record {
+      found = u.seen;
+      tells = l.tells;
+      numbers = l.numbers;
+      legal = l.legal some;
+      is = l.is;
+      raised_is = sym (subst (λ (z : Record). raises z rec ≡ false) r.rec (unraised_test x.rec rec lower));
+      seen = refl;
+      position_is = r.position;
+    }
+
+pub reported_higher : (v u w : View) (x y : Fetched) (rec : Record) → Looks v x x u → 0 < v.reporters → x.rec.version < rec.version → y.rec ≡ rec → y.position ≡ x.position + 1 → Adds u y y w → IsReported v rec true y.position w
+reported_higher v u w x y rec l some higher same position added =
+    let r = l.register some in
+    let new : Raise = record { reporter = v.low; rec = rec } in
+    let it : List Raise = u.seen ++ new ∷ [] in
+    let as_new : w ≡ having_seen u it = added ∙ ap (λ (z : ℕ × Record). having_seen u (u.seen ++ record { reporter = z.0; rec = z.1 } ∷ [])) (λ i. (ap (λ z. z.low) l.is i, same i)) in
+    let seen : w.seen ≡ it = ap (λ z. z.seen) as_new in
+    let at = r.position in record {
+      found = u.seen;
+      tells = l.tells;
+      numbers = l.numbers;
+      legal = l.legal some;
+      is = as_new ∙ (ap (λ z. having_seen z it) l.is ∙ ap (having_seen v) (sym seen));
+      raised_is = sym (subst (λ (z : Record). raises z rec ≡ true) r.rec (raised_test x.rec rec higher));
+      seen = seen;
+      position_is = omega (arith, ap length seen, length-append u.seen (new ∷ []));
+    }
+
+not_raised_lower : (a b : Record) → raises a b ≡ false → b.version ≤ a.version
+not_raised_lower a b e = grind (arith, nat_tests)
+
+-- what the right and the token are after a report
+pub record HasReported (start : Record) (reporters : ℕ) (number : Option ℕ) (v : View) (rec : Record) (raised : Bool) (position : ℕ) (right token : View) : Type 0 where
+  pub right_is : IsRight start reporters right
+  pub holder : IsHolder start reporters number token
+  pub position_is : position ≡ length token.seen
+  pub extends : IsPrefix v.seen token.seen
+  pub raised_is : raised ≡ true → IsRaisedBy start rec (record { reporter = number; raises = v.seen }) (record { reporter = number; raises = token.seen })
+  pub not_raised : raised ≡ false → IsNotRaisedBy start rec (record { reporter = number; raises = v.seen }) (record { reporter = number; raises = token.seen })
+
+module _ (start : Record) (n : ℕ) where
+  abbrev sight : List Raise → Sight
+  sight list = record { reporter = Some n; raises = list }
+
+  raised_so : (old found new : List Raise) (rec : Record) → IsPrefix old found → raised_by n 1 found ≡ raised_by n 1 old → rises start found ≡ true → raises (last_record start found) rec ≡ true → new ≡ found ++ record { reporter = n; rec = rec } ∷ [] → IsRaisedBy start rec (sight old) (sight new)
+  raised_so old found new rec seen own legal up is =
+      let it : Raise = record { reporter = n; rec = rec } in
+      let long : length new ≡ 1 + length found = omega (arith, ap length is, length-append found (it ∷ [])) in record {
+        number = n;
+        before = found;
+        reporter = refl;
+        seen = seen;
+        last = is;
+        raises = up;
+        above_start = above_start start found rec legal up;
+        above_all = above_all start found rec legal up;
+        own = ap (raised_by n 1) is ∙ (raised_by-push_own n 1 found it refl ∙ (ap (λ l. l ++ (1 + length found) ∷ []) own ∙ ap (λ (k : ℕ). raised_by n 1 old ++ k ∷ []) (sym long)));
+      }
+
+  unraised_so : (old found new : List Raise) (rec : Record) → raised_by n 1 found ≡ raised_by n 1 old → raises (last_record start found) rec ≡ false → new ≡ found → IsNotRaisedBy start rec (sight old) (sight new)
+  unraised_so old found new rec own same is =
+      let down : raises (last_record start new) rec ≡ false = subst (λ l. raises (last_record start l) rec ≡ false) (sym is) same in
+      record { raises = down; not_above = not_raised_lower (last_record start new) rec down; own = ap (raised_by n 1) is ∙ own }
+
+  -- what was seen after a report is a log
+  log_after : (reporters : ℕ) (found new : List Raise) (rec : Record) (raised : Bool) → n < reporters → IsLog start reporters found → raised ≡ raises (last_record start found) rec → MatchBool raised (new ≡ found ++ record { reporter = n; rec = rec } ∷ []) (new ≡ found) → IsLog start reporters new
+  log_after reporters found new rec true below legal up is =
+      let it : Raise = record { reporter = n; rec = rec } in
+      subst (IsLog start reporters) (sym is) (record {
+        rises = rises-push start found it legal.rises (sym up);
+        numbered = All-append (λ r. r.reporter < reporters) found (it ∷ []) legal.numbered (All-cons (λ r. r.reporter < reporters) it [] below (All-nil _));
+      })
+  log_after reporters found new rec false below legal up is = subst (IsLog start reporters) (sym is) legal
+
+  so : (old found new : List Raise) (rec : Record) (raised : Bool) → IsPrefix old found → raised_by n 1 found ≡ raised_by n 1 old → rises start found ≡ true → raised ≡ raises (last_record start found) rec → MatchBool raised (new ≡ found ++ record { reporter = n; rec = rec } ∷ []) (new ≡ found)
+      → IsPrefix old new × (raised ≡ true → IsRaisedBy start rec (sight old) (sight new)) × (raised ≡ false → IsNotRaisedBy start rec (sight old) (sight new))
+  so old found new rec true seen own legal up is =
+      let it : Raise = record { reporter = n; rec = rec } in
+      let longer : IsPrefix found new = (it ∷ [], sym is) in
+      (prefix_trans old found new seen longer, λ _. raised_so old found new rec seen own legal (sym up) is, λ e. absurd (true≢false e))
+  so old found new rec false seen own legal up is =
+      (subst (IsPrefix old) (sym is) seen, λ e. absurd (true≢false (sym e)), λ _. unraised_so old found new rec own (sym up) is)
+
+reported_as : (start : Record) (reporters n : ℕ) (rv v u right token : View) (rec : Record) (raised : Bool) (position : ℕ) → IsRight start reporters rv → IsHolder start reporters (Some n) v → IsReported (taken rv v) rec raised position u → right ≡ without_lowest u → token ≡ lowest_of u → HasReported start reporters (Some n) v rec raised position right token
+reported_as start reporters n rv v u right token rec raised position r h d e f =
+    let low : v.low ≡ n = h.numbers.0 in
+    let seen : token.seen ≡ u.seen = ap (λ w. w.seen) f in
+    let log : IsLog start reporters d.found = subst (λ (p : Record × ℕ). IsLog p.0 p.1 d.found) (λ i. (r.start_is i, r.reporters_is i)) d.legal in
+    let up : raised ≡ raises (last_record start d.found) rec = subst (λ (s : Record). raised ≡ raises (last_record s d.found) rec) r.start_is d.raised_is in
+    let is : MatchBool raised (token.seen ≡ d.found ++ record { reporter = n; rec = rec } ∷ []) (token.seen ≡ d.found) =
+    subst (λ (p : List Raise × ℕ). MatchBool raised (p.0 ≡ d.found ++ record { reporter = p.1; rec = rec } ∷ []) (p.0 ≡ d.found)) (λ i. (sym seen i, low i)) d.seen in
+    let own : raised_by n 1 d.found ≡ raised_by n 1 v.seen = sym (d.tells.own n (omega arith) (let high = h.numbers.1 in omega arith)) ∙ ap (raised_by n 1) h.settled in
+    let all = so start n v.seen d.found token.seen rec raised d.tells.theirs own log.rises up is in
+    let below : n < reporters = (let high = h.numbers.1 in let count = r.reporters_is in let some = d.numbers in omega arith) in
+    record {
+      right_is = record {
+        start_is = ap (λ w. w.start) e ∙ (ap (λ w. w.start) d.is ∙ r.start_is);
+        reporters_is = ap (λ w. w.reporters) e ∙ (ap (λ w. w.reporters) d.is ∙ r.reporters_is);
+        replaces = ap (λ w. w.replaces) e ∙ (ap (λ w. w.replaces) d.is ∙ r.replaces);
+      };
+      holder = record {
+        start_is = ap (λ w. w.start) f ∙ (ap (λ w. w.start) d.is ∙ r.start_is);
+        reporters_is = ap (λ w. w.reporters) f ∙ (ap (λ w. w.reporters) d.is ∙ r.reporters_is);
+        opened = h.opened;
+        settled = ap (λ w. w.mine) f ∙ (ap (λ w. w.mine) d.is ∙ sym seen);
+        numbers = (ap (λ w. w.low) f ∙ (ap (λ w. w.low) d.is ∙ low), ap (λ w. w.high) f ∙ ap (λ (k : ℕ). k + 1) (ap (λ w. w.low) d.is ∙ low));
+        legal = log_after start n reporters d.found token.seen rec raised below log up is;
+      };
+      position_is = d.position_is ∙ ap length (sym seen);
+      extends = all.0;
+      raised_is = all.1;
+      not_raised = all.2;
+    }
+
+pub has_reported : (start : Record) (reporters : ℕ) (number : Option ℕ) (rv v u right token : View) (rec : Record) (raised : Bool) (position : ℕ) → IsSome number → IsRight start reporters rv → IsHolder start reporters number v → IsReported (taken rv v) rec raised position u → right ≡ without_lowest u → token ≡ lowest_of u → HasReported start reporters number v rec raised position right token
+has_reported start reporters None rv v u right token rec raised position some r h d e f = absurd (true≢false (sym some))
+has_reported start reporters (Some n) rv v u right token rec raised position some r h d e f = reported_as start reporters n rv v u right token rec raised position r h d e f

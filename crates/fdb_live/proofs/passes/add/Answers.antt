@@ -1,0 +1,6 @@
+use Rattle.std.proofs.Common.{rules}
+use Rattle.fdb_live.proofs.Turning.{adds}
+use Rattle.fdb_live.proofs.passes.add.Goals as goal
+
+pub swap_as-requires : goal.swap_as-requires
+swap_as-requires g c = (search rules, (search rules, (search rules, adds _ _ _ c.requires.right c.requires.numbered c.requires.next c.requires.raises)))

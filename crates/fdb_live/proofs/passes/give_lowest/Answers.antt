@@ -1,0 +1,6 @@
+use Rattle.std.proofs.Common.{rules}
+use Rattle.fdb_live.proofs.Splits.{gives_lowest}
+use Rattle.fdb_live.proofs.passes.give_lowest.Goals as goal
+
+pub split_pass-requires : goal.split_pass-requires
+split_pass-requires c = (search rules, (search rules, (search rules, gives_lowest _ _ c.requires.numbered)))

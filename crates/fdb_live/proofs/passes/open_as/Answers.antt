@@ -1,0 +1,6 @@
+use Rattle.std.proofs.Common.{rules, refl}
+use Rattle.fdb_live.proofs.Turning.{opens}
+use Rattle.fdb_live.proofs.passes.open_as.Goals as goal
+
+pub swap_as-requires : goal.swap_as-requires
+swap_as-requires g c = (search rules, (search rules, (search rules, opens _ _ _ _ c.requires.first refl)))

@@ -1,0 +1,4 @@
+pub mod Seen
+pub mod Words
+pub mod Rule
+pub mod Token

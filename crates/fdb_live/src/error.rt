@@ -1,0 +1,26 @@
+//! Why a live record is not opened, or a report not taken.
+
+use std::alloc::AllocError;
+use thiserror::Error;
+
+/// Why a live record is not opened, or a report not taken.
+#[derive(Clone, Copy, Debug, PartialEq, Eq, Hash, Error)]
+pub enum LiveError {
+    /// The version is above the greatest one.
+    #[error("the version is out of range")]
+    TooLarge,
+    /// Memory was refused.
+    #[error("want of memory")]
+    Memory,
+}
+
+impl From<AllocError> for LiveError {
+    ghost use Rattle.std.specs.Prelude.{◌≡◌};
+    ghost use Rattle.fdb_live.specs.declared.error.LiveError.TheVariants.{Memory};
+
+    ghost from_gives = { λ _ cause. cause ≡ Memory };
+
+    fn from(_refused: AllocError) -> Self {
+        LiveError::Memory
+    }
+}

@@ -1,0 +1,24 @@
+//! The live committed version in a cell that threads read without a lock, and tokens that prove what their holders
+//! have seen of it.
+#![tactic(auto)]
+
+mod ack;
+mod error;
+mod fetched;
+mod live;
+mod opened;
+mod passes;
+mod raise;
+mod record;
+mod right;
+mod seen;
+mod view;
+
+pub use ack::Ack;
+pub use error::LiveError;
+pub use fetched::Fetched;
+pub use live::Live;
+pub use opened::{MAX_REPORTERS, Opened};
+pub use raise::Raise;
+pub use record::LiveRecord;
+pub use seen::Seen;

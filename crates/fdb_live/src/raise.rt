@@ -1,0 +1,12 @@
+//! A report that raised the live committed version.
+
+use fdb_history::Record;
+
+/// A report that raised the record, as the model of a token has it. Running code keeps no list of them.
+#[derive(Clone, Copy, Debug, PartialEq, Eq, Hash)]
+pub struct Raise {
+    /// The number of the reporter that made it.
+    pub reporter: u32,
+    /// The record that then stood.
+    pub rec: Record,
+}

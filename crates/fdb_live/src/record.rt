@@ -1,0 +1,105 @@
+//! The live record.
+
+ghost use Rattle.std.specs.Prelude.{◌≡◌, ◌≢◌, ◌<◌, ◌⊎◌, ◌↔◌, length, Option, None, IsSome, IfOk, OnErr, true, false};
+ghost use mathlib.Core.List.{IsPrefix};
+ghost use Rattle.fdb_live.specs.Seen.{IsLog, IsNotRaisedBy, IsRaisedBy, last_record, longer, own_positions};
+
+use crate::ack::Ack;
+use crate::error::LiveError;
+use crate::fetched::Fetched;
+use crate::live::Live;
+use crate::right::Right;
+use crate::seen::Seen;
+use crate::view::Cell;
+use fdb_history::{Gate, MAX_VERSION, Place, Record};
+use std::sync::{Mutex, Wait};
+
+/// The live committed version of the service `J`, in one register that threads share
+/// (`liveCommittedVersion` and its companions in masterserver, FoundationDB 7.1).
+///
+/// Reports take turns under a lock that only they take. A read takes no lock: it loads the four words of a sequence
+/// cell, and loads them again, or takes the cell's own lock, where a replacement came between. No call on it takes
+/// memory, and each takes constant time, waiting aside.
+#[derive(Drop)]
+pub struct LiveRecord<J: Live> {
+    pub(crate) cell: Cell,
+    pub(crate) reports: Mutex<Right<J>>,
+    pub(crate) ghost named: { cell.table.shared.table_id ≡ J.table },
+}
+
+impl<J: Live> LiveRecord<J> {
+    /// The record and its position (`getLiveCommittedVersion` of masterserver). The holder of the token has then seen
+    /// each raise up to that position.
+    ///
+    /// It waits for a replacement that is under way, and for no report's lock.
+    pub fn read<R: Wait>(&self, rt: &R, seen: &mut Seen<J>) -> Fetched
+        ensures reporter { seen.new.reporter ≡ seen.old.reporter }
+        ensures extends { IsPrefix seen.old.raises seen.new.raises }
+        ensures own { own_positions seen.new ≡ own_positions seen.old }
+        ensures rec { result.rec ≡ last_record J.start seen.new.raises }
+        ensures position { result.position ≡ length seen.new.raises }
+        ensures log { IsLog J.start J.reporters seen.new.raises }
+    {
+        seen.look(rt, &self.cell)
+    }
+
+    /// Reports a committed version (`reportLiveCommittedVersion` of masterserver) for the reporter whose token it is.
+    /// It replaces the record where its version is greater, and else leaves it; it is acknowledged in either case.
+    ///
+    /// It is refused as `TooLarge` where the version is above the greatest one, and for nothing else. It waits for
+    /// the other reports. While it holds their lock it passes the gate as `who`, before it looks at the record.
+    pub fn report<R: Wait, G: Gate>(
+        &self,
+        rt: &R,
+        gate: &G,
+        who: u32,
+        seen: &mut Seen<J>,
+        rec: Record,
+    ) -> Result<Ack, LiveError>
+        requires { IsSome seen.old.reporter }
+        ensures too_large { (result ≡ Err LiveError.TooLarge) ↔ (MAX_VERSION < rec.version) }
+        ensures no_memory { result ≢ Err LiveError.Memory }
+        ensures err { OnErr result (seen.new ≡ seen.old) }
+        ensures reporter { seen.new.reporter ≡ seen.old.reporter }
+        ensures extends { IsPrefix seen.old.raises seen.new.raises }
+        ensures position { IfOk result (λ ack. ack.position ≡ length seen.new.raises) }
+        ensures raised { IfOk result (λ ack. ack.raised ≡ true → IsRaisedBy J.start rec seen.old seen.new) }
+        ensures not_raised { IfOk result (λ ack. ack.raised ≡ false → IsNotRaisedBy J.start rec seen.old seen.new) }
+    {
+        if rec.version > MAX_VERSION {
+            return Err(LiveError::TooLarge);
+        }
+        let mut turn = self.reports.lock(rt);
+        gate.pass(Place::ReportHeld, who);
+        Ok(turn.report(rt, &self.cell, seen, rec))
+    }
+
+    /// A second token that has seen the same, with no number. It waits for nobody.
+    pub fn split(&self, seen: &mut Seen<J>) -> Seen<J>
+        ensures same { seen.new ≡ seen.old }
+        ensures given { result ≡ record { reporter = None; raises = seen.old.raises } }
+    {
+        seen.split(&self.cell)
+    }
+
+    /// The holder of the first token learns what that of the second has seen. It keeps its number.
+    pub fn learn<R: Wait>(&self, rt: &R, seen: &mut Seen<J>, told: Seen<J>)
+        requires { told.reporter ≡ None }
+        ensures reporter { seen.new.reporter ≡ seen.old.reporter }
+        ensures longer { seen.new.raises ≡ longer seen.old.raises told.raises }
+        ensures extends { IsPrefix seen.old.raises seen.new.raises }
+        ensures told { IsPrefix told.raises seen.new.raises }
+        ensures own { own_positions seen.new ≡ own_positions seen.old }
+    {
+        seen.learn(rt, &self.cell, told);
+    }
+
+    /// Of what the holders of two tokens have seen, one begins the other. Both tokens stay as they are.
+    pub fn meet<R: Wait>(&self, rt: &R, first: &mut Seen<J>, second: &mut Seen<J>)
+        ensures first { first.new ≡ first.old }
+        ensures second { second.new ≡ second.old }
+        ensures one { (IsPrefix first.old.raises second.old.raises) ⊎ (IsPrefix second.old.raises first.old.raises) }
+    {
+        first.meet(rt, &self.cell, second);
+    }
+}

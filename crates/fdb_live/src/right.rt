@@ -1,0 +1,61 @@
+//! The right to replace the record.
+
+ghost use Rattle.std.specs.Prelude.{◌≡◌, length, IsSome, true, false};
+ghost use mathlib.Core.List.{IsPrefix};
+ghost use Rattle.fdb_live.specs.Seen.{IsLog, IsRaisedBy, IsNotRaisedBy};
+
+use crate::ack::Ack;
+use crate::live::Live;
+use crate::passes;
+use crate::passes::Pass;
+use crate::seen::Seen;
+use crate::view::Cell;
+use fdb_history::Record;
+use std::marker::{Model, PhantomData};
+use std::sync::Wait;
+
+/// The one pass that may replace the record of the service `J`. It lies behind the lock of the reports.
+#[derive(Drop)]
+pub(crate) struct Right<J: Live> {
+    pub(crate) pass: Pass,
+    pub(crate) of: PhantomData<J>,
+}
+
+impl<J: Live> Model for Right<J> {
+    ghost use Rattle.std.specs.Prelude.{◌≡◌};
+    ghost use Rattle.crossbeam_utils.specs.Seq.{cell_view};
+    ghost use Rattle.fdb_live.specs.Token.{IsRight};
+
+    ghost Value = { Unit {0} };
+
+    ghost view = { λ _. tt };
+
+    ghost invariant = { λ r. (r.pass.table_id ≡ J.table) × IsRight J.start J.reporters (cell_view r.pass) };
+}
+
+impl<J: Live> Right<J> {
+    /// Reports a record for the holder of a token. For that, the token's pass is taken in, and its number is split off again.
+    pub(crate) fn report<R: Wait>(
+        &mut self,
+        rt: &R,
+        cell: &Cell,
+        seen: &mut Seen<J>,
+        rec: Record,
+    ) -> Ack
+        requires cell { cell.now.table.shared.table_id ≡ J.table }
+        requires numbered { IsSome seen.old.reporter }
+        ensures reporter { seen.new.reporter ≡ seen.old.reporter }
+        ensures seen { IsPrefix seen.old.raises seen.new.raises }
+        ensures position { result.position ≡ length seen.new.raises }
+        ensures log { IsLog J.start J.reporters seen.new.raises }
+        ensures raised { result.raised ≡ true → IsRaisedBy J.start rec seen.old seen.new }
+        ensures not_raised { result.raised ≡ false → IsNotRaisedBy J.start rec seen.old seen.new }
+    {
+        let token = passes::give_all(cell, &mut seen.pass);
+        passes::take(cell, &mut self.pass, token);
+        let ack = passes::report(rt, cell, &mut self.pass, rec);
+        seen.pass = passes::give_lowest(cell, &mut self.pass);
+        seen.position = ack.position;
+        ack
+    }
+}

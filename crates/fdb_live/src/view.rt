@@ -1,0 +1,137 @@
+//! What each pass of the cell knows. It exists in proofs alone: no value of these types is made.
+
+use crate::fetched::Fetched;
+use crate::raise::Raise;
+use atomic_table::{Join, Split};
+use crossbeam_utils::atomic::seq_cell::RuledSeqCell;
+use crossbeam_utils::rule::{Outcome, Protocol};
+use fdb_history::{Record, Service};
+use std::collections::LinkedList;
+use std::marker::PhantomData;
+
+/// What a pass knows.
+pub struct View {
+    /// The record before any report.
+    pub start: Record,
+    /// How many reporters there are, once the service is opened.
+    pub reporters: u32,
+    /// It holds the reporters' numbers from here on.
+    pub low: u32,
+    /// And those below this one.
+    pub high: u32,
+    /// Whether it has the right to replace the record.
+    pub replaces: bool,
+    /// The raises that it has seen.
+    pub seen: LinkedList<Raise>,
+    /// Those that it had itself seen before a join, until it looks.
+    pub mine: LinkedList<Raise>,
+    /// Those that the other pass of that join had seen.
+    pub theirs: LinkedList<Raise>,
+}
+
+/// The rule of the cell.
+pub struct Law;
+
+impl Protocol<Fetched, View> for Law {
+    ghost use Rattle.fdb_live.specs.Rule.{Kept, first};
+
+    ghost holds = { Kept };
+
+    ghost first = { first };
+}
+
+/// The cell: one record and its position, in four words.
+pub type Cell = RuledSeqCell<Fetched, View, Law, 4>;
+
+/// A step that opens the service of a name.
+pub struct Opens<S: Service> {
+    service: PhantomData<S>,
+}
+
+impl<S: Service> Outcome<Fetched, View> for Opens<S> {
+    ghost use Rattle.fdb_live.specs.Rule.{Opens as HasOpened};
+
+    ghost then = { HasOpened S.reporters };
+}
+
+/// A look at the record.
+pub struct Looks;
+
+impl Outcome<Fetched, View> for Looks {
+    ghost use Rattle.fdb_live.specs.Rule.{Looks as HasLooked};
+
+    ghost then = { HasLooked };
+}
+
+/// A look that ends a join.
+pub struct Settles;
+
+impl Outcome<Fetched, View> for Settles {
+    ghost use Rattle.fdb_live.specs.Rule.{Settles as HasSettled};
+
+    ghost then = { HasSettled };
+}
+
+/// A raise.
+pub struct Adds;
+
+impl Outcome<Fetched, View> for Adds {
+    ghost use Rattle.fdb_live.specs.Rule.{Adds as HasAdded};
+
+    ghost then = { HasAdded };
+}
+
+/// A copy of what was seen is split off.
+pub struct Copied;
+
+impl Split<View> for Copied {
+    ghost use Rattle.fdb_live.specs.Rule.{copy_of};
+
+    ghost left = { λ v. v };
+
+    ghost right = { copy_of };
+}
+
+/// The lowest number is split off.
+pub struct Lowest;
+
+impl Split<View> for Lowest {
+    ghost use Rattle.fdb_live.specs.Rule.{lowest_of, without_lowest};
+
+    ghost left = { without_lowest };
+
+    ghost right = { lowest_of };
+}
+
+/// All is split off, since only a pass that is new can be joined.
+pub struct Whole;
+
+impl Split<View> for Whole {
+    ghost use Rattle.fdb_live.specs.Rule.{spent};
+
+    ghost left = { λ _. spent };
+
+    ghost right = { λ v. v };
+}
+
+/// What the other pass has seen is taken in.
+pub struct Told;
+
+impl Join<View> for Told {
+    ghost use Rattle.fdb_live.specs.Rule.{joined, spent};
+
+    ghost both = { joined };
+
+    ghost spent = { spent };
+}
+
+/// The other pass is taken in with its number.
+pub struct Numbered;
+
+impl Join<View> for Numbered {
+    ghost use Rattle.fdb_live.specs.Rule.{spent, taken};
+
+    ghost both = { taken };
+
+    ghost spent = { spent };
+}
