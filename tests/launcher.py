@@ -60,8 +60,8 @@ fdb_replay: built after \d seconds
 fdb_replay: said
 """
 # What a terminal is shown of the first crate, in turn, and how the next line begins.
-SHOWN = [b"0 s so far", b"0 of 75 functions, 0 s so far", b"0 of 75 functions, 1 s so far", rb"54 of 75 functions, \d s so far", rb"75 functions, \d s\r\n"]
-RENEWED = b"(?s)" + b".*".join(rb"\r\x1b\[Kfdb_replay: \[1/4\] low: " + it for it in SHOWN) + rb"\r\x1b\[Kfdb_replay: \[2/4\] kept: 0 s so far"
+SHOWN = [rb"\d s so far", *[rb"0 of 75 functions, \d s so far"] * 2, rb"54 of 75 functions, \d s so far", rb"75 functions, \d s\r\n"]
+RENEWED = b"(?s)" + b".*".join(rb"\r\x1b\[Kfdb_replay: \[1/4\] low: " + it for it in SHOWN) + rb"\r\x1b\[Kfdb_replay: \[2/4\] kept: \d s so far"
 LOGGED = b"""rt: proving low
 so far: 0 of 75 functions checked; the verdict comes last
 so far: 54 of 75 functions checked
@@ -213,7 +213,7 @@ def without_a_build(room):
 
 def told_launches(room):
     """A terminal has a line for each crate, which is renewed in place; what rt says goes to a log, which a failure names."""
-    ran, shown = room.launch_on_terminal(slow="1.2")
+    ran, shown = room.launch_on_terminal(slow="1.6")
     yield "a launch on a terminal", room.fault(ran, room.wanted(given=b"", err=b""), 1)
     yield "what a terminal shows", None if re.search(RENEWED, shown) else repr(shown)
     yield "the crates are proved in turn", other_text(f"{room.folder}/calls", b"low lib\nkept lib\nmiddle lib\nfdb_replay_cli run\n")
