@@ -1,11 +1,11 @@
--- Events of the register, one after another.
+-- Events of the register, one after another. (where no source is named, this product's own)
 use Rattle.std.specs.Prelude.{◌≡◌, ℕ, ◌+◌, Bool, false, if◌then◌else◌, List, [], ◌∷◌, map, fold, count_by}
 use Rattle.fdb_history.specs.Register.{raises, record_after}
 use Rattle.fdb_history.specs.declared.register.Record.{Record}
 use Rattle.fdb_history.specs.declared.event.Event.{Event}
 use Rattle.fdb_history.specs.declared.event.Event.TheVariants.{Report, Read}
 
--- The register after one event. A read changes nothing.
+-- The register after one event. A read changes nothing. (updateLiveCommittedVersion of masterserver, FoundationDB 7.1)
 abbrev pub after_event : Record → Event → Record
 after_event current (Report client call rec raised) = record_after current rec
 after_event current (Read client call rec) = current

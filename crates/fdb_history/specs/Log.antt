@@ -1,4 +1,4 @@
--- The log of a client, and the register's events in it.
+-- The log of a client, and the register's events in it. (all of this is this product's own)
 use Rattle.std.specs.Prelude.{ℕ, ◌+◌, Bool, false, List, [], ◌∷◌, ◌++◌, map, Option, None, Some, option_to_list, slice_get, unwrap_or, filter}
 use Rattle.std.specs.List.{flat_map}
 use Rattle.std.specs.Option.{option_map}
