@@ -28,7 +28,7 @@ pub const MAX_SCRIPT_BYTES: usize = 16_777_216;
 const PIECE: usize = 65_536;
 
 /// Why the program ends with another status than 0.
-#[derive(Clone, Copy, Debug, PartialEq, Eq, Hash, Error)]
+#[derive(Clone, Copy, Debug, Error)]
 pub(crate) enum Fault {
     #[error("script refused: {0}")]
     Script(ScriptError),
