@@ -4,7 +4,6 @@ use crate::checksum::Checksum;
 use crate::draws::Draws;
 use crate::measured::Measured;
 use crate::stopwatch::Stopwatch;
-use anyhow::Result;
 use fdb_chain::{ChainCore, ChainError};
 use fdb_history::Ask;
 use std::alloc::Global;
@@ -16,28 +15,45 @@ pub const MANY: u32 = 64;
 const RECOVERY: u64 = 100;
 
 /// Fresh requests by so many commit proxies in turn.
-pub fn fresh(clock: &impl CpuClock, alloc: Global, proxies: u32, size: u32) -> Result<Measured> {
+pub fn fresh(
+    clock: &impl CpuClock,
+    alloc: Global,
+    proxies: u32,
+    size: u32,
+) -> Result<Measured, ChainError> {
     let mut chain = ChainCore::new(alloc, 0, RECOVERY, proxies)?;
-    let watch = Stopwatch::start(clock)?;
+    let watch = Stopwatch::start(clock);
     let checksum = ask_fresh(&mut chain, proxies, size)?;
-    Ok(watch.measured(clock, u64::from(size), checksum)?)
+    Ok(Measured {
+        operations: u64::from(size),
+        time: watch.stop(clock),
+        checksum,
+    })
 }
 
 /// Repeats of numbers without a pattern, of a chain with as many answers.
-pub fn repeats(clock: &impl CpuClock, alloc: Global, size: u32) -> Result<Measured> {
+pub fn repeats(clock: &impl CpuClock, alloc: Global, size: u32) -> Result<Measured, ChainError> {
     let mut chain = ChainCore::new(alloc, 0, RECOVERY, MANY)?;
     let drawn = ask_fresh(&mut chain, MANY, size)?;
-    let watch = Stopwatch::start(clock)?;
+    let watch = Stopwatch::start(clock);
     let checksum = ask_again(&mut chain, size, drawn)?;
-    Ok(watch.measured(clock, u64::from(size), checksum)?)
+    Ok(Measured {
+        operations: u64::from(size),
+        time: watch.stop(clock),
+        checksum,
+    })
 }
 
 /// Three fresh requests and a repeat in turn, by many proxies of which each has processed all but its last few answers.
-pub fn processed(clock: &impl CpuClock, alloc: Global, size: u32) -> Result<Measured> {
+pub fn processed(clock: &impl CpuClock, alloc: Global, size: u32) -> Result<Measured, ChainError> {
     let mut chain = ChainCore::new(alloc, 0, RECOVERY, MANY)?;
-    let watch = Stopwatch::start(clock)?;
+    let watch = Stopwatch::start(clock);
     let checksum = ask_mixed(&mut chain, size)?;
-    Ok(watch.measured(clock, u64::from(size), checksum)?)
+    Ok(Measured {
+        operations: u64::from(size),
+        time: watch.stop(clock),
+        checksum,
+    })
 }
 
 /// Makes so many fresh requests.

@@ -3,9 +3,9 @@
 ghost use Rattle.std.specs.Prelude.{◌≤◌, length};
 
 use crate::checksum::Checksum;
+use crate::fault::Fault;
 use crate::measured::Measured;
 use crate::stopwatch::Stopwatch;
-use anyhow::{Result, ensure};
 use fdb_chain::{ChainCore, ChainError};
 use fdb_history::{
     Ask, AuditFault, Call, CallAnswer, ClientLog, Event, GrvOpts, Input, Issued, Priority, Record,
@@ -30,27 +30,19 @@ const OPENING: Record = Record {
 };
 
 /// Audits the logs of 64 clients with so many calls in all, a few times.
-pub fn audits(clock: &impl CpuClock, alloc: Global, size: u32) -> Result<Measured> {
+pub fn audits(clock: &impl CpuClock, alloc: Global, size: u32) -> Result<Measured, Fault> {
     let run = Run::of(alloc, size)?;
     let logs = run.logs.as_slice();
-    ensure!(logs.len() <= 64, "more logs than an audit takes");
-    let operations = u64::from(size) * u64::from(AUDITS);
-    time_audits(clock, alloc, run.chain.answers(), logs, operations)
-}
-
-/// Takes the time that the audits take.
-fn time_audits(
-    clock: &impl CpuClock,
-    alloc: Global,
-    chain: &[Issued],
-    logs: &[ClientLog],
-    operations: u64,
-) -> Result<Measured>
-    requires { length logs.now ≤ 64 }
-{
-    let watch = Stopwatch::start(clock)?;
-    let checksum = audit_each_time(alloc, chain, logs)?;
-    Ok(watch.measured(clock, operations, checksum)?)
+    if logs.len() > 64 {
+        return Err(Fault::Audit);
+    }
+    let watch = Stopwatch::start(clock);
+    let checksum = audit_each_time(alloc, run.chain.answers(), logs)?;
+    Ok(Measured {
+        operations: u64::from(size) * u64::from(AUDITS),
+        time: watch.stop(clock),
+        checksum,
+    })
 }
 
 /// Audits the same logs a few times.
@@ -155,11 +147,10 @@ impl Run {
 
     /// A report of the newest commit version, under its number.
     fn report(&mut self, num: u64) -> Call {
-        let version = self
-            .chain
-            .answers()
-            .last()
-            .map_or(0, |issued| issued.version);
+        let version = match self.chain.answers().last() {
+            Some(issued) => issued.version,
+            None => 0,
+        };
         let rec = Record {
             version,
             locked: false,
@@ -208,7 +199,10 @@ impl Run {
     /// Adds a call to a client's log, asked at the position that the client had come to.
     fn log(&mut self, client: u32, call: Call) -> Result<(), AllocError> {
         if let Some(log) = self.logs.get_mut(client as usize) {
-            let asked = log.calls.as_slice().last().map_or(0, |last| last.position);
+            let asked = match log.calls.as_slice().last() {
+                Some(last) => last.position,
+                None => 0,
+            };
             log.calls.push(Call { asked, ..call })?;
         }
         Ok(())

@@ -1,5 +1,6 @@
 //! The benchmarks by their names, and the sizes that they may have.
 
+use crate::fault::Fault;
 use crate::measured::Measured;
 use crate::{asking, auditing, queueing, replaying, throttling};
 use anyhow::{Context, Result, ensure};
@@ -9,7 +10,7 @@ use std::thread::Threads;
 use std::time::CpuClock;
 
 /// What is measured.
-#[derive(Clone, Copy, Debug, PartialEq, Eq)]
+#[derive(Clone, Copy)]
 pub enum Benchmark {
     /// Fresh requests for commit versions by one proxy. The size is how many there are.
     FreshOfOne,
@@ -111,18 +112,18 @@ impl Benchmark {
         rt: &R,
         alloc: Global,
         size: u32,
-    ) -> Result<Measured> {
-        match self {
-            Benchmark::FreshOfOne => asking::fresh(rt, alloc, 1, size),
-            Benchmark::FreshOfMany => asking::fresh(rt, alloc, asking::MANY, size),
-            Benchmark::Repeats => asking::repeats(rt, alloc, size),
-            Benchmark::Processed => asking::processed(rt, alloc, size),
-            Benchmark::Windows => queueing::windows(rt, alloc, size),
-            Benchmark::PushOuts => queueing::push_outs(rt, alloc, size),
-            Benchmark::Throttles => throttling::throttles(rt, alloc, size),
-            Benchmark::Waits => queueing::waits(rt, alloc, size),
-            Benchmark::Replay => replaying::replay(rt, alloc, size),
-            Benchmark::Audit => auditing::audits(rt, alloc, size),
-        }
+    ) -> Result<Measured, Fault> {
+        Ok(match self {
+            Benchmark::FreshOfOne => asking::fresh(rt, alloc, 1, size)?,
+            Benchmark::FreshOfMany => asking::fresh(rt, alloc, asking::MANY, size)?,
+            Benchmark::Repeats => asking::repeats(rt, alloc, size)?,
+            Benchmark::Processed => asking::processed(rt, alloc, size)?,
+            Benchmark::Windows => queueing::windows(rt, alloc, size)?,
+            Benchmark::PushOuts => queueing::push_outs(rt, alloc, size)?,
+            Benchmark::Throttles => throttling::throttles(rt, alloc, size)?,
+            Benchmark::Waits => queueing::waits(rt, alloc, size)?,
+            Benchmark::Replay => replaying::replay(rt, alloc, size)?,
+            Benchmark::Audit => auditing::audits(rt, alloc, size)?,
+        })
     }
 }

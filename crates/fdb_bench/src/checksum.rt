@@ -4,7 +4,7 @@ use fdb_chain::ChainError;
 use fdb_history::Issued;
 
 /// A fold over the words that it was given, in their order.
-#[derive(Clone, Copy, Debug, PartialEq, Eq)]
+#[derive(Clone, Copy)]
 pub struct Checksum(u64);
 
 impl Checksum {

@@ -1,7 +1,7 @@
 //! Numbers without a pattern, the same in every run.
 
 /// A linear congruential generator, of which the upper half of each state is drawn.
-#[derive(Clone, Copy, Debug, PartialEq, Eq)]
+#[derive(Clone, Copy)]
 pub struct Draws(u64);
 
 impl Draws {

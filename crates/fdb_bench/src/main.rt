@@ -9,6 +9,7 @@ mod auditing;
 mod benchmark;
 mod checksum;
 mod draws;
+mod fault;
 mod measured;
 mod queueing;
 mod replaying;
@@ -18,6 +19,7 @@ mod throttling;
 
 use anyhow::{Result, anyhow, ensure};
 use benchmark::Benchmark;
+use measured::{nanos, tenths};
 use std::alloc::Global;
 use std::env;
 use std::sync::Wait;
@@ -59,9 +61,20 @@ fn run_one<R>(rt: &R, alloc: Global, benchmark: Benchmark, size: u32) -> Result<
 where
     R: Print + Eprint + CpuClock + Threads + Wait + Sync,
 {
-    let measured = benchmark.run(rt, alloc, size)?;
-    let (name, checksum) = (benchmark.name(), measured.checksum);
+    let measured = match benchmark.run(rt, alloc, size) {
+        Ok(measured) => measured,
+        Err(fault) => return Err(anyhow!(fault.line())),
+    };
+    let Some(time) = measured.time else {
+        return Err(anyhow!("the clock failed"));
+    };
+    let (name, checksum) = (benchmark.name(), measured.checksum.value());
     println!(rt; "{name} {size} {checksum}")?;
-    eprintln!(rt; "{name} {size}: {measured}")?;
+    let (operations, nanos) = (measured.operations, nanos(time));
+    let tenths = tenths(nanos, operations);
+    let (whole, tenth) = (tenths / 10, tenths % 10);
+    eprintln!(rt;
+        "{name} {size}: {operations} operations, {nanos} ns of processor time, {whole}.{tenth} ns each"
+    )?;
     Ok(())
 }

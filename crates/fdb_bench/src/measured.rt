@@ -1,38 +1,27 @@
 //! What a benchmark computed and took.
 
-use std::fmt;
+use crate::checksum::Checksum;
 use std::time::Duration;
 
 /// What a benchmark computed, and what it took.
-#[derive(Clone, Copy, Debug)]
+#[derive(Clone, Copy)]
 pub struct Measured {
     /// How many operations there were.
     pub operations: u64,
-    /// The processor time of all of them.
-    pub time: Duration,
+    /// The processor time of all of them, if the clock said it.
+    pub time: Option<Duration>,
     /// The checksum over what they answered.
-    pub checksum: u64,
+    pub checksum: Checksum,
 }
 
-impl Measured {
-    /// The processor time, in nanoseconds.
-    fn nanos(&self) -> u64 {
-        self.time
-            .as_secs()
-            .saturating_mul(1_000_000_000)
-            .saturating_add(u64::from(self.time.subsec_nanos()))
-    }
+/// A time in nanoseconds.
+pub fn nanos(time: Duration) -> u64 {
+    time.as_secs()
+        .saturating_mul(1_000_000_000)
+        .saturating_add(u64::from(time.subsec_nanos()))
 }
 
-/// The number of operations, the processor time, and the time of one of them.
-impl fmt::Display for Measured {
-    fn fmt<W: fmt::Write>(&self, f: &mut fmt::Formatter<W>) -> fmt::Result {
-        let (operations, nanos) = (self.operations, self.nanos());
-        let tenths = nanos.saturating_mul(10) / operations.max(1);
-        let (whole, tenth) = (tenths / 10, tenths % 10);
-        write!(
-            f,
-            "{operations} operations, {nanos} ns of processor time, {whole}.{tenth} ns each"
-        )
-    }
+/// The tenths of a nanosecond that each of some operations took, which took so many nanoseconds in all.
+pub fn tenths(nanos: u64, operations: u64) -> u64 {
+    nanos.saturating_mul(10) / operations.max(1)
 }

@@ -4,7 +4,6 @@ use crate::checksum::Checksum;
 use crate::draws::Draws;
 use crate::measured::Measured;
 use crate::stopwatch::Stopwatch;
-use anyhow::Result;
 use fdb_history::Priority;
 use fdb_queue::{GrvQueue, QueueConfig, QueueError, Req};
 use std::alloc::Global;
@@ -26,45 +25,47 @@ const FLOODS: u32 = 10;
 const WAITS_PER_WINDOW: u32 = 8;
 
 /// Offers of all priorities, and windows that start about as much as is offered, at a queue that is nearly full.
-pub fn windows(clock: &impl CpuClock, alloc: Global, room: u32) -> Result<Measured> {
+pub fn windows(clock: &impl CpuClock, alloc: Global, room: u32) -> Result<Measured, QueueError> {
     let mut queue = nearly_full(alloc, room)?;
-    time_windows(clock, &mut queue, room.saturating_mul(OFFERS_PER_ROOM))
-}
-
-/// Takes the time of so many offers and their windows.
-fn time_windows(clock: &impl CpuClock, queue: &mut GrvQueue<u64>, offers: u32) -> Result<Measured> {
-    let watch = Stopwatch::start(clock)?;
-    let checksum = offer_and_start(queue, offers)?;
-    Ok(watch.measured(clock, u64::from(offers), checksum)?)
+    let offers = room.saturating_mul(OFFERS_PER_ROOM);
+    let watch = Stopwatch::start(clock);
+    let checksum = offer_and_start(&mut queue, offers)?;
+    Ok(Measured {
+        operations: u64::from(offers),
+        time: watch.stop(clock),
+        checksum,
+    })
 }
 
 /// Floods of system requests into a queue that is filled with batch and default requests: each pushes one out, until
 /// none is left and the others are refused.
-pub fn push_outs(clock: &impl CpuClock, alloc: Global, room: u32) -> Result<Measured> {
-    let operations = u64::from(FLOODS) * u64::from(room) * 3;
-    let watch = Stopwatch::start(clock)?;
+pub fn push_outs(clock: &impl CpuClock, alloc: Global, room: u32) -> Result<Measured, QueueError> {
+    let watch = Stopwatch::start(clock);
     let checksum = flood_each_time(alloc, room)?;
-    Ok(watch.measured(clock, operations, checksum)?)
+    Ok(Measured {
+        operations: u64::from(FLOODS) * u64::from(room) * 3,
+        time: watch.stop(clock),
+        checksum,
+    })
 }
 
 /// Questions how many windows the head of the row waits, with a window after every few.
-pub fn waits(clock: &impl CpuClock, alloc: Global, size: u32) -> Result<Measured> {
+pub fn waits(clock: &impl CpuClock, alloc: Global, size: u32) -> Result<Measured, QueueError> {
     let config = QueueConfig {
         normal: 10,
         batch: 10,
         room: 1,
     };
     let mut queue = GrvQueue::new(alloc, config)?;
-    time_waits(clock, &mut queue, size)
-}
-
-/// Offers the head of the row, and takes the time of so many questions.
-fn time_waits(clock: &impl CpuClock, queue: &mut GrvQueue<u64>, size: u32) -> Result<Measured> {
     let head = request_of(Priority::Default, 100_000, 0);
-    let before = offered(queue, Checksum::EMPTY, head)?;
-    let watch = Stopwatch::start(clock)?;
-    let checksum = ask_and_wait(queue, size, before)?;
-    Ok(watch.measured(clock, u64::from(size), checksum)?)
+    let before = offered(&mut queue, Checksum::EMPTY, head)?;
+    let watch = Stopwatch::start(clock);
+    let checksum = ask_and_wait(&mut queue, size, before)?;
+    Ok(Measured {
+        operations: u64::from(size),
+        time: watch.stop(clock),
+        checksum,
+    })
 }
 
 /// A queue in which nine tenths of the room is taken.

@@ -1,10 +1,10 @@
 //! Scripts, from their bytes to the printed bytes.
 
 use crate::checksum::Checksum;
+use crate::fault::Fault;
 use crate::measured::Measured;
 use crate::scripted;
 use crate::stopwatch::Stopwatch;
-use anyhow::Result;
 use fdb_history::OpenGate;
 use fdb_replay::ReplayFault;
 use std::alloc::Global;
@@ -21,16 +21,16 @@ pub fn replay<R: CpuClock + Threads + Wait + Sync>(
     rt: &R,
     alloc: Global,
     commands: u32,
-) -> Result<Measured> {
+) -> Result<Measured, Fault> {
     let script = scripted::script(alloc, commands)?;
     let mut written = Vec::new(alloc);
-    let watch = Stopwatch::start(rt)?;
+    let watch = Stopwatch::start(rt);
     replay_each_time(rt, alloc, script.as_bytes(), &mut written)?;
-    let operations = u64::from(commands) * u64::from(REPLAYS);
-    let measured = watch.measured(rt, operations, Checksum::EMPTY)?;
+    let time = watch.stop(rt);
     Ok(Measured {
-        checksum: of_bytes(&written).value(),
-        ..measured
+        operations: u64::from(commands) * u64::from(REPLAYS),
+        time,
+        checksum: of_bytes(&written),
     })
 }
 

@@ -1,35 +1,25 @@
 //! The processor time of the process.
 
-use crate::checksum::Checksum;
-use crate::measured::Measured;
-use std::io;
 use std::time::{CpuClock, Duration};
 
-/// A moment, by the processor time that the process had used.
-#[derive(Clone, Copy, Debug)]
+/// A moment, by the processor time that the process had used, if the clock said it.
+#[derive(Clone, Copy)]
 pub struct Stopwatch {
-    begun: Duration,
+    begun: Option<Duration>,
 }
 
 impl Stopwatch {
     /// From now on.
-    pub fn start(clock: &impl CpuClock) -> io::Result<Stopwatch> {
-        let begun = clock.process_cpu_time()?;
-        Ok(Stopwatch { begun })
+    pub fn start(clock: &impl CpuClock) -> Stopwatch {
+        Stopwatch {
+            begun: clock.process_cpu_time().ok(),
+        }
     }
 
-    /// What a benchmark computed by so many operations since then.
-    pub fn measured(
-        self,
-        clock: &impl CpuClock,
-        operations: u64,
-        checksum: Checksum,
-    ) -> io::Result<Measured> {
-        let time = clock.process_cpu_time()?.saturating_sub(self.begun);
-        Ok(Measured {
-            operations,
-            time,
-            checksum: checksum.value(),
-        })
+    /// The processor time since then, if the clock said both moments.
+    pub fn stop(self, clock: &impl CpuClock) -> Option<Duration> {
+        let begun = self.begun?;
+        let now = clock.process_cpu_time().ok()?;
+        Some(now.saturating_sub(begun))
     }
 }

@@ -4,7 +4,6 @@ use crate::checksum::Checksum;
 use crate::draws::Draws;
 use crate::measured::Measured;
 use crate::stopwatch::Stopwatch;
-use anyhow::Result;
 use fdb_history::{Priority, Sequence, Tag, TagLimit};
 use fdb_queue::{GrvQueue, QueueConfig, QueueError};
 use std::alloc::{AllocError, Global};
@@ -20,30 +19,22 @@ const TAGS_PER_REQUEST: usize = 4;
 const LAST_MOMENT: u64 = 1_000;
 
 /// Sets so many throttles, and looks them up by requests of four tags at other priorities and moments.
-pub fn throttles(clock: &impl CpuClock, alloc: Global, size: u32) -> Result<Measured> {
+pub fn throttles(clock: &impl CpuClock, alloc: Global, size: u32) -> Result<Measured, QueueError> {
     let config = QueueConfig {
         normal: 1,
         batch: 1,
         room: 1,
     };
+    let mut queue = GrvQueue::new(alloc, config)?;
     let tags = tags(alloc, size)?;
     let given = copies(alloc, tags.as_slice())?;
-    let operations = u64::from(size) * u64::from(PASSES + 1);
-    let mut queue = GrvQueue::new(alloc, config)?;
-    time_throttles(clock, &mut queue, given, tags.as_slice(), operations)
-}
-
-/// Takes the time that the throttles take.
-fn time_throttles(
-    clock: &impl CpuClock,
-    queue: &mut GrvQueue<u64>,
-    given: Vec<Tag>,
-    tags: &[Tag],
-    operations: u64,
-) -> Result<Measured> {
-    let watch = Stopwatch::start(clock)?;
-    let checksum = set_and_look_up(queue, given, tags)?;
-    Ok(watch.measured(clock, operations, checksum)?)
+    let watch = Stopwatch::start(clock);
+    let checksum = set_and_look_up(&mut queue, given, tags.as_slice())?;
+    Ok(Measured {
+        operations: u64::from(size) * u64::from(PASSES + 1),
+        time: watch.stop(clock),
+        checksum,
+    })
 }
 
 /// So many tags of eight bytes, without an order.

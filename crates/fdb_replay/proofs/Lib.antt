@@ -5,3 +5,4 @@ pub mod Input
 pub mod Learnt
 pub mod Performed
 pub mod Runs
+pub mod Written

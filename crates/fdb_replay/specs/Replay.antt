@@ -1,5 +1,6 @@
 -- What a replay of some bytes writes, and what a refused one says.
-use Rattle.std.specs.Prelude.{◌≡◌, ◌≢◌, Bool, List, ℕ, Ok, Err}
+use Rattle.std.specs.Prelude.{◌≡◌, ◌≢◌, ◌<◌, ◌++◌, Bool, List, ℕ, Ok, Err, Option, length}
+use Rattle.std.specs.Io.KnownBytes.{Appends}
 use Rattle.fdb_replay.specs.Outcome.{IsRunOf, Fails}
 use Rattle.fdb_script.specs.Plan.{Plan}
 use Rattle.fdb_script.specs.Reading.{Reads}
@@ -27,3 +28,17 @@ Refuses bytes Write = (plan : Plan) × Reads bytes (Ok plan)
 -- These bytes stand for no script. (that memory was refused says nothing of them)
 abbrev pub IsRefused : List ℕ → Type 0
 IsRefused bytes = (error : ScriptError) × (error ≢ Memory) × Reads bytes (Err error)
+
+-- A writer took some of these bytes, from the first one on, and not all of them.
+pub record TakesSome (bytes : List ℕ) (before after : Option (List ℕ)) : Type 0 where
+  pub taken : List ℕ
+  pub left : List ℕ
+  pub split : bytes ≡ taken ++ left
+  pub some_left : 0 < length left
+  pub appended : Appends before after taken
+
+-- A writer took some of the text of a run of the script that these bytes stand for, and not all of it.
+pub record IsCut (bytes : List ℕ) (with_history : Bool) (before after : Option (List ℕ)) : Type 0 where
+  pub written : List ℕ
+  pub replayed : Replays bytes with_history written
+  pub cut : TakesSome written before after

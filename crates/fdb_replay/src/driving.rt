@@ -1,8 +1,9 @@
 //! The program, over a reader and two writers.
 
-ghost use Rattle.std.specs.Prelude.{◌≡◌, ◌≢◌, ◌<◌, ◌≤◌, IfOk, IfErr, IfSome, OnOk, OnErr, IsOkAnd, MatchResult, true, is_some, map, option_map, string_bytes, vec_len};
+ghost use Rattle.std.specs.Prelude.{◌≡◌, ◌≢◌, ◌⊎◌, ◌+◌, ◌++◌, ◌<◌, ◌≤◌, ℕ, List, IfOk, IfErr, IfSome, OnOk, OnErr, IsOkAnd, MatchResult, true, false, is_some, length, map, option_map, string_bytes, vec_len};
+ghost use Rattle.std.specs.Io.KnownBytes.{Consumes, IsAtEnd};
 ghost use Rattle.std.specs.IoError.{error_kind};
-ghost use Rattle.fdb_replay.specs.Words.{AreTaken, AreWrong, AskFaulty, AskInVain, IsDone, IsFaultyRun, IsInput, IsNoScript, ReadsInput, Replayed};
+ghost use Rattle.fdb_replay.specs.Words.{AreTaken, AreWrong, IsBegun, IsCutShort, IsDone, MayAskFaulty, MayAskInVain, MayBeFaulty, MayBeNoScript, MayBeRead, ReadsInput, Replayed, TakesAtMost};
 ghost use Rattle.fdb_history.specs.declared.fault.AuditFault.{AuditFault};
 ghost use Rattle.fdb_script.specs.declared.error.ScriptError.{ScriptError};
 ghost use Rattle.fdb_replay.specs.declared.driving.TheConstants.{MAX_SCRIPT_BYTES};
@@ -23,8 +24,11 @@ use thiserror::Error;
 /// The most bytes of a script that the program reads.
 pub const MAX_SCRIPT_BYTES: usize = 16_777_216;
 
+/// The most bytes that one read asks for.
+const PIECE: usize = 65_536;
+
 /// Why the program ends with another status than 0.
-#[derive(Clone, Copy, Debug, PartialEq, Eq, Hash, Error)]
+#[derive(Clone, Copy, Debug, Error)]
 pub(crate) enum Fault {
     #[error("script refused: {0}")]
     Script(ScriptError),
@@ -44,6 +48,7 @@ impl Fault {
     /// Why the words could not be had.
     fn of_words(error: &io::Error) -> Fault
         ensures some { result ≢ Fault.Words → result ≡ Fault.Memory }
+        ensures writing { result ≢ Fault.Writing }
         ensures words { result ≡ Fault.Words → error_kind error.now ≢ ErrorKind.OutOfMemory }
     {
         match error.kind() {
@@ -57,6 +62,7 @@ impl Fault {
         ensures script { (error : ScriptError) → result ≢ Fault.Script error }
         ensures words { result ≢ Fault.Words }
         ensures audit { (found : AuditFault) → result ≢ Fault.Audit found }
+        ensures writing { result ≢ Fault.Writing }
     {
         match error.kind() {
             ErrorKind::OutOfMemory => Fault::Memory,
@@ -88,10 +94,11 @@ impl Fault {
 }
 
 impl From<WordsFault> for Fault {
-    ghost use Rattle.fdb_replay.specs.declared.driving.Fault.TheVariants.{Memory, Words};
+    ghost use Rattle.std.specs.Prelude.{◌≢◌};
+    ghost use Rattle.fdb_replay.specs.declared.driving.Fault.TheVariants.{Memory, Words, Writing};
     ghost use Rattle.fdb_replay.specs.declared.words.WordsFault.TheVariants as cause;
 
-    ghost from_gives = { λ fault made. (fault ≡ cause.Refused → made ≡ Words) × (fault ≡ cause.Memory → made ≡ Memory) };
+    ghost from_gives = { λ fault made. (fault ≡ cause.Refused → made ≡ Words) × (fault ≡ cause.Memory → made ≡ Memory) × (made ≢ Writing) };
 
     fn from(fault: WordsFault) -> Self {
         match fault {
@@ -110,7 +117,7 @@ impl From<ReplayFault> for Fault {
     ghost use Rattle.fdb_script.specs.declared.error.ScriptError.{ScriptError};
     ghost use Rattle.fdb_script.specs.declared.error.ScriptError.TheVariants.{Memory};
 
-    ghost from_gives = { λ cause fault. (cause ≡ replay.Write → fault ≡ made.Writing) × (fault ≢ made.Words)
+    ghost from_gives = { λ cause fault. (cause ≡ replay.Write → fault ≡ made.Writing) × (fault ≡ made.Writing → cause ≡ replay.Write) × (fault ≢ made.Words)
         × ((error : ScriptError) → fault ≡ made.Script error → (cause ≡ replay.Script error) × (error ≢ Memory))
         × (cause ≡ replay.Run run.Memory → fault ≡ made.Memory)
         × ((found : AuditFault) → cause ≡ replay.Run (run.Audit found) → fault ≡ made.Audit found)
@@ -136,6 +143,7 @@ impl From<ReplayFault> for Fault {
 /// 3 for want of memory, 4 for an audit fault, and 5 where reading or writing failed, a file that cannot be opened and
 /// a script of more than [`MAX_SCRIPT_BYTES`] included. Faults are looked for in the order words, reading, script, run,
 /// writing. Whatever is not 0 is told by a line to `err`; where that line cannot be written, the status is the same.
+/// At most one byte more than [`MAX_SCRIPT_BYTES`] is taken from the input, and nothing is written after a write that failed.
 pub fn drive<R: Threads + Wait + Sync + Files, I: Read, O: Write, E: Write>(
     rt: &R,
     alloc: Global,
@@ -147,14 +155,17 @@ pub fn drive<R: Threads + Wait + Sync + Files, I: Read, O: Write, E: Write>(
     ensures asked { result ≢ 2 → result ≢ 3 → IsOkAnd words (λ list. AreTaken (map string_bytes list.items)) }
     ensures done { result ≡ 0 → IsOkAnd words (λ list.
         IsDone (map string_bytes list.items) (I.remaining input.old) (O.contents out.old) (O.contents out.new)) }
-    ensures refused { result ≡ 1 → IsOkAnd words (λ list. AskInVain (map string_bytes list.items) (I.remaining input.old)) }
-    ensures faulty { result ≡ 4 → IsOkAnd words (λ list. AskFaulty (map string_bytes list.items) (I.remaining input.old)) }
+    ensures refused { result ≡ 1 → IsOkAnd words (λ list. MayAskInVain (map string_bytes list.items) (I.remaining input.old)) }
+    ensures faulty { result ≡ 4 → IsOkAnd words (λ list. MayAskFaulty (map string_bytes list.items) (I.remaining input.old)) }
     ensures wrong { result ≡ 2 → MatchResult words (λ list. AreWrong (map string_bytes list.items))
         (λ error. error_kind error ≢ ErrorKind.OutOfMemory) }
     ensures unread { OnErr words (input.new ≡ input.old) }
     ensures left { IfOk words (λ list. (ReadsInput (map string_bytes list.items) → ⊥) → input.new ≡ input.old) }
     ensures quiet { result ≡ 0 → err.new ≡ err.old }
     ensures unwritten { result ≢ 0 → result ≢ 5 → out.new ≡ out.old }
+    ensures begun { result ≡ 5 → (out.new ≡ out.old) ⊎ IsOkAnd words (λ list.
+        IsBegun (map string_bytes list.items) (I.remaining input.old) (O.contents out.old) (O.contents out.new)) }
+    ensures few { TakesAtMost (MAX_SCRIPT_BYTES + 1) (I.remaining input.old) (I.remaining input.new) }
 {
     match answer(rt, alloc, words, input, out) {
         Ok(()) => 0,
@@ -178,14 +189,17 @@ fn answer<R: Threads + Wait + Sync + Files, I: Read, O: Write>(
     ensures done { OnOk result (IsOkAnd words (λ list.
         IsDone (map string_bytes list.items) (I.remaining input.old) (O.contents out.old) (O.contents out.new))) }
     ensures refused { IfErr result (λ fault. (error : ScriptError) → fault ≡ Fault.Script error
-        → IsOkAnd words (λ list. AskInVain (map string_bytes list.items) (I.remaining input.old))) }
+        → IsOkAnd words (λ list. MayAskInVain (map string_bytes list.items) (I.remaining input.old))) }
     ensures faulty { IfErr result (λ fault. (found : AuditFault) → fault ≡ Fault.Audit found
-        → IsOkAnd words (λ list. AskFaulty (map string_bytes list.items) (I.remaining input.old))) }
+        → IsOkAnd words (λ list. MayAskFaulty (map string_bytes list.items) (I.remaining input.old))) }
     ensures wrong { IfErr result (λ fault. fault ≡ Fault.Words → MatchResult words (λ list. AreWrong (map string_bytes list.items))
         (λ error. error_kind error ≢ ErrorKind.OutOfMemory)) }
     ensures unread { OnErr words (input.new ≡ input.old) }
     ensures left { IfOk words (λ list. (ReadsInput (map string_bytes list.items) → ⊥) → input.new ≡ input.old) }
     ensures unwritten { IfErr result (λ fault. fault ≢ Fault.Writing → out.new ≡ out.old) }
+    ensures begun { IfErr result (λ fault. fault ≡ Fault.Writing → IsOkAnd words (λ list.
+        IsBegun (map string_bytes list.items) (I.remaining input.old) (O.contents out.old) (O.contents out.new))) }
+    ensures few { TakesAtMost (MAX_SCRIPT_BYTES + 1) (I.remaining input.old) (I.remaining input.new) }
 {
     let words = match words {
         Ok(words) => words,
@@ -220,12 +234,16 @@ fn replay_words<R: Threads + Wait + Sync + Files, I: Read, O: Write>(
     ensures ok { OnOk result (Replayed (option_map (λ path. path.now) words.entry.script) words.entry.history
         (I.remaining input.old) (O.contents out.old) (O.contents out.new)) }
     ensures refused { IfErr result (λ fault. (error : ScriptError) → fault ≡ Fault.Script error
-        → IsNoScript (option_map (λ path. path.now) words.entry.script) (I.remaining input.old)) }
+        → MayBeNoScript (option_map (λ path. path.now) words.entry.script) (I.remaining input.old)) }
     ensures faulty { IfErr result (λ fault. (found : AuditFault) → fault ≡ Fault.Audit found
-        → IsFaultyRun (option_map (λ path. path.now) words.entry.script) (I.remaining input.old)) }
+        → MayBeFaulty (option_map (λ path. path.now) words.entry.script) (I.remaining input.old)) }
     ensures taken { IfErr result (λ fault. fault ≢ Fault.Words) }
     ensures unwritten { IfErr result (λ fault. fault ≢ Fault.Writing → out.new ≡ out.old) }
+    ensures begun { IfErr result (λ fault. fault ≡ Fault.Writing
+        → Replayed (option_map (λ path. path.now) words.entry.script) words.entry.history (I.remaining input.old) (O.contents out.old) (O.contents out.new)
+        ⊎ IsCutShort (option_map (λ path. path.now) words.entry.script) words.entry.history (I.remaining input.old) (O.contents out.old) (O.contents out.new)) }
     ensures left { is_some words.entry.script ≡ true → input.new ≡ input.old }
+    ensures few { TakesAtMost (MAX_SCRIPT_BYTES + 1) (I.remaining input.old) (I.remaining input.new) }
 {
     let bytes = script_bytes(rt, alloc, words.script, input)?;
     replay(
@@ -250,12 +268,14 @@ fn script_bytes<R: Files, I: Read>(
     script: Option<&str>,
     input: &mut I,
 ) -> Result<Vec<u8>, Fault>
-    ensures all { IfOk result (λ bytes. IsInput (option_map (λ path. path.now) script.entry) (I.remaining input.old) bytes.items) }
+    ensures all { IfOk result (λ bytes. MayBeRead (option_map (λ path. path.now) script.entry) (I.remaining input.old) bytes.items) }
     ensures in_range { IfOk result (λ bytes. vec_len bytes ≤ MAX_SCRIPT_BYTES) }
     ensures err { IfErr result (λ fault. (error : ScriptError) → fault ≢ Fault.Script error) }
     ensures audit { IfErr result (λ fault. (found : AuditFault) → fault ≢ Fault.Audit found) }
     ensures taken { IfErr result (λ fault. fault ≢ Fault.Words) }
+    ensures unwritten { IfErr result (λ fault. fault ≢ Fault.Writing) }
     ensures left { is_some script.entry ≡ true → input.new ≡ input.old }
+    ensures few { TakesAtMost (MAX_SCRIPT_BYTES + 1) (I.remaining input.old) (I.remaining input.new) }
 {
     let Some(path) = script else {
         return read_all(alloc, input);
@@ -266,19 +286,53 @@ fn script_bytes<R: Files, I: Read>(
     }
 }
 
-/// All bytes that the input has, if they are no more than a script may have.
+/// All bytes that the input has, if they are no more than a script may have. One byte more is taken at the most.
 fn read_all<I: Read>(alloc: Global, input: &mut I) -> Result<Vec<u8>, Fault>
     ensures all { IfOk result (λ bytes. IfSome (I.remaining input.old) (λ all. all ≡ bytes.items)) }
     ensures in_range { IfOk result (λ bytes. vec_len bytes ≤ MAX_SCRIPT_BYTES) }
     ensures err { IfErr result (λ fault. (error : ScriptError) → fault ≢ Fault.Script error) }
     ensures audit { IfErr result (λ fault. (found : AuditFault) → fault ≢ Fault.Audit found) }
     ensures taken { IfErr result (λ fault. fault ≢ Fault.Words) }
+    ensures unwritten { IfErr result (λ fault. fault ≢ Fault.Writing) }
+    ensures few { TakesAtMost (MAX_SCRIPT_BYTES + 1) (I.remaining input.old) (I.remaining input.new) }
 {
     let mut bytes = Vec::new(alloc);
-    let mut limited = input.take(MAX_SCRIPT_BYTES as u64 + 1);
-    match limited.read_to_end(&mut bytes) {
-        Ok(_) if bytes.len() <= MAX_SCRIPT_BYTES => Ok(bytes),
-        Ok(_) => Err(Fault::Reading),
+    let mut piece = Vec::new(alloc);
+    if piece.resize(PIECE, 0).is_err() {
+        return Err(Fault::Memory);
+    }
+    let piece = piece.as_mut_slice();
+    // A reader may be interrupted as often as it likes, but a loop has an end.
+    for _ in 0..u64::MAX {
+        let room = piece.len().min(MAX_SCRIPT_BYTES + 1 - bytes.len());
+        let more = read_piece(input, &mut bytes, &mut piece[..room])?;
+        if bytes.len() > MAX_SCRIPT_BYTES {
+            return Err(Fault::Reading);
+        }
+        if !more {
+            return Ok(bytes);
+        }
+    }
+    Err(Fault::Reading)
+}
+
+/// Reads once, into the room, and adds what came to the bytes. Answers whether there may be more.
+fn read_piece<I: Read>(input: &mut I, bytes: &mut Vec<u8>, room: &mut [u8]) -> Result<bool, Fault>
+    requires { 0 < length room.old }
+    ensures ok { IfOk result (λ more. (taken : List ℕ) × (bytes.new.items ≡ bytes.old.items ++ taken) × (length taken ≤ length room.old)
+        × Consumes (I.remaining input.old) (I.remaining input.new) taken × (more ≡ false → IsAtEnd (I.remaining input.new))) }
+    ensures few { OnErr result (TakesAtMost (length room.old) (I.remaining input.old) (I.remaining input.new)) }
+    ensures err { IfErr result (λ fault. (error : ScriptError) → fault ≢ Fault.Script error) }
+    ensures audit { IfErr result (λ fault. (found : AuditFault) → fault ≢ Fault.Audit found) }
+    ensures taken { IfErr result (λ fault. fault ≢ Fault.Words) }
+    ensures unwritten { IfErr result (λ fault. fault ≢ Fault.Writing) }
+{
+    match input.read(room) {
+        Ok(count) => match bytes.extend_from_slice(&room[..count]) {
+            Ok(()) => Ok(count > 0),
+            Err(_) => Err(Fault::Memory),
+        },
+        Err(error) if error.kind() == ErrorKind::Interrupted => Ok(true),
         Err(error) => Err(Fault::of_reading(&error)),
     }
 }

@@ -9,7 +9,7 @@ use std::marker::Model;
 
 /// The record of the live committed version, and how many reports have raised it
 /// (`liveCommittedVersion` and its companions in masterserver, FoundationDB 7.1; the position is this product's own).
-#[derive(Debug, Drop)]
+#[derive(Drop)]
 pub(crate) struct Live {
     record: Record,
     position: u64,

@@ -1,8 +1,8 @@
 //! From the bytes of a script to the printed lines.
 
-ghost use Rattle.std.specs.Prelude.{◌≡◌, ◌≢◌, ℕ, ◌<◌, ◌≤◌, List, OnOk, IfOk, IfErr, Ok};
-ghost use Rattle.std.specs.Io.KnownBytes.{Appends};
-ghost use Rattle.fdb_replay.specs.Replay.{Replays, Refuses};
+ghost use Rattle.std.specs.Prelude.{◌≡◌, ◌≢◌, ℕ, ◌<◌, ◌≤◌, List, OnOk, OnErr, IfOk, IfErr, Ok, length, take};
+ghost use Rattle.std.specs.Io.KnownBytes.{Appends, Keeps};
+ghost use Rattle.fdb_replay.specs.Replay.{IsCut, Replays, Refuses, TakesSome};
 ghost use Rattle.fdb_script.specs.Reading.{Reads};
 
 use crate::fault::RunFault;
@@ -10,13 +10,13 @@ use crate::running::run;
 use fdb_history::Gate;
 use fdb_script::{Script, ScriptError, read_script, text};
 use std::alloc::Global;
-use std::io::Write;
+use std::io::{ErrorKind, Write};
 use std::sync::Wait;
 use std::thread::Threads;
 use thiserror::Error;
 
 /// Why a replay failed.
-#[derive(Clone, Copy, Debug, PartialEq, Eq, Hash, Error)]
+#[derive(Clone, Copy, Debug, PartialEq, Eq, Error)]
 pub enum ReplayFault {
     /// The script was refused, or memory for its text.
     #[error("script refused: {0}")]
@@ -24,7 +24,7 @@ pub enum ReplayFault {
     /// The run was refused.
     #[error("{0}")]
     Run(RunFault),
-    /// The writer failed, and may have taken any part of the text before it did.
+    /// The writer failed, and took a part of the text before it did, from its start on.
     #[error("writing failed")]
     Write,
 }
@@ -32,7 +32,7 @@ pub enum ReplayFault {
 /// Reads a script, plays it, and writes the replies, the audit line and, where it is wanted, the history.
 ///
 /// Refuses bytes that stand for no script, then a run that fails, then a writer that fails. There are 1 to 16 GRV proxies.
-/// Nothing is written before the run is done.
+/// Nothing is written before the run is done, and nothing after a write that failed.
 pub fn replay<R: Threads + Wait + Sync, G: Gate, W: Write>(
     rt: &R,
     alloc: Global,
@@ -48,10 +48,45 @@ pub fn replay<R: Threads + Wait + Sync, G: Gate, W: Write>(
         × Appends (W.contents writer.old) (W.contents writer.new) written) }
     ensures err { IfErr result (Refuses bytes.now) }
     ensures unwritten { IfErr result (λ fault. fault ≢ ReplayFault.Write → writer.new ≡ writer.old) }
+    ensures cut { IfErr result (λ fault. fault ≡ ReplayFault.Write
+        → IsCut bytes.now with_history (W.contents writer.old) (W.contents writer.new)) }
 {
     let lines = replayed_text(rt, alloc, bytes, proxies, with_history, gate)?;
-    match writer.write_all(&lines) {
-        Ok(()) => Ok(()),
+    write_whole(writer, &lines)
+}
+
+/// Writes all of these bytes. A writer that fails is not called again.
+fn write_whole<W: Write>(writer: &mut W, lines: &[u8]) -> Result<(), ReplayFault>
+    ensures ok { OnOk result (Appends (W.contents writer.old) (W.contents writer.new) lines.now) }
+    ensures cut { OnErr result (TakesSome lines.now (W.contents writer.old) (W.contents writer.new)) }
+    ensures err { IfErr result (λ fault. fault ≡ ReplayFault.Write) }
+{
+    if lines.is_empty() {
+        return Ok(());
+    }
+    let mut rest = lines;
+    // A writer may be interrupted as often as it likes, but a loop has an end.
+    for _ in 0..u64::MAX {
+        let count = write_once(writer, rest)?;
+        if count == rest.len() {
+            return Ok(());
+        }
+        rest = &rest[count..];
+    }
+    Err(ReplayFault::Write)
+}
+
+/// Writes once, and answers how many of the bytes the writer took, which is none where it was interrupted.
+fn write_once<W: Write>(writer: &mut W, bytes: &[u8]) -> Result<usize, ReplayFault>
+    ensures bound { IfOk result (λ count. count ≤ length bytes.now) }
+    ensures ok { IfOk result (λ count. Appends (W.contents writer.old) (W.contents writer.new) (take count bytes.now)) }
+    ensures kept { OnErr result (Keeps (W.contents writer.old) (W.contents writer.new)) }
+    ensures err { IfErr result (λ fault. fault ≡ ReplayFault.Write) }
+{
+    match writer.write(bytes) {
+        Ok(0) => Err(ReplayFault::Write),
+        Ok(count) => Ok(count),
+        Err(error) if error.kind() == ErrorKind::Interrupted => Ok(0),
         Err(_) => Err(ReplayFault::Write),
     }
 }
@@ -69,6 +104,7 @@ fn replayed_text<R: Threads + Wait + Sync, G: Gate>(
     requires few_proxies { proxies ≤ 16 }
     ensures ok { IfOk result (λ lines. Replays bytes.now with_history lines.items) }
     ensures err { IfErr result (Refuses bytes.now) }
+    ensures unwritten { IfErr result (λ fault. fault ≢ ReplayFault.Write) }
 {
     match read_script(alloc, bytes) {
         Ok(script) => run_text(rt, alloc, &script, proxies, with_history, gate),
@@ -89,6 +125,7 @@ fn run_text<R: Threads + Wait + Sync, G: Gate>(
     requires few_proxies { proxies ≤ 16 }
     ensures ok { (bytes : List ℕ) → Reads bytes (Ok script.now) → IfOk result (λ lines. Replays bytes with_history lines.items) }
     ensures err { (bytes : List ℕ) → Reads bytes (Ok script.now) → IfErr result (Refuses bytes) }
+    ensures unwritten { IfErr result (λ fault. fault ≢ ReplayFault.Write) }
 {
     let outcome = match run(rt, alloc, script, proxies, gate) {
         Ok(outcome) => outcome,

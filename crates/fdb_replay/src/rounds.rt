@@ -14,7 +14,7 @@ use fdb_script::Command;
 use std::alloc::Global;
 
 /// What a client told another.
-#[derive(Clone, Copy, Debug)]
+#[derive(Clone, Copy)]
 pub(crate) struct Told {
     /// Who is told.
     pub(crate) to: u32,

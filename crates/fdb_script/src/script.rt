@@ -22,7 +22,7 @@ pub const MAX_COMMANDS: usize = 10_000;
 pub const MAX_TAGS: usize = 5;
 
 /// A throttle that every GRV proxy is given. Of two with one priority and one tag, the one further down counts.
-#[derive(Clone, Debug, Drop, PartialEq, Eq)]
+#[derive(Debug, Drop, PartialEq, Eq)]
 pub struct Throttle {
     /// The priority of the requests that are told of it.
     pub priority: Priority,
@@ -35,7 +35,7 @@ pub struct Throttle {
 }
 
 /// What a client is told to do.
-#[derive(Clone, Debug, Drop, PartialEq, Eq)]
+#[derive(Debug, Drop, PartialEq, Eq)]
 pub enum Act {
     /// Read the read version.
     Grv(GrvOpts),
@@ -72,7 +72,7 @@ pub enum Act {
 }
 
 /// A command of a script.
-#[derive(Clone, Debug, Drop, PartialEq, Eq)]
+#[derive(Debug, Drop, PartialEq, Eq)]
 pub struct Command {
     /// The client that is to do it.
     pub client: u32,

@@ -1,10 +1,27 @@
-use Rattle.std.proofs.Common.{◌<◌, length, ap, arith}
-use Rattle.fdb_replay.proofs.Input.{all_read_from}
+use Rattle.std.proofs.Common.{arith}
+use Rattle.std.proofs.lemmas.List.{length-append, length-drop, length-take}
+use Rattle.fdb_replay.proofs.Input.{read_more, takes_more}
 use Rattle.fdb_replay.proofs.driving.read_all.Goals as goal
 
-pub returns-in-Ok-clause-all : goal.returns-in-Ok-clause-all
-returns-in-Ok-clause-all g c =
-    let bytes = c.read_to_end.new.buf in
-    let below : length bytes.items < 16777217 = omega (arith, bytes.ok.0) in
-    all_read_from (g.I.Read.remaining c.take-limited.result.inner.now) (g.I.Read.remaining c.args.input.now) c.take-limited.result.limit 16777217 c.new-bytes.result.items bytes.items
-    (ap (λ r. g.I.Read.remaining r.now) c.take-limited.ensures.inner) c.take-limited.ensures.limit c.new-bytes.ensures.items c.in-Ok.ensures.bytes below
+pub returns-in_err-more-clause-few : goal.returns-in_err-more-clause-few
+returns-in_err-more-clause-few g c =
+    takes_more _ _ _ c.loop.bytes.items _ 16777217 (omega (arith, length-take c.min-room.result c.loop.piece, c.loop.bytes.ok.0)) c.loop.invariant.taken c.in_err-more.ensures.few
+
+pub returns-then-len-gt-MAX_SCRIPT_BYTES-clause-few : goal.returns-then-len-gt-MAX_SCRIPT_BYTES-clause-few
+returns-then-len-gt-MAX_SCRIPT_BYTES-clause-few g c =
+    let (taken, grown, short, gone, end) = c.in_ok-more.ensures.ok in
+    takes_more _ _ _ c.loop.bytes.items _ 16777217 (omega (arith, length-take c.min-room.result c.loop.piece, c.loop.bytes.ok.0)) c.loop.invariant.taken (taken, short, gone)
+
+pub returns-then-not-more-clause-few : goal.returns-then-not-more-clause-few
+returns-then-not-more-clause-few g c =
+    let (taken, grown, short, gone, end) = c.in_ok-more.ensures.ok in
+    takes_more _ _ _ c.loop.bytes.items _ 16777217 (omega (arith, length-take c.min-room.result c.loop.piece, c.loop.bytes.ok.0)) c.loop.invariant.taken (taken, short, gone)
+
+pub loop-preserved : goal.loop-preserved
+loop-preserved g c =
+    let (taken, grown, short, gone, end) = c.in_ok-more.ensures.ok in
+    record {
+      in_range = omega arith;
+      room = simp (length-append, length-drop) (omega (arith, c.read_piece.auto.room, length-take c.min-room.result c.loop.piece));
+      taken = read_more _ _ _ c.loop.bytes.items _ taken grown c.loop.invariant.taken gone;
+    }

@@ -1,21 +1,32 @@
-use Rattle.std.proofs.Common.{◌≤◌, length, subst, arith}
-use Rattle.std.proofs.KnownBytes.{Appends-kept}
-use Rattle.fdb_replay.specs.Replay.{Replays}
+use Rattle.std.proofs.Common.{◌≤◌, inl, inr, length, subst, arith}
+use Rattle.std.proofs.lemmas.Result.{err_from_is_err_and}
+use Rattle.fdb_replay.specs.Replay.{IsCut, Replays}
 use Rattle.fdb_replay.specs.declared.driving.TheConstants.{MAX_SCRIPT_BYTES}
+use Rattle.fdb_replay.proofs.Written.{replayed_in_part, replayed_whole}
 use Rattle.fdb_replay.proofs.driving.replay_words.Goals as goal
 
 pub returns-in-Ok-clause-ok : goal.returns-in-Ok-clause-ok
 returns-in-Ok-clause-ok g c =
-    let done = c.in_ok-replay.ensures.ok in
+    let (written, replays, appended) = c.in_ok-replay.ensures.ok in
     let bytes = c.in_ok-bytes.bytes in
-    let old = g.O.Write.contents c.args.out.now in
-    let new = g.O.Write.contents c.flush.new.self in
     let few : length bytes.items ≤ MAX_SCRIPT_BYTES = omega (arith, bytes.ok.0, c.in_ok-bytes.ensures.in_range) in
-    record {
-      bytes = bytes.items;
-      few = few;
-      read = c.in_ok-bytes.ensures.all;
-      written = done.0;
-      replayed = subst (λ bytes. Replays bytes c.args.words.history done.0) c.deref.ensures.value done.1;
-      appended = Appends-kept old (g.O.Write.contents c.replay.new.writer) new done.0 done.2 c.in-Ok.ensures.bytes;
-    }
+    replayed_whole _ _ _ _ (g.O.Write.contents c.replay.new.writer) _ bytes.items few c.in_ok-bytes.ensures.all written
+    (subst (λ bytes. Replays bytes c.args.words.history written) c.deref.ensures.value replays) appended c.in-Ok.ensures.bytes
+
+pub returns-clause-begun : goal.returns-clause-begun
+returns-clause-begun g c =
+    let (written, replays, appended) = c.in_ok-replay.ensures.ok in
+    let bytes = c.in_ok-bytes.bytes in
+    let few : length bytes.items ≤ MAX_SCRIPT_BYTES = omega (arith, bytes.ok.0, c.in_ok-bytes.ensures.in_range) in
+    λ writing. inl (replayed_whole _ _ _ _ (g.O.Write.contents c.replay.new.writer) _ bytes.items few c.in_ok-bytes.ensures.all written
+    (subst (λ bytes. Replays bytes c.args.words.history written) c.deref.ensures.value replays) appended c.flush.ensures.bytes)
+
+pub returns-in_err-replay-clause-begun : goal.returns-in_err-replay-clause-begun
+returns-in_err-replay-clause-begun g c =
+    let (fault, is, gives) = err_from_is_err_and c.from_residual-in_err-replay.result c.from_residual-in_err-replay.ensures.1 in
+    let bytes = c.in_ok-bytes.bytes in
+    let few : length bytes.items ≤ MAX_SCRIPT_BYTES = omega (arith, bytes.ok.0, c.in_ok-bytes.ensures.in_range) in
+    let old = g.O.Write.contents c.args.out.now in
+    let new = g.O.Write.contents c.replay.new.writer in
+    rw is (λ writing. inr (replayed_in_part _ _ _ _ _ bytes.items few c.in_ok-bytes.ensures.all
+    (subst (λ bytes. IsCut bytes c.args.words.history old new) c.deref.ensures.value (c.in_err-replay.ensures.cut (gives.1 writing)))))
