@@ -24,7 +24,7 @@ use thiserror::Error;
 pub const MAX_SCRIPT_BYTES: usize = 16_777_216;
 
 /// Why the program ends with another status than 0.
-#[derive(Clone, Copy, Debug, PartialEq, Eq, Hash, Error)]
+#[derive(Clone, Copy, Debug, PartialEq, Eq, Error)]
 pub(crate) enum Fault {
     #[error("script refused: {0}")]
     Script(ScriptError),

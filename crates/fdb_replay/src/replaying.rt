@@ -16,7 +16,7 @@ use std::thread::Threads;
 use thiserror::Error;
 
 /// Why a replay failed.
-#[derive(Clone, Copy, Debug, PartialEq, Eq, Hash, Error)]
+#[derive(Clone, Copy, Debug, PartialEq, Eq, Error)]
 pub enum ReplayFault {
     /// The script was refused, or memory for its text.
     #[error("script refused: {0}")]
