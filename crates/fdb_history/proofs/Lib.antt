@@ -17,12 +17,9 @@ pub mod KnownCommits
 pub mod Lists
 pub mod KeptReplies
 pub mod SameIssued
-pub mod Counting
 pub mod Own
-pub mod OwnCalls
-pub mod FirstStray
-pub mod NoLog
 mod Examples
+mod AuditExamples
 pub mod FirstCalls
 pub mod ByTable
 pub mod Audited
@@ -32,3 +29,5 @@ pub mod FirstMissing
 pub mod RegisterTable
 pub mod ReachedPositions
 pub mod RaiseFaults
+pub mod Marks
+pub mod FirstStray

@@ -1,23 +1,15 @@
--- The derived `==` of two answers.
-use Rattle.std.proofs.Common.{◌≡◌, ℕ, Bool, true, false, ◌&&◌, eqb, refl, eqb-true}
-use Rattle.std.proofs.lemmas.Bool.{and_parts, eq-eqb}
+-- Two answers that are one, member by member.
+use Rattle.std.proofs.Common.{◌≡◌, ℕ, Bool, true, false, refl, eqb-true}
+use Rattle.std.proofs.lemmas.Bool.{and_parts}
 use mathlib.Core.Bool.{beq}
+use Rattle.fdb_history.specs.Strays.{is_same}
 use Rattle.fdb_history.specs.declared.chain.Issued.{Issued}
-
--- the test of each member
-abbrev pub same_issued : Issued → Issued → Bool
-same_issued a b =
-    eqb a.ordinal b.ordinal && (eqb a.proxy b.proxy && (eqb a.num b.num && (eqb a.processed b.processed && (eqb a.prev b.prev && (eqb a.version b.version && (eqb a.at b.at && beq a.fresh b.fresh))))))
 
 beq-same : (a b : Bool) → beq a b ≡ true → a ≡ b
 beq-same true true h = refl
 beq-same false false h = refl
 beq-same true false h = cc
 beq-same false true h = cc
-
-beq-self : (a : Bool) → beq a a ≡ true
-beq-self true = refl
-beq-self false = refl
 
 made : ℕ → ℕ → ℕ → ℕ → ℕ → ℕ → ℕ → Bool → Issued
 made ordinal proxy num processed prev version at fresh =
@@ -26,9 +18,9 @@ made ordinal proxy num processed prev version at fresh =
 same_members : (o o' p p' n n' c c' q q' v v' t t' : ℕ) (f f' : Bool) → o ≡ o' → p ≡ p' → n ≡ n' → c ≡ c' → q ≡ q' → v ≡ v' → t ≡ t' → f ≡ f' → made o p n c q v t f ≡ made o' p' n' c' q' v' t' f'
 same_members o o' p p' n n' c c' q q' v v' t t' f f' e1 e2 e3 e4 e5 e6 e7 e8 = cc
 
-pub same_issued-equal : (a b : Issued) → same_issued a b ≡ true → a ≡ b
+pub is_same-equal : (a b : Issued) → is_same a b ≡ true → a ≡ b
 unfolding made
-same_issued-equal a b h =
+is_same-equal a b h =
     let h1 = and_parts _ _ h in
     let h2 = and_parts _ _ h1.1 in
     let h3 = and_parts _ _ h2.1 in
@@ -45,9 +37,3 @@ same_issued-equal a b h =
     let e7 : a.at ≡ b.at = eqb-true _ _ h7.0 in
     let e8 : a.fresh ≡ b.fresh = beq-same _ _ h7.1 in
     same_members a.ordinal b.ordinal a.proxy b.proxy a.num b.num a.processed b.processed a.prev b.prev a.version b.version a.at b.at a.fresh b.fresh e1 e2 e3 e4 e5 e6 e7 e8
-
-eqb-self : (n : ℕ) → eqb n n ≡ true
-eqb-self n = eq-eqb n n refl
-
-pub equal-same_issued : (a b : Issued) → a ≡ b → same_issued a b ≡ true
-equal-same_issued a b e = rw e (simp (eqb-self, beq-self))

@@ -53,14 +53,17 @@ abbrev pub kept_answer : Option Issued → Result Issued Refusal
 kept_answer None = Err Forgotten
 kept_answer (Some answer) = Ok (record answer { fresh = false })
 
+-- What becomes of a request is decided by its number and its proxy's latest one: it is ahead of the next number, or a
+-- repeat of one up to the latest, or the next.
+abbrev pub by_number : {A : Type 0} → ℕ → ℕ → A → A → A → A
+by_number latest_num num ahead again next = if nat_lt (latest_num + 1) num then ahead else (if nat_le num latest_num then again else next)
+
 -- The answer to a request after the answers so far.
 -- (getVersion of masterserver; in the source an early request waits, and an unknown proxy gets nothing)
 abbrev pub answer_to : Chain → Ask → Result Issued Refusal
 answer_to chain ask =
     if not (nat_lt ask.proxy chain.proxies) then Err UnknownProxy
-    else (if nat_lt (latest ask.proxy chain.answers + 1) ask.num then Err (Early (latest ask.proxy chain.answers + 1))
-    else (if nat_le ask.num (latest ask.proxy chain.answers) then kept_answer (kept ask.proxy ask.num chain.answers)
-    else fresh_answer chain ask))
+    else by_number (latest ask.proxy chain.answers) ask.num (Err (Early (latest ask.proxy chain.answers + 1))) (kept_answer (kept ask.proxy ask.num chain.answers)) (fresh_answer chain ask)
 
 -- The chain after an answer: a fresh one is appended, and any other leaves the chain as it was.
 abbrev pub with_answer : Chain → Issued → Chain

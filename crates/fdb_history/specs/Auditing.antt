@@ -1,5 +1,5 @@
 -- How the parts of an audit answer one another.
-use Rattle.std.specs.Prelude.{◌≡◌, ℕ, ◌+◌, ◌<◌, ◌≤◌, List, length, take, Option, None, Some, slice_get, slice_index_or, count_by}
+use Rattle.std.specs.Prelude.{◌≡◌, ℕ, ◌+◌, ◌<◌, ◌≤◌, Bool, false, List, length, take, Option, None, Some, slice_get, slice_index_or, count_by}
 use Rattle.std.specs.List.{AllByRecursion}
 use Rattle.std.specs.List.Sorted.{IsNonDecreasingBy}
 use Rattle.fdb_history.specs.Event.{is_raise}
@@ -8,6 +8,7 @@ use Rattle.fdb_history.specs.Faults.{IsClash, IsGap, IsFirst, IsLeast, IsReached
 use Rattle.fdb_history.specs.declared.auditing.found.CallName.{CallName}
 use Rattle.fdb_history.specs.declared.auditing.raises.Raise.{Raise}
 use Rattle.fdb_history.specs.declared.auditing.registers.Registers.{Registers}
+use Rattle.fdb_history.specs.declared.chain.Issued.{Issued}
 use Rattle.fdb_history.specs.declared.fault.AuditFault.{AuditFault}
 use Rattle.fdb_history.specs.declared.fault.AuditFault.TheVariants.{Order, Clash, Gap, Wrong, Stray, NotAbove, Memory}
 use Rattle.fdb_history.specs.declared.log.Call.{Call}
@@ -74,3 +75,12 @@ IsRaiseFault logs (NotAbove client call) = ⊥
 -- no register call has a position above the number of raises
 abbrev pub IsWithin : List ClientLog → Type 0
 IsWithin logs = AllByRecursion (λ p. p.position ≤ count_by (λ q. is_raise q.event) (placed_in 0 logs)) (placed_in 0 logs)
+
+-- the marks of the chain's entries are the answers of this test
+pub record AreMarks (chain : List Issued) (marks : List Bool) (test : ℕ → Issued → Bool) : Type 0 where
+  pub count : length marks ≡ length chain
+  pub each : (place : ℕ) (entry : Issued) → slice_get chain place ≡ Some entry → slice_index_or marks place false ≡ test place entry
+
+-- this client has an entry with no mark
+abbrev pub HasUnmarked : List Issued → List Bool → ℕ → Type 0
+HasUnmarked chain marks client = (place : ℕ) × (entry : Issued) × (slice_get chain place ≡ Some entry) × (entry.proxy ≡ client) × (slice_index_or marks place false ≡ false)

@@ -1,6 +1,9 @@
 -- Answers that their inputs, the chain of commit versions or their client's own log do not bear out. (this product's own)
-use Rattle.std.specs.Prelude.{◌≡◌, ◌≢◌, ◌⊎◌, ℕ, ◌+◌, ◌-◌, ◌<◌, ◌≤◌, Bool, true, false, ◌&&◌, not, List, length, Some, Result, Ok, Err, slice_get}
-use Rattle.fdb_history.specs.Answer.{Chain, answer_to}
+use Rattle.std.specs.Prelude.{◌≡◌, ◌⊎◌, ℕ, ◌+◌, ◌-◌, ◌==◌, nat_eq, nat_lt, Bool, true, false, ◌&&◌, not, List, length, Option, None, Some, is_none, Result, Ok, Err, slice_get}
+use Rattle.std.specs.List.{find, list_any}
+use Rattle.std.specs.Option.{option_eq, option_map, option_map_or}
+use mathlib.Core.Bool.{beq}
+use Rattle.fdb_history.specs.Answer.{by_number, kept}
 use Rattle.fdb_history.specs.Chain.{last_answer, latest}
 use Rattle.fdb_history.specs.Faults.{StandsAt}
 use Rattle.fdb_history.specs.Log.{calls_of, answers_in, fresh_answers}
@@ -46,84 +49,105 @@ goes_with _ _ = false
 -- ---- reads
 
 -- a read is turned away exactly where the record is locked and the client is not lock-aware
-abbrev pub IsRightlyLockedOut : Input → CallAnswer → Type 0
-IsRightlyLockedOut (input.Grv opts) (Version rec limits locked_out) = locked_out ≡ (rec.locked && not opts.lock_aware)
-IsRightlyLockedOut _ _ = Unit {0}
+abbrev pub is_rightly_locked_out : Input → CallAnswer → Bool
+is_rightly_locked_out (input.Grv opts) (Version rec limits locked_out) = beq locked_out (rec.locked && not opts.lock_aware)
+is_rightly_locked_out _ _ = true
 
 -- ---- requests for a commit version
 
--- a commit version is the chain's entry at its ordinal, in all but `fresh`, and the client's own, under the number asked for
-abbrev pub IsOfChain : List Issued → ℕ → Input → CallAnswer → Type 0
-IsOfChain chain client (input.Ask num processed at) (Answered issued) =
-    (entry : Issued) × (slice_get chain issued.ordinal ≡ Some entry) × (issued ≡ record entry { fresh = issued.fresh }) × (issued.proxy ≡ client) × (issued.num ≡ num)
-IsOfChain _ _ _ _ = Unit {0}
+-- two answers are one, member by member
+abbrev pub is_same : Issued → Issued → Bool
+is_same a b =
+    (a.ordinal == b.ordinal) && ((a.proxy == b.proxy) && ((a.num == b.num) && ((a.processed == b.processed) && ((a.prev == b.prev) && ((a.version == b.version) && ((a.at == b.at) && beq a.fresh b.fresh))))))
 
--- the chain that the client's own calls show: its fresh answers so far, and a commit proxy for each log
-abbrev pub own_chain : ℕ → List Call → Chain
-own_chain clients before = record { epoch_end = 0; recovery = 0; proxies = clients; answers = fresh_answers before }
+-- a commit version is the client's own, under the number asked for, and the chain's entry at its ordinal, in all but `fresh`
+abbrev pub is_of_chain : List Issued → ℕ → Input → CallAnswer → Bool
+is_of_chain chain client (input.Ask num processed at) (Answered issued) =
+    (issued.proxy == client) && ((issued.num == num) && option_map_or (λ entry. is_same issued (record entry { fresh = issued.fresh })) (slice_get chain issued.ordinal) false)
+is_of_chain _ _ _ _ = true
 
 -- the versions are used up, or nearly so
-abbrev pub IsNearTheEnd : List Issued → Type 0
-IsNearTheEnd chain = (last : Issued) × (last_answer chain ≡ Some last) × (MAX_VERSION - MAX_STEP < last.version)
+abbrev pub is_near_the_end : List Issued → Bool
+is_near_the_end chain = option_map_or (λ last. nat_lt (MAX_VERSION - MAX_STEP) last.version) (last_answer chain) false
+
+-- a request is told that its number is ahead of this one, the next
+abbrev pub is_early : ℕ → CallAnswer → Bool
+is_early next (Refused (Early expected)) = expected == next
+is_early _ _ = false
+
+-- a repeated request gets the answer that is kept, all of it but `fresh`, or is told that none is
+abbrev pub is_again : Option Issued → CallAnswer → Bool
+is_again (Some found) (Answered issued) = is_same issued (record found { fresh = false })
+is_again None (Refused Forgotten) = true
+is_again _ _ = false
 
 -- The answer to the next request is fresh and has its members, or there is no version left.
-abbrev pub IsFreshAnswer : List Issued → ℕ → ℕ → CallAnswer → Type 0
-IsFreshAnswer chain processed at (Answered issued) = (issued.fresh ≡ true) × (issued.processed ≡ processed) × (issued.at ≡ at)
-IsFreshAnswer chain processed at (Refused Exhausted) = IsNearTheEnd chain
-IsFreshAnswer _ _ _ _ = ⊥
+abbrev pub is_fresh_answer : List Issued → ℕ → ℕ → CallAnswer → Bool
+is_fresh_answer chain processed at (Answered issued) = issued.fresh && ((issued.processed == processed) && (issued.at == at))
+is_fresh_answer chain processed at (Refused Exhausted) = is_near_the_end chain
+is_fresh_answer _ _ _ _ = false
 
+-- The answer to a request is the one that is due, where this is its client's latest number, and this answer is kept
+-- under the request's.
+abbrev pub is_due : List Issued → ℕ → Option Issued → Input → CallAnswer → Bool
+is_due chain latest_num found (input.Ask num processed at) answer =
+    by_number latest_num num (is_early (latest_num + 1) answer) (is_again found answer) (is_fresh_answer chain processed at answer)
+is_due _ _ _ _ _ = true
+
+-- how the answer to a request stands in a log
 abbrev pub logged_as : Result Issued Refusal → CallAnswer
 logged_as (Ok issued) = Answered issued
 logged_as (Err cause) = Refused cause
 
--- The answer to a request is that of the definition, after the client's own fresh answers: the next number draws a
--- version, and any other gets what it is due.
-abbrev pub IsDue : List Issued → ℕ → ℕ → List Call → Input → CallAnswer → Type 0
-IsDue chain clients client before (input.Ask num processed at) answer =
-    (num ≡ latest client (fresh_answers before) + 1 → IsFreshAnswer chain processed at answer)
-    × (num ≢ latest client (fresh_answers before) + 1 → answer ≡ logged_as (answer_to (own_chain clients before) (record { proxy = client; num = num; processed = processed; at = at })))
-IsDue _ _ _ _ _ _ = Unit {0}
-
 -- ---- reports
 
--- an earlier answer of the log was issued under this number
-abbrev pub IsIssued : List Call → ℕ → Issued → Type 0
-IsIssued before num issued = (place : ℕ) × (slice_get (answers_in before) place ≡ Some issued) × (issued.num ≡ num)
+-- the version that was issued under a number, by the first answer of the log that has it
+abbrev pub issued_under : List Call → ℕ → Option ℕ
+issued_under before num = option_map (λ issued. issued.version) (find (λ issued. issued.num == num) (answers_in before))
 
--- a report is of a version that was issued under its number, with the flags that it was told; it is refused only where none was
-abbrev pub IsOfIssued : List Call → Input → CallAnswer → Type 0
-IsOfIssued before (input.Report num locked metadata) (Acked rec raised) =
-    ((issued : Issued) × IsIssued before num issued × (rec.version ≡ issued.version)) × (rec.locked ≡ locked) × (rec.metadata ≡ metadata)
-IsOfIssued before (input.Report num locked metadata) (Refused NotIssued) = (issued : Issued) → IsIssued before num issued → ⊥
-IsOfIssued _ _ _ = Unit {0}
+-- a report is of the version that was issued under its number, with the flags that it was told; it is refused only where none was
+abbrev pub is_of_issued : Option ℕ → Input → CallAnswer → Bool
+is_of_issued version (input.Report num locked metadata) (Acked rec raised) =
+    option_eq nat_eq version (Some rec.version) && (beq rec.locked locked && option_eq nat_eq rec.metadata metadata)
+is_of_issued version (input.Report num locked metadata) (Refused NotIssued) = is_none version
+is_of_issued _ _ _ = true
 
 -- ---- where an answer is astray
 
--- a call's answer is borne out
-pub record IsBorneOut (chain : List Issued) (clients client : ℕ) (before : List Call) (call : Call) : Type 0 where
-  pub of_its_kind : goes_with call.input call.answer ≡ true
-  pub rightly_locked_out : IsRightlyLockedOut call.input call.answer
-  pub of_chain : IsOfChain chain client call.input call.answer
-  pub due : IsDue chain clients client before call.input call.answer
-  pub of_issued : IsOfIssued before call.input call.answer
+-- the number that a call is about
+abbrev pub number_of : Input → ℕ
+number_of (input.Ask num processed at) = num
+number_of (input.Report num locked metadata) = num
+number_of _ = 0
 
--- an entry of the chain was drawn by a call of its proxy's log
-abbrev pub IsDrawn : List ClientLog → ℕ → Issued → Type 0
-IsDrawn logs ordinal entry =
-    (place : ℕ) × (issued : Issued) × (slice_get (fresh_answers (calls_of logs entry.proxy)) place ≡ Some issued) × (issued.ordinal ≡ ordinal) × (issued ≡ record entry { fresh = true })
+-- A call's answer is borne out by its input, by the chain, and by what its client's calls so far say of its number: the
+-- client's latest one, the answer that is kept under it, and the version that was issued under it.
+abbrev pub is_borne_out_by : List Issued → ℕ → ℕ → Option Issued → Option ℕ → Call → Bool
+is_borne_out_by chain client latest_num found version call =
+    goes_with call.input call.answer
+    && (is_rightly_locked_out call.input call.answer
+    && (is_of_chain chain client call.input call.answer
+    && (is_due chain latest_num found call.input call.answer
+    && is_of_issued version call.input call.answer)))
+
+-- A call's answer is borne out, after the calls before it in its client's log.
+abbrev pub is_borne_out : List Issued → ℕ → List Call → Call → Bool
+is_borne_out chain client before call =
+    is_borne_out_by chain client (latest client (fresh_answers before)) (kept client (number_of call.input) (fresh_answers before)) (issued_under before (number_of call.input)) call
+
+-- Where a call's answer is not borne out.
+abbrev pub NotBorneOut : List Issued → List ClientLog → ℕ → ℕ → Type 0
+NotBorneOut chain logs client place = StandsAt (λ before call. is_borne_out chain client before call ≡ false) logs client place
+
+-- the chain's entry at a place was drawn by one of some calls: with this ordinal, and fresh, it is among their answers
+abbrev pub is_drawn : List Call → ℕ → Issued → Bool
+is_drawn calls place entry = list_any (λ issued. is_same issued (record entry { ordinal = place; fresh = true })) (answers_in calls)
 
 -- the chain has an entry of this client that none of its calls drew
 abbrev pub HasUndrawn : List Issued → List ClientLog → ℕ → Type 0
-HasUndrawn chain logs client = (ordinal : ℕ) × (entry : Issued) × (slice_get chain ordinal ≡ Some entry) × (entry.proxy ≡ client) × (IsDrawn logs ordinal entry → ⊥)
+HasUndrawn chain logs client = (place : ℕ) × (entry : Issued) × (slice_get chain place ≡ Some entry) × (entry.proxy ≡ client) × (is_drawn (calls_of logs client) place entry ≡ false)
 
--- A client that has no log has an entry of the chain.
-abbrev pub HasNoLog : List Issued → List ClientLog → ℕ → Type 0
-HasNoLog chain logs client = (ordinal : ℕ) × (entry : Issued) × (slice_get chain ordinal ≡ Some entry) × (entry.proxy ≡ client) × (length logs ≤ client)
-
--- An answer is astray at a call that is not borne out, at the end of a log whose client has an entry that none of its
--- calls drew, and at call 0 of a client that has an entry and no log.
+-- An answer is astray at a call that is not borne out, and at the end of the calls of a client, which has none where it
+-- has no log, that has an entry of the chain that none of its calls drew.
 abbrev pub IsStray : List Issued → List ClientLog → ℕ → ℕ → Type 0
-IsStray chain logs client place =
-    StandsAt (λ before call. IsBorneOut chain (length logs) client before call → ⊥) logs client place
-    ⊎ (((client < length logs) × (place ≡ length (calls_of logs client)) × HasUndrawn chain logs client)
-    ⊎ ((place ≡ 0) × HasNoLog chain logs client))
+IsStray chain logs client place = NotBorneOut chain logs client place ⊎ ((place ≡ length (calls_of logs client)) × HasUndrawn chain logs client)

@@ -5,7 +5,7 @@
 pub const MAX_STEP: u64 = 5_000_000;
 
 /// A commit proxy's request for a commit version (`GetCommitVersionRequest`).
-#[derive(Clone, Copy, Debug, PartialEq, Eq, Hash)]
+#[derive(Clone, Copy, Debug, PartialEq, Eq)]
 pub struct Ask {
     /// The commit proxy, numbered from 0 (`requestingProxy`).
     pub proxy: u32,
@@ -18,7 +18,7 @@ pub struct Ask {
 }
 
 /// The answer to a commit version request (`GetCommitVersionReply`), with the request's members.
-#[derive(Clone, Copy, Debug, PartialEq, Eq, Hash)]
+#[derive(Clone, Copy, Debug, PartialEq, Eq)]
 pub struct Issued {
     /// How many fresh answers of the service came before.
     pub ordinal: u64,

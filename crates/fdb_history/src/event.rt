@@ -7,7 +7,7 @@ use crate::register::Record;
 use crate::sequence::Sequence;
 
 /// One step of the register. Clients are numbered from 0, and so are the calls of each client's log.
-#[derive(Clone, Copy, Debug, PartialEq, Eq, Hash)]
+#[derive(Clone, Copy, Debug, PartialEq, Eq)]
 pub enum Event {
     /// A client reported a record (`reportLiveCommittedVersion`), and was told whether it raised the register.
     Report {
@@ -32,7 +32,7 @@ pub enum Event {
 }
 
 /// Events, one after another, that explain the replies of a run.
-#[derive(Clone, Debug, Drop, PartialEq, Eq)]
+#[derive(Debug, Drop)]
 pub struct History {
     /// The events, in order.
     pub events: Sequence<Event>,

@@ -4,7 +4,7 @@ use thiserror::Error;
 
 /// Why the logs of a run, with the chain of its commit versions, have no explanation. Clients are places in the
 /// list of logs and calls are places in a log, both counted from 0.
-#[derive(Clone, Copy, Debug, PartialEq, Eq, Hash, Error)]
+#[derive(Clone, Copy, Debug, PartialEq, Eq, Error)]
 pub enum AuditFault {
     /// A call was answered from before what its client had seen, or raised the register without going on.
     #[error("Order {client} {call}")]

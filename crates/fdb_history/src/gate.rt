@@ -1,7 +1,7 @@
 //! Places at which a test can hold a thread. So far nothing passes any of them.
 
 /// A place that a thread passes.
-#[derive(Clone, Copy, Debug, PartialEq, Eq, Hash)]
+#[derive(Clone, Copy, Debug, PartialEq, Eq)]
 pub enum Place {
     /// The sequencer's lock is held.
     SequencerHeld,
@@ -18,7 +18,7 @@ pub trait Gate: Sync {
 }
 
 /// The gate that holds nobody.
-#[derive(Clone, Copy, Debug, Default, PartialEq, Eq, Hash)]
+#[derive(Clone, Copy, Debug, Default, PartialEq, Eq)]
 pub struct OpenGate;
 
 impl Gate for OpenGate {

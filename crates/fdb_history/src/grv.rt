@@ -3,7 +3,7 @@
 use crate::sequence::Sequence;
 
 /// The priority of a request, and with it its queue at the GRV proxy (`TransactionPriority`).
-#[derive(Clone, Copy, Debug, PartialEq, Eq, Hash)]
+#[derive(Clone, Copy, Debug, PartialEq, Eq)]
 pub enum Priority {
     /// `IMMEDIATE`: no rate holds it.
     System,
@@ -17,7 +17,7 @@ pub enum Priority {
 pub type Tag = Sequence<u8>;
 
 /// A throttle as a client is told of it (`ClientTagThrottleLimits`).
-#[derive(Clone, Debug, Drop, PartialEq, Eq)]
+#[derive(Debug, Drop, PartialEq, Eq)]
 pub struct TagLimit {
     /// The tag.
     pub tag: Tag,

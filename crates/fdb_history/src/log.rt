@@ -8,7 +8,7 @@ use std::error::Error;
 use std::fmt;
 
 /// What a client called.
-#[derive(Clone, Debug, Drop, PartialEq, Eq)]
+#[derive(Debug, Drop, PartialEq, Eq)]
 pub enum Input {
     /// It read the read version.
     Grv(GrvOpts),
@@ -43,7 +43,7 @@ pub enum Input {
 }
 
 /// What a call was answered.
-#[derive(Clone, Debug, Drop, PartialEq, Eq)]
+#[derive(Debug, Drop, PartialEq, Eq)]
 pub enum CallAnswer {
     /// A read: the live record, and what throttles the tags of the request.
     Version {
@@ -70,7 +70,7 @@ pub enum CallAnswer {
 }
 
 /// Why a call was refused.
-#[derive(Clone, Copy, Debug, PartialEq, Eq, Hash)]
+#[derive(Clone, Copy, Debug, PartialEq, Eq)]
 pub enum Refusal {
     /// The request's number is beyond the next one of its proxy.
     Early {
@@ -132,7 +132,7 @@ impl fmt::Display for Refusal {
 impl Error for Refusal {}
 
 /// One call of a client. A position is the number of raises that had been seen.
-#[derive(Clone, Debug, Drop, PartialEq, Eq)]
+#[derive(Debug, Drop, PartialEq, Eq)]
 pub struct Call {
     /// What was called.
     pub input: Input,
@@ -145,7 +145,7 @@ pub struct Call {
 }
 
 /// What one client called, one call after another.
-#[derive(Clone, Debug, Drop, PartialEq, Eq)]
+#[derive(Debug, Drop)]
 pub struct ClientLog {
     /// The calls.
     pub calls: Sequence<Call>,

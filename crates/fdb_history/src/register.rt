@@ -13,7 +13,7 @@ pub const MAX_VERSION: u64 = 9_223_372_036_854_775_807;
 ///
 /// In FoundationDB 7.1 these are `liveCommittedVersion`, `databaseLocked` and `proxyMetadataVersion` of
 /// `MasterData` (masterserver), and the members of `GetRawCommittedVersionReply`.
-#[derive(Clone, Copy, Debug, PartialEq, Eq, Hash)]
+#[derive(Clone, Copy, Debug, PartialEq, Eq)]
 pub struct Record {
     /// The live committed version.
     pub version: u64,

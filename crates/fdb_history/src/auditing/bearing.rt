@@ -1,10 +1,10 @@
 //! Whether a call's answer is borne out by its input, the chain, and what its client has drawn.
 
-ghost use Rattle.std.specs.Prelude.{◌≡◌, ◌≢◌, ◌+◌, ◌<◌, ◌↔◌, IsTrue, length, slice_get};
-ghost use Rattle.std.specs.Option.{option_copied};
-ghost use Rattle.fdb_history.specs.Bearing.{IsBorneOutBy, IsDueBy, IsOfIssuedBy, drawn, due_again};
-ghost use Rattle.fdb_history.specs.Strays.{IsFreshAnswer, IsNearTheEnd, IsOfChain, IsRightlyLockedOut, goes_with, logged_as, may_refuse};
-ghost use Rattle.fdb_history.specs.declared.chain.Issued.{Issued};
+ghost use Rattle.std.specs.Prelude.{◌≡◌, false, length, slice_get};
+ghost use Rattle.std.specs.Option.{option_copied, option_map_or};
+ghost use Rattle.fdb_history.specs.Bearing.{drawn_version};
+ghost use Rattle.fdb_history.specs.Replies.{reply};
+ghost use Rattle.fdb_history.specs.Strays.{goes_with, is_again, is_borne_out_by, is_due, is_early, is_fresh_answer, is_near_the_end, is_of_chain, is_of_issued, is_rightly_locked_out, is_same, may_refuse, number_of};
 
 use crate::chain::{Issued, MAX_STEP};
 use crate::log::{Call, CallAnswer, Input, Refusal};
@@ -13,7 +13,7 @@ use crate::replies::Replies;
 
 /// Whether a call's answer is borne out.
 pub fn is_borne_out(chain: &[Issued], client: u32, own: &Replies, call: &Call) -> bool
-    ensures { IsTrue result ↔ IsBorneOutBy chain.now client own.now call.now }
+    ensures { result ≡ is_borne_out_by chain.now client (length own.now.places) (reply chain.now own.now (number_of call.now.input)) (drawn_version chain.now own.now (number_of call.now.input)) call.now }
 {
     goes_with(&call.input, &call.answer)
         && is_rightly_locked_out(&call.input, &call.answer)
@@ -60,7 +60,7 @@ fn may_refuse(input: &Input, cause: Refusal) -> bool
 
 /// Whether a read is turned away exactly where it has to be.
 fn is_rightly_locked_out(input: &Input, answer: &CallAnswer) -> bool
-    ensures { IsTrue result ↔ IsRightlyLockedOut input.now answer.now }
+    ensures { result ≡ is_rightly_locked_out input.now answer.now }
 {
     match (input, answer) {
         (
@@ -75,9 +75,10 @@ fn is_rightly_locked_out(input: &Input, answer: &CallAnswer) -> bool
     }
 }
 
-/// Whether a commit version is the chain's entry at its ordinal, and the client's own, under the number asked for.
+/// Whether a commit version is the client's own, under the number asked for, and the chain's entry at its ordinal, in
+/// all but `fresh`.
 fn is_of_chain(chain: &[Issued], client: u32, input: &Input, answer: &CallAnswer) -> bool
-    ensures { IsTrue result ↔ IsOfChain chain.now client input.now answer.now }
+    ensures { result ≡ is_of_chain chain.now client input.now answer.now }
 {
     match (input, answer) {
         (Input::Ask { num, .. }, CallAnswer::Answered(issued)) => {
@@ -89,7 +90,7 @@ fn is_of_chain(chain: &[Issued], client: u32, input: &Input, answer: &CallAnswer
 
 /// Whether the chain's entry at an answer's ordinal is the answer, in all but `fresh`.
 fn is_in_chain(chain: &[Issued], issued: &Issued) -> bool
-    ensures { IsTrue result ↔ ((entry : Issued) × (slice_get chain.now issued.now.ordinal ≡ Some entry) × (issued.now ≡ record entry { fresh = issued.now.fresh })) }
+    ensures { result ≡ option_map_or (λ entry. is_same issued.now (record entry { fresh = issued.now.fresh })) (slice_get chain.now issued.now.ordinal) false }
 {
     match chain.get(issued.ordinal as usize) {
         Some(entry) => {
@@ -105,23 +106,58 @@ fn is_in_chain(chain: &[Issued], issued: &Issued) -> bool
 
 /// Whether the answer to a request is the one that is due.
 fn is_due(chain: &[Issued], own: &Replies, input: &Input, answer: &CallAnswer) -> bool
-    ensures { IsTrue result ↔ IsDueBy chain.now own.now input.now answer.now }
+    ensures { result ≡ is_due chain.now (length own.now.places) (reply chain.now own.now (number_of input.now)) input.now answer.now }
 {
-    match input {
-        Input::Ask { num, processed, at } => {
-            if *num == own.latest() + 1 {
-                is_fresh_answer(chain, *processed, *at, answer)
-            } else {
-                is_logged_as(answer, due_again(chain, own, *num))
-            }
-        }
-        _ => true,
+    let Input::Ask { num, processed, at } = input else {
+        return true;
+    };
+    let latest = own.latest();
+    if *num > latest + 1 {
+        return is_early(latest + 1, answer);
     }
+    if *num <= latest {
+        return is_again(kept(chain, own, *num), answer);
+    }
+    is_fresh_answer(chain, *processed, *at, answer)
+}
+
+/// Whether a request is told that its number is ahead of this one, the next.
+fn is_early(next: u64, answer: &CallAnswer) -> bool
+    ensures { result ≡ is_early next answer.now }
+{
+    match answer {
+        CallAnswer::Refused(Refusal::Early { expected }) => *expected == next,
+        _ => false,
+    }
+}
+
+/// Whether a repeated request gets the answer that is kept, or is told that none is.
+fn is_again(found: Option<&Issued>, answer: &CallAnswer) -> bool
+    ensures { result ≡ is_again (option_copied found.entry) answer.now }
+{
+    match (found, answer) {
+        (Some(entry), CallAnswer::Answered(issued)) => {
+            *issued
+                == Issued {
+                    fresh: false,
+                    ..*entry
+                }
+        }
+        (None, CallAnswer::Refused(Refusal::Forgotten)) => true,
+        _ => false,
+    }
+}
+
+/// The chain's entry that is kept under a number.
+fn kept<'a>(chain: &'a [Issued], own: &Replies, num: u64) -> Option<&'a Issued>
+    ensures { option_copied result ≡ reply chain.entry.now own.now num }
+{
+    chain.get(own.place_of(num)?)
 }
 
 /// Whether the answer to the next request is fresh and has its members, or there is no version left.
 fn is_fresh_answer(chain: &[Issued], processed: u64, at: u64, answer: &CallAnswer) -> bool
-    ensures { IsTrue result ↔ IsFreshAnswer chain.now processed at answer.now }
+    ensures { result ≡ is_fresh_answer chain.now processed at answer.now }
 {
     match answer {
         CallAnswer::Answered(issued) => {
@@ -134,7 +170,7 @@ fn is_fresh_answer(chain: &[Issued], processed: u64, at: u64, answer: &CallAnswe
 
 /// Whether the versions are used up, or nearly so.
 fn is_near_the_end(chain: &[Issued]) -> bool
-    ensures { IsTrue result ↔ IsNearTheEnd chain.now }
+    ensures { result ≡ is_near_the_end chain.now }
 {
     match chain.last() {
         Some(last) => last.version > MAX_VERSION - MAX_STEP,
@@ -142,38 +178,10 @@ fn is_near_the_end(chain: &[Issued]) -> bool
     }
 }
 
-/// What a request is due that does not draw a version.
-fn due_again(chain: &[Issued], own: &Replies, num: u64) -> Result<Issued, Refusal>
-    ensures { num ≢ length own.now.places + 1 → result ≡ due_again chain.now own.now num }
-{
-    let next = own.latest() + 1;
-    if num > next {
-        return Err(Refusal::Early { expected: next });
-    }
-    match own.place_of(num).and_then(|place| chain.get(place)) {
-        Some(entry) => Ok(Issued {
-            fresh: false,
-            ..*entry
-        }),
-        None => Err(Refusal::Forgotten),
-    }
-}
-
-/// Whether a call was answered with this result.
-fn is_logged_as(answer: &CallAnswer, due: Result<Issued, Refusal>) -> bool
-    ensures { IsTrue result ↔ (answer.now ≡ logged_as due) }
-{
-    match (answer, due) {
-        (CallAnswer::Answered(issued), Ok(expected)) => *issued == expected,
-        (CallAnswer::Refused(cause), Err(expected)) => *cause == expected,
-        _ => false,
-    }
-}
-
-/// Whether a report is of a version that was drawn under its number, with the flags that it was told; and whether it
+/// Whether a report is of the version that was drawn under its number, with the flags that it was told; and whether it
 /// is refused only where none was.
 fn is_of_issued(chain: &[Issued], own: &Replies, input: &Input, answer: &CallAnswer) -> bool
-    ensures { IsTrue result ↔ IsOfIssuedBy chain.now own.now input.now answer.now }
+    ensures { result ≡ is_of_issued (drawn_version chain.now own.now (number_of input.now)) input.now answer.now }
 {
     let Input::Report {
         num,
@@ -185,28 +193,19 @@ fn is_of_issued(chain: &[Issued], own: &Replies, input: &Input, answer: &CallAns
     };
     match answer {
         CallAnswer::Acked { rec, .. } => {
-            is_drawn(chain, own, *num, rec.version)
+            drawn_version(chain, own, *num) == Some(rec.version)
                 && rec.locked == *locked
                 && rec.metadata == *metadata
         }
-        CallAnswer::Refused(Refusal::NotIssued) => drawn(chain, own, *num).is_none(),
+        CallAnswer::Refused(Refusal::NotIssued) => drawn_version(chain, own, *num).is_none(),
         _ => true,
     }
 }
 
-/// The chain's entry that was drawn under a number, whether it is still kept or not.
-fn drawn<'a>(chain: &'a [Issued], own: &Replies, num: u64) -> Option<&'a Issued>
-    ensures { option_copied result ≡ drawn chain.entry.now own.now num }
+/// The version that was drawn under a number, whether its answer is still kept or not.
+fn drawn_version(chain: &[Issued], own: &Replies, num: u64) -> Option<u64>
+    ensures { result ≡ drawn_version chain.now own.now num }
 {
-    chain.get(own.drawn_place(num)?)
-}
-
-/// Whether the version that was drawn under a number is this one.
-fn is_drawn(chain: &[Issued], own: &Replies, num: u64, version: u64) -> bool
-    ensures { IsTrue result ↔ ((entry : Issued) × (drawn chain.now own.now num ≡ Some entry) × (version ≡ entry.version)) }
-{
-    match drawn(chain, own, num) {
-        Some(entry) => version == entry.version,
-        None => false,
-    }
+    let entry = chain.get(own.drawn_place(num)?)?;
+    Some(entry.version)
 }

@@ -8,7 +8,7 @@ ghost use Rattle.fdb_history.specs.declared.log.Call.{Call};
 use crate::log::{Call, ClientLog};
 
 /// A call, by its client and its place in the client's log.
-#[derive(Clone, Copy, Debug, PartialEq, Eq)]
+#[derive(Clone, Copy)]
 pub struct CallName {
     pub client: u32,
     pub call: u64,

@@ -11,7 +11,7 @@ use crate::register::Record;
 use std::alloc::{AllocError, Global};
 
 /// A report that raised the register, and its position.
-#[derive(Clone, Copy, Debug, PartialEq, Eq)]
+#[derive(Clone, Copy)]
 pub struct Raise {
     /// The position.
     pub position: u64,

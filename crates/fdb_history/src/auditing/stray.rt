@@ -1,23 +1,25 @@
 //! The first answer that its input, the chain or its client's own log does not bear out.
 
-ghost use Rattle.std.specs.Prelude.{◌≡◌, ◌<◌, ◌≤◌, ℕ, length, slice_index, IfOk, OnOk};
-ghost use Rattle.fdb_history.specs.Auditing.{IsFirstCall, IsLeastIfAny};
-ghost use Rattle.fdb_history.specs.Chain.{latest};
+ghost use Rattle.std.specs.Prelude.{◌≡◌, ◌<◌, ◌≤◌, ◌==◌, ◌&&◌, ◌||◌, ℕ, Bool, true, false, length, slice_get, IfOk, OnOk, IsTrue};
+ghost use Rattle.std.specs.Option.{option_map_or};
+ghost use Rattle.fdb_history.specs.Auditing.{AreMarks, HasUnmarked, IsFirstCall, IsFirstOf, IsLeastIfAny};
 ghost use Rattle.fdb_history.specs.Bearing.{own_after};
-ghost use Rattle.fdb_history.specs.Strays.{HasNoLog, IsStray};
+ghost use Rattle.fdb_history.specs.Log.{calls_of};
+ghost use Rattle.fdb_history.specs.Strays.{IsStray, NotBorneOut, is_borne_out, is_drawn, is_same};
+ghost use Rattle.fdb_history.specs.declared.chain.Issued.{Issued};
 
 use crate::auditing::bearing::is_borne_out;
 use crate::auditing::found::CallName;
 use crate::chain::Issued;
-use crate::log::{CallAnswer, ClientLog};
+use crate::log::{Call, CallAnswer, ClientLog};
 use crate::replies::Replies;
 use std::alloc::{AllocError, Global};
 
-/// The first call whose answer is astray, or the end of the first log whose client has an entry of the chain that
-/// none of its calls drew, or call 0 of the least client that has an entry and no log.
+/// The first call whose answer is astray, or the end of the calls of the first client that has an entry of the chain
+/// that none of its calls drew. A client that has no log has no calls.
 ///
-/// It takes time in proportion to the calls and the chain's entries, and memory for a number for each log and for
-/// each version that a client drew.
+/// It takes time in proportion to the calls and the chain's entries, and memory for a mark for each entry and a number
+/// for each version that a client drew.
 pub fn first_stray(
     alloc: Global,
     chain: &[Issued],
@@ -26,60 +28,55 @@ pub fn first_stray(
     requires { length logs.now ≤ 64 }
     ensures { IfOk result (IsFirstCall (IsStray chain.now logs.now)) }
 {
-    let entries = entries_of_each(alloc, chain, logs.len())?;
-    for client in 0..logs.len() {
-        if let Some(call) = first_of(alloc, chain, logs, client, entries[client])? {
+    let astray = first_not_borne_out(alloc, chain, logs)?;
+    let drawn = drawn_entries(alloc, chain, logs)?;
+    let Some(client) = least_undrawn(chain, drawn.as_slice()) else {
+        return Ok(astray);
+    };
+    match astray {
+        Some(name) if name.client <= client => Ok(Some(name)),
+        _ => Ok(Some(CallName {
+            client,
+            call: count_calls(logs, client),
+        })),
+    }
+}
+
+/// The first call whose answer is not borne out.
+fn first_not_borne_out(
+    alloc: Global,
+    chain: &[Issued],
+    logs: &[ClientLog],
+) -> Result<Option<CallName>, AllocError>
+    requires { length logs.now ≤ 64 }
+    ensures { IfOk result (IsFirstCall (NotBorneOut chain.now logs.now)) }
+{
+    for (client, log) in logs.iter().enumerate() {
+        if let Some(call) = first_of(alloc, chain, client as u32, log.calls.as_slice())? {
             return Ok(Some(CallName {
                 client: client as u32,
                 call,
             }));
         }
     }
-    let Some(client) = first_without_log(chain, logs) else {
-        return Ok(None);
-    };
-    Ok(Some(CallName { client, call: 0 }))
+    Ok(None)
 }
 
-/// How many entries of the chain each of so many clients has.
-fn entries_of_each(alloc: Global, chain: &[Issued], clients: usize) -> Result<Vec<u64>, AllocError>
-    ensures count { IfOk result (λ counts. length counts.items ≡ clients) }
-    ensures each { IfOk result (λ counts. (client : ℕ) → client < clients → slice_index counts.items client ≡ latest client chain.now) }
-{
-    let mut counts = vec![in alloc; 0; clients]?;
-    for entry in chain {
-        let client = entry.proxy as usize;
-        if client < clients {
-            counts[client] += 1;
-        }
-    }
-    Ok(counts)
-}
-
-/// The first place of a client's log at which it is astray. `entries` is how many entries of the chain are the
-/// client's.
+/// The place of the first of a client's calls whose answer is not borne out.
 fn first_of(
     alloc: Global,
     chain: &[Issued],
-    logs: &[ClientLog],
-    client: usize,
-    entries: u64,
+    client: u32,
+    calls: &[Call],
 ) -> Result<Option<u64>, AllocError>
-    requires few { length logs.now ≤ 64 }
-    requires known { client < length logs.now }
-    requires counted { entries ≡ latest client chain.now }
-    ensures { IfOk result (IsLeastIfAny (IsStray chain.now logs.now client)) }
+    ensures { IfOk result (IsFirstOf (λ before call. is_borne_out chain.now client before call ≡ false) calls.now) }
 {
-    let calls = logs[client].calls.as_slice();
     let mut own = Replies::new(alloc);
     for (place, call) in calls.iter().enumerate() {
-        if !is_borne_out(chain, client as u32, &own, call) {
+        if !is_borne_out(chain, client, &own, call) {
             return Ok(Some(place as u64));
         }
         keep_drawn(&mut own, &call.answer)?;
-    }
-    if own.latest() < entries {
-        return Ok(Some(calls.len() as u64));
     }
     Ok(None)
 }
@@ -96,13 +93,72 @@ fn keep_drawn(own: &mut Replies, answer: &CallAnswer) -> Result<(), AllocError>
     }
 }
 
-/// The least client that has an entry of the chain and no log.
-fn first_without_log(chain: &[Issued], logs: &[ClientLog]) -> Option<u32>
-    ensures { IsLeastIfAny (HasNoLog chain.now logs.now) result }
+/// Whether each entry of the chain was drawn by a call of its client.
+fn drawn_entries(
+    alloc: Global,
+    chain: &[Issued],
+    logs: &[ClientLog],
+) -> Result<Vec<bool>, AllocError>
+    requires { length logs.now ≤ 64 }
+    ensures { IfOk result (λ drawn. AreMarks chain.now drawn.items (λ place entry. is_drawn (calls_of logs.now entry.proxy) place entry)) }
+{
+    let mut drawn = vec![in alloc; false; chain.len()]?;
+    for (client, log) in logs.iter().enumerate() {
+        mark_drawn(&mut drawn, chain, client as u32, log.calls.as_slice());
+    }
+    Ok(drawn)
+}
+
+/// Marks the entries of the chain that a client's calls drew.
+fn mark_drawn(drawn: &mut [bool], chain: &[Issued], client: u32, calls: &[Call])
+    requires { length drawn.old ≡ length chain.now }
+    ensures { (was : ℕ → Issued → Bool) → AreMarks chain.now drawn.old was
+        → AreMarks chain.now drawn.new (λ place entry. was place entry || is_drawn calls.now place entry && (entry.proxy == client)) }
+{
+    for call in calls {
+        if let CallAnswer::Answered(issued) = &call.answer {
+            mark(drawn, chain, client, issued);
+        }
+    }
+}
+
+/// Marks the entry of the chain that an answer of a client drew, if it drew one.
+fn mark(drawn: &mut [bool], chain: &[Issued], client: u32, issued: &Issued)
+    requires { length drawn.old ≡ length chain.now }
+    ensures { (was : ℕ → Issued → Bool) → AreMarks chain.now drawn.old was
+        → AreMarks chain.now drawn.new (λ place entry. was place entry || is_same issued.now (record entry { ordinal = place; fresh = true }) && (entry.proxy == client)) }
+{
+    if draws(chain, client, issued) {
+        drawn[issued.ordinal as usize] = true;
+    }
+}
+
+/// Whether an answer of a client, fresh, is the chain's entry at its ordinal, and the client's own.
+fn draws(chain: &[Issued], client: u32, issued: &Issued) -> bool
+    ensures value { result ≡ option_map_or (λ entry. is_same issued.now (record entry { ordinal = issued.now.ordinal; fresh = true }) && (entry.proxy == client)) (slice_get chain.now issued.now.ordinal) false }
+    ensures within { IsTrue result → issued.now.ordinal < length chain.now }
+{
+    match chain.get(issued.ordinal as usize) {
+        Some(entry) => {
+            let drawn = Issued {
+                ordinal: issued.ordinal,
+                fresh: true,
+                ..*entry
+            };
+            *issued == drawn && entry.proxy == client
+        }
+        None => false,
+    }
+}
+
+/// The least client with an entry that has no mark.
+fn least_undrawn(chain: &[Issued], drawn: &[bool]) -> Option<u32>
+    requires { length drawn.now ≡ length chain.now }
+    ensures { IsLeastIfAny (HasUnmarked chain.now drawn.now) result }
 {
     let mut least = None;
-    for entry in chain {
-        if entry.proxy as usize >= logs.len() {
+    for (place, entry) in chain.iter().enumerate() {
+        if !drawn[place] {
             least = Some(match least {
                 Some(client) => entry.proxy.min(client),
                 None => entry.proxy,
@@ -110,4 +166,14 @@ fn first_without_log(chain: &[Issued], logs: &[ClientLog]) -> Option<u32>
         }
     }
     least
+}
+
+/// How many calls a client has.
+fn count_calls(logs: &[ClientLog], client: u32) -> u64
+    ensures { result ≡ length (calls_of logs.now client) }
+{
+    match logs.get(client as usize) {
+        Some(log) => log.calls.len() as u64,
+        None => 0,
+    }
 }

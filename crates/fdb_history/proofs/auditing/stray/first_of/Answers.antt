@@ -1,42 +1,30 @@
-use Rattle.std.proofs.Common.{◌<◌, ◌≤◌, length, refl, arith}
-use Rattle.std.proofs.lemmas.Bool.{false≢true}
-use Rattle.std.proofs.lemmas.Option.{slice_get_read}
-use Rattle.fdb_history.specs.Chain.{latest}
-use Rattle.fdb_history.proofs.FirstStray.{calls-read, log-at_call, log-at_end, log-borne_out, log-nowhere, log-own}
-use Rattle.fdb_history.proofs.Own.{AreOwn-none}
+use Rattle.std.proofs.Common.{◌≡◌, false, refl, sym, take, ◌∙◌, arith}
+use Rattle.std.proofs.lemmas.Bool.{both_ways}
+use Rattle.std.proofs.lemmas.Option.{slice_get_read, slice_get_within}
+use Rattle.fdb_history.specs.Strays.{is_borne_out}
+use Rattle.fdb_history.proofs.FirstCalls.{call_more}
+use Rattle.fdb_history.proofs.Lists.{take-push}
+use Rattle.fdb_history.proofs.Own.{OwnAfter-none, OwnAfter-call, borne_out-same}
 use Rattle.fdb_history.proofs.auditing.stray.first_of.Goals as goal
 
 pub loop-place-init : goal.loop-place-init
-loop-place-init c =
-    record {
-      own = rw c.new-own.ensures (AreOwn-none _ _);
-      borne_out = λ p call below. absurd (omega arith);
-    }
+loop-place-init c = record { own = rw c.new-own.ensures (OwnAfter-none _ _); borne_out = λ p call below. absurd (omega arith) }
 
 pub returns-then-not-is_borne_out : goal.returns-then-not-is_borne_out
 returns-then-not-is_borne_out c =
-    let of_log = calls-read c.args.logs.now c.args.client c.index-logs-client.result c.as_slice-calls.result.now c.requires.known c.index-logs-client.is c.as_slice-calls.ensures in
-    let at = slice_get_read c.as_slice-calls.result.now _ c.loop-place.place c.index-calls-place.result refl c.loop-place-test.true c.index-calls-place.is in
-    log-at_call c.args.chain.now c.args.logs.now c.args.client c.as_slice-calls.result.now c.loop-place.own c.loop-place.place c.index-calls-place.result of_log c.requires.known c.loop-place.invariant.borne_out c.loop-place.invariant.own at
-    (λ by. false≢true (c.if-not-is_borne_out.ensures.1 by))
+    let at = slice_get_read c.args.calls.now _ c.loop-place.place c.index-calls-place.result refl c.loop-place-test.true c.index-calls-place.is in
+    let same = borne_out-same c.args.chain.now c.args.client (take c.loop-place.place c.args.calls.now) c.loop-place.own c.index-calls-place.result c.loop-place.invariant.own in
+    ((c.index-calls-place.result, at, same ∙ (sym c.is_borne_out.ensures ∙ c.if-not-is_borne_out.true)), c.loop-place.invariant.borne_out)
 
 pub loop-place-preserved : goal.loop-place-preserved
 loop-place-preserved c =
-    let at = slice_get_read c.as_slice-calls.result.now _ c.loop-place.place c.index-calls-place.result refl c.loop-place-test.true c.index-calls-place.is in
-    let borne_out = c.if-not-is_borne_out.ensures.0 refl in
+    let at = slice_get_read c.args.calls.now _ c.loop-place.place c.index-calls-place.result refl c.loop-place-test.true c.index-calls-place.is in
+    let by = sym c.is_borne_out.ensures ∙ c.if-not-is_borne_out.false in
+    let same = borne_out-same c.args.chain.now c.args.client (take c.loop-place.place c.args.calls.now) c.loop-place.own c.index-calls-place.result c.loop-place.invariant.own in
     record {
-      own = log-own c.args.chain.now c.args.client c.as_slice-calls.result.now c.loop-place.own c.keep_drawn.new.own c.loop-place.place c.index-calls-place.result c.loop-place.invariant.own at borne_out c.in_ok-keep_drawn.ensures;
-      borne_out = log-borne_out c.args.chain.now (length c.args.logs.now) c.args.client c.as_slice-calls.result.now c.loop-place.own c.loop-place.place c.index-calls-place.result c.requires.known c.loop-place.invariant.borne_out c.loop-place.invariant.own at borne_out;
+      own = rw (take-push c.args.calls.now c.loop-place.place c.index-calls-place.result at, c.in_ok-keep_drawn.ensures) (OwnAfter-call c.args.chain.now c.args.client (take c.loop-place.place c.args.calls.now) c.loop-place.own c.index-calls-place.result c.loop-place.invariant.own by);
+      borne_out = call_more (λ before call. is_borne_out c.args.chain.now c.args.client before call ≡ false) c.args.calls.now c.loop-place.place c.index-calls-place.result at (λ isnt. both_ways (is_borne_out c.args.chain.now c.args.client (take c.loop-place.place c.args.calls.now) c.index-calls-place.result) isnt (same ∙ by)) c.loop-place.invariant.borne_out;
     }
 
-pub returns-then-latest-entries : goal.returns-then-latest-entries
-returns-then-latest-entries c =
-    let of_log = calls-read c.args.logs.now c.args.client c.index-logs-client.result c.as_slice-calls.result.now c.requires.known c.index-logs-client.is c.as_slice-calls.ensures in
-    let fewer : length c.loop-place.own.places < latest c.args.client c.args.chain.now = omega arith in
-    log-at_end c.args.chain.now c.args.logs.now c.args.client c.as_slice-calls.result.now c.loop-place.own c.loop-place.place of_log c.requires.known c.loop-place-test.false c.loop-place.invariant.borne_out c.loop-place.invariant.own fewer
-
 pub returns : goal.returns
-returns c =
-    let of_log = calls-read c.args.logs.now c.args.client c.index-logs-client.result c.as_slice-calls.result.now c.requires.known c.index-logs-client.is c.as_slice-calls.ensures in
-    let all : latest c.args.client c.args.chain.now ≤ length c.loop-place.own.places = omega arith in
-    log-nowhere c.args.chain.now c.args.logs.now c.args.client c.as_slice-calls.result.now c.loop-place.own c.loop-place.place of_log c.requires.known c.loop-place-test.false c.loop-place.invariant.borne_out c.loop-place.invariant.own all
+returns c = λ p call at. c.loop-place.invariant.borne_out p call (omega (arith, c.loop-place-test.false, slice_get_within c.args.calls.now p call at)) at

@@ -1,6 +1,7 @@
-use Rattle.std.proofs.Common.{length, take}
-use Rattle.fdb_history.proofs.FirstStray.{AreBorneOut}
-use Rattle.fdb_history.proofs.OwnCalls.{OwnAfter}
+use Rattle.std.proofs.Common.{◌≡◌, false, take}
+use Rattle.fdb_history.specs.Auditing.{NoneBefore}
+use Rattle.fdb_history.specs.Strays.{is_borne_out}
+use Rattle.fdb_history.proofs.Own.{OwnAfter}
 use Rattle.fdb_history.proofs.auditing.stray.first_of.Given as goal
 
 -- the calls before this one are borne out, and `own` is what they have drawn
@@ -8,5 +9,5 @@ abbrev pub invariant-loop-place : goal.invariant-loop-place
 invariant-loop-place l =
     record {
       own : OwnAfter l.chain l.client (take l.place l.calls) l.own;
-      borne_out : AreBorneOut l.chain (length l.logs) l.client l.calls l.place;
+      borne_out : NoneBefore (λ before call. is_borne_out l.chain l.client before call ≡ false) l.calls l.place;
     }

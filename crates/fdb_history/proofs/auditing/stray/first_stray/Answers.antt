@@ -1,22 +1,30 @@
-use Rattle.std.proofs.Common.{arith}
-use Rattle.fdb_history.proofs.NoLog.{clients-more, first-in_log, first-without_log, stray-nowhere}
+use Rattle.std.proofs.Common.{None, Some, inl, arith}
+use Rattle.fdb_history.proofs.FirstStray.{calls_only, call_first, entry_first, least_undrawn}
 use Rattle.fdb_history.proofs.auditing.stray.first_stray.Goals as goal
+use Rattle.fdb_history.proofs.auditing.stray.first_stray.Goals.{in_default-astray-via-in-Some-astray+else-name-client, in_default-astray-via-in_default-astray}
 
-pub returns-in-Some : goal.returns-in-Some
-returns-in-Some c =
-    let least = rw c.in-Some.is at c.in_ok-call.ensures in
-    first-in_log c.args.chain.now c.args.logs.now c.loop-client.client c.in-Some.call c.loop-client.invariant least
+pub returns-in_default : goal.returns-in_default
+returns-in_default c =
+    let none = least_undrawn c.args.chain.now c.args.logs.now c.as_slice.result.now None (rw c.as_slice.ensures.value c.in_ok-drawn.ensures) c.in_default.ensures in
+    calls_only c.args.chain.now c.args.logs.now c.in_ok-astray.astray none c.in_ok-astray.ensures
 
-pub loop-client-preserved : goal.loop-client-preserved
-loop-client-preserved c =
-    let nowhere = rw c.in_default.is at c.in_ok-call.ensures in
-    clients-more c.args.chain.now c.args.logs.now c.loop-client.client c.loop-client.invariant nowhere
-
-pub returns-in_default-first_without_log : goal.returns-in_default-first_without_log
-returns-in_default-first_without_log c =
-    stray-nowhere c.args.chain.now c.args.logs.now (λ client place below. c.loop-client.invariant client place (omega arith)) c.in_default-first_without_log.ensures
+pub returns-in-Some-astray : goal.returns-in-Some-astray
+returns-in-Some-astray c =
+    let entry = least_undrawn c.args.chain.now c.args.logs.now c.as_slice.result.now (Some c.in-Some.client) (rw c.as_slice.ensures.value c.in_ok-drawn.ensures) c.in-Some.ensures in
+    let first = rw c.in-Some-astray.is at c.in_ok-astray.ensures in
+    call_first c.args.chain.now c.args.logs.now c.in-Some-astray.name.client c.in-Some-astray.name.call c.in-Some.client c.if-name-client.true first entry
 
 pub returns : goal.returns
 returns c =
-    first-without_log c.args.chain.now c.args.logs.now c.in-Some-first_without_log.client (λ client place below. c.loop-client.invariant client place (omega arith))
-    c.in-Some-first_without_log.ensures
+    let entry = least_undrawn c.args.chain.now c.args.logs.now c.as_slice.result.now (Some c.in-Some.client) (rw c.as_slice.ensures.value c.in_ok-drawn.ensures) c.in-Some.ensures in
+    rw c.count_calls.ensures
+    (entry_first c.args.chain.now c.args.logs.now c.in-Some.client
+    (elim c.in_default-astray.branch [
+      | in_default-astray-via-in-Some-astray+else-name-client w ↦
+          let first = rw w.in-Some-astray.is at c.in_ok-astray.ensures in
+          λ client place no_later call. first.none_before client place (inl (omega (arith, no_later, w.if-name-client.false))) call
+      | in_default-astray-via-in_default-astray w ↦
+          let nowhere = rw w.in_default-astray.is at c.in_ok-astray.ensures in
+          λ client place no_later call. nowhere client place call
+    ])
+    entry)

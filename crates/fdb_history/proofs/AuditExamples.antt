@@ -1,0 +1,331 @@
+-- Worked examples of what an audit judges, on both sides of each bound: a wrong definition fails here.
+use Rattle.std.proofs.Common.{◌≡◌, ℕ, zero, suc, ◌<◌, ◌≤◌, Bool, true, false, List, [], ◌∷◌, Some, None, length, leb, ltb, refl, ap, sym, inl, inr, arith}
+use Rattle.std.proofs.lemmas.Bool.{both_ways, false≢true, le-leb, lt-ltb}
+use Rattle.std.proofs.lemmas.Option.{none-some, same_Some}
+use Rattle.fdb_history.specs.Audit.{IsNotAbove}
+use Rattle.fdb_history.specs.Faults.{IsGap, IsOutOfOrder, IsReached, IsWrongAnswer, register_at}
+use Rattle.fdb_history.specs.Strays.{goes_with, is_borne_out, is_drawn, is_near_the_end}
+use Rattle.fdb_history.specs.declared.chain.Issued.{Issued}
+use Rattle.fdb_history.specs.declared.chain.TheConstants.{MAX_STEP}
+use Rattle.fdb_history.specs.declared.grv.Priority.TheVariants.{Default}
+use Rattle.fdb_history.specs.declared.log.Call.{Call}
+use Rattle.fdb_history.specs.declared.log.CallAnswer.{CallAnswer}
+use Rattle.fdb_history.specs.declared.log.CallAnswer.TheVariants.{Version, Answered, Acked, Told, Refused}
+use Rattle.fdb_history.specs.declared.log.ClientLog.{ClientLog}
+use Rattle.fdb_history.specs.declared.log.Input.{Input}
+use Rattle.fdb_history.specs.declared.log.Input.TheVariants as input
+use Rattle.fdb_history.specs.declared.log.Refusal.TheVariants.{Early, Forgotten, Exhausted, Full, NotIssued, Behind}
+use Rattle.fdb_history.specs.declared.register.Record.{Record}
+use Rattle.fdb_history.specs.declared.register.TheConstants.{MAX_VERSION}
+
+-- ---- the limits
+
+greatest_version : MAX_VERSION ≡ 9223372036854775807
+greatest_version = refl
+
+greatest_step : MAX_STEP ≡ 5000000
+greatest_step = refl
+
+-- ---- what a call's answer is borne out by
+
+abbrev plain : ℕ → Record
+plain version = record { version = version; locked = false; metadata = None }
+
+abbrev locked : ℕ → Record
+locked version = record { version = version; locked = true; metadata = None }
+
+abbrev with_metadata : ℕ → ℕ → Record
+with_metadata version metadata = record { version = version; locked = false; metadata = Some metadata }
+
+-- a call at position 0
+abbrev called : Input → CallAnswer → Call
+called asked answer = record { input = asked; asked = 0; position = 0; answer = answer }
+
+-- a read of a client that is lock-aware or not, and its answer
+abbrev reads : Bool → Record → Bool → Call
+reads lock_aware rec locked_out =
+    called (input.Grv (record { priority = Default; count = 1; tags = []; lock_aware = lock_aware; at = 0 })) (Version rec [] locked_out)
+
+-- Of a locked database a client that is not lock-aware is turned away, and no other.
+turned_away : is_borne_out [] 0 [] (reads false (locked 100) true) ≡ true
+turned_away = refl
+
+not_turned_away : is_borne_out [] 0 [] (reads false (locked 100) false) ≡ false
+not_turned_away = refl
+
+aware_turned_away : is_borne_out [] 0 [] (reads true (locked 100) true) ≡ false
+aware_turned_away = refl
+
+aware_goes_on : is_borne_out [] 0 [] (reads true (locked 100) false) ≡ true
+aware_goes_on = refl
+
+-- Of one that is not locked nobody is.
+unlocked_turned_away : is_borne_out [] 0 [] (reads false (plain 100) true) ≡ false
+unlocked_turned_away = refl
+
+unlocked_goes_on : is_borne_out [] 0 [] (reads false (plain 100) false) ≡ true
+unlocked_goes_on = refl
+
+-- Nobody may be refused a tell, and a report may be told to be behind.
+tell_done : is_borne_out [] 0 [] (called (input.Tell 1) Told) ≡ true
+tell_done = refl
+
+tell_refused : is_borne_out [] 0 [] (called (input.Tell 1) (Refused Full)) ≡ false
+tell_refused = refl
+
+report_behind : is_borne_out [] 0 [] (called (input.Report 1 false None) (Refused (Behind 3))) ≡ true
+report_behind = refl
+
+report_told : goes_with (input.Report 1 false None) Told ≡ false
+report_told = refl
+
+-- commit proxy 0 is given versions 100 and 2100, the second where it has processed this number
+abbrev first_entry : Issued
+first_entry = record { ordinal = 0; proxy = 0; num = 1; processed = 0; prev = 0; version = 100; at = 1000; fresh = true }
+
+abbrev second_having : ℕ → Issued
+second_having processed = record { ordinal = 1; proxy = 0; num = 2; processed = processed; prev = 100; version = 2100; at = 3000; fresh = true }
+
+abbrev second_entry : Issued
+second_entry = second_having 0
+
+abbrev entries : List Issued
+entries = first_entry ∷ second_entry ∷ []
+
+abbrev again : Issued → Issued
+again entry = record entry { fresh = false }
+
+abbrev asks : ℕ → ℕ → ℕ → CallAnswer → Call
+asks num processed at answer = called (input.Ask num processed at) answer
+
+-- the call that drew the first of them
+abbrev drew_first : Call
+drew_first = asks 1 0 1000 (Answered first_entry)
+
+-- An answer is the chain's, the client's own and under the number that it asked for.
+of_chain : is_borne_out entries 0 [] drew_first ≡ true
+of_chain = refl
+
+of_no_chain : is_borne_out [] 0 [] drew_first ≡ false
+of_no_chain = refl
+
+of_another_version : is_borne_out entries 0 [] (asks 1 0 1000 (Answered (record first_entry { version = 101 }))) ≡ false
+of_another_version = refl
+
+of_another_prev : is_borne_out entries 0 [] (asks 1 0 1000 (Answered (record first_entry { prev = 1 }))) ≡ false
+of_another_prev = refl
+
+of_another_client : is_borne_out entries 1 [] drew_first ≡ false
+of_another_client = refl
+
+of_another_number : is_borne_out entries 0 [] (asks 1 0 3000 (Answered second_entry)) ≡ false
+of_another_number = refl
+
+-- The next number draws a version, with the request's members.
+next_fresh : is_borne_out entries 0 (drew_first ∷ []) (asks 2 0 3000 (Answered second_entry)) ≡ true
+next_fresh = refl
+
+next_not_fresh : is_borne_out entries 0 (drew_first ∷ []) (asks 2 0 3000 (Answered (again second_entry))) ≡ false
+next_not_fresh = refl
+
+next_of_another_moment : is_borne_out entries 0 (drew_first ∷ []) (asks 2 0 3001 (Answered second_entry)) ≡ false
+next_of_another_moment = refl
+
+next_having_processed : is_borne_out entries 0 (drew_first ∷ []) (asks 2 1 3000 (Answered second_entry)) ≡ false
+next_having_processed = refl
+
+next_forgotten : is_borne_out entries 0 (drew_first ∷ []) (asks 2 0 3000 (Refused Forgotten)) ≡ false
+next_forgotten = refl
+
+-- A number ahead of it is early, and is told the next one.
+ahead_early : is_borne_out entries 0 (drew_first ∷ []) (asks 3 0 4000 (Refused (Early 2))) ≡ true
+ahead_early = refl
+
+ahead_of_another : is_borne_out entries 0 (drew_first ∷ []) (asks 3 0 4000 (Refused (Early 3))) ≡ false
+ahead_of_another = refl
+
+next_early : is_borne_out entries 0 (drew_first ∷ []) (asks 2 0 3000 (Refused (Early 2))) ≡ false
+next_early = refl
+
+-- A number up to the latest gets its answer again, and nothing else.
+repeat_again : is_borne_out entries 0 (drew_first ∷ []) (asks 1 0 9000 (Answered (again first_entry))) ≡ true
+repeat_again = refl
+
+repeat_fresh : is_borne_out entries 0 (drew_first ∷ []) (asks 1 0 1000 (Answered first_entry)) ≡ false
+repeat_fresh = refl
+
+repeat_forgotten : is_borne_out entries 0 (drew_first ∷ []) (asks 1 0 9000 (Refused Forgotten)) ≡ false
+repeat_forgotten = refl
+
+-- But once it was processed, or where there is no such number, it is forgotten.
+erased_forgotten : is_borne_out (first_entry ∷ second_having 1 ∷ []) 0 (drew_first ∷ asks 2 1 3000 (Answered (second_having 1)) ∷ []) (asks 1 0 9000 (Refused Forgotten)) ≡ true
+erased_forgotten = refl
+
+erased_again : is_borne_out (first_entry ∷ second_having 1 ∷ []) 0 (drew_first ∷ asks 2 1 3000 (Answered (second_having 1)) ∷ []) (asks 1 0 9000 (Answered (again first_entry))) ≡ false
+erased_again = refl
+
+zero_forgotten : is_borne_out entries 0 (drew_first ∷ []) (asks 0 0 9000 (Refused Forgotten)) ≡ true
+zero_forgotten = refl
+
+-- a chain whose last version is this
+abbrev up_to : ℕ → List Issued
+up_to version = first_entry ∷ record { ordinal = 1; proxy = 1; num = 1; processed = 0; prev = 100; version = version; at = 2000; fresh = true } ∷ []
+
+-- There may be no version left once the last one is within MAX_STEP of the greatest.
+near_the_end : is_near_the_end (up_to 9223372036849775808) ≡ true
+near_the_end = refl
+
+not_near_the_end : is_near_the_end (up_to 9223372036849775807) ≡ false
+not_near_the_end = refl
+
+nothing_is_not_near_the_end : is_near_the_end [] ≡ false
+nothing_is_not_near_the_end = refl
+
+exhausted : is_borne_out (up_to 9223372036849775808) 0 (drew_first ∷ []) (asks 2 0 3000 (Refused Exhausted)) ≡ true
+exhausted = refl
+
+exhausted_too_early : is_borne_out (up_to 9223372036849775807) 0 (drew_first ∷ []) (asks 2 0 3000 (Refused Exhausted)) ≡ false
+exhausted_too_early = refl
+
+repeat_exhausted : is_borne_out (up_to 9223372036849775808) 0 (drew_first ∷ []) (asks 1 0 3000 (Refused Exhausted)) ≡ false
+repeat_exhausted = refl
+
+-- A report is of the version that was issued under its number, with the flags that it was told.
+report_of_issued : is_borne_out entries 0 (drew_first ∷ []) (called (input.Report 1 false None) (Acked (plain 100) true)) ≡ true
+report_of_issued = refl
+
+report_of_another_version : is_borne_out entries 0 (drew_first ∷ []) (called (input.Report 1 false None) (Acked (plain 101) true)) ≡ false
+report_of_another_version = refl
+
+report_of_another_number : is_borne_out entries 0 (drew_first ∷ []) (called (input.Report 2 false None) (Acked (plain 100) true)) ≡ false
+report_of_another_number = refl
+
+report_of_another_lock : is_borne_out entries 0 (drew_first ∷ []) (called (input.Report 1 true None) (Acked (plain 100) true)) ≡ false
+report_of_another_lock = refl
+
+report_of_metadata : is_borne_out entries 0 (drew_first ∷ []) (called (input.Report 1 false (Some 7)) (Acked (with_metadata 100 7) true)) ≡ true
+report_of_metadata = refl
+
+report_of_other_metadata : is_borne_out entries 0 (drew_first ∷ []) (called (input.Report 1 false (Some 7)) (Acked (with_metadata 100 8) true)) ≡ false
+report_of_other_metadata = refl
+
+-- It is refused only where none was.
+not_issued : is_borne_out entries 0 (drew_first ∷ []) (called (input.Report 2 false None) (Refused NotIssued)) ≡ true
+not_issued = refl
+
+not_issued_untrue : is_borne_out entries 0 (drew_first ∷ []) (called (input.Report 1 false None) (Refused NotIssued)) ≡ false
+not_issued_untrue = refl
+
+-- The call drew the first entry, and neither the second nor the first at another place.
+first_drawn : is_drawn (drew_first ∷ []) 0 first_entry ≡ true
+first_drawn = refl
+
+second_undrawn : is_drawn (drew_first ∷ []) 1 second_entry ≡ false
+second_undrawn = refl
+
+elsewhere_undrawn : is_drawn (drew_first ∷ []) 1 first_entry ≡ false
+elsewhere_undrawn = refl
+
+again_undrawn : is_drawn (asks 1 0 9000 (Answered (again first_entry)) ∷ []) 0 first_entry ≡ false
+again_undrawn = refl
+
+-- ---- faults of the history
+
+not_at_most : (a b : ℕ) → leb a b ≡ false → a ≤ b → ⊥
+not_at_most a b above at_most = both_ways (leb a b) above (le-leb a b at_most)
+
+not_below : (a b : ℕ) → ltb a b ≡ false → a < b → ⊥
+not_below a b above below = both_ways (ltb a b) above (lt-ltb a b below)
+
+abbrev answered : ℕ → ℕ → CallAnswer → Call
+answered asked position answer = record { input = input.Report 1 false None; asked = asked; position = position; answer = answer }
+
+abbrev log_of : List Call → ClientLog
+log_of calls = record { calls = calls }
+
+-- A call goes on from where its client had come to, and a raise goes further.
+goes_on : IsOutOfOrder (answered 0 1 (Acked (plain 200) true) ∷ []) (answered 1 1 (Acked (plain 100) false)) → ⊥
+goes_on (inl before) = not_below 1 1 refl before
+goes_on (inr (inl back)) = not_below 1 1 refl back
+goes_on (inr (inr stays)) = false≢true stays.0
+
+falls : IsOutOfOrder [] (answered 2 1 (Acked (plain 100) false))
+falls = inr (inl (omega arith))
+
+raise_goes_further : IsOutOfOrder [] (answered 0 1 (Acked (plain 200) true)) → ⊥
+raise_goes_further (inl before) = not_below 0 0 refl before
+raise_goes_further (inr (inl back)) = not_below 1 0 refl back
+raise_goes_further (inr (inr stays)) = not_at_most 1 0 refl (omega (arith, stays.1))
+
+raise_stays : IsOutOfOrder [] (answered 1 1 (Acked (plain 200) true))
+raise_stays = inr (inr (refl, refl))
+
+-- One client raises the register at position 1 from version 100 to 200, and another has come to position 2.
+abbrev one_raise : List ClientLog
+one_raise = log_of (answered 0 1 (Acked (plain 200) true) ∷ []) ∷ log_of (answered 2 2 (Acked (plain 100) false) ∷ []) ∷ []
+
+-- So position 2 is a gap.
+gap : IsGap one_raise 2
+gap = (omega arith, refl, (1, 0, answered 2 2 (Acked (plain 100) false), refl, omega arith))
+
+-- Neither position 0 is one,
+start-no_gap : IsGap one_raise 0 → ⊥
+start-no_gap gap = not_at_most 1 0 refl gap.0
+
+-- nor position 1, which has its raise,
+raised-no_gap : IsGap one_raise 1 → ⊥
+raised-no_gap gap = not_at_most 1 0 refl (omega (arith, ap length gap.1))
+
+-- nor position 3, to which no call has come.
+beyond-reached : IsReached one_raise 3 → ⊥
+beyond-reached (zero, zero, call, at, reached) = let same = ap (λ (c : Call). c.position) (same_Some (answered 0 1 (Acked (plain 200) true)) call at) in absurd (omega (arith, reached))
+beyond-reached (zero, suc later, call, at, reached) = absurd (none-some call at)
+beyond-reached (suc zero, zero, call, at, reached) = let same = ap (λ (c : Call). c.position) (same_Some (answered 2 2 (Acked (plain 100) false)) call at) in absurd (omega (arith, reached))
+beyond-reached (suc zero, suc later, call, at, reached) = absurd (none-some call at)
+beyond-reached (suc (suc client), later, call, at, reached) = absurd (none-some call at)
+
+beyond-no_gap : IsGap one_raise 3 → ⊥
+beyond-no_gap gap = beyond-reached gap.2
+
+-- A read of another record than the register's at its position is wrong, be it the lock flag alone.
+read-right : IsWrongAnswer (plain 100) one_raise 1 (Version (plain 200) [] false) → ⊥
+read-right wrong = wrong refl
+
+read-locked : IsWrongAnswer (plain 100) one_raise 1 (Version (locked 200) [] false)
+read-locked = λ same. false≢true (sym (ap (λ (rec : Record). rec.locked) same))
+
+read-early : IsWrongAnswer (plain 100) one_raise 0 (Version (plain 200) [] false)
+read-early = λ same. not_at_most 200 100 refl (omega (arith, ap (λ (rec : Record). rec.version) same))
+
+-- A raise at position 1 is of a version above 100, the one before.
+raise-right : IsWrongAnswer (plain 100) one_raise 1 (Acked (plain 101) true) → ⊥
+raise-right wrong = not_at_most 101 100 refl wrong
+
+raise-wrong : IsWrongAnswer (plain 100) one_raise 1 (Acked (plain 100) true)
+raise-wrong = omega arith
+
+-- A report that did not raise the register at position 1 is of a version that is not above 200.
+unraised-right : IsWrongAnswer (plain 100) one_raise 1 (Acked (plain 200) false) → ⊥
+unraised-right wrong = not_below 200 200 refl wrong
+
+unraised-wrong : IsWrongAnswer (plain 100) one_raise 1 (Acked (plain 201) false)
+unraised-wrong = omega arith
+
+-- ---- low versions
+
+abbrev drawn : ℕ → ℕ → Bool → CallAnswer
+drawn ordinal version fresh = Answered (record { ordinal = ordinal; proxy = 0; num = 1; processed = 0; prev = 0; version = version; at = 0; fresh = fresh })
+
+-- A version that was drawn at position 1 is above 200,
+above : IsNotAbove (register_at (plain 100) one_raise) 1 (drawn 1 201 true) → ⊥
+above low = not_at_most 201 200 refl low.2
+
+not_above : IsNotAbove (register_at (plain 100) one_raise) 1 (drawn 1 200 true)
+not_above = (refl, (λ same. not_at_most 1 0 refl (omega (arith, same))), omega arith)
+
+-- but for the first of the chain, and one that is given again.
+first-exempt : IsNotAbove (register_at (plain 100) one_raise) 0 (drawn 0 100 true) → ⊥
+first-exempt low = low.1 refl
+
+again-exempt : IsNotAbove (register_at (plain 100) one_raise) 1 (drawn 1 200 false) → ⊥
+again-exempt low = false≢true low.0

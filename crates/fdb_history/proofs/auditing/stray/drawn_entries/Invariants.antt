@@ -1,0 +1,7 @@
+use Rattle.fdb_history.specs.Auditing.{AreMarks}
+use Rattle.fdb_history.proofs.Marks.{drawn_below}
+use Rattle.fdb_history.proofs.auditing.stray.drawn_entries.Given as goal
+
+-- what the clients before this one drew is marked
+abbrev pub invariant-loop-client : goal.invariant-loop-client
+invariant-loop-client l = AreMarks l.chain l.drawn.items (drawn_below l.logs l.client)
