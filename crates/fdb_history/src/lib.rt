@@ -17,6 +17,7 @@ mod log;
 mod register;
 mod replies;
 mod sequence;
+mod service;
 #[cfg(test)]
 mod tests;
 
@@ -30,3 +31,4 @@ pub use log::{Call, CallAnswer, ClientLog, Input, Refusal};
 pub use register::{MAX_VERSION, Record};
 pub use replies::Replies;
 pub use sequence::Sequence;
+pub use service::Service;
