@@ -2,6 +2,7 @@
 use Rattle.std.specs.Prelude.{◌≡◌, ℕ, ◌<◌, ◌≤◌, List, [], All, length, Result, Ok, Err, IsOkAnd, IsTrue}
 use Rattle.fdb_history.specs.Answer.{Chain}
 use Rattle.fdb_history.specs.Chain.{IsChain}
+use Rattle.fdb_history.specs.declared.chain.Ask.{Ask}
 use Rattle.fdb_history.specs.declared.chain.Issued.{Issued}
 use Rattle.fdb_history.specs.declared.log.Refusal.{Refusal}
 use Rattle.fdb_history.specs.declared.log.Refusal.TheVariants as refusal
@@ -35,6 +36,23 @@ IsAnswer answer (Err Exhausted) = answer ≡ Err refusal.Exhausted
 IsAnswer answer (Err Memory) = IsOkAnd answer (λ issued. IsTrue issued.fresh)
 IsAnswer answer (Err BadEpoch) = ⊥
 IsAnswer answer (Err NoProxy) = ⊥
+
+-- An answer is one to a request: to its proxy, under its number, and where it is fresh with all of its members.
+pub record IsFor (ask : Ask) (answer : Issued) : Type 0 where
+  pub proxy : answer.proxy ≡ ask.proxy
+  pub num : answer.num ≡ ask.num
+  pub processed : IsTrue answer.fresh → answer.processed ≡ ask.processed
+  pub at : IsTrue answer.fresh → answer.at ≡ ask.at
+
+-- Why a request may be refused. It is early for a number below its own.
+abbrev pub MayRefuse : Ask → ChainError → Type 0
+MayRefuse ask (Early expected) = (0 < expected) × (expected < ask.num)
+MayRefuse ask BadEpoch = ⊥
+MayRefuse ask NoProxy = ⊥
+MayRefuse ask UnknownProxy = Unit {0}
+MayRefuse ask Forgotten = Unit {0}
+MayRefuse ask Exhausted = Unit {0}
+MayRefuse ask Memory = Unit {0}
 
 -- What a chain keeps to: its members are in range, its answers are one chain of answers to its own proxies,
 -- and the replies of each proxy are those that the definition keeps.

@@ -1,9 +1,9 @@
 //! The chain of commit versions.
 
-ghost use Rattle.std.specs.Prelude.{◌≡◌, ◌+◌, ◌<◌, ◌≤◌, ◌⊎◌, ◌↔◌, ◌∷◌, ◌++◌, ◌^◌, [], All, IsSome, IfSome, OnOk, OnErr, IfOk, IfErr};
+ghost use Rattle.std.specs.Prelude.{◌≡◌, ◌+◌, ◌<◌, ◌≤◌, ◌⊎◌, ◌↔◌, ◌∷◌, ◌++◌, ◌^◌, [], false, All, IsSome, IfSome, OnOk, OnErr, IfOk, IfErr};
 ghost use Rattle.fdb_history.specs.Answer.{answer_to, fresh_answer, kept, kept_answer, next_answer, with_answer};
 ghost use Rattle.fdb_history.specs.Chain.{IsChain, IsNext, latest};
-ghost use Rattle.fdb_chain.specs.ChainCore.{IsAnswer, IsEpoch, IsProxyCount, new_chain};
+ghost use Rattle.fdb_chain.specs.ChainCore.{IsAnswer, IsEpoch, IsFor, IsProxyCount, MayRefuse, new_chain};
 
 use crate::error::ChainError;
 use crate::version;
@@ -86,6 +86,9 @@ impl ChainCore {
         ensures answer { IsAnswer (answer_to self.old ask) result }
         ensures ok { IfOk result (λ issued. self.new ≡ with_answer self.old issued) }
         ensures err { OnErr result (self.new ≡ self.old) }
+
+        ensures request { IfOk result (IsFor ask) }
+        ensures refused { IfErr result (MayRefuse ask) }
     {
         let issued = self.answer_to(ask)?;
         if issued.fresh {
@@ -105,9 +108,25 @@ impl ChainCore {
         self.answers.as_slice()
     }
 
+    /// The fresh answers, in order, without a copy.
+    pub fn into_answers(self) -> Vec<Issued>
+        ensures items { result.items ≡ self.answers }
+        ensures one_chain { IsChain self.epoch_end self.recovery self.answers }
+    {
+        let ChainCore {
+            epoch_end: _,
+            recovery: _,
+            answers,
+            replies: _,
+        } = self;
+        answers
+    }
+
     /// What a request is to be answered.
     fn answer_to(&self, ask: Ask) -> Result<Issued, ChainError>
-        ensures { IsAnswer (answer_to self.now ask) result }
+        ensures answer { IsAnswer (answer_to self.now ask) result }
+        ensures request { IfOk result (IsFor ask) }
+        ensures refused { IfErr result (MayRefuse ask) }
     {
         let Some(latest) = self.latest_num(ask.proxy) else {
             return Err(ChainError::UnknownProxy);
@@ -136,20 +155,25 @@ impl ChainCore {
     /// The answer that is kept under a proxy's number.
     fn kept_answer(&self, proxy: u32, num: u64) -> Result<Issued, ChainError>
         requires { proxy < self.now.proxies }
-        ensures { IsAnswer (kept_answer (kept proxy num self.now.answers)) result }
+        ensures answer { IsAnswer (kept_answer (kept proxy num self.now.answers)) result }
+        ensures request { IfOk result (λ answer. (answer.proxy ≡ proxy) × (answer.num ≡ num)) }
+        ensures again { IfOk result (λ answer. answer.fresh ≡ false) }
+        ensures refused { IfErr result (λ cause. cause ≡ ChainError.Forgotten) }
     {
-        let Some(place) = self.replies[proxy as usize].place_of(num) else {
-            return Err(ChainError::Forgotten);
-        };
-        Ok(Issued {
-            fresh: false,
-            ..self.answers[place]
-        })
+        match self.replies[proxy as usize].reply(self.answers.as_slice(), num) {
+            Some(answer) => Ok(Issued {
+                fresh: false,
+                ..answer
+            }),
+            None => Err(ChainError::Forgotten),
+        }
     }
 
     /// The next answer, if there is a version for it.
     fn fresh_answer(&self, ask: Ask) -> Result<Issued, ChainError>
-        ensures { IsAnswer (fresh_answer self.now ask) result }
+        ensures answer { IsAnswer (fresh_answer self.now ask) result }
+        ensures request { IfOk result (IsFor ask) }
+        ensures refused { IfErr result (λ cause. cause ≡ ChainError.Exhausted) }
     {
         let next = self.next_answer(ask);
         if next.version > MAX_VERSION {

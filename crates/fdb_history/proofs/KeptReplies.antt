@@ -11,6 +11,7 @@ use Rattle.fdb_history.specs.Answer.{kept, kept_among}
 use Rattle.fdb_history.specs.Chain.{latest, IsNext}
 use Rattle.fdb_history.specs.declared.chain.Issued.{Issued}
 use Rattle.fdb_history.specs.Replies.{KeptReplies, AreRepliesOf, AreRepliesOfAll, place_of, reply, replies_after}
+use Rattle.fdb_history.proofs.AnswerLaws.{kept-is}
 use Rattle.fdb_history.proofs.Lists.{slice_get-append_left, slice_get-append_seam}
 
 -- a search begins with the newest answer
@@ -144,3 +145,8 @@ AreRepliesOfAll-push epoch_end recovery answers all answer own known own_is next
       | inl w ↦ rw (w.0, sym w.1 ∙ ap (λ place. replies_after own place answer.processed) next.ordinal) (AreRepliesOf-own answers answer own next.num (were answer.proxy own (slice_get_read all (length all) answer.proxy own refl known own_is)))
       | inr w ↦ AreRepliesOf-other proxy answers answer found (λ e. w.0 (sym e)) (were proxy found w.1)
     ]
+
+-- the reply under a number is of the proxy, under that number
+pub reply-of_the_request : (proxy : ℕ) (answers : List Issued) (replies : KeptReplies) (num : ℕ) (found : Option Issued) → AreRepliesOf proxy answers replies → found ≡ reply answers replies num → IfSome found (λ answer. (answer.proxy ≡ proxy) × (answer.num ≡ num))
+reply-of_the_request proxy answers replies num None are is = tt
+reply-of_the_request proxy answers replies num (Some answer) are is = kept-is answers proxy num answer (are.look_up num ∙ sym is)

@@ -1,4 +1,4 @@
-//! Places at which a test can hold a thread. So far nothing passes any of them.
+//! Places at which a test can hold a thread.
 
 /// A place that a thread passes.
 #[derive(Clone, Copy, Debug, PartialEq, Eq)]

@@ -1,8 +1,9 @@
 //! The replies that are kept for one commit proxy.
 
-ghost use Rattle.std.specs.Prelude.{◌≡◌, ℕ, ◌<◌, ◌^◌, ◌∷◌, ◌++◌, [], List, length, All, OnOk, OnErr, IfOk};
+ghost use Rattle.std.specs.Prelude.{◌≡◌, ℕ, ◌<◌, ◌^◌, ◌∷◌, ◌++◌, [], List, length, All, OnOk, OnErr, IfOk, IfSome, slice_get};
+ghost use Rattle.std.specs.Option.{option_and_then};
 ghost use Rattle.fdb_history.specs.Chain.{IsNext};
-ghost use Rattle.fdb_history.specs.Replies.{AreRepliesOfAll, all_after, drawn_place, no_replies, place_of, replies_after};
+ghost use Rattle.fdb_history.specs.Replies.{AreRepliesOf, AreRepliesOfAll, all_after, drawn_place, no_replies, place_of, replies_after, reply};
 ghost use Rattle.fdb_history.specs.declared.chain.Issued.{Issued};
 
 use crate::chain::Issued;
@@ -68,6 +69,15 @@ impl Replies {
         self.places.get((num - 1) as usize).copied()
     }
 
+    /// The answer under a number, if it is kept.
+    pub fn reply(&self, answers: &[Issued], num: u64) -> Option<Issued>
+        ensures value { result ≡ reply answers.now self.now num }
+        ensures of_the_request { (proxy : ℕ) → AreRepliesOf proxy answers.now self.now
+            → IfSome result (λ answer. (answer.proxy ≡ proxy) × (answer.num ≡ num)) }
+    {
+        answer_at(answers, self.place_of(num))
+    }
+
     /// The place of the answer under a number, whether it is still kept or not.
     pub fn drawn_place(&self, num: u64) -> Option<usize>
         ensures { result ≡ drawn_place self.now num }
@@ -101,4 +111,11 @@ impl Replies {
         self.erased = processed.max(self.erased).min(latest);
         Ok(())
     }
+}
+
+/// The answer at a place, if there is one.
+fn answer_at(answers: &[Issued], place: Option<usize>) -> Option<Issued>
+    ensures { result ≡ option_and_then (slice_get answers.now) place }
+{
+    answers.get(place?).copied()
 }

@@ -44,20 +44,19 @@ pub fn run<R: Threads + Wait + Sync, G: Gate>(
     let _ = rt;
     let _ = proxies;
     let _ = gate;
-    let mut service = Service::new(alloc, script)?;
-    served(alloc, &mut service, script)
+    let service = Service::new(alloc, script)?;
+    served(alloc, service, script)
 }
 
 /// The outcome of a script that a service serves which nobody has called yet.
-fn served(alloc: Global, service: &mut Service, script: &Script) -> Result<Outcome, RunFault>
-    requires opened { service.old.core ≡ new_chain script.now.epoch_end script.now.recovery script.now.clients }
+fn served(alloc: Global, mut service: Service, script: &Script) -> Result<Outcome, RunFault>
+    requires opened { service.core ≡ new_chain script.now.epoch_end script.now.recovery script.now.clients }
     requires few { script.now.clients ≤ 64 }
     ensures ok { IfOk result (IsRunOf script.now) }
     ensures err { IfErr result (Fails script.now) }
 {
-    let logs = played(alloc, service, script)?;
-    let chain = service.chain(alloc)?;
-    audited(alloc, script, chain, logs)
+    let logs = played(alloc, &mut service, script)?;
+    audited(alloc, script, service.into_chain(), logs)
 }
 
 /// The logs of a script's clients, once a service has served all its rounds.

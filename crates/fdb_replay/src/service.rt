@@ -19,7 +19,7 @@ use fdb_chain::{ChainCore, ChainError};
 use fdb_history::{Ask, CallAnswer, GrvOpts, Issued, Record, Refusal, Sequence};
 use fdb_queue::{GrvQueue, QueueConfig, QueueError};
 use fdb_script::{Script, Throttle};
-use std::alloc::{AllocError, Global};
+use std::alloc::Global;
 
 /// The commit versions, the live committed version, and the throttles that reads are told of.
 #[derive(Drop)]
@@ -83,11 +83,16 @@ impl Service {
         }
     }
 
-    /// The commit versions that were drawn, in order.
-    pub(crate) fn chain(&self, alloc: Global) -> Result<Vec<Issued>, AllocError>
-        ensures { IfOk result (λ chain. IsChain self.now.core.epoch_end self.now.core.recovery chain.items) }
+    /// The commit versions that were drawn, in order, once nobody calls any more. It takes no memory.
+    pub(crate) fn into_chain(self) -> Vec<Issued>
+        ensures { IsChain self.core.epoch_end self.core.recovery result.items }
     {
-        Vec::from_slice(alloc, self.core.answers())
+        let Service {
+            core,
+            live: _,
+            throttles: _,
+        } = self;
+        core.into_answers()
     }
 
     /// The position of the live committed version: how many reports have raised it.
