@@ -2,10 +2,11 @@
 
 use crate::checksum::Checksum;
 use crate::draws::Draws;
+use crate::fault::Fault;
 use crate::measured::Measured;
 use crate::stopwatch::Stopwatch;
 use fdb_chain::{ChainCore, ChainError};
-use fdb_history::Ask;
+use fdb_history::{Ask, Issued};
 use std::alloc::Global;
 use std::time::CpuClock;
 
@@ -20,8 +21,8 @@ pub fn fresh(
     alloc: Global,
     proxies: u32,
     size: u32,
-) -> Result<Measured, ChainError> {
-    let mut chain = ChainCore::new(alloc, 0, RECOVERY, proxies)?;
+) -> Result<Measured, Fault> {
+    let mut chain = empty_chain(alloc, proxies)?;
     let watch = Stopwatch::start(clock);
     let checksum = ask_fresh(&mut chain, proxies, size)?;
     Ok(Measured {
@@ -32,8 +33,8 @@ pub fn fresh(
 }
 
 /// Repeats of numbers without a pattern, of a chain with as many answers.
-pub fn repeats(clock: &impl CpuClock, alloc: Global, size: u32) -> Result<Measured, ChainError> {
-    let mut chain = ChainCore::new(alloc, 0, RECOVERY, MANY)?;
+pub fn repeats(clock: &impl CpuClock, alloc: Global, size: u32) -> Result<Measured, Fault> {
+    let mut chain = empty_chain(alloc, MANY)?;
     let drawn = ask_fresh(&mut chain, MANY, size)?;
     let watch = Stopwatch::start(clock);
     let checksum = ask_again(&mut chain, size, drawn)?;
@@ -45,8 +46,8 @@ pub fn repeats(clock: &impl CpuClock, alloc: Global, size: u32) -> Result<Measur
 }
 
 /// Three fresh requests and a repeat in turn, by many proxies of which each has processed all but its last few answers.
-pub fn processed(clock: &impl CpuClock, alloc: Global, size: u32) -> Result<Measured, ChainError> {
-    let mut chain = ChainCore::new(alloc, 0, RECOVERY, MANY)?;
+pub fn processed(clock: &impl CpuClock, alloc: Global, size: u32) -> Result<Measured, Fault> {
+    let mut chain = empty_chain(alloc, MANY)?;
     let watch = Stopwatch::start(clock);
     let checksum = ask_mixed(&mut chain, size)?;
     Ok(Measured {
@@ -56,45 +57,73 @@ pub fn processed(clock: &impl CpuClock, alloc: Global, size: u32) -> Result<Meas
     })
 }
 
+/// A chain that nobody has asked yet, with so many commit proxies.
+pub fn empty_chain(alloc: Global, proxies: u32) -> Result<ChainCore, Fault> {
+    match ChainCore::new(alloc, 0, RECOVERY, proxies) {
+        Ok(chain) => Ok(chain),
+        Err(_) => Err(Fault::Chain),
+    }
+}
+
+/// Asks for a commit version, and adds what was answered.
+fn asked(chain: &mut ChainCore, ask: Ask, checksum: Checksum) -> Result<Checksum, Fault> {
+    match chain.ask(ask) {
+        Ok(issued) => Ok(checksum.with(issued_word(&issued))),
+        Err(ChainError::Early { expected }) => Ok(checksum.with(expected)),
+        Err(ChainError::Forgotten) => Ok(checksum.with(1)),
+        Err(ChainError::Exhausted) => Ok(checksum.with(2)),
+        Err(_) => Err(Fault::Chain),
+    }
+}
+
+/// A word for an answer.
+fn issued_word(issued: &Issued) -> u64 {
+    issued
+        .version
+        .wrapping_mul(3)
+        .wrapping_add(issued.prev)
+        .wrapping_add(u64::from(issued.fresh))
+}
+
 /// Makes so many fresh requests.
-fn ask_fresh(chain: &mut ChainCore, proxies: u32, size: u32) -> Result<Checksum, ChainError> {
+fn ask_fresh(chain: &mut ChainCore, proxies: u32, size: u32) -> Result<Checksum, Fault> {
     let mut checksum = Checksum::EMPTY;
     let proxies = proxies.max(1);
     for place in 0..size {
-        let answer = chain.ask(Ask {
+        let ask = Ask {
             proxy: place % proxies,
             num: u64::from(place / proxies) + 1,
             processed: 0,
             at: moment(place),
-        });
-        checksum = checksum.with_answer(answer)?;
+        };
+        checksum = asked(chain, ask, checksum)?;
     }
     Ok(checksum)
 }
 
 /// Repeats so many requests of a chain in which each of many proxies has its share of so many answers.
-fn ask_again(chain: &mut ChainCore, size: u32, drawn: Checksum) -> Result<Checksum, ChainError> {
+fn ask_again(chain: &mut ChainCore, size: u32, drawn: Checksum) -> Result<Checksum, Fault> {
     let mut checksum = drawn;
     let mut draws = Draws::START;
     let share = u64::from(size / MANY).max(1);
     for place in 0..size {
-        let answer = chain.ask(Ask {
+        let ask = Ask {
             proxy: place % MANY,
             num: draws.next_number() % share + 1,
             processed: 0,
             at: moment(place),
-        });
-        checksum = checksum.with_answer(answer)?;
+        };
+        checksum = asked(chain, ask, checksum)?;
     }
     Ok(checksum)
 }
 
 /// Makes so many requests, of which each fourth of a proxy is a repeat.
-fn ask_mixed(chain: &mut ChainCore, size: u32) -> Result<Checksum, ChainError> {
+fn ask_mixed(chain: &mut ChainCore, size: u32) -> Result<Checksum, Fault> {
     let mut checksum = Checksum::EMPTY;
     let mut draws = Draws::START;
     for place in 0..size {
-        checksum = checksum.with_answer(chain.ask(mixed(&mut draws, place)))?;
+        checksum = asked(chain, mixed(&mut draws, place), checksum)?;
     }
     Ok(checksum)
 }

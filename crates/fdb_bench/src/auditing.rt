@@ -2,16 +2,17 @@
 
 ghost use Rattle.std.specs.Prelude.{◌≤◌, length};
 
+use crate::asking::empty_chain;
 use crate::checksum::Checksum;
 use crate::fault::Fault;
 use crate::measured::Measured;
 use crate::stopwatch::Stopwatch;
-use fdb_chain::{ChainCore, ChainError};
+use fdb_chain::ChainCore;
 use fdb_history::{
-    Ask, AuditFault, Call, CallAnswer, ClientLog, Event, GrvOpts, Input, Issued, Priority, Record,
-    Sequence, audit,
+    Ask, Call, CallAnswer, ClientLog, Event, GrvOpts, Input, Issued, Priority, Record, Sequence,
+    audit,
 };
-use std::alloc::{AllocError, Global};
+use std::alloc::Global;
 use std::time::CpuClock;
 
 /// How many clients there are, and how many logs an audit may have.
@@ -46,19 +47,29 @@ pub fn audits(clock: &impl CpuClock, alloc: Global, size: u32) -> Result<Measure
 }
 
 /// Audits the same logs a few times.
-fn audit_each_time(
-    alloc: Global,
-    chain: &[Issued],
-    logs: &[ClientLog],
-) -> Result<Checksum, AuditFault>
+fn audit_each_time(alloc: Global, chain: &[Issued], logs: &[ClientLog]) -> Result<Checksum, Fault>
     requires { length logs.now ≤ 64 }
 {
     let mut checksum = Checksum::EMPTY;
     for _ in 0..AUDITS {
-        let history = audit(alloc, OPENING, chain, logs)?;
-        checksum = with_events(checksum, history.events.as_slice());
+        checksum = audit_once(alloc, chain, logs, checksum)?;
     }
     Ok(checksum)
+}
+
+/// Audits the logs, and adds the history.
+fn audit_once(
+    alloc: Global,
+    chain: &[Issued],
+    logs: &[ClientLog],
+    before: Checksum,
+) -> Result<Checksum, Fault>
+    requires { length logs.now ≤ 64 }
+{
+    match audit(alloc, OPENING, chain, logs) {
+        Ok(history) => Ok(with_events(before, history.events.as_slice())),
+        Err(_) => Err(Fault::Audit),
+    }
 }
 
 /// The checksum with some events.
@@ -104,9 +115,9 @@ struct Run {
 
 impl Run {
     /// A run with so many calls: each client in turn draws a version, raises the register with it and reads it.
-    fn of(alloc: Global, size: u32) -> Result<Run, ChainError> {
+    fn of(alloc: Global, size: u32) -> Result<Run, Fault> {
         let mut run = Run {
-            chain: ChainCore::new(alloc, 0, RECOVERY, CLIENTS)?,
+            chain: empty_chain(alloc, CLIENTS)?,
             live: OPENING,
             position: 0,
             logs: empty_logs(alloc)?,
@@ -118,7 +129,7 @@ impl Run {
     }
 
     /// The call at a place.
-    fn play(&mut self, alloc: Global, place: u32) -> Result<(), ChainError> {
+    fn play(&mut self, alloc: Global, place: u32) -> Result<(), Fault> {
         let turn = place / 3;
         let (client, num) = (turn % CLIENTS, u64::from(turn / CLIENTS) + 1);
         let call = match place % 3 {
@@ -126,23 +137,26 @@ impl Run {
             1 => self.report(num),
             _ => self.read(alloc),
         };
-        Ok(self.log(client, call)?)
+        self.log(client, call)
     }
 
     /// A client's request for a commit version.
-    fn ask(&mut self, client: u32, num: u64) -> Result<Call, ChainError> {
+    fn ask(&mut self, client: u32, num: u64) -> Result<Call, Fault> {
         let processed = num.saturating_sub(8);
         let at = self.position.wrapping_mul(3);
-        let issued = self.chain.ask(Ask {
+        let ask = Ask {
             proxy: client,
             num,
             processed,
             at,
-        })?;
-        Ok(self.call(
-            Input::Ask { num, processed, at },
-            CallAnswer::Answered(issued),
-        ))
+        };
+        match self.chain.ask(ask) {
+            Ok(issued) => Ok(self.call(
+                Input::Ask { num, processed, at },
+                CallAnswer::Answered(issued),
+            )),
+            Err(_) => Err(Fault::Chain),
+        }
     }
 
     /// A report of the newest commit version, under its number.
@@ -197,20 +211,30 @@ impl Run {
     }
 
     /// Adds a call to a client's log, asked at the position that the client had come to.
-    fn log(&mut self, client: u32, call: Call) -> Result<(), AllocError> {
-        if let Some(log) = self.logs.get_mut(client as usize) {
-            let asked = match log.calls.as_slice().last() {
-                Some(last) => last.position,
-                None => 0,
-            };
-            log.calls.push(Call { asked, ..call })?;
+    fn log(&mut self, client: u32, call: Call) -> Result<(), Fault> {
+        match self.logs.get_mut(client as usize) {
+            Some(log) => push_call(log, call),
+            None => Ok(()),
         }
-        Ok(())
+    }
+}
+
+/// Adds a call to a log, asked at the position that the log has come to.
+fn push_call(log: &mut ClientLog, call: Call) -> Result<(), Fault> {
+    let asked = last_position(log);
+    Ok(log.calls.push(Call { asked, ..call })?)
+}
+
+/// The position that a log has come to.
+fn last_position(log: &ClientLog) -> u64 {
+    match log.calls.as_slice().last() {
+        Some(last) => last.position,
+        None => 0,
     }
 }
 
 /// A log without calls for each client.
-fn empty_logs(alloc: Global) -> Result<Vec<ClientLog>, AllocError> {
+fn empty_logs(alloc: Global) -> Result<Vec<ClientLog>, Fault> {
     let mut logs = Vec::new(alloc);
     for _ in 0..CLIENTS {
         logs.push(ClientLog {

@@ -113,17 +113,17 @@ impl Benchmark {
         alloc: Global,
         size: u32,
     ) -> Result<Measured, Fault> {
-        Ok(match self {
-            Benchmark::FreshOfOne => asking::fresh(rt, alloc, 1, size)?,
-            Benchmark::FreshOfMany => asking::fresh(rt, alloc, asking::MANY, size)?,
-            Benchmark::Repeats => asking::repeats(rt, alloc, size)?,
-            Benchmark::Processed => asking::processed(rt, alloc, size)?,
-            Benchmark::Windows => queueing::windows(rt, alloc, size)?,
-            Benchmark::PushOuts => queueing::push_outs(rt, alloc, size)?,
-            Benchmark::Throttles => throttling::throttles(rt, alloc, size)?,
-            Benchmark::Waits => queueing::waits(rt, alloc, size)?,
-            Benchmark::Replay => replaying::replay(rt, alloc, size)?,
-            Benchmark::Audit => auditing::audits(rt, alloc, size)?,
-        })
+        match self {
+            Benchmark::FreshOfOne => asking::fresh(rt, alloc, 1, size),
+            Benchmark::FreshOfMany => asking::fresh(rt, alloc, asking::MANY, size),
+            Benchmark::Repeats => asking::repeats(rt, alloc, size),
+            Benchmark::Processed => asking::processed(rt, alloc, size),
+            Benchmark::Windows => queueing::windows(rt, alloc, size),
+            Benchmark::PushOuts => queueing::push_outs(rt, alloc, size),
+            Benchmark::Throttles => throttling::throttles(rt, alloc, size),
+            Benchmark::Waits => queueing::waits(rt, alloc, size),
+            Benchmark::Replay => replaying::replay(rt, alloc, size),
+            Benchmark::Audit => auditing::audits(rt, alloc, size),
+        }
     }
 }

@@ -1,10 +1,6 @@
 //! Why a benchmark could not be run.
 
-use fdb_chain::ChainError;
-use fdb_history::AuditFault;
-use fdb_queue::QueueError;
-use fdb_replay::ReplayFault;
-use std::alloc::AllocError;
+use std::alloc::{AllocError, AllocFailed};
 
 /// Why a benchmark could not be run: what failed that it measures, or prepares.
 #[derive(Clone, Copy)]
@@ -35,26 +31,8 @@ impl From<AllocError> for Fault {
     }
 }
 
-impl From<ChainError> for Fault {
-    fn from(_error: ChainError) -> Self {
-        Fault::Chain
-    }
-}
-
-impl From<QueueError> for Fault {
-    fn from(_error: QueueError) -> Self {
-        Fault::Queue
-    }
-}
-
-impl From<AuditFault> for Fault {
-    fn from(_fault: AuditFault) -> Self {
-        Fault::Audit
-    }
-}
-
-impl From<ReplayFault> for Fault {
-    fn from(_fault: ReplayFault) -> Self {
-        Fault::Replay
+impl<T: Drop> From<AllocFailed<T>> for Fault {
+    fn from(_error: AllocFailed<T>) -> Self {
+        Fault::Memory
     }
 }

@@ -68,11 +68,20 @@ where
     let Some(time) = measured.time else {
         return Err(anyhow!("the clock failed"));
     };
-    let (name, checksum) = (benchmark.name(), measured.checksum.value());
-    println!(rt; "{name} {size} {checksum}")?;
-    let (operations, nanos) = (measured.operations, nanos(time));
+    println!(rt; "{} {size} {}", benchmark.name(), measured.checksum.value())?;
+    print_time(rt, benchmark, size, measured.operations, nanos(time))
+}
+
+/// Prints what a benchmark took, in nanoseconds.
+fn print_time(
+    rt: &impl Eprint,
+    benchmark: Benchmark,
+    size: u32,
+    operations: u64,
+    nanos: u64,
+) -> Result<()> {
     let tenths = tenths(nanos, operations);
-    let (whole, tenth) = (tenths / 10, tenths % 10);
+    let (name, whole, tenth) = (benchmark.name(), tenths / 10, tenths % 10);
     eprintln!(rt;
         "{name} {size}: {operations} operations, {nanos} ns of processor time, {whole}.{tenth} ns each"
     )?;

@@ -2,6 +2,7 @@
 
 use crate::checksum::Checksum;
 use crate::draws::Draws;
+use crate::fault::Fault;
 use crate::measured::Measured;
 use crate::stopwatch::Stopwatch;
 use fdb_history::Priority;
@@ -25,7 +26,7 @@ const FLOODS: u32 = 10;
 const WAITS_PER_WINDOW: u32 = 8;
 
 /// Offers of all priorities, and windows that start about as much as is offered, at a queue that is nearly full.
-pub fn windows(clock: &impl CpuClock, alloc: Global, room: u32) -> Result<Measured, QueueError> {
+pub fn windows(clock: &impl CpuClock, alloc: Global, room: u32) -> Result<Measured, Fault> {
     let mut queue = nearly_full(alloc, room)?;
     let offers = room.saturating_mul(OFFERS_PER_ROOM);
     let watch = Stopwatch::start(clock);
@@ -39,7 +40,7 @@ pub fn windows(clock: &impl CpuClock, alloc: Global, room: u32) -> Result<Measur
 
 /// Floods of system requests into a queue that is filled with batch and default requests: each pushes one out, until
 /// none is left and the others are refused.
-pub fn push_outs(clock: &impl CpuClock, alloc: Global, room: u32) -> Result<Measured, QueueError> {
+pub fn push_outs(clock: &impl CpuClock, alloc: Global, room: u32) -> Result<Measured, Fault> {
     let watch = Stopwatch::start(clock);
     let checksum = flood_each_time(alloc, room)?;
     Ok(Measured {
@@ -50,13 +51,8 @@ pub fn push_outs(clock: &impl CpuClock, alloc: Global, room: u32) -> Result<Meas
 }
 
 /// Questions how many windows the head of the row waits, with a window after every few.
-pub fn waits(clock: &impl CpuClock, alloc: Global, size: u32) -> Result<Measured, QueueError> {
-    let config = QueueConfig {
-        normal: 10,
-        batch: 10,
-        room: 1,
-    };
-    let mut queue = GrvQueue::new(alloc, config)?;
+pub fn waits(clock: &impl CpuClock, alloc: Global, size: u32) -> Result<Measured, Fault> {
+    let mut queue = empty_queue(alloc, 10, 10, 1)?;
     let head = request_of(Priority::Default, 100_000, 0);
     let before = offered(&mut queue, Checksum::EMPTY, head)?;
     let watch = Stopwatch::start(clock);
@@ -68,20 +64,33 @@ pub fn waits(clock: &impl CpuClock, alloc: Global, size: u32) -> Result<Measured
     })
 }
 
-/// A queue in which nine tenths of the room is taken.
-fn nearly_full(alloc: Global, room: u32) -> Result<GrvQueue<u64>, QueueError> {
+/// A queue in which nobody waits.
+pub fn empty_queue(
+    alloc: Global,
+    normal: u64,
+    batch: u64,
+    room: u32,
+) -> Result<GrvQueue<u64>, Fault> {
     let config = QueueConfig {
-        normal: 260,
-        batch: 250,
+        normal,
+        batch,
         room: u64::from(room),
     };
-    let mut queue = GrvQueue::new(alloc, config)?;
+    match GrvQueue::new(alloc, config) {
+        Ok(queue) => Ok(queue),
+        Err(_) => Err(Fault::Queue),
+    }
+}
+
+/// A queue in which nine tenths of the room is taken.
+fn nearly_full(alloc: Global, room: u32) -> Result<GrvQueue<u64>, Fault> {
+    let mut queue = empty_queue(alloc, 260, 250, room)?;
     fill(&mut queue, room - room / 10, Checksum::EMPTY)?;
     Ok(queue)
 }
 
 /// Offers so many requests of a filling.
-fn fill(queue: &mut GrvQueue<u64>, offers: u32, before: Checksum) -> Result<Checksum, QueueError> {
+fn fill(queue: &mut GrvQueue<u64>, offers: u32, before: Checksum) -> Result<Checksum, Fault> {
     let mut checksum = before;
     for place in 0..offers {
         checksum = offered(queue, checksum, filling(place))?;
@@ -90,7 +99,7 @@ fn fill(queue: &mut GrvQueue<u64>, offers: u32, before: Checksum) -> Result<Chec
 }
 
 /// Makes so many offers, and holds a window after every few.
-fn offer_and_start(queue: &mut GrvQueue<u64>, offers: u32) -> Result<Checksum, QueueError> {
+fn offer_and_start(queue: &mut GrvQueue<u64>, offers: u32) -> Result<Checksum, Fault> {
     let mut checksum = Checksum::EMPTY;
     let mut draws = Draws::START;
     for place in 0..offers {
@@ -103,7 +112,7 @@ fn offer_and_start(queue: &mut GrvQueue<u64>, offers: u32) -> Result<Checksum, Q
 }
 
 /// Floods a few queues, one after another.
-fn flood_each_time(alloc: Global, room: u32) -> Result<Checksum, QueueError> {
+fn flood_each_time(alloc: Global, room: u32) -> Result<Checksum, Fault> {
     let mut checksum = Checksum::EMPTY;
     for _ in 0..FLOODS {
         checksum = flood(alloc, room, checksum)?;
@@ -112,23 +121,14 @@ fn flood_each_time(alloc: Global, room: u32) -> Result<Checksum, QueueError> {
 }
 
 /// Fills a queue, and floods it with twice as many system requests as there is room for.
-fn flood(alloc: Global, room: u32, before: Checksum) -> Result<Checksum, QueueError> {
-    let config = QueueConfig {
-        normal: 100_000,
-        batch: 100_000,
-        room: u64::from(room),
-    };
-    let mut queue = GrvQueue::new(alloc, config)?;
+fn flood(alloc: Global, room: u32, before: Checksum) -> Result<Checksum, Fault> {
+    let mut queue = empty_queue(alloc, 100_000, 100_000, room)?;
     let filled = fill(&mut queue, room, before)?;
     push_out(&mut queue, room.saturating_mul(2), filled)
 }
 
 /// Offers so many system requests.
-fn push_out(
-    queue: &mut GrvQueue<u64>,
-    offers: u32,
-    before: Checksum,
-) -> Result<Checksum, QueueError> {
+fn push_out(queue: &mut GrvQueue<u64>, offers: u32, before: Checksum) -> Result<Checksum, Fault> {
     let mut checksum = before;
     for place in 0..offers {
         let request = request_of(Priority::System, 1, u64::from(place));
@@ -138,11 +138,7 @@ fn push_out(
 }
 
 /// Asks so many times how many windows the head waits, and holds a short window after every few.
-fn ask_and_wait(
-    queue: &mut GrvQueue<u64>,
-    size: u32,
-    before: Checksum,
-) -> Result<Checksum, QueueError> {
+fn ask_and_wait(queue: &mut GrvQueue<u64>, size: u32, before: Checksum) -> Result<Checksum, Fault> {
     let mut checksum = before;
     let mut draws = Draws::START;
     for place in 0..size {
@@ -160,27 +156,30 @@ fn offered(
     queue: &mut GrvQueue<u64>,
     checksum: Checksum,
     request: Req<u64>,
-) -> Result<Checksum, QueueError> {
+) -> Result<Checksum, Fault> {
     match queue.offer(request) {
         Ok(None) => Ok(checksum.with(0)),
         Ok(Some(out)) => Ok(checksum.with(request_word(&out).wrapping_add(1))),
-        Err((QueueError::Memory, _)) => Err(QueueError::Memory),
+        Err((QueueError::Memory, _)) => Err(Fault::Queue),
         Err((_, refused)) => Ok(checksum.with(request_word(&refused).wrapping_add(2))),
     }
 }
 
 /// Holds a window, and adds what it started.
-fn started(
-    queue: &mut GrvQueue<u64>,
-    before: Checksum,
-    elapsed: u64,
-) -> Result<Checksum, QueueError> {
-    let started = queue.window(elapsed)?;
+fn started(queue: &mut GrvQueue<u64>, before: Checksum, elapsed: u64) -> Result<Checksum, Fault> {
+    match queue.window(elapsed) {
+        Ok(started) => Ok(with_requests(before, &started)),
+        Err(_) => Err(Fault::Queue),
+    }
+}
+
+/// The checksum with some requests.
+fn with_requests(before: Checksum, requests: &[Req<u64>]) -> Checksum {
     let mut checksum = before;
-    for request in &started {
+    for request in requests {
         checksum = checksum.with(request_word(request));
     }
-    Ok(checksum)
+    checksum
 }
 
 /// A word for a request.

@@ -6,7 +6,6 @@ use crate::measured::Measured;
 use crate::scripted;
 use crate::stopwatch::Stopwatch;
 use fdb_history::OpenGate;
-use fdb_replay::ReplayFault;
 use std::alloc::Global;
 use std::sync::Wait;
 use std::thread::Threads;
@@ -40,12 +39,25 @@ fn replay_each_time<R: CpuClock + Threads + Wait + Sync>(
     alloc: Global,
     script: &[u8],
     written: &mut Vec<u8>,
-) -> Result<(), ReplayFault> {
+) -> Result<(), Fault> {
     for _ in 0..REPLAYS {
-        written.clear();
-        fdb_replay::replay(rt, alloc, script, 1, false, &OpenGate, written)?;
+        replay_once(rt, alloc, script, written)?;
     }
     Ok(())
+}
+
+/// Replays a script, and leaves what was written.
+fn replay_once<R: CpuClock + Threads + Wait + Sync>(
+    rt: &R,
+    alloc: Global,
+    script: &[u8],
+    written: &mut Vec<u8>,
+) -> Result<(), Fault> {
+    written.clear();
+    match fdb_replay::replay(rt, alloc, script, 1, false, &OpenGate, written) {
+        Ok(()) => Ok(()),
+        Err(_) => Err(Fault::Replay),
+    }
 }
 
 /// The checksum of some bytes.

@@ -2,11 +2,13 @@
 
 use crate::checksum::Checksum;
 use crate::draws::Draws;
+use crate::fault::Fault;
 use crate::measured::Measured;
+use crate::queueing::empty_queue;
 use crate::stopwatch::Stopwatch;
 use fdb_history::{Priority, Sequence, Tag, TagLimit};
-use fdb_queue::{GrvQueue, QueueConfig, QueueError};
-use std::alloc::{AllocError, Global};
+use fdb_queue::GrvQueue;
+use std::alloc::Global;
 use std::time::CpuClock;
 
 /// How many times all tags are looked up.
@@ -19,17 +21,34 @@ const TAGS_PER_REQUEST: usize = 4;
 const LAST_MOMENT: u64 = 1_000;
 
 /// Sets so many throttles, and looks them up by requests of four tags at other priorities and moments.
-pub fn throttles(clock: &impl CpuClock, alloc: Global, size: u32) -> Result<Measured, QueueError> {
-    let config = QueueConfig {
-        normal: 1,
-        batch: 1,
-        room: 1,
-    };
-    let mut queue = GrvQueue::new(alloc, config)?;
+pub fn throttles(clock: &impl CpuClock, alloc: Global, size: u32) -> Result<Measured, Fault> {
     let tags = tags(alloc, size)?;
-    let given = copies(alloc, tags.as_slice())?;
+    set_and_look_up(clock, alloc, size, tags.as_slice())
+}
+
+/// Sets and looks up these throttles.
+fn set_and_look_up(
+    clock: &impl CpuClock,
+    alloc: Global,
+    size: u32,
+    tags: &[Tag],
+) -> Result<Measured, Fault> {
+    let mut queue = empty_queue(alloc, 1, 1, 1)?;
+    time_throttles(clock, alloc, &mut queue, size, tags)
+}
+
+/// Takes the time that the throttles take.
+fn time_throttles(
+    clock: &impl CpuClock,
+    alloc: Global,
+    queue: &mut GrvQueue<u64>,
+    size: u32,
+    tags: &[Tag],
+) -> Result<Measured, Fault> {
+    let given = copies(alloc, tags)?;
     let watch = Stopwatch::start(clock);
-    let checksum = set_and_look_up(&mut queue, given, tags.as_slice())?;
+    set_each(queue, given)?;
+    let checksum = look_up(queue, tags)?;
     Ok(Measured {
         operations: u64::from(size) * u64::from(PASSES + 1),
         time: watch.stop(clock),
@@ -38,53 +57,58 @@ pub fn throttles(clock: &impl CpuClock, alloc: Global, size: u32) -> Result<Meas
 }
 
 /// So many tags of eight bytes, without an order.
-fn tags(alloc: Global, size: u32) -> Result<Vec<Tag>, AllocError> {
+fn tags(alloc: Global, size: u32) -> Result<Vec<Tag>, Fault> {
     let mut tags = Vec::new(alloc);
     let mut draws = Draws::START;
     for place in 0..size {
         let number = draws.next_number() << 32 | u64::from(place);
-        let bytes = Vec::from_slice(alloc, &number.to_be_bytes())?;
-        tags.push(Sequence::from(bytes))?;
+        push_tag(alloc, &mut tags, number)?;
     }
     Ok(tags)
 }
 
+/// Adds the tag of a number's eight bytes.
+fn push_tag(alloc: Global, tags: &mut Vec<Tag>, number: u64) -> Result<(), Fault> {
+    let bytes = Vec::from_slice(alloc, &number.to_be_bytes())?;
+    Ok(tags.push(Sequence::from(bytes))?)
+}
+
 /// A copy of each tag.
-fn copies(alloc: Global, tags: &[Tag]) -> Result<Vec<Tag>, AllocError> {
+fn copies(alloc: Global, tags: &[Tag]) -> Result<Vec<Tag>, Fault> {
     let mut copies = Vec::new(alloc);
     for tag in tags {
-        copies.push(tag.clone()?)?;
+        push_copy(&mut copies, tag)?;
     }
     Ok(copies)
 }
 
-/// Sets a throttle for each tag, and looks up all of them over and over.
-fn set_and_look_up(
-    queue: &mut GrvQueue<u64>,
-    given: Vec<Tag>,
-    tags: &[Tag],
-) -> Result<Checksum, QueueError> {
-    set_each(queue, given)?;
-    look_up(queue, tags)
+/// Adds a copy of a tag.
+fn push_copy(copies: &mut Vec<Tag>, tag: &Tag) -> Result<(), Fault> {
+    let copy = tag.clone()?;
+    Ok(copies.push(copy)?)
 }
 
 /// Sets a throttle for each tag.
-fn set_each(queue: &mut GrvQueue<u64>, tags: Vec<Tag>) -> Result<(), QueueError> {
+fn set_each(queue: &mut GrvQueue<u64>, tags: Vec<Tag>) -> Result<(), Fault> {
     let mut draws = Draws::START;
     for tag in tags {
         let drawn = draws.next_number();
-        queue.set_throttle(
-            priority_of(drawn),
-            tag,
-            drawn % 100,
-            drawn / 100 % LAST_MOMENT,
-        )?;
+        set_one(queue, drawn, tag)?;
     }
     Ok(())
 }
 
+/// Sets a throttle for a tag, as a drawn number says.
+fn set_one(queue: &mut GrvQueue<u64>, drawn: u64, tag: Tag) -> Result<(), Fault> {
+    let (rate, expires) = (drawn % 100, drawn / 100 % LAST_MOMENT);
+    match queue.set_throttle(priority_of(drawn), tag, rate, expires) {
+        Ok(()) => Ok(()),
+        Err(_) => Err(Fault::Queue),
+    }
+}
+
 /// Looks up all tags, some at a time, over and over.
-fn look_up(queue: &GrvQueue<u64>, tags: &[Tag]) -> Result<Checksum, QueueError> {
+fn look_up(queue: &GrvQueue<u64>, tags: &[Tag]) -> Result<Checksum, Fault> {
     let mut checksum = Checksum::EMPTY;
     let mut draws = Draws::START;
     for _ in 0..PASSES {
@@ -99,16 +123,35 @@ fn look_up_once(
     tags: &[Tag],
     draws: &mut Draws,
     before: Checksum,
-) -> Result<Checksum, QueueError> {
+) -> Result<Checksum, Fault> {
     let mut checksum = before;
     for some in tags.chunks(TAGS_PER_REQUEST) {
         let drawn = draws.next_number();
-        let limits = queue.throttles(priority_of(drawn), some, drawn / 100 % LAST_MOMENT)?;
-        for limit in &limits {
-            checksum = checksum.with(limit_word(limit));
-        }
+        checksum = look_up_some(queue, some, drawn, checksum)?;
     }
     Ok(checksum)
+}
+
+/// Looks up some tags, as a drawn number says.
+fn look_up_some(
+    queue: &GrvQueue<u64>,
+    tags: &[Tag],
+    drawn: u64,
+    before: Checksum,
+) -> Result<Checksum, Fault> {
+    match queue.throttles(priority_of(drawn), tags, drawn / 100 % LAST_MOMENT) {
+        Ok(limits) => Ok(with_limits(before, &limits)),
+        Err(_) => Err(Fault::Queue),
+    }
+}
+
+/// The checksum with some limits.
+fn with_limits(before: Checksum, limits: &[TagLimit]) -> Checksum {
+    let mut checksum = before;
+    for limit in limits {
+        checksum = checksum.with(limit_word(limit));
+    }
+    checksum
 }
 
 /// The priority that a drawn number stands for.
