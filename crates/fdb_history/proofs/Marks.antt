@@ -7,6 +7,7 @@ use Rattle.std.proofs.lemmas.List.{get_or-replicate, length-replicate, take_more
 use Rattle.std.proofs.lemmas.List.Concat.{flat_map-append}
 use Rattle.std.proofs.lemmas.List.Folds.{list_any-append}
 use Rattle.std.proofs.lemmas.Option.{slice_get_within}
+use Rattle.std.proofs.Math.Bool.{and-false, and-true, or-false, or-true}
 use Rattle.std.proofs.Math.Seq.{take-append_seam}
 use Rattle.fdb_history.specs.Auditing.{AreMarks, HasUnmarked, IsLeastIfAny}
 use Rattle.fdb_history.specs.Faults.{IsLeast}
@@ -19,22 +20,6 @@ use Rattle.fdb_history.specs.declared.log.CallAnswer.TheVariants.{Version, Answe
 use Rattle.fdb_history.specs.declared.log.ClientLog.{ClientLog}
 use Rattle.fdb_history.proofs.FirstCalls.{calls-past}
 use Rattle.fdb_history.proofs.Lists.{at_left, at_push, slice_get-append_seam}
-
-or_false : (b : Bool) → (b || false) ≡ b
-or_false true = refl
-or_false false = refl
-
-or_true : (b : Bool) → (b || true) ≡ true
-or_true true = refl
-or_true false = refl
-
-and_false : (b : Bool) → (b && false) ≡ false
-and_false true = refl
-and_false false = refl
-
-and_true : (b : Bool) → (b && true) ≡ b
-and_true true = refl
-and_true false = refl
 
 -- marks by a test are marks by each test that agrees with it
 pub AreMarks-agree : (chain : List Issued) (marks : List Bool) (f g : ℕ → Issued → Bool) → ((place : ℕ) (entry : Issued) → f place entry ≡ g place entry) → AreMarks chain marks f → AreMarks chain marks g
@@ -66,11 +51,11 @@ marked chain client issued marks was hit_one within are =
             | inl here ↦
                 ap (λ k. get_or (set marks issued.ordinal true) k false) (sym here)
                 ∙ (get_or-set_same marks issued.ordinal true false within
-                ∙ sym (ap (λ b. was place entry || b) (hit-here chain client issued place entry at here ∙ hit_one) ∙ or_true (was place entry)))
+                ∙ sym (ap (λ b. was place entry || b) (hit-here chain client issued place entry at here ∙ hit_one) ∙ or-true (was place entry)))
             | inr other ↦
                 get_or-set_other marks issued.ordinal place true false (λ e. other (sym e))
                 ∙ (are.each place entry at
-                ∙ sym (ap (λ b. was place entry || b) (hit-elsewhere client issued place entry other) ∙ or_false (was place entry)))
+                ∙ sym (ap (λ b. was place entry || b) (hit-elsewhere client issued place entry other) ∙ or-false (was place entry)))
           ];
     }
 
@@ -86,7 +71,7 @@ unmarked chain client issued marks was hit_none are =
             | inl here ↦ hit-here chain client issued place entry at here ∙ hit_none
             | inr other ↦ hit-elsewhere client issued place entry other
           ] in
-          are.each place entry at ∙ sym (ap (λ b. was place entry || b) none ∙ or_false (was place entry));
+          are.each place entry at ∙ sym (ap (λ b. was place entry || b) none ∙ or-false (was place entry));
     }
 
 -- ---- the calls of a log
@@ -116,7 +101,7 @@ abbrev pub drawn_too : (ℕ → Issued → Bool) → ℕ → List Call → ℕ �
 drawn_too was client calls place entry = was place entry || is_drawn calls place entry && (entry.proxy == client)
 
 pub drawn_too-none : (chain : List Issued) (marks : List Bool) (was : ℕ → Issued → Bool) (client : ℕ) → AreMarks chain marks was → AreMarks chain marks (drawn_too was client [])
-drawn_too-none chain marks was client are = AreMarks-agree chain marks was (drawn_too was client []) (λ place entry. sym (or_false (was place entry))) are
+drawn_too-none chain marks was client are = AreMarks-agree chain marks was (drawn_too was client []) (λ place entry. sym (or-false (was place entry))) are
 
 -- after a call that was answered with a commit version
 pub drawn_too-answered : (chain : List Issued) (marks : List Bool) (was : ℕ → Issued → Bool) (client : ℕ) (calls : List Call) (i : ℕ) (d : Call) (issued : Issued) → i < length calls → answer_in (get_or calls i d).answer ≡ issued ∷ []
@@ -137,7 +122,7 @@ drawn_too-other chain marks was client calls i d within is are =
     (λ place entry.
     let test : Issued → Bool = λ one. is_same one (record entry { ordinal = place; fresh = true }) in
     ap (λ b. was place entry || b && (entry.proxy == client))
-    (sym (is_drawn-more calls i d place entry within ∙ (ap (λ xs. is_drawn (take i calls) place entry || list_any test xs) is ∙ or_false (is_drawn (take i calls) place entry)))))
+    (sym (is_drawn-more calls i d place entry within ∙ (ap (λ xs. is_drawn (take i calls) place entry || list_any test xs) is ∙ or-false (is_drawn (take i calls) place entry)))))
     are
 
 pub no_answer : (answer : CallAnswer) → ((issued : Issued) → answer ≡ Answered issued → ⊥) → answer_in answer ≡ []
@@ -170,13 +155,13 @@ marks-more chain marks logs client calls of_log are =
       | inl same ↦
           let its : own ≡ one = ap (λ cs. is_drawn cs place entry) (ap (calls_of logs) same ∙ of_log) in
           ap (λ b. (b && own) || one && (entry.proxy == client)) (le-ltb entry.proxy client (omega arith))
-          ∙ (ap (λ b. one && b) (eq-eqb entry.proxy client same) ∙ (and_true one ∙ (sym its ∙ sym (ap (λ b. b && own) (lt-ltb entry.proxy (client + 1) (omega arith))))))
+          ∙ (ap (λ b. one && b) (eq-eqb entry.proxy client same) ∙ (and-true one ∙ (sym its ∙ sym (ap (λ b. b && own) (lt-ltb entry.proxy (client + 1) (omega arith))))))
       | inr (inl below) ↦
           ap (λ b. (b && own) || one && (entry.proxy == client)) (lt-ltb entry.proxy client below)
-          ∙ (ap (λ b. own || one && b) (ne_eqb entry.proxy client (λ e. absurd (omega arith))) ∙ (ap (λ b. own || b) (and_false one) ∙ (or_false own ∙ sym (ap (λ b. b && own) (lt-ltb entry.proxy (client + 1) (omega arith))))))
+          ∙ (ap (λ b. own || one && b) (ne_eqb entry.proxy client (λ e. absurd (omega arith))) ∙ (ap (λ b. own || b) (and-false one) ∙ (or-false own ∙ sym (ap (λ b. b && own) (lt-ltb entry.proxy (client + 1) (omega arith))))))
       | inr (inr above) ↦
           ap (λ b. (b && own) || one && (entry.proxy == client)) (le-ltb entry.proxy client (omega arith))
-          ∙ (ap (λ b. one && b) (ne_eqb entry.proxy client (λ e. absurd (omega arith))) ∙ (and_false one ∙ sym (ap (λ b. b && own) (le-ltb entry.proxy (client + 1) (omega arith)))))
+          ∙ (ap (λ b. one && b) (ne_eqb entry.proxy client (λ e. absurd (omega arith))) ∙ (and-false one ∙ sym (ap (λ b. b && own) (le-ltb entry.proxy (client + 1) (omega arith)))))
     ])
     are
 
