@@ -87,7 +87,7 @@ burst-last = refl
 burst-idle : (after_windows 10000000 2 burst_again).budgets ≡ record { normal = 20000000; batch = 20000000 }
 burst-idle = refl
 
--- Of many requests that may start by their priority, as many start as the definition says.
+-- 10,000 requests fit into one window, and no more: here system requests, which may always start.
 abbrev systems : ℕ → List (Req ℕ)
 systems count = replicate count (asks System 1 0)
 
