@@ -1,1 +1,2 @@
 pub mod OneChain
+pub mod Kept
