@@ -1,15 +1,9 @@
 -- Two answers that are one, member by member.
-use Rattle.std.proofs.Common.{◌≡◌, ℕ, Bool, true, false, refl, eqb-true}
+use Rattle.std.proofs.Common.{◌≡◌, ℕ, Bool, true, eqb-true}
 use Rattle.std.proofs.lemmas.Bool.{and_parts}
-use mathlib.Core.Bool.{beq}
+use Rattle.std.specs.Cmp.{booleans_Decides}
 use Rattle.fdb_history.specs.Strays.{is_same}
 use Rattle.fdb_history.specs.declared.chain.Issued.{Issued}
-
-beq-same : (a b : Bool) → beq a b ≡ true → a ≡ b
-beq-same true true h = refl
-beq-same false false h = refl
-beq-same true false h = cc
-beq-same false true h = cc
 
 made : ℕ → ℕ → ℕ → ℕ → ℕ → ℕ → ℕ → Bool → Issued
 made ordinal proxy num processed prev version at fresh =
@@ -35,5 +29,5 @@ is_same-equal a b h =
     let e5 : a.prev ≡ b.prev = eqb-true _ _ h5.0 in
     let e6 : a.version ≡ b.version = eqb-true _ _ h6.0 in
     let e7 : a.at ≡ b.at = eqb-true _ _ h7.0 in
-    let e8 : a.fresh ≡ b.fresh = beq-same _ _ h7.1 in
+    let e8 : a.fresh ≡ b.fresh = (booleans_Decides a.fresh b.fresh).0 h7.1 in
     same_members a.ordinal b.ordinal a.proxy b.proxy a.num b.num a.processed b.processed a.prev b.prev a.version b.version a.at b.at a.fresh b.fresh e1 e2 e3 e4 e5 e6 e7 e8
