@@ -13,7 +13,7 @@ const HAS_METADATA: u64 = 2;
 
 /// The live committed version, and the number of reports that had raised it by then
 /// (`GetRawCommittedVersionReply` of masterserver, FoundationDB 7.1; the position is this product's own).
-#[derive(Clone, Copy, Debug, PartialEq, Eq, Hash)]
+#[derive(Clone, Copy, Debug, PartialEq, Eq)]
 pub struct Fetched {
     /// The record.
     pub rec: Record,
