@@ -4,7 +4,7 @@ use std::alloc::AllocError;
 use thiserror::Error;
 
 /// Why a chain is not opened, or a request for a commit version is not answered.
-#[derive(Clone, Copy, Debug, PartialEq, Eq, Hash, Error)]
+#[derive(Clone, Copy, Debug, PartialEq, Eq, Error)]
 pub enum ChainError {
     /// The recovery version is not above the end of the epoch before, or is above the greatest version.
     #[error("the recovery version is out of range")]
