@@ -169,5 +169,7 @@ history 3 client 1 call 1 read 2100 locked 7
 
 #[test]
 fn two_clients_as_text(rt: HostRuntime) -> Result<(), Fail> {
-    each_ends(&rt, rt.alloc(), "--history", TOLD)
+    each_ends(&rt, rt.alloc(), "--history", TOLD)?;
+    let (without, _) = TOLD.split_once("history 0").ok_or("no history")?;
+    each_ends(&rt, rt.alloc(), "", without)
 }

@@ -151,7 +151,17 @@ impl Write for Hundreds {
     }
 }
 
-/// Replays the first script over a writer that fails at a call. The text has 265 bytes: three calls write it.
+/// How many bytes of the first script's text such a writer has taken then: the text has 265, so that three calls write it.
+fn taken_before(fails_at: usize) -> usize {
+    match fails_at {
+        1 => 0,
+        2 => 100,
+        3 => 200,
+        _ => 265,
+    }
+}
+
+/// Replays the first script over a writer that fails at a call.
 fn replayed<R: Threads + Wait + Sync + Abort>(rt: &R, alloc: Global, fails_at: usize) {
     let mut out = Hundreds::new(alloc, fails_at);
     let outcome = replays(rt, alloc, SCRIPT, 1, false, &mut out);
@@ -161,12 +171,7 @@ fn replayed<R: Threads + Wait + Sync + Abort>(rt: &R, alloc: Global, fails_at: u
         Ok(())
     };
     assert_eq!(rt; outcome, wanted, "call {fails_at}");
-    let taken = if fails_at <= 3 {
-        fails_at * 100 - 100
-    } else {
-        265
-    };
-    assert_eq!(rt; out.taken.len(), taken, "call {fails_at}");
+    assert_eq!(rt; out.taken.len(), taken_before(fails_at), "call {fails_at}");
     assert!(rt; out.has_begun(REPLIES.as_bytes()), "call {fails_at}");
 }
 
@@ -194,12 +199,7 @@ fn flushed<R: Threads + Wait + Sync + Files + Abort>(
     };
     assert_eq!(rt; status, if fails { 5 } else { 0 }, "call {fails_at}");
     assert_eq!(rt; from_utf8(&err)?, said, "call {fails_at}");
-    let taken = if fails_at <= 3 {
-        fails_at * 100 - 100
-    } else {
-        265
-    };
-    assert_eq!(rt; out.taken.len(), taken, "call {fails_at}");
+    assert_eq!(rt; out.taken.len(), taken_before(fails_at), "call {fails_at}");
     assert!(rt; out.has_begun(REPLIES.as_bytes()), "call {fails_at}");
     Ok(())
 }

@@ -15,7 +15,10 @@ use std::test::Fail;
 fn left(rt: &impl Abort, alloc: Global, outcome: &Outcome, wanted: &str) -> Result<(), Fail> {
     let case = audits::begun(rt, alloc, wanted)?;
     assert_eq!(rt; outcome.chain.as_slice(), case.chain.as_slice());
-    assert_eq!(rt; outcome.logs.as_slice(), case.logs.as_slice());
+    assert_eq!(rt; outcome.logs.len(), case.logs.len());
+    for (log, wanted) in outcome.logs.iter().zip(case.logs.iter()) {
+        assert_eq!(rt; log.calls.as_slice(), wanted.calls.as_slice());
+    }
     Ok(())
 }
 
