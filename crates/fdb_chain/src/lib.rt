@@ -11,6 +11,3 @@ mod version;
 
 pub use chain_core::{ChainCore, MAX_PROXIES};
 pub use error::ChainError;
-
-#[cfg(test)]
-mod tests;

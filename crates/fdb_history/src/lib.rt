@@ -17,8 +17,6 @@ mod log;
 mod register;
 mod replies;
 mod sequence;
-#[cfg(test)]
-mod tests;
 
 pub use auditing::audit;
 pub use chain::{Ask, Issued, MAX_STEP};
