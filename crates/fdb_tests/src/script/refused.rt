@@ -109,10 +109,10 @@ fn what_is_no_script(rt: HostRuntime) -> Result<(), Fail> {
 #[test]
 fn what_is_no_json(rt: HostRuntime) -> Result<(), Fail> {
     let whole = bytes_of(rt.alloc(), "", "")?;
-    let (mut left, mut cut) = (whole.as_bytes().iter(), Vec::new(rt.alloc()));
-    while cut.len() < whole.len() {
+    let mut cut = Vec::new(rt.alloc());
+    for byte in whole.as_bytes() {
         refused(&rt, rt.alloc(), &cut, "NotJson", "a script that is cut")?;
-        cut.push(*left.next().ok_or("no byte is left")?)?;
+        cut.push(*byte)?;
     }
     refused(&rt, rt.alloc(), br#""\ud800""#, "NotJson", "a lone half")?;
     refused(&rt, rt.alloc(), b"\"\xff\"", "NotJson", "no UTF-8")
