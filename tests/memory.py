@@ -20,13 +20,9 @@ TWO = [
 ]
 MOST_RUNS = 2_000
 # The tests that pass whichever single allocation is refused: of each crate those whose names match.
-BEARING = {
-    "fdb_history": r"^tests::\w+$|refused_memory_is_borne",
-    "fdb_chain": r"",
-    "fdb_queue": r"refused_memory_is_borne",
-    "fdb_script": r"refused_memory_is_borne",
-    "fdb_replay": r"refused_memory_is_borne",
-}
+BEARING = {"fdb_tests": r"^refused_memory::"}
+# Those of them that pass also where all are refused from any one on.
+WITHOUT = r"::without_memory$"
 PASSED = done(b"\ntest result: ok\n")
 
 
@@ -95,7 +91,7 @@ def bearing_tests(tests, pattern):
 
 
 def borne(_program):
-    """Each of the tests that rt left built passes while any one allocation is refused, and without that too."""
+    """Each of the tests that rt left built passes while allocations are refused, and without that too."""
     each = lambda at: at + 1
     with tempfile.TemporaryDirectory(prefix="refuse-") as folder:
         preloaded = built(folder)
@@ -107,5 +103,7 @@ def borne(_program):
             names = bearing_tests(tests, pattern)
             yield f"{crate}'s tests", None if names else f"none matches {pattern!r}"
             for name in names:
-                for number, fault in swept([tests, name], preloaded, b"", PASSED, PASSED, False, each):
-                    yield f"{crate} {name}, allocation {number}", fault
+                for goes_on in (False, True) if re.search(WITHOUT, name) else (False,):
+                    what = f"{name}, {'from ' if goes_on else ''}allocation"
+                    for number, fault in swept([tests, name], preloaded, b"", PASSED, PASSED, goes_on, each):
+                        yield f"{what} {number}", fault

@@ -8,6 +8,8 @@ from harness import done, fault_of, first_output, first_script, refused, run, sc
 from model import expected
 
 MOST_BYTES = 16_777_216
+# What a pipe holds at most of bytes that nobody has taken.
+PIPE_BYTES = 65_536
 
 
 def sizes(program):
@@ -28,8 +30,22 @@ def sizes(program):
     for name, given, ends in cases:
         yield name, fault_of(run([program], given), ends)
     yield "input that never ends", fault_of(under("< /dev/zero", program), READING_FAILED)
+    yield "what is taken of input that never ends", endless(program)
     full = crowd_at_all_limits(MOST_BYTES)
     yield "a script at all its limits", fault_of(run([program, "--proxies", "16", "--history"], full), expected(full, True))
+
+
+def endless(program):
+    """Gives the program input until it takes no more, and says if that was more than one byte beyond the most."""
+    given, piece = 0, b" " * PIPE_BYTES
+    streams = {"stdin": subprocess.PIPE, "stdout": subprocess.DEVNULL, "stderr": subprocess.DEVNULL}
+    with subprocess.Popen([program], bufsize=0, **streams) as started:
+        try:
+            while given < 4 * MOST_BYTES:
+                given += started.stdin.write(piece)
+        except BrokenPipeError:
+            pass
+    return None if given <= MOST_BYTES + 1 + PIPE_BYTES else f"some {given} bytes were taken"
 
 
 def with_note(size):

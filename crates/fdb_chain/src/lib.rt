@@ -14,6 +14,3 @@ mod version;
 pub use chain_core::{ChainCore, MAX_PROXIES};
 pub use error::ChainError;
 pub use sequencer::Sequencer;
-
-#[cfg(test)]
-mod tests;

@@ -18,8 +18,6 @@ mod register;
 mod replies;
 mod sequence;
 mod service;
-#[cfg(test)]
-mod tests;
 
 pub use auditing::audit;
 pub use chain::{Ask, Issued, MAX_STEP};

@@ -24,6 +24,3 @@ pub use error::QueueError;
 pub use queue::GrvQueue;
 pub use request::Req;
 pub use waiting::Lengths;
-
-#[cfg(test)]
-mod tests;

@@ -9,8 +9,6 @@ mod replaying;
 mod rounds;
 mod running;
 mod service;
-#[cfg(test)]
-mod tests;
 mod words;
 
 pub use driving::{MAX_SCRIPT_BYTES, drive};

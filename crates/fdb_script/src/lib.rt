@@ -11,8 +11,6 @@ mod outcome;
 mod printed;
 mod reading;
 mod script;
-#[cfg(test)]
-mod tests;
 
 pub use error::ScriptError;
 pub use outcome::Outcome;

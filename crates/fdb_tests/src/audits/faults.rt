@@ -1,0 +1,163 @@
+//! Faults of the history and of versions, and which of two is named.
+
+use super::audits;
+use std::alloc::Global;
+use std::process::Abort;
+use std::test::Fail;
+
+const ORDER: &str = "
+# a read at 1, then one at 0
+log; reads 0 1 100; reads 0 0 100; => Order 0 1
+# a position below what was asked
+log; reads 1 0 100; => Order 0 0
+# a raise that stays where it was
+log; raises 0 0 1 200; => Order 0 0
+# the last call of three
+log; reads 0 0 100; reads 0 5 100; reads 4 5 100; => Order 0 2
+# the last log of two
+log; reads 0 0 100; log; reads 18446744073709551615 0 100; => Order 1 0
+";
+
+#[test]
+fn faults_of_order(rt: HostRuntime) -> Result<(), Fail> {
+    audits(&rt, rt.alloc(), "", ORDER)
+}
+
+const POSITIONS: &str = "
+# raises at some positions, of a client each
+log; raises 0 1 1 200; log; raises 0 1 1 200; => Clash 1
+log; raises 0 1 1 200; log; raises 0 2 1 200; log; raises 0 2 1 200; => Clash 2
+log; raises 0 3 1 200; log; raises 0 2 1 200; log; raises 0 3 1 200; log; raises 0 2 1 200; => Clash 2
+log; raises 0 18446744073709551615 1 200
+log; raises 0 1 1 200
+log; raises 0 18446744073709551615 1 200; => Clash 18446744073709551615
+log; raises 0 2 1 200; => Gap 1
+log; raises 0 1 1 200; log; raises 0 3 1 200; => Gap 2
+log; raises 0 3 1 200; log; raises 0 1 1 200; => Gap 2
+log; raises 0 18446744073709551615 1 200; => Gap 1
+log; raises 0 2 1 200; log; raises 0 1 1 200; log; raises 0 18446744073709551615 1 200; => Gap 3
+# a read far away
+log; reads 0 18446744073709551615 100; => Gap 1
+# a read far above a raise
+log; raises 0 1 1 200; reads 1 18446744073709551615 200; => Gap 2
+# a call of any kind
+log; call 0 1 tell 0 told; => Gap 1
+# a raise and a read at 2
+log; raises 0 2 1 200; log; reads 0 2 200; => Gap 1
+";
+
+#[test]
+fn faults_of_positions(rt: HostRuntime) -> Result<(), Fail> {
+    audits(&rt, rt.alloc(), "", POSITIONS)
+}
+
+const WRONG: &str = "
+# reads of another record
+log; call 0 0 grv read 99 unlocked none; => Wrong 0 0
+log; call 0 0 grv read 101 unlocked none; => Wrong 0 0
+log; call 0 0 grv read 300 unlocked none; => Wrong 0 0
+log; call 0 0 grv turned_away 100 locked none; => Wrong 0 0
+log; call 0 0 grv read 100 unlocked 0; => Wrong 0 0
+# raises that are not above the start
+log; raises 0 1 1 0; => Wrong 0 0
+log; raises 0 1 1 99; => Wrong 0 0
+log; raises 0 1 1 100; => Wrong 0 0
+# raises that are not above the one before
+log; raises 0 1 1 200; raises 1 2 2 100; => Wrong 0 1
+log; raises 0 1 1 200; raises 1 2 2 199; => Wrong 0 1
+log; raises 0 1 1 200; raises 1 2 2 200; => Wrong 0 1
+# a report above the register that raised nothing
+log; stays 0 0 1 101; => Wrong 0 0
+# a read of the register before
+log; raises 0 1 1 200; reads 1 1 100; => Wrong 0 1
+# a raise with the version of the start and a flag replaces nothing, and is wrong itself
+log; reads 0 1 100; log; call 0 1 report 1 unlocked none acked 100 locked none raised; => Wrong 1 0
+# the last call of the last log
+log; reads 0 0 100; reads 0 0 100; log; reads 0 0 100; reads 0 0 99; => Wrong 1 1
+";
+
+#[test]
+fn wrong_answers(rt: HostRuntime) -> Result<(), Fail> {
+    audits(&rt, rt.alloc(), "", WRONG)
+}
+
+/// Client 0 raises the register to 2100, with the last version of the chain.
+const LOW: &str = "
+# asked before the raise was seen
+entry 0 0 1 0 0 100 100 fresh; entry 1 1 1 0 100 2050 2050 fresh; entry 2 0 2 0 2050 2100 2100 fresh
+log; draws 0 0 0 1 0 0 100 100 fresh; draws 0 2 0 2 0 2050 2100 2100 fresh; raises 0 1 2 2100
+log; reads 0 0 100; draws 0 1 1 1 0 100 2050 2050 fresh; => ok
+# asked after it: the version is below what was seen
+entry 0 0 1 0 0 100 100 fresh; entry 1 1 1 0 100 2050 2050 fresh; entry 2 0 2 0 2050 2100 2100 fresh
+log; draws 0 0 0 1 0 0 100 100 fresh; draws 0 2 0 2 0 2050 2100 2100 fresh; raises 0 1 2 2100
+log; reads 0 1 2100; draws 1 1 1 1 0 100 2050 2050 fresh; => NotAbove 1 1
+# the position after the call does not count
+entry 0 0 1 0 0 100 100 fresh; entry 1 1 1 0 100 2050 2050 fresh; entry 2 0 2 0 2050 2100 2100 fresh
+log; draws 0 0 0 1 0 0 100 100 fresh; draws 0 2 0 2 0 2050 2100 2100 fresh; raises 0 1 2 2100
+log; call 0 1 ask 1 0 2050 issued 1 1 1 0 100 2050 2050 fresh; => ok
+# the first version of the chain is that of the start, and exempt, and a repeat is too
+entry 0 0 1 0 0 100 100 fresh; entry 1 1 1 0 100 2050 2050 fresh; entry 2 0 2 0 2050 2100 2100 fresh
+log; draws 0 0 0 1 0 0 100 100 fresh; draws 0 2 0 2 0 2050 2100 2100 fresh; raises 0 1 2 2100
+log; draws 0 1 1 1 0 100 2050 2050 fresh; reads 0 1 2100; call 1 1 ask 1 0 2050 issued 1 1 1 0 100 2050 2050 kept
+=> ok
+";
+
+#[test]
+fn versions_that_are_not_above(rt: HostRuntime) -> Result<(), Fail> {
+    audits(&rt, rt.alloc(), "", LOW)
+}
+
+/// Client 0 raises the register to 2100 at position 1.
+const RAISED: &str = "
+entry 0 0 1 0 0 100 100 fresh; entry 1 0 2 0 100 2100 2100 fresh
+log; draws 0 0 0 1 0 0 100 100 fresh; draws 0 1 0 2 0 100 2100 2100 fresh; raises 0 1 2 2100";
+
+/// What follows it of a client X in whose log one fault stands, and the fault: of each kind, in the order in which audits
+/// look for them. What the client draws is the chain's entry Z.
+const KINDS: &[(&str, &str)] = &[
+    ("log; reads 0 1 2100; reads 0 1 2100", "Order X 1"),
+    (
+        "entry Z X 1 0 2100 3000 3000 fresh; log; draws 0 Z X 1 0 2100 3000 3000 fresh; raises 0 1 1 3000",
+        "Clash 1",
+    ),
+    ("log; call 0 3 tell 0 told", "Gap 2"),
+    ("log; reads 0 0 99", "Wrong X 0"),
+    ("log; call 0 0 tell 0 refused Full", "Stray X 0"),
+    (
+        "entry Z X 1 0 2000 2050 2050 fresh; log; reads 0 1 2100; draws 1 Z X 1 0 2000 2050 2050 fresh",
+        "NotAbove X 1",
+    ),
+];
+
+/// Audits the logs of two clients with a fault of these kinds each: the first kind is named, of the first client.
+fn two_faults(rt: &impl Abort, alloc: Global, one: usize, other: usize) -> Result<(), Fail> {
+    let first = KINDS.get(one).ok_or("no kind")?;
+    let second = KINDS.get(other).ok_or("no kind")?;
+    let place = if first.0.starts_with("entry") {
+        "3"
+    } else {
+        "2"
+    };
+    let before = first.0.replace(alloc, 'Z', "2")?.replace(alloc, 'X', "1")?;
+    let after = second
+        .0
+        .replace(alloc, 'Z', place)?
+        .replace(alloc, 'X', "2")?;
+    let named = if one <= other {
+        first.1.replace(alloc, 'X', "1")?
+    } else {
+        second.1.replace(alloc, 'X', "2")?
+    };
+    let case = format!(in alloc; "{before}; {after}; => {named}")?;
+    audits(rt, alloc, RAISED, &case)
+}
+
+#[test]
+fn the_first_kind_is_named(rt: HostRuntime) -> Result<(), Fail> {
+    for one in 0..KINDS.len() {
+        for other in 0..KINDS.len() {
+            two_faults(&rt, rt.alloc(), one, other)?;
+        }
+    }
+    Ok(())
+}

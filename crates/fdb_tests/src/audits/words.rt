@@ -1,0 +1,177 @@
+//! Calls, their inputs and their answers, from words.
+
+use crate::line::Line;
+use fdb_history::{Call, CallAnswer, GrvOpts, Input, Issued, Priority, Record, Refusal, Sequence};
+use std::alloc::Global;
+use std::process::Abort;
+
+/// A call of a kind, by the rest of its words.
+pub fn call(rt: &impl Abort, alloc: Global, kind: &str, line: &mut Line<'_>) -> Call {
+    match kind {
+        "draws" => drawn(rt, line),
+        "reads" => Call {
+            asked: line.number(rt),
+            position: line.number(rt),
+            input: grv(alloc, false),
+            answer: version(alloc, plain(line.number(rt)), false),
+        },
+        "raises" => reported(rt, line, true),
+        "stays" => reported(rt, line, false),
+        "call" => Call {
+            asked: line.number(rt),
+            position: line.number(rt),
+            input: input(rt, alloc, line),
+            answer: answer(rt, alloc, line),
+        },
+        _ => line.fails(rt, "no item"),
+    }
+}
+
+/// A request with the members of its answer.
+fn drawn(rt: &impl Abort, line: &mut Line<'_>) -> Call {
+    let asked = line.number(rt);
+    let issued = issued(rt, line);
+    Call {
+        asked,
+        position: asked,
+        input: Input::Ask {
+            num: issued.num,
+            processed: issued.processed,
+            at: issued.at,
+        },
+        answer: CallAnswer::Answered(issued),
+    }
+}
+
+/// A report of a plain record.
+fn reported(rt: &impl Abort, line: &mut Line<'_>, raised: bool) -> Call {
+    Call {
+        asked: line.number(rt),
+        position: line.number(rt),
+        input: Input::Report {
+            num: line.number(rt),
+            locked: false,
+            metadata: None,
+        },
+        answer: CallAnswer::Acked {
+            rec: plain(line.number(rt)),
+            raised,
+        },
+    }
+}
+
+fn plain(version: u64) -> Record {
+    Record {
+        version,
+        locked: false,
+        metadata: None,
+    }
+}
+
+fn input(rt: &impl Abort, alloc: Global, line: &mut Line<'_>) -> Input {
+    match line.word(rt) {
+        "grv" => grv(alloc, false),
+        "grv_aware" => grv(alloc, true),
+        "ask" => Input::Ask {
+            num: line.number(rt),
+            processed: line.number(rt),
+            at: line.number(rt),
+        },
+        "report" => Input::Report {
+            num: line.number(rt),
+            locked: line.is(rt, "locked", "unlocked"),
+            metadata: metadata(rt, line),
+        },
+        "tell" => Input::Tell { to: line.who(rt) },
+        "learn" => Input::Learn { from: line.who(rt) },
+        _ => line.fails(rt, "no input"),
+    }
+}
+
+fn grv(alloc: Global, lock_aware: bool) -> Input {
+    Input::Grv(GrvOpts {
+        priority: Priority::Default,
+        count: 1,
+        tags: Sequence::new(alloc),
+        lock_aware,
+        at: 0,
+    })
+}
+
+fn answer(rt: &impl Abort, alloc: Global, line: &mut Line<'_>) -> CallAnswer {
+    match line.word(rt) {
+        "read" => version(alloc, record(rt, line), false),
+        "turned_away" => version(alloc, record(rt, line), true),
+        "issued" => CallAnswer::Answered(issued(rt, line)),
+        "acked" => CallAnswer::Acked {
+            rec: record(rt, line),
+            raised: line.is(rt, "raised", "unraised"),
+        },
+        "told" => CallAnswer::Told,
+        "refused" => CallAnswer::Refused(refusal(rt, line)),
+        _ => line.fails(rt, "no answer"),
+    }
+}
+
+fn version(alloc: Global, rec: Record, locked_out: bool) -> CallAnswer {
+    CallAnswer::Version {
+        rec,
+        limits: Sequence::new(alloc),
+        locked_out,
+    }
+}
+
+/// A record.
+pub fn record(rt: &impl Abort, line: &mut Line<'_>) -> Record {
+    Record {
+        version: line.number(rt),
+        locked: line.is(rt, "locked", "unlocked"),
+        metadata: metadata(rt, line),
+    }
+}
+
+fn metadata(rt: &impl Abort, line: &mut Line<'_>) -> Option<u64> {
+    match line.word(rt) {
+        "none" => None,
+        number => match number.parse() {
+            Ok(number) => Some(number),
+            Err(_) => line.fails(rt, "no metadata"),
+        },
+    }
+}
+
+/// An answer, or an entry of the chain.
+pub fn issued(rt: &impl Abort, line: &mut Line<'_>) -> Issued {
+    Issued {
+        ordinal: line.number(rt),
+        proxy: line.who(rt),
+        num: line.number(rt),
+        processed: line.number(rt),
+        prev: line.number(rt),
+        version: line.number(rt),
+        at: line.number(rt),
+        fresh: line.is(rt, "fresh", "kept"),
+    }
+}
+
+fn refusal(rt: &impl Abort, line: &mut Line<'_>) -> Refusal {
+    match line.word(rt) {
+        "Early" => Refusal::Early {
+            expected: line.number(rt),
+        },
+        "Forgotten" => Refusal::Forgotten,
+        "UnknownProxy" => Refusal::UnknownProxy,
+        "Exhausted" => Refusal::Exhausted,
+        "BadCount" => Refusal::BadCount,
+        "BatchThrottled" => Refusal::BatchThrottled,
+        "Full" => Refusal::Full,
+        "ProxyClosed" => Refusal::ProxyClosed,
+        "NotIssued" => Refusal::NotIssued,
+        "Stranger" => Refusal::Stranger,
+        "TooLarge" => Refusal::TooLarge,
+        "Behind" => Refusal::Behind {
+            position: line.number(rt),
+        },
+        _ => line.fails(rt, "no refusal"),
+    }
+}

@@ -1,0 +1,184 @@
+//! Chains of commit versions. Each line of a text is a call, and behind `=>` what it is answered.
+//!
+//! `new` opens a chain (the end of the epoch before, the recovery version, the number of proxies), which the lines after it
+//! ask. `ask` has the members of a request (the proxy, the number, what was processed, the moment). Its answer is how many
+//! answers stand after it, and the members of the one that was given, or why there is none.
+
+use crate::line::Line;
+use fdb_chain::{ChainCore, ChainError, MAX_PROXIES};
+use fdb_history::{Ask, Issued};
+use std::alloc::{AllocError, Global};
+use std::process::Abort;
+use std::test::Fail;
+
+/// Plays the lines of a text.
+fn play(rt: &impl Abort, alloc: Global, text: &str) -> Result<(), Fail> {
+    let mut chain = ChainCore::new(alloc, 0, 1, 1)?;
+    for it in text.lines() {
+        let mut line = Line::new(it);
+        let found = match line.next_word() {
+            None | Some("#") => continue,
+            Some("new") => opened(rt, alloc, &mut chain, &mut line)?,
+            Some("ask") => asked(rt, alloc, &mut chain, &mut line)?,
+            Some(_) => line.fails(rt, "no call"),
+        };
+        line.wants(rt, &found);
+    }
+    Ok(())
+}
+
+/// Opens a chain in the place of another.
+fn opened(
+    rt: &impl Abort,
+    alloc: Global,
+    chain: &mut ChainCore,
+    line: &mut Line<'_>,
+) -> Result<String, AllocError> {
+    let (epoch_end, recovery) = (line.number(rt), line.number(rt));
+    match ChainCore::new(alloc, epoch_end, recovery, line.who(rt)) {
+        Ok(made) => {
+            *chain = made;
+            String::from_str(alloc, "ok")
+        }
+        Err(cause) => cause.to_string(alloc),
+    }
+}
+
+/// Asks a chain.
+fn asked(
+    rt: &impl Abort,
+    alloc: Global,
+    chain: &mut ChainCore,
+    line: &mut Line<'_>,
+) -> Result<String, AllocError> {
+    let ask = Ask {
+        proxy: line.who(rt),
+        num: line.number(rt),
+        processed: line.number(rt),
+        at: line.number(rt),
+    };
+    let answer = match chain.ask(ask) {
+        Ok(issued) => issued_text(alloc, issued)?,
+        Err(cause) => cause.to_string(alloc)?,
+    };
+    let standing = chain.answers().len();
+    format!(in alloc; "{standing}: {answer}")
+}
+
+fn issued_text(alloc: Global, issued: Issued) -> Result<String, AllocError> {
+    let (ordinal, proxy, num) = (issued.ordinal, issued.proxy, issued.num);
+    let (processed, at) = (issued.processed, issued.at);
+    let (prev, version) = (issued.prev, issued.version);
+    let fresh = if issued.fresh { "fresh" } else { "kept" };
+    format!(in alloc; "{ordinal} {proxy} {num} {processed} {prev} {version} {at} {fresh}")
+}
+
+const VERSIONS: &str = "
+# a repeat
+new 0 100 4 => ok
+ask 0 1 0 1000 => 1: 0 0 1 0 0 100 1000 fresh
+ask 0 2 0 3000 => 2: 1 0 2 0 100 2100 3000 fresh
+ask 0 2 0 9000 => 2: 1 0 2 0 100 2100 3000 kept
+ask 0 3 0 3500 => 3: 2 0 3 0 2100 2600 3500 fresh
+# the least and the greatest step
+new 0 100 4 => ok
+ask 0 1 0 1000 => 1: 0 0 1 0 0 100 1000 fresh
+ask 0 2 0 1000 => 2: 1 0 2 0 100 101 1000 fresh
+ask 0 3 0 20001000 => 3: 2 0 3 0 101 5000101 20001000 fresh
+# an earlier moment
+new 0 100 4 => ok
+ask 0 1 0 1000 => 1: 0 0 1 0 0 100 1000 fresh
+ask 0 2 0 500 => 2: 1 0 2 0 100 101 500 fresh
+ask 0 3 0 1200 => 3: 2 0 3 0 101 801 1200 fresh
+";
+
+#[test]
+fn versions_follow_one_another(rt: HostRuntime) -> Result<(), Fail> {
+    play(&rt, rt.alloc(), VERSIONS)
+}
+
+const KEPT: &str = "
+# one processed
+new 0 100 4 => ok
+ask 0 1 0 1000 => 1: 0 0 1 0 0 100 1000 fresh
+ask 0 2 0 3000 => 2: 1 0 2 0 100 2100 3000 fresh
+ask 0 3 1 3500 => 3: 2 0 3 1 2100 2600 3500 fresh
+ask 0 1 0 4000 => 3: the answer is not kept any more
+ask 0 2 0 4000 => 3: 1 0 2 0 100 2100 3000 kept
+ask 0 2 2 4000 => 3: 1 0 2 0 100 2100 3000 kept
+ask 0 2 0 4000 => 3: 1 0 2 0 100 2100 3000 kept
+# requests out of range
+new 0 100 4 => ok
+ask 0 1 0 1000 => 1: 0 0 1 0 0 100 1000 fresh
+ask 0 2 0 3000 => 2: 1 0 2 0 100 2100 3000 fresh
+ask 0 5 0 4000 => 2: the next request number is 3
+ask 0 0 0 4000 => 2: the answer is not kept any more
+ask 4 1 0 4000 => 2: there is no such commit proxy
+# more processed than asked for
+new 0 100 4 => ok
+ask 0 1 0 1000 => 1: 0 0 1 0 0 100 1000 fresh
+ask 0 2 9 3000 => 2: 1 0 2 9 100 2100 3000 fresh
+ask 0 1 0 4000 => 2: the answer is not kept any more
+ask 0 2 0 4000 => 2: 1 0 2 9 100 2100 3000 kept
+";
+
+#[test]
+fn answers_are_kept_until_processed(rt: HostRuntime) -> Result<(), Fail> {
+    play(&rt, rt.alloc(), KEPT)
+}
+
+const LAST: &str = "
+# the last versions
+new 0 9223372036854775806 4 => ok
+ask 0 1 0 0 => 1: 0 0 1 0 0 9223372036854775806 0 fresh
+ask 0 2 0 0 => 2: 1 0 2 0 9223372036854775806 9223372036854775807 0 fresh
+ask 0 3 0 0 => 2: the versions are used up
+ask 0 2 0 0 => 2: 1 0 2 0 9223372036854775806 9223372036854775807 0 kept
+";
+
+#[test]
+fn versions_end(rt: HostRuntime) -> Result<(), Fail> {
+    play(&rt, rt.alloc(), LAST)
+}
+
+const MEMBERS: &str = "
+new 0 100 1 => ok
+new 0 100 64 => ok
+new 0 9223372036854775807 4 => ok
+new 0 100 0 => the number of commit proxies is out of range
+new 0 100 65 => the number of commit proxies is out of range
+new 0 0 4 => the recovery version is out of range
+new 100 100 0 => the recovery version is out of range
+new 0 9223372036854775808 4 => the recovery version is out of range
+";
+
+#[test]
+fn members_in_and_out_of_range(rt: HostRuntime) -> Result<(), Fail> {
+    play(&rt, rt.alloc(), MEMBERS)
+}
+
+/// With ample memory there is a chain for each number of proxies, and for no proxy beyond that.
+#[test]
+fn chains_of_each_number_of_proxies(rt: HostRuntime) -> Result<(), Fail> {
+    for proxies in 1..=MAX_PROXIES {
+        let mut chain = ChainCore::new(rt.alloc(), 0, 100, proxies)?;
+        let ask = |proxy| Ask {
+            proxy,
+            num: 1,
+            processed: 0,
+            at: 0,
+        };
+        let last = chain.ask(ask(proxies - 1))?;
+        assert_eq!(rt; last.version, 100, "of {proxies}");
+        let beyond = chain.ask(ask(proxies)).err();
+        assert_eq!(rt; beyond, Some(ChainError::UnknownProxy), "of {proxies}");
+    }
+    Ok(())
+}
+
+#[test]
+fn want_of_memory_as_text(rt: HostRuntime) -> Result<(), Fail> {
+    let text = ChainError::Memory.to_string(rt.alloc())?;
+    assert_eq!(rt; text.as_str(), "want of memory");
+    Ok(())
+}

@@ -1,0 +1,212 @@
+//! Queues. Each line of a text is a call, and behind `=>` what it is answered.
+//!
+//! `new` opens a queue (its normal and its batch limit, and its room), which the lines after it call:
+//!
+//! - `offer` has a priority, a count and a payload: `in`, or the payload that was pushed `out`;
+//! - `window` has a time: the payloads that start, and behind a bar the budgets after it;
+//! - `waits` has a time: a number, or `none`;
+//! - `lengths` has nothing: how many system, default and batch requests wait;
+//! - `throttle` has a priority, a tag, a rate and an expiry;
+//! - `limits` has a priority, a moment and tags: how many limits there are, and each with its tag, rate and expiry.
+//!
+//! What is refused is answered by its cause.
+
+mod room;
+mod rows;
+mod throttles;
+mod waits;
+
+use crate::line::Line;
+use fdb_history::{Priority, Tag};
+use fdb_queue::{GrvQueue, QueueConfig, QueueError, Req};
+use std::alloc::{AllocError, Global};
+use std::process::Abort;
+use std::str::from_utf8;
+use std::test::Fail;
+
+/// A queue of these limits and this room.
+pub fn queue(
+    alloc: Global,
+    normal: u64,
+    batch: u64,
+    room: u64,
+) -> Result<GrvQueue<u32>, QueueError> {
+    GrvQueue::new(
+        alloc,
+        QueueConfig {
+            normal,
+            batch,
+            room,
+        },
+    )
+}
+
+/// Plays the lines of a text.
+fn play(rt: &impl Abort, alloc: Global, text: &str) -> Result<(), Fail> {
+    let mut queue = queue(alloc, 1, 1, 1)?;
+    for it in text.lines() {
+        let mut line = Line::new(it);
+        let found = match line.next_word() {
+            None | Some("#") => continue,
+            Some("new") => opened(rt, alloc, &mut queue, &mut line)?,
+            Some(call) => called(rt, alloc, &mut queue, call, &mut line)?,
+        };
+        line.wants(rt, &found);
+    }
+    Ok(())
+}
+
+/// Opens a queue in the place of another.
+fn opened(
+    rt: &impl Abort,
+    alloc: Global,
+    it: &mut GrvQueue<u32>,
+    line: &mut Line<'_>,
+) -> Result<String, AllocError> {
+    match queue(alloc, line.number(rt), line.number(rt), line.number(rt)) {
+        Ok(made) => {
+            *it = made;
+            String::from_str(alloc, "ok")
+        }
+        Err(cause) => cause.to_string(alloc),
+    }
+}
+
+/// Calls a queue.
+fn called(
+    rt: &impl Abort,
+    alloc: Global,
+    queue: &mut GrvQueue<u32>,
+    call: &str,
+    line: &mut Line<'_>,
+) -> Result<String, AllocError> {
+    match call {
+        "offer" => offered(rt, alloc, queue, line),
+        "window" => held(rt, alloc, queue, line),
+        "waits" => match queue.waits(line.number(rt)) {
+            None => String::from_str(alloc, "none"),
+            Some(windows) => windows.to_string(alloc),
+        },
+        "lengths" => lengths_text(alloc, queue),
+        "throttle" => throttled(rt, alloc, queue, line),
+        "limits" => limited(rt, alloc, queue, line),
+        _ => line.fails(rt, "no call"),
+    }
+}
+
+fn priority(rt: &impl Abort, line: &mut Line<'_>) -> Priority {
+    match line.word(rt) {
+        "system" => Priority::System,
+        "default" => Priority::Default,
+        "batch" => Priority::Batch,
+        _ => line.fails(rt, "no priority"),
+    }
+}
+
+fn offered(
+    rt: &impl Abort,
+    alloc: Global,
+    queue: &mut GrvQueue<u32>,
+    line: &mut Line<'_>,
+) -> Result<String, AllocError> {
+    let request = Req {
+        priority: priority(rt, line),
+        count: line.number(rt),
+        payload: line.who(rt),
+    };
+    match queue.offer(request) {
+        Ok(None) => String::from_str(alloc, "in"),
+        Ok(Some(Req { payload, .. })) => format!(in alloc; "out {payload}"),
+        Err((cause, _)) => cause.to_string(alloc),
+    }
+}
+
+fn held(
+    rt: &impl Abort,
+    alloc: Global,
+    queue: &mut GrvQueue<u32>,
+    line: &mut Line<'_>,
+) -> Result<String, AllocError> {
+    let started = match queue.window(line.number(rt)) {
+        Ok(started) => payloads_text(alloc, &started)?,
+        Err(cause) => format!(in alloc; "{cause} ")?,
+    };
+    let (normal, batch) = (queue.budgets().normal, queue.budgets().batch);
+    format!(in alloc; "{started}| {normal} {batch}")
+}
+
+/// The payloads of requests, each with a space behind it.
+fn payloads_text(alloc: Global, started: &[Req<u32>]) -> Result<String, AllocError> {
+    let mut text = String::new(alloc);
+    for request in started {
+        let payload = request.payload;
+        text.push_str(&format!(in alloc; "{payload} ")?)?;
+    }
+    Ok(text)
+}
+
+fn lengths_text(alloc: Global, queue: &GrvQueue<u32>) -> Result<String, AllocError> {
+    let lengths = queue.lengths();
+    let (system, default, batch) = (lengths.system, lengths.default_, lengths.batch);
+    format!(in alloc; "{system} {default} {batch}")
+}
+
+/// The tag of a word's bytes.
+fn tag(alloc: Global, word: &str) -> Result<Tag, AllocError> {
+    Ok(Tag::from(Vec::from_slice(alloc, word.as_bytes())?))
+}
+
+/// The tags of the words in front of `=>`.
+fn tags(alloc: Global, line: &mut Line<'_>) -> Result<Vec<Tag>, AllocError> {
+    let mut tags = Vec::new(alloc);
+    let words = line.text.split_once("=>").map_or("", |parts| parts.0);
+    for word in words.split_whitespace().skip(3) {
+        tags.push(tag(alloc, word)?)?;
+    }
+    Ok(tags)
+}
+
+fn throttled(
+    rt: &impl Abort,
+    alloc: Global,
+    queue: &mut GrvQueue<u32>,
+    line: &mut Line<'_>,
+) -> Result<String, AllocError> {
+    let priority = priority(rt, line);
+    let tag = tag(alloc, line.word(rt))?;
+    match queue.set_throttle(priority, tag, line.number(rt), line.number(rt)) {
+        Ok(()) => String::from_str(alloc, "ok"),
+        Err(cause) => cause.to_string(alloc),
+    }
+}
+
+fn limited(
+    rt: &impl Abort,
+    alloc: Global,
+    queue: &GrvQueue<u32>,
+    line: &mut Line<'_>,
+) -> Result<String, AllocError> {
+    let (priority, at) = (priority(rt, line), line.number(rt));
+    let tags = tags(alloc, line)?;
+    limits_text(alloc, queue, priority, &tags, at)
+}
+
+fn limits_text(
+    alloc: Global,
+    queue: &GrvQueue<u32>,
+    priority: Priority,
+    tags: &[Tag],
+    at: u64,
+) -> Result<String, AllocError> {
+    let limits = match queue.throttles(priority, tags, at) {
+        Ok(limits) => limits,
+        Err(cause) => return cause.to_string(alloc),
+    };
+    let mut text = format!(in alloc; "{}", limits.len())?;
+    for limit in &limits {
+        let tag = from_utf8(limit.tag.as_slice()).unwrap_or("no text");
+        let (rate, expires) = (limit.rate, limit.expires);
+        text.push_str(&format!(in alloc; ", {tag} {rate} {expires}")?)?;
+    }
+    Ok(text)
+}

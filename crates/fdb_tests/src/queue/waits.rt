@@ -1,0 +1,130 @@
+//! How long the first of the row waits, beside windows that are really turned.
+
+use super::{play, queue};
+use crate::line::Line;
+use fdb_history::Priority;
+use fdb_queue::{GrvQueue, QueueError, Req};
+use std::alloc::Global;
+use std::process::Abort;
+use std::test::Fail;
+
+/// The number is 4 before the first window of the head of count 3, where the bound is 6, and one less after each.
+const WAITS: &str = "
+new 1 1 100 => ok
+waits 1000000 => none
+offer default 3 0 => in
+offer default 1 1 => in
+waits 0 => none
+waits 10000001 => none
+waits 1000000 => 4
+window 1000000 => | 1000000 1000000
+waits 1000000 => 3
+window 1000000 => | 2000000 2000000
+waits 1000000 => 2
+window 1000000 => | 3000000 3000000
+waits 1000000 => 1
+window 1000000 => | 4000000 4000000
+waits 1000000 => 0
+window 1000000 => 0 | 2000000 2000000
+offer system 1 2 => in
+waits 1000000 => none
+# nobody turns so many windows in a test: (100,000 - 1) times 2,000,000
+new 1 0 1 => ok
+offer default 100000 7 => in
+waits 1 => 199998000000
+";
+
+#[test]
+fn the_waiting_is_counted(rt: HostRuntime) -> Result<(), Fail> {
+    play(&rt, rt.alloc(), WAITS)
+}
+
+/// The limits, the count of one request, the time between windows, and how many there are before the request comes.
+#[derive(Clone, Copy)]
+struct Case {
+    normal: u64,
+    batch: u64,
+    count: u64,
+    elapsed: u64,
+    before: u64,
+}
+
+/// A queue in which the request of a case waits.
+fn waiting(
+    rt: &impl Abort,
+    alloc: Global,
+    case: Case,
+    priority: Priority,
+) -> Result<GrvQueue<u32>, QueueError> {
+    let mut queue = queue(alloc, case.normal, case.batch, 4)?;
+    for _ in 0..case.before {
+        queue.window(case.elapsed)?;
+    }
+    let request = Req {
+        priority,
+        count: case.count,
+        payload: 0,
+    };
+    assert!(rt; queue.offer(request).is_ok(), "{priority:?} is let in");
+    Ok(queue)
+}
+
+/// How many windows start nothing before one does, by turning them.
+fn turned(queue: &mut GrvQueue<u32>, elapsed: u64) -> Result<Option<u64>, QueueError> {
+    for place in 0..1000 {
+        if !queue.window(elapsed)?.is_empty() {
+            return Ok(Some(place));
+        }
+    }
+    Ok(None)
+}
+
+/// Compares what is answered for one request with what turning the windows of another queue shows.
+fn compare(
+    rt: &impl Abort,
+    alloc: Global,
+    case: Case,
+    priority: Priority,
+    text: &str,
+) -> Result<(), QueueError> {
+    let waits = waiting(rt, alloc, case, priority)?.waits(case.elapsed);
+    let mut other = waiting(rt, alloc, case, priority)?;
+    // a batch request above the normal limit is let in, and is not sure to start
+    let sure = priority == Priority::Default || case.count <= case.normal;
+    assert_eq!(rt; waits.is_some(), sure, "{priority:?} in {text}");
+    if sure {
+        let shown = turned(&mut other, case.elapsed)?;
+        assert_eq!(rt; waits, shown, "{priority:?} in {text}");
+    }
+    Ok(())
+}
+
+/// The members of a case each.
+const CASES: &str = "\
+1 1 1 1000000 0
+1 1 2 1000000 0
+1 1 3 700000 1
+2 1 5 333333 2
+3 2 3 1000000 0
+3 2 9 999999 3
+7 3 7 100001 1
+40 3 50 1000001 1
+";
+
+/// For small limits, counts and times, and some budgets before.
+#[test]
+fn the_waiting_is_what_windows_take(rt: HostRuntime) -> Result<(), Fail> {
+    for text in CASES.lines() {
+        let mut line = Line::new(text);
+        let case = Case {
+            normal: line.number(&rt),
+            batch: line.number(&rt),
+            count: line.number(&rt),
+            elapsed: line.number(&rt),
+            before: line.number(&rt),
+        };
+        compare(&rt, rt.alloc(), case, Priority::Default, text)?;
+        compare(&rt, rt.alloc(), case, Priority::Batch, text)?;
+    }
+    Ok(())
+}

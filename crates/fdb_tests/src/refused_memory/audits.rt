@@ -1,0 +1,69 @@
+//! Audits.
+
+use crate::audits::{Case, audited, begun};
+use fdb_history::{AuditFault, Event, History, Record};
+use std::alloc::{AllocError, Global};
+use std::process::Abort;
+use std::test::Fail;
+
+/// A case, also where memory is refused once.
+fn case_of(rt: &impl Abort, alloc: Global, text: &str) -> Result<Case, AllocError> {
+    match begun(rt, alloc, text) {
+        Ok(case) => Ok(case),
+        Err(_) => begun(rt, alloc, text),
+    }
+}
+
+/// What an audit finds, also where memory is refused once.
+fn found(
+    rt: &impl Abort,
+    alloc: Global,
+    text: &str,
+) -> Result<Result<History, AuditFault>, AllocError> {
+    let case = case_of(rt, alloc, text)?;
+    match audited(rt, alloc, &case) {
+        Err(AuditFault::Memory) => Ok(audited(rt, alloc, &case)),
+        found => Ok(found),
+    }
+}
+
+/// The first client has raised the register twice, and the second has read it and then draws a version that is above.
+const ABOVE: &str = "
+entry 0 0 1 0 0 200 200 fresh; entry 1 0 2 0 200 300 300 fresh
+entry 2 1 1 0 300 350 350 fresh; entry 3 1 2 0 350 400 400 fresh
+log; draws 0 0 0 1 0 0 200 200 fresh; draws 0 1 0 2 0 200 300 300 fresh; raises 0 1 1 200; raises 1 2 2 300
+log; reads 0 1 200; draws 1 2 1 1 0 300 350 350 fresh; draws 1 3 1 2 0 350 400 400 fresh";
+
+/// The last version is that of the first raise.
+const NOT_ABOVE: &str = "
+entry 0 0 1 0 0 200 200 fresh; entry 1 0 2 0 200 300 300 fresh
+entry 2 1 1 0 300 350 350 fresh; entry 3 1 2 0 350 200 200 fresh
+log; draws 0 0 0 1 0 0 200 200 fresh; draws 0 1 0 2 0 200 300 300 fresh; raises 0 1 1 200; raises 1 2 2 300
+log; reads 0 1 200; draws 1 2 1 1 0 300 350 350 fresh; draws 1 3 1 2 0 350 200 200 fresh";
+
+#[test]
+fn an_audit_bears_it(rt: HostRuntime) -> Result<(), Fail> {
+    let at = |version| Record {
+        version,
+        locked: false,
+        metadata: None,
+    };
+    let raise = |call, rec| Event::Report {
+        client: 0,
+        call,
+        rec,
+        raised: true,
+    };
+    let read = Event::Read {
+        client: 1,
+        call: 0,
+        rec: at(200),
+    };
+    let events = [raise(2, at(200)), read, raise(3, at(300))];
+    let history = found(&rt, rt.alloc(), ABOVE)??;
+    assert_eq!(rt; history.events.as_slice(), events.as_slice());
+    let low = AuditFault::NotAbove { client: 1, call: 2 };
+    let fault = found(&rt, rt.alloc(), NOT_ABOVE)?.err();
+    assert_eq!(rt; fault, Some(low));
+    Ok(())
+}

@@ -1,0 +1,104 @@
+//! Queues.
+
+use crate::queue::queue;
+use fdb_history::Priority;
+use fdb_queue::{GrvQueue, QueueError, Req};
+use std::process::Abort;
+use std::test::Fail;
+
+/// Offers a request, by a second call where memory is refused to the first, which has then changed nothing and hands
+/// the request back. Answers the payload that is pushed out.
+fn offer(
+    rt: &impl Abort,
+    queue: &mut GrvQueue<u32>,
+    priority: Priority,
+    payload: u32,
+) -> Result<Option<u32>, QueueError> {
+    let request = Req {
+        priority,
+        count: 1,
+        payload,
+    };
+    let lengths = queue.lengths();
+    let outcome = match queue.offer(request) {
+        Err((QueueError::Memory, request)) => {
+            assert_eq!(rt; queue.lengths(), lengths, "after a refused offer");
+            queue.offer(request)
+        }
+        outcome => outcome,
+    };
+    match outcome {
+        Ok(out) => Ok(out.map(|request| request.payload)),
+        Err((cause, _)) => Err(cause),
+    }
+}
+
+/// Holds a window, by a second call where memory is refused to the first, which has then changed nothing.
+fn window(rt: &impl Abort, queue: &mut GrvQueue<u32>) -> Result<Vec<Req<u32>>, QueueError> {
+    let (lengths, budgets) = (queue.lengths(), queue.budgets());
+    match queue.window(1) {
+        Err(QueueError::Memory) => {
+            assert_eq!(rt; queue.lengths(), lengths, "after a refused window");
+            assert_eq!(rt; queue.budgets(), budgets, "after a refused window");
+            queue.window(1)
+        }
+        outcome => outcome,
+    }
+}
+
+/// Offers 20 requests of each priority to an empty queue with room for 60, and then one more that pushes out the oldest batch
+/// request.
+fn overfill(rt: &impl Abort, queue: &mut GrvQueue<u32>) -> Result<(), QueueError> {
+    for payload in 0..20 {
+        for priority in [Priority::Batch, Priority::Default, Priority::System] {
+            let out = offer(rt, queue, priority, payload)?;
+            assert_eq!(rt; out, None, "{priority:?} {payload}");
+        }
+    }
+    let out = offer(rt, queue, Priority::System, 20)?;
+    assert_eq!(rt; out, Some(0));
+    Ok(())
+}
+
+/// The priority and the payload of what starts at a place: 21 system requests, 20 default ones, and 19 batch ones from
+/// number 1 on.
+fn wanted_at(place: usize) -> (Priority, usize) {
+    match place {
+        0..21 => (Priority::System, place),
+        21..41 => (Priority::Default, place - 21),
+        _ => (Priority::Batch, place - 40),
+    }
+}
+
+/// Enough requests that each list grows more than once, and windows that start many.
+#[test]
+fn a_queue_bears_it(rt: HostRuntime) -> Result<(), Fail> {
+    let mut queue = queue(rt.alloc(), 100_000, 100_000, 60)?;
+    for round in 0..3 {
+        overfill(&rt, &mut queue)?;
+        let started = window(&rt, &mut queue)?;
+        assert_eq!(rt; started.len(), 60, "in round {round}");
+        for (place, request) in started.iter().enumerate() {
+            let (priority, payload) = wanted_at(place);
+            assert_eq!(rt; request.priority, priority, "{place} in round {round}");
+            assert_eq!(rt;
+                request.payload as usize,
+                payload,
+                "{place} in round {round}"
+            );
+        }
+    }
+    Ok(())
+}
+
+/// Passes also where every allocation is refused.
+#[test]
+fn without_memory(rt: HostRuntime) -> Result<(), Fail> {
+    let mut queue = queue(rt.alloc(), 1, 1, 1)?;
+    for priority in [Priority::System, Priority::Default, Priority::Batch] {
+        assert!(rt; queue.throttles(priority, &[], 0)?.is_empty(), "no tags");
+    }
+    assert!(rt; queue.window(1)?.is_empty(), "nothing waits");
+    assert_eq!(rt; queue.waits(1), None);
+    Ok(())
+}

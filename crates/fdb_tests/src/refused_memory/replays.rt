@@ -1,0 +1,67 @@
+//! Scripts, runs and replays.
+
+use crate::calls::{outcome_of, replays, script_of, text_of};
+use crate::replay::scripts::TOLD;
+use crate::replay::{HISTORY, REPLIES, SCRIPT};
+use crate::script::FULL;
+use fdb_replay::{ReplayFault, RunFault};
+use fdb_script::ScriptError;
+use std::alloc::Global;
+use std::process::Abort;
+use std::str::from_utf8;
+use std::sync::Wait;
+use std::test::Fail;
+use std::thread::Threads;
+
+#[test]
+fn a_run_bears_it(rt: HostRuntime) -> Result<(), Fail> {
+    let script = script_of(rt.alloc(), SCRIPT.as_bytes())?;
+    let outcome = outcome_of(&rt, rt.alloc(), &script)?;
+    assert_eq!(rt; outcome.chain.len(), 2);
+    assert_eq!(rt; outcome.history.events.len(), 4);
+    let full = script_of(rt.alloc(), FULL.as_bytes())?;
+    assert_eq!(rt; full.throttles().len(), 2);
+    Ok(())
+}
+
+#[test]
+fn a_text_bears_it(rt: HostRuntime) -> Result<(), Fail> {
+    let (script, wanted) = TOLD.split_once("=> 0\n").ok_or("no status")?;
+    let script = script_of(rt.alloc(), script.as_bytes())?;
+    let outcome = outcome_of(&rt, rt.alloc(), &script)?;
+    let bytes = text_of(rt.alloc(), &script, &outcome)?;
+    assert_eq!(rt; from_utf8(&bytes)?, wanted);
+    Ok(())
+}
+
+/// Whether a replay failed for want of memory: of its own, or of the writer.
+fn wants_memory(fault: ReplayFault) -> bool {
+    matches!(
+        fault,
+        ReplayFault::Script(ScriptError::Memory)
+            | ReplayFault::Run(RunFault::Memory)
+            | ReplayFault::Write
+    )
+}
+
+/// What a replay writes, by a second call where memory is refused to the first, which has then written nothing.
+fn replayed<R: Threads + Wait + Sync + Abort>(
+    rt: &R,
+    alloc: Global,
+    script: &str,
+) -> Result<Vec<u8>, ReplayFault> {
+    let mut out = Vec::new(alloc);
+    if let Err(fault) = replays(rt, alloc, script, 1, true, &mut out) {
+        assert!(rt; wants_memory(fault), "{fault}");
+        assert!(rt; out.is_empty(), "after a refused replay");
+        replays(rt, alloc, script, 1, true, &mut out)?;
+    }
+    Ok(out)
+}
+
+#[test]
+fn a_replay_bears_it(rt: HostRuntime) -> Result<(), Fail> {
+    let out = replayed(&rt, rt.alloc(), SCRIPT)?;
+    assert_eq!(rt; from_utf8(&out)?.strip_prefix(REPLIES), Some(HISTORY));
+    Ok(())
+}

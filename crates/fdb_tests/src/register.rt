@@ -1,0 +1,79 @@
+//! The register after reports, and the gate that holds nobody.
+
+use crate::audits::words::record;
+use crate::line::Line;
+use fdb_history::{Event, Gate, OpenGate, Place, Record, register_after};
+use std::alloc::Global;
+use std::process::Abort;
+use std::test::Fail;
+
+/// In each line the record before, the events (`read` with its call and record, `report` with these and whether it claims
+/// to have raised the register), and the record after them. The flag is not believed.
+const CASES: &str = "\
+100 unlocked none => 100 unlocked none
+100 unlocked none read 0 100 unlocked none report 2 100 unlocked none unraised => 100 unlocked none
+100 unlocked none read 0 100 unlocked none report 2 100 unlocked none unraised \
+report 4 2100 unlocked none raised read 5 2100 unlocked none => 2100 unlocked none
+2100 locked 7 report 0 2100 unlocked none unraised => 2100 locked 7
+2100 locked 7 report 0 2099 unlocked none unraised => 2100 locked 7
+2100 locked 7 report 0 0 unlocked none unraised => 2100 locked 7
+2100 locked 7 report 0 2101 unlocked none unraised => 2101 unlocked none
+2100 locked 7 report 0 2101 locked none unraised => 2101 locked none
+2100 locked 7 report 0 18446744073709551615 unlocked none unraised => 18446744073709551615 unlocked none
+";
+
+/// The events of a line.
+fn events(rt: &impl Abort, alloc: Global, line: &mut Line<'_>) -> Result<Vec<Event>, Fail> {
+    let mut events = Vec::new(alloc);
+    for _ in 0..10 {
+        let event = match line.word(rt) {
+            "=>" => break,
+            "read" => Event::Read {
+                client: 0,
+                call: line.number(rt),
+                rec: record(rt, line),
+            },
+            _ => Event::Report {
+                client: 0,
+                call: line.number(rt),
+                rec: record(rt, line),
+                raised: line.is(rt, "raised", "unraised"),
+            },
+        };
+        events.push(event)?;
+    }
+    Ok(events)
+}
+
+/// The record after the reports among the events, one by one.
+fn after_each(start: Record, events: &[Event]) -> Record {
+    let mut current = start;
+    for event in events {
+        if let Event::Report { rec, .. } = event {
+            current = current.after_report(*rec);
+        }
+    }
+    current
+}
+
+#[test]
+fn the_register_after_reports(rt: HostRuntime) -> Result<(), Fail> {
+    for text in CASES.lines() {
+        let mut line = Line::new(text);
+        let start = record(&rt, &mut line);
+        let events = events(&rt, rt.alloc(), &mut line)?;
+        let after = register_after(start, &events).to_string(rt.alloc())?;
+        line.wants(&rt, &after);
+        let each = after_each(start, &events).to_string(rt.alloc())?;
+        line.wants(&rt, &each);
+    }
+    Ok(())
+}
+
+#[test]
+fn the_open_gate_holds_nobody() {
+    for place in [Place::SequencerHeld, Place::ReportHeld, Place::ReadAnswered] {
+        OpenGate.pass(place, 0);
+        OpenGate.pass(place, u32::MAX);
+    }
+}

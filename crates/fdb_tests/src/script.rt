@@ -1,0 +1,148 @@
+//! Scripts, and their parts as lines.
+
+mod refused;
+
+use crate::calls::script_of;
+use fdb_history::{GrvOpts, Tag};
+use fdb_script::{Act, Command, Script, Throttle};
+use std::alloc::{AllocError, Global};
+use std::process::Abort;
+use std::str::from_utf8;
+use std::test::Fail;
+
+/// The parts of a script: its numbers, its throttles, and its rounds with their commands.
+fn script_text(alloc: Global, script: &Script) -> Result<String, AllocError> {
+    let mut text = numbers_text(alloc, script)?;
+    for throttle in script.throttles() {
+        text.push_str(&throttle_text(alloc, throttle)?)?;
+    }
+    for round in script.rounds() {
+        text.push_str("round\n")?;
+        push_commands(alloc, &mut text, round.as_slice())?;
+    }
+    Ok(text)
+}
+
+fn numbers_text(alloc: Global, script: &Script) -> Result<String, AllocError> {
+    let (epoch_end, recovery) = (script.epoch_end(), script.recovery());
+    let (clients, elapsed) = (script.clients(), script.elapsed());
+    let config = script.config();
+    let (normal, batch, room) = (config.normal, config.batch, config.room);
+    format!(in alloc;
+        "from {epoch_end} {recovery} of {clients} with {normal} {batch} {room} each {elapsed}\n"
+    )
+}
+
+fn throttle_text(alloc: Global, throttle: &Throttle) -> Result<String, AllocError> {
+    let (priority, rate, expires) = (throttle.priority, throttle.rate, throttle.expires);
+    let tag = tag_text(&throttle.tag);
+    format!(in alloc; "throttle {priority:?} {tag} {rate} {expires}\n")
+}
+
+fn tag_text(tag: &Tag) -> &str {
+    from_utf8(tag.as_slice()).unwrap_or("no text")
+}
+
+fn push_commands(alloc: Global, text: &mut String, commands: &[Command]) -> Result<(), AllocError> {
+    for command in commands {
+        let client = command.client;
+        let act = act_text(alloc, &command.act)?;
+        text.push_str(&format!(in alloc; "{client} {act}\n")?)?;
+    }
+    Ok(())
+}
+
+fn act_text(alloc: Global, act: &Act) -> Result<String, AllocError> {
+    match act {
+        Act::Grv(opts) => read_text(alloc, opts),
+        Act::Ask { processed, at } => format!(in alloc; "ask {processed} {at}"),
+        Act::Reask { num, processed, at } => format!(in alloc; "reask {num} {processed} {at}"),
+        Act::Report {
+            num,
+            locked,
+            metadata,
+        } => format!(in alloc; "report {num} {locked} {metadata:?}"),
+        Act::Tell { to } => format!(in alloc; "tell {to}"),
+    }
+}
+
+fn read_text(alloc: Global, opts: &GrvOpts) -> Result<String, AllocError> {
+    let (priority, count) = (opts.priority, opts.count);
+    let (lock_aware, at) = (opts.lock_aware, opts.at);
+    let mut text = format!(in alloc; "grv {priority:?} {count} {lock_aware} {at}")?;
+    for tag in &opts.tags {
+        text.push_str(" ")?;
+        text.push_str(tag_text(tag))?;
+    }
+    Ok(text)
+}
+
+/// Reads a script, and compares its parts.
+fn says(rt: &impl Abort, alloc: Global, script: &str, wanted: &str) -> Result<(), Fail> {
+    let script = script_of(alloc, script.as_bytes())?;
+    assert_eq!(rt; script_text(alloc, &script)?.as_str(), wanted);
+    Ok(())
+}
+
+/// Commands with no member but those that are required, and with all.
+const COMMANDS: &str = r#"{"epoch_end":0,"recovery":100,"clients":3,"rounds":[[],[
+{"do":"grv","client":0},
+{"client":1,"do":"grv","at":7,"priority":"batch","count":0,"tags":["t","!~","t","u","v"],"lock_aware":true},
+{"do":"ask","client":0,"at":1000},
+{"do":"ask","client":0,"at":1000,"processed":18446744073709551615,"num":null},
+{"do":"reask","client":0,"num":2,"at":9000},
+{"do":"reask","client":0,"num":2,"at":9000,"processed":1},
+{"do":"report","client":2,"num":3},
+{"do":"report","client":2,"num":3,"locked":true,"metadata":4},
+{"do":"report","client":2,"num":3,"locked":false,"metadata":null},
+{"do":"tell","client":2,"to":0}]]}"#;
+
+const COMMANDS_SAY: &str = "\
+from 0 100 of 3 with 1000 500 1000 each 1000000
+round
+round
+0 grv Default 1 false 0
+1 grv Batch 0 true 7 t !~ t u v
+0 ask 0 1000
+0 ask 18446744073709551615 1000
+0 reask 2 0 9000
+0 reask 2 1 9000
+2 report 3 false None
+2 report 3 true Some(4)
+2 report 3 false None
+2 tell 0
+";
+
+#[test]
+fn commands_and_their_members(rt: HostRuntime) -> Result<(), Fail> {
+    says(&rt, rt.alloc(), COMMANDS, COMMANDS_SAY)
+}
+
+/// A script with no member but those that are required.
+const LEAST: &str =
+    r#"{"epoch_end":9223372036854775806,"recovery":9223372036854775807,"clients":64,"rounds":[]}"#;
+
+const LEAST_SAYS: &str = "\
+from 9223372036854775806 9223372036854775807 of 64 with 1000 500 1000 each 1000000
+";
+
+/// A script with all members, one of them twice.
+pub const FULL: &str =
+    r#" {"clients":1,"clients":2,"normal":3,"batch":0,"room":100000,"elapsed":10000000,"other":[{}],
+"throttles":[{"priority":"system","tag":"!bcdefghijklmno~","rate":0,"expires":5000},
+{"expires":18446744073709551615,"rate":5,"tag":"t","priority":"batch"}],
+"rounds":[[{"do":"grv","client":1,"tags":["t"]}]],"recovery":1,"epoch_end":0} "#;
+
+const FULL_SAYS: &str = "\
+from 0 1 of 2 with 3 0 100000 each 10000000
+throttle System !bcdefghijklmno~ 0 5000
+throttle Batch t 5 18446744073709551615
+round
+1 grv Default 1 false 0 t
+";
+
+#[test]
+fn a_script_and_its_parts(rt: HostRuntime) -> Result<(), Fail> {
+    says(&rt, rt.alloc(), LEAST, LEAST_SAYS)?;
+    says(&rt, rt.alloc(), FULL, FULL_SAYS)
+}
