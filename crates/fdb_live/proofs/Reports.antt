@@ -84,13 +84,13 @@ not_raised_lower : (a b : Record) → raises a b ≡ false → b.version ≤ a.v
 not_raised_lower a b e = grind (arith, nat_tests)
 
 -- what the right and the token are after a report
-pub record HasReported (start : Record) (reporters : ℕ) (number : Option ℕ) (v : View) (rec : Record) (raised : Bool) (position : ℕ) (right token : View) : Type 0 where
+pub record HasReported (start : Record) (reporters : ℕ) (number : Option ℕ) (old : Sight) (rec : Record) (raised : Bool) (position : ℕ) (right token : View) : Type 0 where
   pub right_is : IsRight start reporters right
   pub holder : IsHolder start reporters number token
   pub position_is : position ≡ length token.seen
-  pub extends : IsPrefix v.seen token.seen
-  pub raised_is : raised ≡ true → IsRaisedBy start rec (record { reporter = number; raises = v.seen }) (record { reporter = number; raises = token.seen })
-  pub not_raised : raised ≡ false → IsNotRaisedBy start rec (record { reporter = number; raises = v.seen }) (record { reporter = number; raises = token.seen })
+  pub extends : IsPrefix old.raises token.seen
+  pub raised_is : raised ≡ true → IsRaisedBy start rec old (record { reporter = number; raises = token.seen })
+  pub not_raised : raised ≡ false → IsNotRaisedBy start rec old (record { reporter = number; raises = token.seen })
 
 module _ (start : Record) (n : ℕ) where
   abbrev sight : List Raise → Sight
@@ -135,7 +135,7 @@ module _ (start : Record) (n : ℕ) where
   so old found new rec false seen own legal up is =
       (subst (IsPrefix old) (sym is) seen, λ e. absurd (true≢false (sym e)), λ _. unraised_so old found new rec own (sym up) is)
 
-reported_as : (start : Record) (reporters n : ℕ) (rv v u right token : View) (rec : Record) (raised : Bool) (position : ℕ) → IsRight start reporters rv → IsHolder start reporters (Some n) v → IsReported (taken rv v) rec raised position u → right ≡ without_lowest u → token ≡ lowest_of u → HasReported start reporters (Some n) v rec raised position right token
+reported_as : (start : Record) (reporters n : ℕ) (rv v u right token : View) (rec : Record) (raised : Bool) (position : ℕ) → IsRight start reporters rv → IsHolder start reporters (Some n) v → IsReported (taken rv v) rec raised position u → right ≡ without_lowest u → token ≡ lowest_of u → HasReported start reporters (Some n) (record { reporter = Some n; raises = v.seen }) rec raised position right token
 reported_as start reporters n rv v u right token rec raised position r h d e f =
     let low : v.low ≡ n = h.numbers.0 in
     let seen : token.seen ≡ u.seen = ap (λ w. w.seen) f in
@@ -166,6 +166,13 @@ reported_as start reporters n rv v u right token rec raised position r h d e f =
       not_raised = all.2;
     }
 
-pub has_reported : (start : Record) (reporters : ℕ) (number : Option ℕ) (rv v u right token : View) (rec : Record) (raised : Bool) (position : ℕ) → IsSome number → IsRight start reporters rv → IsHolder start reporters number v → IsReported (taken rv v) rec raised position u → right ≡ without_lowest u → token ≡ lowest_of u → HasReported start reporters number v rec raised position right token
-has_reported start reporters None rv v u right token rec raised position some r h d e f = absurd (true≢false (sym some))
-has_reported start reporters (Some n) rv v u right token rec raised position some r h d e f = reported_as start reporters n rv v u right token rec raised position r h d e f
+reported : (start : Record) (reporters : ℕ) (number : Option ℕ) (rv v u right token : View) (rec : Record) (raised : Bool) (position : ℕ) → IsSome number → IsRight start reporters rv → IsHolder start reporters number v → IsReported (taken rv v) rec raised position u → right ≡ without_lowest u → token ≡ lowest_of u → HasReported start reporters number (record { reporter = number; raises = v.seen }) rec raised position right token
+reported start reporters None rv v u right token rec raised position some r h d e f = absurd (true≢false (sym some))
+reported start reporters (Some n) rv v u right token rec raised position some r h d e f = reported_as start reporters n rv v u right token rec raised position r h d e f
+
+-- the same of what each step has ensured
+pub has_reported : {start : Record} {reporters : ℕ} {number : Option ℕ} {old : Sight} {rv v given t u right token : View} {rec : Record} {raised : Bool} {position : ℕ} → record { reporter = number; raises = v.seen } ≡ old → IsSome old.reporter → IsRight start reporters rv → IsHolder start reporters number v → given ≡ v → t ≡ taken rv given → IsReported t rec raised position u → right ≡ without_lowest u → token ≡ lowest_of u → HasReported start reporters number old rec raised position right token
+has_reported {start} {reporters} {number} {old} {rv} {v} {given} {t} {u} {right} {token} {rec} {raised} {position} is some r h gives takes d e f =
+    let done = subst (λ (w : View). IsReported w rec raised position u) (takes ∙ ap (taken rv) gives) d in
+    let numbered : IsSome number = subst (λ (s : Sight). IsSome s.reporter) (sym is) some in
+    subst (λ (s : Sight). HasReported start reporters number s rec raised position right token) is (reported start reporters number rv v u right token rec raised position numbered r h done e f)

@@ -17,9 +17,9 @@ use std::sync::{Mutex, Wait};
 /// The live committed version of the service `J`, in one register that threads share
 /// (`liveCommittedVersion` and its companions in masterserver, FoundationDB 7.1).
 ///
-/// Reports take turns under a lock that only they take. A read takes no lock: it loads the four words of a sequence
-/// cell, and loads them again, or takes the cell's own lock, where a replacement came between. No call on it takes
-/// memory, and each takes constant time, waiting aside.
+/// Reports take turns under a lock that only they take. A read does not take it: it loads the four words of a
+/// sequence cell, and only where a replacement came between does it take the cell's own lock for a moment. No call on
+/// it takes memory, and each takes constant time, waiting aside.
 #[derive(Drop)]
 pub struct LiveRecord<J: Live> {
     pub(crate) cell: Cell,
@@ -31,7 +31,8 @@ impl<J: Live> LiveRecord<J> {
     /// The record and its position (`getLiveCommittedVersion` of masterserver). The holder of the token has then seen
     /// each raise up to that position.
     ///
-    /// It waits for a replacement that is under way, and for no report's lock.
+    /// It waits for a replacement that is under way, and not for the lock of the reports. That it sees a report of
+    /// which its caller had seen nothing, no clause says.
     pub fn read<R: Wait>(&self, rt: &R, seen: &mut Seen<J>) -> Fetched
         ensures reporter { seen.new.reporter ≡ seen.old.reporter }
         ensures extends { IsPrefix seen.old.raises seen.new.raises }
