@@ -196,7 +196,6 @@ fn is_read(opts: &GrvOpts, answer: &CallAnswer) -> bool {
                 | Refusal::Full
                 | Refusal::ProxyClosed
                 | Refusal::Stranger
-                | Refusal::Behind { .. }
         ),
         _ => false,
     }
@@ -265,7 +264,6 @@ fn is_report(
                 && rec.metadata == metadata
         }
         CallAnswer::Refused(Refusal::NotIssued) => drawn.is_none(),
-        CallAnswer::Refused(Refusal::Behind { .. }) => true,
         _ => false,
     }
 }

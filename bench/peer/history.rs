@@ -104,14 +104,12 @@ pub enum Refusal {
     NotIssued,
     Stranger,
     TooLarge,
-    Behind { position: u64 },
 }
 
 impl fmt::Display for Refusal {
     fn fmt(&self, f: &mut fmt::Formatter) -> fmt::Result {
         let name = match self {
             Refusal::Early { expected } => return write!(f, "Early {expected}"),
-            Refusal::Behind { position } => return write!(f, "Behind {position}"),
             Refusal::Forgotten => "Forgotten",
             Refusal::UnknownProxy => "UnknownProxy",
             Refusal::Exhausted => "Exhausted",

@@ -14,7 +14,7 @@ use Rattle.fdb_history.specs.declared.log.CallAnswer.TheVariants.{Version, Answe
 use Rattle.fdb_history.specs.declared.log.ClientLog.{ClientLog}
 use Rattle.fdb_history.specs.declared.log.Input.{Input}
 use Rattle.fdb_history.specs.declared.log.Input.TheVariants as input
-use Rattle.fdb_history.specs.declared.log.Refusal.TheVariants.{Early, Forgotten, Exhausted, Full, NotIssued, Behind}
+use Rattle.fdb_history.specs.declared.log.Refusal.TheVariants.{Early, Forgotten, Exhausted, Full, NotIssued}
 use Rattle.fdb_history.specs.declared.register.Record.{Record}
 use Rattle.fdb_history.specs.declared.register.TheConstants.{MAX_VERSION}
 
@@ -66,15 +66,15 @@ unlocked_turned_away = refl
 unlocked_goes_on : is_borne_out [] 0 [] (reads false (plain 100) false) ≡ true
 unlocked_goes_on = refl
 
--- Nobody may be refused a tell, and a report may be told to be behind.
+-- Nobody may be refused a tell, and no report is refused for want of room.
 tell_done : is_borne_out [] 0 [] (called (input.Tell 1) Told) ≡ true
 tell_done = refl
 
 tell_refused : is_borne_out [] 0 [] (called (input.Tell 1) (Refused Full)) ≡ false
 tell_refused = refl
 
-report_behind : is_borne_out [] 0 [] (called (input.Report 1 false None) (Refused (Behind 3))) ≡ true
-report_behind = refl
+report_full : is_borne_out [] 0 [] (called (input.Report 1 false None) (Refused Full)) ≡ false
+report_full = refl
 
 report_told : goes_with (input.Report 1 false None) Told ≡ false
 report_told = refl

@@ -16,7 +16,7 @@ use Rattle.fdb_history.specs.declared.log.ClientLog.{ClientLog}
 use Rattle.fdb_history.specs.declared.log.Input.{Input}
 use Rattle.fdb_history.specs.declared.log.Input.TheVariants as input
 use Rattle.fdb_history.specs.declared.log.Refusal.{Refusal}
-use Rattle.fdb_history.specs.declared.log.Refusal.TheVariants.{Early, Forgotten, Exhausted, BadCount, BatchThrottled, Full, ProxyClosed, NotIssued, Stranger, Behind}
+use Rattle.fdb_history.specs.declared.log.Refusal.TheVariants.{Early, Forgotten, Exhausted, BadCount, BatchThrottled, Full, ProxyClosed, NotIssued, Stranger}
 use Rattle.fdb_history.specs.declared.register.TheConstants.{MAX_VERSION}
 
 -- ---- the kind of an answer
@@ -28,12 +28,10 @@ may_refuse (input.Grv opts) BatchThrottled = true
 may_refuse (input.Grv opts) Full = true
 may_refuse (input.Grv opts) ProxyClosed = true
 may_refuse (input.Grv opts) Stranger = true
-may_refuse (input.Grv opts) (Behind position) = true
 may_refuse (input.Ask num processed at) (Early expected) = true
 may_refuse (input.Ask num processed at) Forgotten = true
 may_refuse (input.Ask num processed at) Exhausted = true
 may_refuse (input.Report num locked metadata) NotIssued = true
-may_refuse (input.Report num locked metadata) (Behind position) = true
 may_refuse _ _ = false
 
 -- an answer is of the kind of its input

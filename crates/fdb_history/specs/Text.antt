@@ -1,7 +1,7 @@
 -- How a record and a refusal are printed. (this product's own)
 use Rattle.std.specs.Prelude.{ℕ, List, ◌++◌, Option, None, Some, codes, decimal, if◌then◌else◌}
 use Rattle.fdb_history.specs.declared.log.Refusal.{Refusal}
-use Rattle.fdb_history.specs.declared.log.Refusal.TheVariants.{Early, Forgotten, UnknownProxy, Exhausted, BadCount, BatchThrottled, Full, ProxyClosed, NotIssued, Stranger, TooLarge, Behind}
+use Rattle.fdb_history.specs.declared.log.Refusal.TheVariants.{Early, Forgotten, UnknownProxy, Exhausted, BadCount, BatchThrottled, Full, ProxyClosed, NotIssued, Stranger, TooLarge}
 use Rattle.fdb_history.specs.declared.register.Record.{Record}
 
 -- a metadata version, or `none`
@@ -26,4 +26,3 @@ refusal_text ProxyClosed = codes "ProxyClosed"
 refusal_text NotIssued = codes "NotIssued"
 refusal_text Stranger = codes "Stranger"
 refusal_text TooLarge = codes "TooLarge"
-refusal_text (Behind position) = codes "Behind " ++ decimal position

@@ -97,11 +97,6 @@ pub enum Refusal {
     Stranger,
     /// The version is above the greatest one.
     TooLarge,
-    /// The live record has seen less than the caller.
-    Behind {
-        /// The position of the live record.
-        position: u64,
-    },
 }
 
 /// The refusal's name, and the number that it tells.
@@ -124,7 +119,6 @@ impl fmt::Display for Refusal {
             Refusal::NotIssued => f.write_str("NotIssued"),
             Refusal::Stranger => f.write_str("Stranger"),
             Refusal::TooLarge => f.write_str("TooLarge"),
-            Refusal::Behind { position } => write!(f, "Behind {position}"),
         }
     }
 }

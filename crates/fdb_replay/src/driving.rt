@@ -27,19 +27,25 @@ pub const MAX_SCRIPT_BYTES: usize = 16_777_216;
 /// The most bytes that one read asks for.
 const PIECE: usize = 65_536;
 
-/// Why the program ends with another status than 0.
+/// Why the program ends with another status than 0. Its text is the line that the program writes, behind its name.
 #[derive(Clone, Copy, Debug, Error)]
-pub(crate) enum Fault {
+pub enum Fault {
+    /// The bytes stand for no script.
     #[error("script refused: {0}")]
     Script(ScriptError),
+    /// The words of the command line ask for nothing, or could not be had.
     #[error("words refused")]
     Words,
+    /// Memory was refused.
     #[error("want of memory")]
     Memory,
+    /// The logs of the run have no explanation.
     #[error("audit fault: {0}")]
     Audit(AuditFault),
+    /// The script could not be read, or is of more than [`MAX_SCRIPT_BYTES`].
     #[error("reading failed")]
     Reading,
+    /// The lines or the help could not be written, or not flushed.
     #[error("writing failed")]
     Writing,
 }
@@ -71,15 +77,16 @@ impl Fault {
     }
 
     /// The status that the program ends with.
-    pub(crate) fn status(self) -> u8
+    pub fn status(self) -> u8
         ensures fault { 0 < result }
-        ensures script { result ≡ 1 → (error : ScriptError) × (self ≡ Fault.Script error) }
-        ensures no_script { (error : ScriptError) → self ≡ Fault.Script error → result ≡ 1 }
-        ensures words { result ≡ 2 → self ≡ Fault.Words }
-        ensures no_words { self ≡ Fault.Words → result ≡ 2 }
+        ensures script { (error : ScriptError) → self ≡ Fault.Script error → result ≡ 1 }
+        ensures only_script { result ≡ 1 → (error : ScriptError) × (self ≡ Fault.Script error) }
+        ensures words { self ≡ Fault.Words → result ≡ 2 }
+        ensures only_words { result ≡ 2 → self ≡ Fault.Words }
         ensures memory { self ≡ Fault.Memory → result ≡ 3 }
-        ensures audit { result ≡ 4 → (found : AuditFault) × (self ≡ Fault.Audit found) }
-        ensures no_audit { (found : AuditFault) → self ≡ Fault.Audit found → result ≡ 4 }
+        ensures only_memory { result ≡ 3 → self ≡ Fault.Memory }
+        ensures audit { (found : AuditFault) → self ≡ Fault.Audit found → result ≡ 4 }
+        ensures only_audit { result ≡ 4 → (found : AuditFault) × (self ≡ Fault.Audit found) }
         ensures reading { self ≡ Fault.Reading → result ≡ 5 }
         ensures writing { self ≡ Fault.Writing → result ≡ 5 }
     {
@@ -121,7 +128,9 @@ impl From<ReplayFault> for Fault {
         × ((error : ScriptError) → fault ≡ made.Script error → (cause ≡ replay.Script error) × (error ≢ Memory))
         × (cause ≡ replay.Run run.Memory → fault ≡ made.Memory)
         × ((found : AuditFault) → cause ≡ replay.Run (run.Audit found) → fault ≡ made.Audit found)
-        × ((found : AuditFault) → fault ≡ made.Audit found → cause ≡ replay.Run (run.Audit found)) };
+        × ((found : AuditFault) → fault ≡ made.Audit found → cause ≡ replay.Run (run.Audit found))
+        × ((error : ScriptError) → cause ≡ replay.Script error → error ≢ Memory → fault ≡ made.Script error)
+        × (cause ≡ replay.Script Memory → fault ≡ made.Memory) };
 
     fn from(fault: ReplayFault) -> Self {
         match fault {

@@ -11,7 +11,7 @@ mod running;
 mod service;
 mod words;
 
-pub use driving::{MAX_SCRIPT_BYTES, drive};
+pub use driving::{Fault, MAX_SCRIPT_BYTES, drive};
 pub use fault::RunFault;
 pub use replaying::{ReplayFault, replay};
 pub use running::run;

@@ -1,16 +1,18 @@
 -- A worked example of the definitions: it is computed by them, so that a wrong definition fails here.
-use Rattle.std.proofs.Common.{ℕ, zero, suc, ◌<◌, true, false, List, [], ◌∷◌, None, refl, arith}
+use Rattle.std.proofs.Common.{◌≡◌, ℕ, zero, suc, ◌<◌, true, false, List, [], ◌∷◌, None, ◌++◌, codes, decimal, refl, arith}
 use Rattle.std.specs.List.{FoldsTo}
 use Rattle.fdb_history.specs.Log.{calls_of}
 use Rattle.fdb_history.specs.declared.grv.GrvOpts.{GrvOpts}
 use Rattle.fdb_history.specs.declared.grv.Priority.TheVariants.{Default}
 use Rattle.fdb_history.specs.declared.log.Call.{Call}
-use Rattle.fdb_history.specs.declared.log.CallAnswer.TheVariants.{Version, Answered, Acked, Told}
+use Rattle.fdb_history.specs.declared.log.CallAnswer.TheVariants.{Version, Answered, Acked, Told, Refused}
 use Rattle.fdb_history.specs.declared.log.ClientLog.{ClientLog}
 use Rattle.fdb_history.specs.declared.log.Input.TheVariants as input
+use Rattle.fdb_history.specs.declared.log.Refusal.TheVariants.{BadCount}
 use Rattle.fdb_history.specs.declared.register.Record.{Record}
 use Rattle.fdb_script.specs.Answering.{Answers, AnswersCommand, AnswersRound, commands_of}
 use Rattle.fdb_script.specs.Plan.{Plan}
+use Rattle.fdb_script.specs.Text.{reply_text}
 use Rattle.fdb_script.specs.declared.script.Act.TheVariants.{Grv, Ask, Report, Tell}
 use Rattle.fdb_script.specs.declared.script.Command.{Command}
 
@@ -111,3 +113,15 @@ second_answered = record { performed = logs; performs = record { same_clients = 
 -- The logs answer the script.
 logs-answer : Answers plan logs
 logs-answer = (between, first_answered, (logs, second_answered, refl))
+
+-- A read of no transactions is refused, and its reply has the cause: with the decimal numbers 0, 1 and 0 of its round, its client
+-- and its place in the round, '0 1 0 grv refused BadCount'.
+abbrev no_count : GrvOpts
+no_count = record { priority = Default; count = 0; tags = []; lock_aware = false; at = 0 }
+
+abbrev refused_read : Call
+refused_read = record { input = input.Grv no_count; asked = 0; position = 0; answer = Refused BadCount }
+
+refused-text : reply_text 0 1 0 (Grv no_count) refused_read
+    ≡ decimal 0 ++ codes " " ++ decimal 1 ++ codes " " ++ decimal 0 ++ codes " " ++ codes "grv" ++ codes " " ++ codes "refused BadCount"
+refused-text = refl

@@ -47,13 +47,12 @@ fn may_refuse(input: &Input, cause: Refusal) -> bool
                 | Refusal::Full
                 | Refusal::ProxyClosed
                 | Refusal::Stranger
-                | Refusal::Behind { .. }
         ),
         Input::Ask { .. } => matches!(
             cause,
             Refusal::Early { .. } | Refusal::Forgotten | Refusal::Exhausted
         ),
-        Input::Report { .. } => matches!(cause, Refusal::NotIssued | Refusal::Behind { .. }),
+        Input::Report { .. } => matches!(cause, Refusal::NotIssued),
         Input::Tell { .. } | Input::Learn { .. } => false,
     }
 }

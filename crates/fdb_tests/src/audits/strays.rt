@@ -16,7 +16,6 @@ log; call 0 0 grv refused ProxyClosed; => ok
 log; call 0 0 grv refused NotIssued; => Stray 0 0
 log; call 0 0 grv refused Stranger; => ok
 log; call 0 0 grv refused TooLarge; => Stray 0 0
-log; call 0 0 grv refused Behind 0; => ok
 # refusals of a request: number 0 is forgotten, and no other refusal is due to it
 log; call 0 0 ask 0 0 0 refused Early 1; => Stray 0 0
 log; call 0 0 ask 0 0 0 refused Forgotten; => ok
@@ -29,7 +28,6 @@ log; call 0 0 ask 0 0 0 refused ProxyClosed; => Stray 0 0
 log; call 0 0 ask 0 0 0 refused NotIssued; => Stray 0 0
 log; call 0 0 ask 0 0 0 refused Stranger; => Stray 0 0
 log; call 0 0 ask 0 0 0 refused TooLarge; => Stray 0 0
-log; call 0 0 ask 0 0 0 refused Behind 0; => Stray 0 0
 # refusals of a report
 log; call 0 0 report 1 unlocked none refused Early 1; => Stray 0 0
 log; call 0 0 report 1 unlocked none refused Forgotten; => Stray 0 0
@@ -42,7 +40,6 @@ log; call 0 0 report 1 unlocked none refused ProxyClosed; => Stray 0 0
 log; call 0 0 report 1 unlocked none refused NotIssued; => ok
 log; call 0 0 report 1 unlocked none refused Stranger; => Stray 0 0
 log; call 0 0 report 1 unlocked none refused TooLarge; => Stray 0 0
-log; call 0 0 report 1 unlocked none refused Behind 0; => ok
 # refusals of a tell
 log; call 0 0 tell 0 refused Early 1; => Stray 0 0
 log; call 0 0 tell 0 refused Forgotten; => Stray 0 0
@@ -55,7 +52,6 @@ log; call 0 0 tell 0 refused ProxyClosed; => Stray 0 0
 log; call 0 0 tell 0 refused NotIssued; => Stray 0 0
 log; call 0 0 tell 0 refused Stranger; => Stray 0 0
 log; call 0 0 tell 0 refused TooLarge; => Stray 0 0
-log; call 0 0 tell 0 refused Behind 0; => Stray 0 0
 # refusals of a learn
 log; call 0 0 learn 0 refused Early 1; => Stray 0 0
 log; call 0 0 learn 0 refused Forgotten; => Stray 0 0
@@ -68,7 +64,6 @@ log; call 0 0 learn 0 refused ProxyClosed; => Stray 0 0
 log; call 0 0 learn 0 refused NotIssued; => Stray 0 0
 log; call 0 0 learn 0 refused Stranger; => Stray 0 0
 log; call 0 0 learn 0 refused TooLarge; => Stray 0 0
-log; call 0 0 learn 0 refused Behind 0; => Stray 0 0
 ";
 
 #[test]

@@ -169,9 +169,6 @@ fn refusal(rt: &impl Abort, line: &mut Line<'_>) -> Refusal {
         "NotIssued" => Refusal::NotIssued,
         "Stranger" => Refusal::Stranger,
         "TooLarge" => Refusal::TooLarge,
-        "Behind" => Refusal::Behind {
-            position: line.number(rt),
-        },
         _ => line.fails(rt, "no refusal"),
     }
 }

@@ -85,7 +85,6 @@ fn refusals_as_text(rt: HostRuntime) -> Result<(), Fail> {
         (Refusal::NotIssued, "NotIssued"),
         (Refusal::Stranger, "Stranger"),
         (Refusal::TooLarge, "TooLarge"),
-        (Refusal::Behind { position: 12 }, "Behind 12"),
     ];
     for (refusal, wanted) in cases {
         says(&rt, rt.alloc(), &refusal, wanted)?;
