@@ -1,5 +1,5 @@
 -- What the steps make of a token.
-use Rattle.std.proofs.Common.{◌≡◌, ◌⊎◌, ℕ, ◌<◌, Bool, true, false, List, length, if◌then◌else◌, Option, None, Some, refl, sym, ap, ◌∙◌, subst, arith}
+use Rattle.std.proofs.Common.{◌≡◌, ◌⊎◌, ℕ, ◌<◌, ◌≤◌, Bool, true, false, List, length, if◌then◌else◌, Option, None, Some, refl, sym, ap, ◌∙◌, subst, arith}
 use Rattle.std.specs.Prelude.{nat_lt}
 use mathlib.Core.List.{IsPrefix}
 use Rattle.fdb_history.specs.declared.register.Record.{Record}
@@ -9,6 +9,7 @@ use Rattle.fdb_live.specs.declared.view.View.{View}
 use Rattle.fdb_live.specs.Seen.{IsLog, own_among, longer}
 use Rattle.fdb_live.specs.Rule.{having_seen, joined, copy_of, Tells, Looks, Settles, IsRegister}
 use Rattle.fdb_live.specs.Token.{HasNumber, IsHolder}
+use Rattle.fdb_live.proofs.Logs.{position_below_version}
 use Rattle.fdb_live.proofs.Prefixes.{prefix_either}
 
 -- a holder's own positions are those of the list that it had seen itself
@@ -62,6 +63,15 @@ looked start reporters number v w x h l =
       extends = l.tells.seen;
       own = own_stays number v w.seen h.numbers l.tells ∙ ap (own_among number) h.settled;
     }
+
+-- positions never exceed versions
+pub looked_below : {start : Record} {reporters : ℕ} {number : Option ℕ} {v w : View} {x : Fetched} → IsHolder start reporters number v → Looks v x x w → x.position ≤ x.rec.version
+looked_below {start} {reporters} {number} {v} {w} {x} h l =
+    let all = looked start reporters number v w x h l in
+    let below = position_below_version start w.seen all.holder.legal.rises in
+    let at = all.register.position in
+    let same = ap (λ (r : Record). r.version) all.register.rec in
+    omega arith
 
 -- what a join and a look make of two tokens
 pub record HasLearnt (start : Record) (reporters : ℕ) (number : Option ℕ) (v u w : View) : Type 0 where

@@ -1,6 +1,6 @@
 //! The live record.
 
-ghost use Rattle.std.specs.Prelude.{◌≡◌, ◌≢◌, ◌<◌, ◌⊎◌, ◌↔◌, length, Option, None, IsSome, IfOk, OnErr, true, false};
+ghost use Rattle.std.specs.Prelude.{◌≡◌, ◌≢◌, ◌<◌, ◌≤◌, ◌⊎◌, ◌↔◌, length, Option, None, IsSome, IfOk, OnErr, true, false};
 ghost use mathlib.Core.List.{IsPrefix};
 ghost use Rattle.fdb_live.specs.Seen.{IsLog, IsNotRaisedBy, IsRaisedBy, last_record, longer, own_positions};
 
@@ -39,6 +39,7 @@ impl<J: Live> LiveRecord<J> {
         ensures own { own_positions seen.new ≡ own_positions seen.old }
         ensures rec { result.rec ≡ last_record J.start seen.new.raises }
         ensures position { result.position ≡ length seen.new.raises }
+        ensures below { result.position ≤ result.rec.version }
         ensures log { IsLog J.start J.reporters seen.new.raises }
     {
         seen.look(rt, &self.cell)

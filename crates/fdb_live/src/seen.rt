@@ -77,6 +77,7 @@ impl<J: Live> Seen<J> {
         ensures own { own_positions self.new ≡ own_positions self.old }
         ensures rec { result.rec ≡ last_record J.start self.new.raises }
         ensures position { result.position ≡ length self.new.raises }
+        ensures below { result.position ≤ result.rec.version }
         ensures log { IsLog J.start J.reporters self.new.raises }
     {
         let fetched = passes::look(rt, cell, &mut self.pass);
