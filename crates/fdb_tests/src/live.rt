@@ -89,16 +89,21 @@ fn reads_and_reports(rt: HostRuntime) -> Result<(), Fail> {
     Ok(())
 }
 
+/// Why a live record is not opened with a version, if it is not.
+fn refusal_of<R: Wait>(rt: &R, alloc: Global, version: u64) -> Option<LiveError> {
+    LiveRecord::<Brand>::open(rt, alloc, unlocked(version), 2).err()
+}
+
 #[test]
 fn versions_in_and_out_of_range(rt: HostRuntime) -> Result<(), Fail> {
-    let open = |version| {
-        let opened = LiveRecord::<Brand>::open(&rt, rt.alloc(), unlocked(version), 2);
-        opened.err()
-    };
-    assert_eq!(rt; open(0), None);
-    assert_eq!(rt; open(9_223_372_036_854_775_807), None);
-    let beyond = open(9_223_372_036_854_775_808);
-    assert_eq!(rt; beyond, Some(LiveError::TooLarge));
+    for (version, wanted) in [
+        (0, None),
+        (9_223_372_036_854_775_807, None),
+        (9_223_372_036_854_775_808, Some(LiveError::TooLarge)),
+    ] {
+        let refusal = refusal_of(&rt, rt.alloc(), version);
+        assert_eq!(rt; refusal, wanted, "{version}");
+    }
     Ok(())
 }
 

@@ -43,7 +43,7 @@ impl Service for AtTheEnd {
     ghost reporters = { 4 };
 }
 
-/// A gate that counts how often it was passed, and who passed it last.
+/// A gate that counts how often it was passed, and notes who passed it last.
 #[derive(Drop)]
 struct Noting {
     held: AtomicU64,
@@ -184,7 +184,7 @@ fn versions_end_behind_the_lock(rt: HostRuntime) -> Result<(), Fail> {
     play(&rt, rt.alloc(), sequencer, LAST, 2)
 }
 
-/// Whether a proxy got a fresh version for each of 100 requests.
+/// Asks for a proxy's numbers 1 to 100.
 fn asks_hundred_times<R: Wait>(
     rt: &R,
     sequencer: &Sequencer<FromHundred>,

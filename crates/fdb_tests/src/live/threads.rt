@@ -35,7 +35,7 @@ impl<J: Live> Worker<J> {
         }
     }
 
-    /// Reports so often, or reads where its token has no number.
+    /// Reports rising versions that no other worker reports, or reads where its token has no number.
     fn work<R: Wait>(&mut self, rt: &R, live: &LiveRecord<J>, reporters: u64) {
         for turn in 0..TURNS {
             match self.token.reporter() {
@@ -48,7 +48,7 @@ impl<J: Live> Worker<J> {
         }
     }
 
-    /// Reports a version.
+    /// Reports a version, if its token has a number.
     fn report<R: Wait>(&mut self, rt: &R, live: &LiveRecord<J>, version: u64) {
         let before = self.token.position();
         let Some(who) = self.token.reporter() else {
@@ -137,12 +137,16 @@ fn all_meet<J: Live, R: Wait + Abort>(
     mut workers: Vec<Worker<J>>,
 ) {
     let all = first.position();
-    while let Some(mut one) = workers.pop() {
+    for _ in 0..workers.len() {
+        let Some(mut one) = workers.pop() else {
+            break;
+        };
         for other in &mut workers {
             live.meet(rt, &mut one.token, &mut other.token);
         }
         live.meet(rt, first, &mut one.token);
-        live.learn(rt, first, live.split(&mut one.token));
+        let told = live.split(&mut one.token);
+        live.learn(rt, first, told);
         assert_eq!(rt; first.position(), all, "told of no more");
     }
 }
