@@ -65,7 +65,8 @@ fn asked(
     format!(in alloc; "{standing}: {answer}")
 }
 
-fn issued_text(alloc: Global, issued: Issued) -> Result<String, AllocError> {
+/// The members of an answer.
+pub fn issued_text(alloc: Global, issued: Issued) -> Result<String, AllocError> {
     let (ordinal, proxy, num) = (issued.ordinal, issued.proxy, issued.num);
     let (processed, at) = (issued.processed, issued.at);
     let (prev, version) = (issued.prev, issued.version);

@@ -14,6 +14,8 @@ mod chain;
 #[cfg(test)]
 mod line;
 #[cfg(test)]
+mod live;
+#[cfg(test)]
 mod queue;
 #[cfg(test)]
 mod refused_memory;
@@ -23,3 +25,5 @@ mod register;
 mod replay;
 #[cfg(test)]
 mod script;
+#[cfg(test)]
+mod sequencer;

@@ -4,7 +4,9 @@
 
 mod audits;
 mod chains;
+mod live_records;
 mod queues;
 mod records;
 mod replays;
+mod sequencers;
 mod throttles;

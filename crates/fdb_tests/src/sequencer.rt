@@ -1,0 +1,241 @@
+//! The sequencer. Each line of a text is a request that goes through its lock, as in the tests of chains, but that what
+//! stands is looked at once the sequencer is closed.
+
+use crate::chain::issued_text;
+use crate::line::Line;
+use fdb_chain::{ChainCore, ChainError, Sequencer};
+use fdb_history::{Ask, Gate, Issued, OpenGate, Place, Service};
+use std::alloc::Global;
+use std::process::Abort;
+use std::sync::Wait;
+use std::sync::atomic::{AtomicU64, Ordering};
+use std::test::Fail;
+use std::thread;
+use std::thread::Threads;
+
+/// A service whose epoch begins with version 100, after one that ended with 0.
+pub struct FromHundred;
+
+impl Service for FromHundred {
+    ghost use Rattle.std.specs.Prelude.{None, false};
+
+    ghost epoch_end = { 0 };
+
+    ghost recovery = { 100 };
+
+    ghost start = { record { version = 100; locked = false; metadata = None } };
+
+    ghost reporters = { 4 };
+}
+
+/// A service with which two versions are left.
+struct AtTheEnd;
+
+impl Service for AtTheEnd {
+    ghost use Rattle.std.specs.Prelude.{None, false};
+
+    ghost epoch_end = { 0 };
+
+    ghost recovery = { 9223372036854775806 };
+
+    ghost start = { record { version = 9223372036854775806; locked = false; metadata = None } };
+
+    ghost reporters = { 4 };
+}
+
+/// A gate that counts how often it was passed, and notes who passed it last.
+#[derive(Drop)]
+struct Noting {
+    held: AtomicU64,
+    elsewhere: AtomicU64,
+    who: AtomicU64,
+}
+
+impl Noting {
+    fn new() -> Noting {
+        Noting {
+            held: AtomicU64::new(0),
+            elsewhere: AtomicU64::new(0),
+            who: AtomicU64::new(0),
+        }
+    }
+
+    /// That it was passed so often, always with the sequencer's lock held, and last by this proxy.
+    fn was_passed(&self, rt: &impl Abort, times: u64, proxy: u32) {
+        let held = self.held.load(Ordering::SeqCst);
+        let elsewhere = self.elsewhere.load(Ordering::SeqCst);
+        let who = self.who.load(Ordering::SeqCst);
+        assert_eq!(rt;
+            (held, elsewhere, who),
+            (times, 0, proxy as u64),
+            "request {times}"
+        );
+    }
+}
+
+impl Gate for Noting {
+    fn pass(&self, place: Place, who: u32) {
+        match place {
+            Place::SequencerHeld => self.held.fetch_add(1, Ordering::SeqCst),
+            Place::ReportHeld | Place::ReadAnswered => self
+                .elsewhere
+                .fetch_add(1, Ordering::SeqCst),
+        };
+        self.who.store(who as u64, Ordering::SeqCst);
+    }
+}
+
+/// Plays the lines of a text, and looks at how many answers stand at the end.
+fn play<S: Service, R: Wait + Abort>(
+    rt: &R,
+    alloc: Global,
+    sequencer: Sequencer<S>,
+    text: &str,
+    standing: usize,
+) -> Result<(), Fail> {
+    let gate = Noting::new();
+    let mut requests = 0u32;
+    for it in text.lines() {
+        let mut line = Line::new(it);
+        match line.next_word() {
+            None | Some("#") => continue,
+            Some("ask") => {}
+            Some(_) => line.fails(rt, "no request"),
+        }
+        let ask = Ask {
+            proxy: line.who(rt),
+            num: line.number(rt),
+            processed: line.number(rt),
+            at: line.number(rt),
+        };
+        let found = match sequencer.ask(rt, &gate, ask) {
+            Ok(issued) => issued_text(alloc, issued)?,
+            Err(cause) => cause.to_string(alloc)?,
+        };
+        line.wants(rt, &found);
+        requests = requests.saturating_add(1);
+        gate.was_passed(rt, requests as u64, ask.proxy);
+    }
+    assert_eq!(rt; sequencer.close().answers().len(), standing, "{text}");
+    Ok(())
+}
+
+/// A sequencer of the service that begins with version 100, for 4 proxies.
+pub fn from_hundred(alloc: Global) -> Result<Sequencer<FromHundred>, ChainError> {
+    Ok(Sequencer::new(ChainCore::new(alloc, 0, 100, 4)?))
+}
+
+const REPEATED: &str = "
+ask 0 1 0 1000 => 0 0 1 0 0 100 1000 fresh
+ask 0 2 0 3000 => 1 0 2 0 100 2100 3000 fresh
+ask 0 2 0 9000 => 1 0 2 0 100 2100 3000 kept
+ask 0 3 0 3500 => 2 0 3 0 2100 2600 3500 fresh
+";
+
+const PROCESSED: &str = "
+ask 0 1 0 1000 => 0 0 1 0 0 100 1000 fresh
+ask 0 2 0 3000 => 1 0 2 0 100 2100 3000 fresh
+ask 0 3 1 3500 => 2 0 3 1 2100 2600 3500 fresh
+ask 0 1 0 4000 => the answer is not kept any more
+ask 0 2 0 4000 => 1 0 2 0 100 2100 3000 kept
+ask 0 2 2 4000 => 1 0 2 0 100 2100 3000 kept
+ask 0 2 0 4000 => 1 0 2 0 100 2100 3000 kept
+";
+
+const OUT_OF_RANGE: &str = "
+ask 0 1 0 1000 => 0 0 1 0 0 100 1000 fresh
+ask 0 2 0 3000 => 1 0 2 0 100 2100 3000 fresh
+ask 0 5 0 4000 => the next request number is 3
+ask 0 0 0 4000 => the answer is not kept any more
+ask 4 1 0 4000 => there is no such commit proxy
+";
+
+const PROCESSED_AHEAD: &str = "
+ask 0 1 0 1000 => 0 0 1 0 0 100 1000 fresh
+ask 0 2 9 3000 => 1 0 2 9 100 2100 3000 fresh
+ask 0 1 0 4000 => the answer is not kept any more
+ask 0 2 0 4000 => 1 0 2 9 100 2100 3000 kept
+";
+
+#[test]
+fn requests_through_the_lock(rt: HostRuntime) -> Result<(), Fail> {
+    for (text, standing) in [
+        (REPEATED, 3),
+        (PROCESSED, 3),
+        (OUT_OF_RANGE, 2),
+        (PROCESSED_AHEAD, 2),
+    ] {
+        play(&rt, rt.alloc(), from_hundred(rt.alloc())?, text, standing)?;
+    }
+    Ok(())
+}
+
+const LAST: &str = "
+ask 0 1 0 0 => 0 0 1 0 0 9223372036854775806 0 fresh
+ask 0 2 0 0 => 1 0 2 0 9223372036854775806 9223372036854775807 0 fresh
+ask 0 3 0 0 => the versions are used up
+ask 0 2 0 0 => 1 0 2 0 9223372036854775806 9223372036854775807 0 kept
+";
+
+#[test]
+fn versions_end_behind_the_lock(rt: HostRuntime) -> Result<(), Fail> {
+    let core = ChainCore::new(rt.alloc(), 0, 9_223_372_036_854_775_806, 4)?;
+    let sequencer: Sequencer<AtTheEnd> = Sequencer::new(core);
+    play(&rt, rt.alloc(), sequencer, LAST, 2)
+}
+
+/// Asks for a proxy's numbers 1 to 100.
+fn asks_hundred_times<R: Wait>(
+    rt: &R,
+    sequencer: &Sequencer<FromHundred>,
+    proxy: u32,
+) -> Result<(), ChainError> {
+    for num in 1..=100 {
+        let ask = Ask {
+            proxy,
+            num,
+            processed: num - 1,
+            at: 0,
+        };
+        sequencer.ask(rt, &OpenGate, ask)?;
+    }
+    Ok(())
+}
+
+/// The number of answers in a list that are for this proxy. It numbered them 1, 2, 3 and so on.
+fn counted(rt: &impl Abort, answers: &[Issued], proxy: u32) -> u64 {
+    let mut last = 0u64;
+    for answer in answers {
+        if answer.proxy == proxy {
+            assert_eq!(rt; answer.num, last.saturating_add(1), "of {proxy}");
+            last = answer.num;
+        }
+    }
+    last
+}
+
+/// Two threads ask 100 times each, for a proxy each.
+fn two_threads<R: Threads + Wait + Abort + Sync>(rt: &R, alloc: Global) -> Result<(), Fail> {
+    let sequencer = from_hundred(alloc)?;
+    let (first, second) = thread::join(
+        rt,
+        || asks_hundred_times(rt, &sequencer, 0),
+        || asks_hundred_times(rt, &sequencer, 1),
+    );
+    first?;
+    second?;
+    let answers = sequencer.close().into_answers();
+    assert_eq!(rt; answers.len(), 200);
+    let last = answers.last().map(|last| (last.ordinal, last.version));
+    // a version for each request, since no time passes
+    assert_eq!(rt; last, Some((199, 299)));
+    for proxy in [0, 1] {
+        assert_eq!(rt; counted(rt, answers.as_slice(), proxy), 100, "of {proxy}");
+    }
+    Ok(())
+}
+
+#[test]
+fn two_threads_share_a_sequencer(rt: HostRuntime) -> Result<(), Fail> {
+    two_threads(&rt, rt.alloc())
+}
