@@ -119,8 +119,8 @@ impl Benchmark {
     /// A size at which it takes milliseconds at most.
     pub fn small_size(self) -> u32 {
         match self {
-            Benchmark::Windows | Benchmark::PushOuts | Benchmark::Throttles => 100,
-            Benchmark::Live(_) => 100,
+            Benchmark::Windows | Benchmark::PushOuts | Benchmark::Throttles | Benchmark::Live(_) =>
+                100,
             Benchmark::Replay | Benchmark::Audit => 300,
             _ => 1_000,
         }
@@ -131,6 +131,7 @@ impl Benchmark {
         match self {
             Benchmark::Windows | Benchmark::PushOuts | Benchmark::Throttles => 100_000,
             Benchmark::Replay => 10_000,
+            Benchmark::Live(_) => 1_000_000,
             _ => 10_000_000,
         }
     }
