@@ -5,7 +5,15 @@ import re
 from harness import DONE, REFUSED, ROOT, run
 
 PROGRAM = f"{ROOT}/crates/fdb_bench/out/fdb_bench"
-COSTS = re.compile(r"waits 64: \d+ operations, \d+ ns .*\n")
+
+# a benchmark, and the clock that its time is of
+TIMED = [
+    ("waits", "processor"),
+    ("tokens", "processor"),
+    ("sequencer_of_four", "wall"),
+    ("reads_beside_of_two", "wall"),
+    ("reports_of_four", "wall"),
+]
 
 # words, and what standard error has to say
 REFUSALS = [
@@ -15,6 +23,7 @@ REFUSALS = [
     (["waits", "10000001"], "the size 10000001 is not 1 to 10000000"),
     (["windows", "100001"], "the size 100001 is not 1 to 100000"),
     (["replay", "10001"], "the size 10001 is not 1 to 10000"),
+    (["tokens", "1000001"], "the size 1000001 is not 1 to 1000000"),
     (["waits", "-1"], 'the size "-1"'),
     (["waits", "4294967296"], 'the size "4294967296"'),
     (["waits", "1e3"], 'the size "1e3"'),
@@ -32,14 +41,14 @@ def refusal_fault(words, why):
     return None
 
 
-def one_benchmark():
-    """Returns what is wrong with two runs of one benchmark, or None."""
-    first, again = (run([PROGRAM, "waits", "64"]) for _ in range(2))
+def timed_fault(name, clock):
+    """Returns what is wrong with two runs of a benchmark, or None. What it printed is the same in every schedule."""
+    first, again = (run([PROGRAM, name, "64"]) for _ in range(2))
     if (first.status, again.status) != (DONE, DONE):
         return f"status {first.status} and {again.status}"
-    if not re.fullmatch(rb"waits 64 \d+\n", first.out) or first.out != again.out:
+    if not re.fullmatch(rf"{name} 64 \d+\n", first.out.decode()) or first.out != again.out:
         return f"it printed {first.out!r} and then {again.out!r}"
-    if not COSTS.fullmatch(first.err.decode()):
+    if not re.fullmatch(rf"{name} 64: \d+ operations, \d+ ns of {clock} time, .*\n", first.err.decode()):
         return f"it said {first.err!r}"
     return None
 
@@ -49,6 +58,7 @@ def words(_program):
     if not os.access(PROGRAM, os.X_OK):
         yield "the program", f"{PROGRAM} is not there: rt ci builds it"
         return
-    yield "one benchmark of a size", one_benchmark()
+    for name, clock in TIMED:
+        yield f"the benchmark {name} of a size", timed_fault(name, clock)
     for given, why in REFUSALS:
         yield f"the words {given}", refusal_fault(given, why)

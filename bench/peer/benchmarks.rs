@@ -4,6 +4,8 @@ mod asking;
 mod auditing;
 mod queueing;
 mod replaying;
+mod sequencing;
+mod serving;
 mod throttling;
 
 use crate::measuring::Measured;
@@ -21,6 +23,19 @@ pub fn of_name(name: &str) -> Option<fn(u32) -> Measured> {
         "waits" => Some(queueing::waits),
         "replay" => Some(replaying::replays),
         "audit" => Some(auditing::audits),
+        "sequencer_of_one" => Some(|size| sequencing::asks(1, size)),
+        "sequencer_of_two" => Some(|size| sequencing::asks(2, size)),
+        "sequencer_of_four" => Some(|size| sequencing::asks(4, size)),
+        "reads_of_one" => Some(|size| serving::reads(1, size)),
+        "reads_of_two" => Some(|size| serving::reads(2, size)),
+        "reads_of_four" => Some(|size| serving::reads(4, size)),
+        "reads_beside_of_one" => Some(|size| serving::reads_beside(1, size)),
+        "reads_beside_of_two" => Some(|size| serving::reads_beside(2, size)),
+        "reads_beside_of_four" => Some(|size| serving::reads_beside(4, size)),
+        "reports_of_one" => Some(|size| serving::reports(1, size)),
+        "reports_of_two" => Some(|size| serving::reports(2, size)),
+        "reports_of_four" => Some(|size| serving::reports(4, size)),
+        "tokens" => Some(serving::tokens),
         _ => None,
     }
 }

@@ -5,9 +5,11 @@ mod benchmarks;
 mod chain;
 mod history;
 mod json;
+mod live;
 mod measuring;
 mod queue;
 mod replay;
+mod tally;
 
 use std::env;
 use std::process::ExitCode;
@@ -28,10 +30,8 @@ fn main() -> ExitCode {
     };
     let measured = benchmark(size);
     println!("{name} {size} {}", measured.checksum.0);
-    let (operations, nanos) = (measured.operations, measured.nanos);
+    let (operations, nanos, clock) = (measured.operations, measured.nanos, measured.clock);
     let each = nanos as f64 / operations as f64;
-    eprintln!(
-        "{name} {size}: {operations} operations, {nanos} ns of processor time, {each:.1} ns each"
-    );
+    eprintln!("{name} {size}: {operations} operations, {nanos} ns of {clock}, {each:.1} ns each");
     ExitCode::SUCCESS
 }

@@ -46,6 +46,8 @@ impl Draws {
 pub struct Measured {
     pub operations: u64,
     pub nanos: u64,
+    /// What the nanoseconds are of: processor time, or wall time where threads work side by side.
+    pub clock: &'static str,
     pub checksum: Checksum,
 }
 
@@ -61,6 +63,7 @@ impl Stopwatch {
         Measured {
             operations,
             nanos: processor_nanos() - self.0,
+            clock: "processor time",
             checksum,
         }
     }

@@ -1,13 +1,15 @@
 //! The benchmarks by their names, and the sizes that they may have.
 
 use crate::fault::Fault;
+use crate::load::Load;
 use crate::measured::Measured;
-use crate::{asking, auditing, queueing, replaying, throttling};
+use crate::team::Team;
+use crate::{asking, auditing, queueing, replaying, sequencing, serving, throttling};
 use anyhow::{Context, Result, ensure};
 use std::alloc::Global;
 use std::sync::Wait;
 use std::thread::Threads;
-use std::time::CpuClock;
+use std::time::{Clock, CpuClock};
 
 /// What is measured.
 #[derive(Clone, Copy)]
@@ -32,11 +34,15 @@ pub enum Benchmark {
     Replay,
     /// An audit of 64 logs. The size is the number of their calls.
     Audit,
+    /// Requests for commit versions by threads that share a sequencer. The size is how many there are.
+    Sequencer(Team),
+    /// Calls on a live record. The load says what the size is.
+    Live(Load),
 }
 
 impl Benchmark {
     /// All of them.
-    pub const ALL: [Benchmark; 10] = [
+    pub const ALL: [Benchmark; 23] = [
         Benchmark::FreshOfOne,
         Benchmark::FreshOfMany,
         Benchmark::Repeats,
@@ -47,6 +53,19 @@ impl Benchmark {
         Benchmark::Waits,
         Benchmark::Replay,
         Benchmark::Audit,
+        Benchmark::Sequencer(Team::One),
+        Benchmark::Sequencer(Team::Two),
+        Benchmark::Sequencer(Team::Four),
+        Benchmark::Live(Load::Reads(Team::One)),
+        Benchmark::Live(Load::Reads(Team::Two)),
+        Benchmark::Live(Load::Reads(Team::Four)),
+        Benchmark::Live(Load::ReadsBesideReports(Team::One)),
+        Benchmark::Live(Load::ReadsBesideReports(Team::Two)),
+        Benchmark::Live(Load::ReadsBesideReports(Team::Four)),
+        Benchmark::Live(Load::Reports(Team::One)),
+        Benchmark::Live(Load::Reports(Team::Two)),
+        Benchmark::Live(Load::Reports(Team::Four)),
+        Benchmark::Live(Load::Tokens),
     ];
 
     /// Its name.
@@ -62,6 +81,10 @@ impl Benchmark {
             Benchmark::Waits => "waits",
             Benchmark::Replay => "replay",
             Benchmark::Audit => "audit",
+            Benchmark::Sequencer(Team::One) => "sequencer_of_one",
+            Benchmark::Sequencer(Team::Two) => "sequencer_of_two",
+            Benchmark::Sequencer(Team::Four) => "sequencer_of_four",
+            Benchmark::Live(load) => load.name(),
         }
     }
 
@@ -75,10 +98,29 @@ impl Benchmark {
         None
     }
 
+    /// The clock that its time is of: processor time, or wall time where threads work side by side.
+    pub fn clock_name(self) -> &'static str {
+        if self.is_shared() {
+            "wall time"
+        } else {
+            "processor time"
+        }
+    }
+
+    /// Whether threads do it side by side.
+    fn is_shared(self) -> bool {
+        match self {
+            Benchmark::Sequencer(_) => true,
+            Benchmark::Live(load) => load.is_shared(),
+            _ => false,
+        }
+    }
+
     /// A size at which it takes milliseconds at most.
     pub fn small_size(self) -> u32 {
         match self {
-            Benchmark::Windows | Benchmark::PushOuts | Benchmark::Throttles => 100,
+            Benchmark::Windows | Benchmark::PushOuts | Benchmark::Throttles | Benchmark::Live(_) =>
+                100,
             Benchmark::Replay | Benchmark::Audit => 300,
             _ => 1_000,
         }
@@ -89,6 +131,7 @@ impl Benchmark {
         match self {
             Benchmark::Windows | Benchmark::PushOuts | Benchmark::Throttles => 100_000,
             Benchmark::Replay => 10_000,
+            Benchmark::Live(_) => 1_000_000,
             _ => 10_000_000,
         }
     }
@@ -107,7 +150,7 @@ impl Benchmark {
     }
 
     /// Runs it.
-    pub fn run<R: CpuClock + Threads + Wait + Sync>(
+    pub fn run<R: Clock + CpuClock + Threads + Wait + Sync>(
         self,
         rt: &R,
         alloc: Global,
@@ -124,6 +167,8 @@ impl Benchmark {
             Benchmark::Waits => queueing::waits(rt, alloc, size),
             Benchmark::Replay => replaying::replay(rt, alloc, size),
             Benchmark::Audit => auditing::audits(rt, alloc, size),
+            Benchmark::Sequencer(team) => sequencing::asks(rt, alloc, team.threads(), size),
+            Benchmark::Live(load) => serving::measure(rt, alloc, load, size),
         }
     }
 }

@@ -7,6 +7,7 @@ use std::alloc::{AllocError, AllocFailed};
 pub enum Fault {
     Memory,
     Chain,
+    Live,
     Queue,
     Audit,
     Replay,
@@ -18,6 +19,7 @@ impl Fault {
         match self {
             Fault::Memory => "want of memory",
             Fault::Chain => "the chain of commit versions failed",
+            Fault::Live => "the live record failed",
             Fault::Queue => "the queue failed",
             Fault::Audit => "the audit failed",
             Fault::Replay => "the replay failed",

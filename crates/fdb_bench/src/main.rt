@@ -1,7 +1,8 @@
 //! Benchmarks of the crates below: `fdb_bench NAME [SIZE]` runs one, and `fdb_bench` runs each at a small size.
 //!
 //! For each run standard output has the benchmark, its size and the checksum of what was computed, which is the same
-//! every time; and standard error the number of operations and the processor time that they took.
+//! every time; and standard error the number of operations and the time that they took: processor time, or for threads
+//! that work side by side wall time, from the first one's begin to the last one's end.
 #![tactic(auto)]
 
 mod asking;
@@ -10,12 +11,22 @@ mod benchmark;
 mod checksum;
 mod draws;
 mod fault;
+mod load;
 mod measured;
 mod queueing;
+mod reading;
 mod replaying;
+mod reporting;
 mod scripted;
+mod sequencing;
+mod serving;
+mod span;
 mod stopwatch;
+mod tally;
+mod team;
+mod telling;
 mod throttling;
+mod working;
 
 use anyhow::{Result, anyhow, ensure};
 use benchmark::Benchmark;
@@ -24,7 +35,7 @@ use std::alloc::Global;
 use std::env;
 use std::sync::Wait;
 use std::thread::Threads;
-use std::time::CpuClock;
+use std::time::{Clock, CpuClock};
 
 fn main(rt: HostRuntime) -> Result<()> {
     let mut words = env::args(&rt)?.skip(1);
@@ -48,7 +59,7 @@ fn main(rt: HostRuntime) -> Result<()> {
 /// Runs each benchmark at its small size.
 fn run_each<R>(rt: &R, alloc: Global) -> Result<()>
 where
-    R: Print + Eprint + CpuClock + Threads + Wait + Sync,
+    R: Print + Eprint + Clock + CpuClock + Threads + Wait + Sync,
 {
     for benchmark in Benchmark::ALL {
         run_one(rt, alloc, benchmark, benchmark.small_size())?;
@@ -59,7 +70,7 @@ where
 /// Runs a benchmark, and prints what it computed and what it took.
 fn run_one<R>(rt: &R, alloc: Global, benchmark: Benchmark, size: u32) -> Result<()>
 where
-    R: Print + Eprint + CpuClock + Threads + Wait + Sync,
+    R: Print + Eprint + Clock + CpuClock + Threads + Wait + Sync,
 {
     let measured = match benchmark.run(rt, alloc, size) {
         Ok(measured) => measured,
@@ -81,9 +92,10 @@ fn print_time(
     nanos: u64,
 ) -> Result<()> {
     let tenths = tenths(nanos, operations);
-    let (name, whole, tenth) = (benchmark.name(), tenths / 10, tenths % 10);
+    let (whole, tenth) = (tenths / 10, tenths % 10);
+    let (name, clock) = (benchmark.name(), benchmark.clock_name());
     eprintln!(rt;
-        "{name} {size}: {operations} operations, {nanos} ns of processor time, {whole}.{tenth} ns each"
+        "{name} {size}: {operations} operations, {nanos} ns of {clock}, {whole}.{tenth} ns each"
     )?;
     Ok(())
 }

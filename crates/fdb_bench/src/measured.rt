@@ -8,7 +8,7 @@ use std::time::Duration;
 pub struct Measured {
     /// How many operations there were.
     pub operations: u64,
-    /// The processor time of all of them, if the clock said it.
+    /// The time of all of them, if the clock said it: processor time, or wall time where threads work side by side.
     pub time: Option<Duration>,
     /// The checksum over what they answered.
     pub checksum: Checksum,

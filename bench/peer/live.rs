@@ -1,0 +1,119 @@
+//! The live committed version in a sequence lock, and tokens of what their holders have seen.
+
+use crate::history::Record;
+use std::sync::Mutex;
+use std::sync::atomic::{AtomicU64, Ordering, fence};
+
+const LOCKED: u64 = 1;
+const HAS_METADATA: u64 = 2;
+
+/// A record, and the number of reports that had raised it by then.
+#[derive(Clone, Copy)]
+pub struct Fetched {
+    pub rec: Record,
+    pub position: u64,
+}
+
+impl Fetched {
+    fn to_words(self) -> [u64; 4] {
+        let locked = if self.rec.locked { LOCKED } else { 0 };
+        let (flags, metadata) = match self.rec.metadata {
+            None => (locked, 0),
+            Some(metadata) => (locked | HAS_METADATA, metadata),
+        };
+        [self.position, self.rec.version, flags, metadata]
+    }
+
+    fn from_words([position, version, flags, metadata]: [u64; 4]) -> Fetched {
+        let rec = Record {
+            version,
+            locked: flags & LOCKED != 0,
+            metadata: (flags & HAS_METADATA != 0).then_some(metadata),
+        };
+        Fetched { rec, position }
+    }
+}
+
+/// What the holder of a token has seen: the number of raises.
+#[derive(Default)]
+pub struct Seen {
+    pub position: u64,
+}
+
+/// The live record: a sequence lock, which reads take no part in, and a lock for the reports.
+pub struct LiveRecord {
+    /// Odd while the words are being replaced.
+    sequence: AtomicU64,
+    words: [AtomicU64; 4],
+    /// What the words say, for the reports.
+    reports: Mutex<Fetched>,
+}
+
+impl LiveRecord {
+    pub fn open(rec: Record) -> LiveRecord {
+        let begun = Fetched { rec, position: 0 };
+        LiveRecord {
+            sequence: AtomicU64::new(0),
+            words: begun.to_words().map(AtomicU64::new),
+            reports: Mutex::new(begun),
+        }
+    }
+
+    pub fn read(&self, seen: &mut Seen) -> Fetched {
+        let fetched = self.load();
+        seen.position = fetched.position;
+        fetched
+    }
+
+    /// Answers whether the report raised the record.
+    pub fn report(&self, seen: &mut Seen, rec: Record) -> bool {
+        let mut live = self.reports.lock().expect("no reporter panics");
+        let raised = rec.version > live.rec.version;
+        if raised {
+            let position = live.position + 1;
+            *live = Fetched { rec, position };
+            self.store(*live);
+        }
+        seen.position = live.position;
+        raised
+    }
+
+    pub fn split(&self, seen: &Seen) -> Seen {
+        Seen {
+            position: seen.position,
+        }
+    }
+
+    pub fn learn(&self, seen: &mut Seen, told: Seen) {
+        seen.position = seen.position.max(told.position);
+    }
+
+    /// Whatever two holders have seen, the one began as the other did: there is nothing to do.
+    pub fn meet(&self, _first: &mut Seen, _second: &mut Seen) {}
+
+    fn load(&self) -> Fetched {
+        loop {
+            let before = self.sequence.load(Ordering::Acquire);
+            if before % 2 == 0 {
+                let words =
+                    [0, 1, 2, 3].map(|place: usize| self.words[place].load(Ordering::Relaxed));
+                fence(Ordering::Acquire);
+                if self.sequence.load(Ordering::Relaxed) == before {
+                    return Fetched::from_words(words);
+                }
+            }
+            std::hint::spin_loop();
+        }
+    }
+
+    /// Replaces the words. Only one thread does so at a time, which has the lock of the reports.
+    fn store(&self, fetched: Fetched) {
+        let before = self.sequence.load(Ordering::Relaxed);
+        self.sequence.store(before + 1, Ordering::Relaxed);
+        fence(Ordering::Release);
+        for (word, value) in self.words.iter().zip(fetched.to_words()) {
+            word.store(value, Ordering::Relaxed);
+        }
+        self.sequence.store(before + 2, Ordering::Release);
+    }
+}
