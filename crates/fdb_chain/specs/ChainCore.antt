@@ -37,6 +37,13 @@ IsAnswer answer (Err Memory) = IsOkAnd answer (λ issued. IsTrue issued.fresh)
 IsAnswer answer (Err BadEpoch) = ⊥
 IsAnswer answer (Err NoProxy) = ⊥
 
+-- A chain is one that a service with these numbers may have come to. (this product's own)
+pub record IsOf (epoch_end recovery : ℕ) (chain : Chain) : Type 0 where
+  pub epoch_end_is : chain.epoch_end ≡ epoch_end
+  pub recovery_is : chain.recovery ≡ recovery
+  pub one_chain : IsChain epoch_end recovery chain.answers
+  pub proxies : IsProxyCount chain.proxies
+
 -- An answer is one to a request: to its proxy, under its number, and where it is fresh with all of its members.
 pub record IsFor (ask : Ask) (answer : Issued) : Type 0 where
   pub proxy : answer.proxy ≡ ask.proxy

@@ -1,8 +1,8 @@
 //! The chain of commit versions, shared by threads.
 
 ghost use Rattle.std.specs.Prelude.{◌≡◌, IfOk, IfErr, OnErr};
-ghost use Rattle.fdb_chain.specs.ChainCore.{IsAnswer, IsFor, MayRefuse};
-ghost use Rattle.fdb_history.specs.Answer.{answer_to, with_answer};
+ghost use Rattle.fdb_chain.specs.ChainCore.{IsAnswer, IsFor, IsOf, MayRefuse};
+ghost use Rattle.fdb_history.specs.Answer.{Chain, answer_to, with_answer};
 ghost use Rattle.fdb_history.specs.Chain.{IsChain};
 
 use crate::chain_core::ChainCore;
@@ -46,9 +46,12 @@ impl<S: Service> Held<S> {
         ensures ok { IfOk result (λ issued. self.new ≡ with_answer self.old issued) }
         ensures err { OnErr result (self.new ≡ self.old) }
 
+        ensures of_service { IsOf S.epoch_end S.recovery self.old }
         ensures request { IfOk result (IsFor ask) }
         ensures refused { IfErr result (MayRefuse ask) }
     {
+        // its type keeps that its answers are one chain
+        let _ = self.core.answers();
         self.core.ask(ask)
     }
 
@@ -80,9 +83,11 @@ impl<S: Service> Sequencer<S> {
     /// Answers a request for a commit version, as [`ChainCore::ask`] does of the chain as it is once the lock is held.
     /// While it is, the gate's `SequencerHeld` is passed with the proxy's number, before the chain is asked.
     ///
+    /// So it is what the definition answers after the asks so far, whatever these were: of some chain of the service.
     /// An answer is one to this very request. A request is refused as `UnknownProxy`, `Early`, `Forgotten`,
     /// `Exhausted` or for memory, and the chain is then as it was.
     pub fn ask<R: Wait, G: Gate>(&self, rt: &R, gate: &G, ask: Ask) -> Result<Issued, ChainError>
+        ensures answer { (before : Chain) × IsOf S.epoch_end S.recovery before × IsAnswer (answer_to before ask) result }
         ensures request { IfOk result (IsFor ask) }
         ensures refused { IfErr result (MayRefuse ask) }
     {
