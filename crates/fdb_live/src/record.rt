@@ -1,6 +1,6 @@
 //! The live record.
 
-ghost use Rattle.std.specs.Prelude.{◌≡◌, ◌≢◌, ◌<◌, ◌≤◌, ◌⊎◌, ◌↔◌, length, Option, None, IsSome, IfOk, OnErr, true, false};
+ghost use Rattle.std.specs.Prelude.{◌≡◌, ◌≢◌, ◌<◌, ◌≤◌, ◌⊎◌, ◌↔◌, length, Option, None, IsSome, IfOk, OnOk, OnErr, true, false};
 ghost use mathlib.Core.List.{IsPrefix};
 ghost use Rattle.fdb_live.specs.Seen.{IsLog, IsNotRaisedBy, IsRaisedBy, last_record, longer, own_positions};
 
@@ -65,6 +65,7 @@ impl<J: Live> LiveRecord<J> {
         ensures reporter { seen.new.reporter ≡ seen.old.reporter }
         ensures extends { IsPrefix seen.old.raises seen.new.raises }
         ensures position { IfOk result (λ ack. ack.position ≡ length seen.new.raises) }
+        ensures log { OnOk result (IsLog J.start J.reporters seen.new.raises) }
         ensures raised { IfOk result (λ ack. ack.raised ≡ true → IsRaisedBy J.start rec seen.old seen.new) }
         ensures not_raised { IfOk result (λ ack. ack.raised ≡ false → IsNotRaisedBy J.start rec seen.old seen.new) }
     {
