@@ -89,8 +89,8 @@ fn workers_of<J: Live>(
     Ok(workers)
 }
 
-/// Every reporter reports rising versions that no other has, and readers read beside them. What was reported last is then
-/// the greatest version, at the position that counts the raises, and all have seen the same.
+/// Every reporter reports rising versions that no other has, and readers read beside them. Then the greatest version
+/// stands, at the position that counts the raises, and all tokens meet.
 pub fn run_all<J: Live + Send + Sync, R: Threads + Wait + Abort + Sync>(
     rt: &R,
     alloc: Global,
