@@ -6,10 +6,13 @@ typedef unsigned long size_t;
 char *getenv(const char *name);
 long atol(const char *text);
 long write(int file, const void *bytes, size_t count);
+int *__errno_location(void);
 void *__libc_malloc(size_t size);
 void *__libc_calloc(size_t count, size_t size);
 void *__libc_realloc(void *old, size_t size);
 void *__libc_memalign(size_t align, size_t size);
+
+enum { out_of_memory = 12 };
 
 static long seen, refused = -1, goes_on, tells;
 
@@ -25,10 +28,12 @@ static int refuses(void) {
         refused = number_in("REFUSE");
     }
     long number = __sync_add_and_fetch(&seen, 1);
-    if (number == refused) {
-        return write(tells, "x", 1) == 1;
+    if (number != refused && !(goes_on && number > refused)) {
+        return 0;
     }
-    return goes_on && number > refused;
+    int told = number > refused || write(tells, "x", 1) == 1;
+    *__errno_location() = out_of_memory;
+    return told;
 }
 
 void *malloc(size_t size) { return refuses() ? 0 : __libc_malloc(size); }
@@ -40,5 +45,5 @@ int posix_memalign(void **made, size_t align, size_t size) {
     if (found) {
         *made = found;
     }
-    return found ? 0 : 12;
+    return found ? 0 : out_of_memory;
 }
