@@ -1,5 +1,6 @@
 //! Replays: what runs of scripts leave, and what the program writes of them.
 
+mod faults;
 pub mod scripts;
 mod streams;
 mod values;
