@@ -78,7 +78,7 @@ impl Fault {
 
     /// The status that the program ends with.
     pub fn status(self) -> u8
-        ensures fault { 0 < result }
+        ensures range { (0 < result) × (result ≤ 5) }
         ensures script { (error : ScriptError) → self ≡ Fault.Script error → result ≡ 1 }
         ensures only_script { result ≡ 1 → (error : ScriptError) × (self ≡ Fault.Script error) }
         ensures words { self ≡ Fault.Words → result ≡ 2 }
@@ -161,6 +161,7 @@ pub fn drive<R: Threads + Wait + Sync + Files, I: Read, O: Write, E: Write>(
     out: &mut O,
     err: &mut E,
 ) -> u8
+    ensures range { result ≤ 5 }
     ensures asked { result ≢ 2 → result ≢ 3 → IsOkAnd words (λ list. AreTaken (map string_bytes list.items)) }
     ensures done { result ≡ 0 → IsOkAnd words (λ list.
         IsDone (map string_bytes list.items) (I.remaining input.old) (O.contents out.old) (O.contents out.new)) }
