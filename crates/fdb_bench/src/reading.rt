@@ -23,11 +23,11 @@ pub fn read_in_turn<J: Live, R: Wait>(
 fn read<J: Live, R: Wait>(rt: &R, live: &LiveRecord<J>, seen: &mut Seen<J>, tally: Tally) -> Tally {
     let before = seen.position();
     let fetched = live.read(rt, seen);
-    tally.with_call(record_word(fetched.rec), fetched.position < before)
+    tally.with_call(record_word(&fetched.rec), fetched.position < before)
 }
 
 /// A word for a record.
-fn record_word(rec: Record) -> u64 {
+fn record_word(rec: &Record) -> u64 {
     rec.version
         .wrapping_add(u64::from(rec.locked))
         .wrapping_add(rec.metadata.unwrap_or(0))

@@ -26,21 +26,21 @@ pub fn report_in_turn<J: Live, R: Wait>(
     Ok(tally)
 }
 
-/// Reports a version, and the next ones, for as long as a thread reads. Its reports count for nothing.
+/// Reports a version, and the next ones, for as long as a thread reads.
 pub fn report_beside<J: Live, R: Wait>(
     rt: &R,
     live: &LiveRecord<J>,
     seen: &mut Seen<J>,
     first: u64,
     reading: &AtomicU64,
-) -> Result<Tally, Fault> {
+) -> Result<(), Fault> {
     for place in 0..u64::MAX {
         if reading.load(Ordering::SeqCst) == 0 {
             break;
         }
         report(rt, live, seen, first.wrapping_add(place), Tally::EMPTY)?;
     }
-    Ok(Tally::EMPTY)
+    Ok(())
 }
 
 /// Reports a version, and adds whether it raised the record.

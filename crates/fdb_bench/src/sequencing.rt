@@ -4,7 +4,7 @@ use crate::checksum::Checksum;
 use crate::fault::Fault;
 use crate::measured::Measured;
 use crate::span::{Span, moment};
-use crate::tally::Tally;
+use crate::tally::{Tally, Timed};
 use fdb_chain::{ChainCore, Sequencer};
 use fdb_history::{Ask, OpenGate, Service};
 use std::alloc::Global;
@@ -32,7 +32,7 @@ impl Service for Shared {
 #[derive(Clone, Copy)]
 struct Asker {
     proxy: u32,
-    outcome: Result<Tally, Fault>,
+    outcome: Result<Timed, Fault>,
 }
 
 /// So many requests, shared by so many threads. No time passes between them, so each draws the version after the last
@@ -48,7 +48,7 @@ pub fn asks<R: Clock + Threads + Wait + Sync>(
     let each = size / threads.max(1);
     ask_side_by_side(rt, &sequencer, askers.as_mut_slice(), each);
     let all = total(askers.as_slice())?;
-    Ok(all.measured(of_answers(sequencer, all)))
+    Ok(all.measured(of_answers(sequencer, all.tally)))
 }
 
 /// A sequencer that nobody has asked yet.
@@ -65,7 +65,7 @@ fn askers(alloc: Global, proxies: u32) -> Result<Vec<Asker>, Fault> {
     for proxy in 0..proxies {
         askers.push(Asker {
             proxy,
-            outcome: Ok(Tally::EMPTY),
+            outcome: Ok(Timed::EMPTY),
         })?;
     }
     Ok(askers)
@@ -95,14 +95,14 @@ fn ask_in_turn<R: Clock + Wait>(
     sequencer: &Sequencer<Shared>,
     proxy: u32,
     asks: u32,
-) -> Result<Tally, Fault> {
+) -> Result<Timed, Fault> {
     let begun = moment(rt);
     let mut tally = Tally::EMPTY;
     for place in 0..asks {
         tally = asked(rt, sequencer, proxy, u64::from(place), tally)?;
     }
-    tally.span = Span::since(begun, rt);
-    Ok(tally)
+    let span = Span::since(begun, rt);
+    Ok(Timed { tally, span })
 }
 
 /// Asks after so many requests of the proxy, all of which it has processed, and adds the answer.
@@ -126,8 +126,8 @@ fn asked<R: Wait>(
 }
 
 /// What came of all threads' requests.
-fn total(askers: &[Asker]) -> Result<Tally, Fault> {
-    let mut all = Tally::EMPTY;
+fn total(askers: &[Asker]) -> Result<Timed, Fault> {
+    let mut all = Timed::EMPTY;
     for asker in askers {
         all = all.with(asker.outcome?);
     }

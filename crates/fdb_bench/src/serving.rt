@@ -108,7 +108,7 @@ impl<J: Live + Send + Sync> Served<J> {
             threads,
             reads_after(raises),
         )?;
-        Ok(all.measured(of_tally(all).with(all.sum)))
+        Ok(all.measured(of_tally(all.tally).with(all.tally.sum)))
     }
 
     /// Reads by so many threads, after so many raises, beside a thread that reports for as long as they read. Which
@@ -135,7 +135,7 @@ impl<J: Live + Send + Sync> Served<J> {
             threads,
             reads_after(raises),
         )?;
-        Ok(all.measured(of_tally(all)))
+        Ok(all.measured(of_tally(all.tally)))
     }
 
     /// So many reports by each of so many threads. How many of them raise the record is a matter of the schedule; that
@@ -164,9 +164,9 @@ impl<J: Live + Send + Sync> Served<J> {
         )?;
         let last = self.live.read(rt, &mut self.reader);
         let checksum = Checksum::EMPTY
-            .with(all.calls)
+            .with(all.tally.calls)
             .with(last.rec.version)
-            .with(u64::from(all.marked == last.position));
+            .with(u64::from(all.tally.marked == last.position));
         Ok(all.measured(checksum))
     }
 

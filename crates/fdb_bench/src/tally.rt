@@ -4,7 +4,7 @@ use crate::checksum::Checksum;
 use crate::measured::Measured;
 use crate::span::Span;
 
-/// What came of the calls of one thread, or of several.
+/// What came of some calls.
 #[derive(Clone, Copy)]
 pub struct Tally {
     /// How many calls there were.
@@ -13,8 +13,6 @@ pub struct Tally {
     pub sum: u64,
     /// How many of them did what not every call does: each caller says what.
     pub marked: u64,
-    /// From when to when they were made, if the clock said it.
-    pub span: Option<Span>,
 }
 
 impl Tally {
@@ -23,7 +21,6 @@ impl Tally {
         calls: 0,
         sum: 0,
         marked: 0,
-        span: Some(Span::EMPTY),
     };
 
     /// With one more call.
@@ -32,20 +29,43 @@ impl Tally {
             calls: self.calls.wrapping_add(1),
             sum: self.sum.wrapping_add(answer),
             marked: self.marked.wrapping_add(u64::from(marked)),
-            span: self.span,
         }
     }
 
     /// With the calls of another thread.
-    pub fn with(self, other: Tally) -> Tally {
-        let span = match (self.span, other.span) {
-            (Some(one), Some(two)) => Some(one.with(two)),
-            _ => None,
-        };
+    fn with(self, other: Tally) -> Tally {
         Tally {
             calls: self.calls.wrapping_add(other.calls),
             sum: self.sum.wrapping_add(other.sum),
             marked: self.marked.wrapping_add(other.marked),
+        }
+    }
+}
+
+/// What came of the calls of one thread, or of several, and when they were made.
+#[derive(Clone, Copy)]
+pub struct Timed {
+    /// What came of them.
+    pub tally: Tally,
+    /// From when to when they were made, if the clock said it.
+    pub span: Option<Span>,
+}
+
+impl Timed {
+    /// Of no calls.
+    pub const EMPTY: Timed = Timed {
+        tally: Tally::EMPTY,
+        span: Some(Span::EMPTY),
+    };
+
+    /// With the calls of another thread.
+    pub fn with(self, other: Timed) -> Timed {
+        let span = match (self.span, other.span) {
+            (Some(one), Some(two)) => Some(one.with(two)),
+            _ => None,
+        };
+        Timed {
+            tally: self.tally.with(other.tally),
             span,
         }
     }
@@ -54,7 +74,7 @@ impl Tally {
     /// one's end.
     pub fn measured(self, checksum: Checksum) -> Measured {
         Measured {
-            operations: self.calls,
+            operations: self.tally.calls,
             time: self.span.map(Span::length),
             checksum,
         }

@@ -4,7 +4,7 @@ use crate::fault::Fault;
 use crate::reading::read_in_turn;
 use crate::reporting::{report_beside, report_in_turn};
 use crate::span::{Span, moment};
-use crate::tally::Tally;
+use crate::tally::Timed;
 use fdb_live::{Live, LiveRecord, Seen};
 use std::sync::Wait;
 use std::sync::atomic::{AtomicU64, Ordering};
@@ -28,7 +28,7 @@ pub enum Role {
 pub struct Worker<J: Live> {
     token: Option<Seen<J>>,
     role: Role,
-    outcome: Result<Tally, Fault>,
+    outcome: Result<Timed, Fault>,
 }
 
 impl<J: Live> Worker<J> {
@@ -37,7 +37,7 @@ impl<J: Live> Worker<J> {
         Worker {
             token: Some(token),
             role,
-            outcome: Ok(Tally::EMPTY),
+            outcome: Ok(Timed::EMPTY),
         }
     }
 
@@ -57,7 +57,7 @@ impl<J: Live> Worker<J> {
             Role::Reads => Ok(read_timed(rt, live, &mut token, reading, calls)),
             Role::Reports { first, step } => report_timed(rt, live, &mut token, first, step, calls),
             Role::ReportsBesideReads { first } => {
-                report_beside(rt, live, &mut token, first, reading)
+                report_untimed(rt, live, &mut token, first, reading)
             }
         };
     }
@@ -70,12 +70,12 @@ fn read_timed<J: Live, R: Clock + Wait>(
     seen: &mut Seen<J>,
     reading: &AtomicU64,
     reads: u64,
-) -> Tally {
+) -> Timed {
     let begun = moment(rt);
-    let mut tally = read_in_turn(rt, live, seen, reads);
-    tally.span = Span::since(begun, rt);
+    let tally = read_in_turn(rt, live, seen, reads);
+    let span = Span::since(begun, rt);
     reading.fetch_sub(1, Ordering::SeqCst);
-    tally
+    Timed { tally, span }
 }
 
 /// Reports so often.
@@ -86,11 +86,23 @@ fn report_timed<J: Live, R: Clock + Wait>(
     first: u64,
     step: u64,
     reports: u64,
-) -> Result<Tally, Fault> {
+) -> Result<Timed, Fault> {
     let begun = moment(rt);
-    let mut tally = report_in_turn(rt, live, seen, first, step, reports)?;
-    tally.span = Span::since(begun, rt);
-    Ok(tally)
+    let tally = report_in_turn(rt, live, seen, first, step, reports)?;
+    let span = Span::since(begun, rt);
+    Ok(Timed { tally, span })
+}
+
+/// Reports for as long as a thread reads, which counts for nothing.
+fn report_untimed<J: Live, R: Wait>(
+    rt: &R,
+    live: &LiveRecord<J>,
+    seen: &mut Seen<J>,
+    first: u64,
+    reading: &AtomicU64,
+) -> Result<Timed, Fault> {
+    report_beside(rt, live, seen, first, reading)?;
+    Ok(Timed::EMPTY)
 }
 
 /// Each works in a thread of its own, with so many calls; so many of them read. Answers what came of all of it.
@@ -100,7 +112,7 @@ pub fn work_side_by_side<J: Live + Send + Sync, R: Clock + Threads + Wait + Sync
     workers: &mut [Worker<J>],
     readers: u32,
     calls: u64,
-) -> Result<Tally, Fault> {
+) -> Result<Timed, Fault> {
     let reading = AtomicU64::new(u64::from(readers));
     let threads = workers.len().max(1);
     thread::for_each_mut(
@@ -111,7 +123,7 @@ pub fn work_side_by_side<J: Live + Send + Sync, R: Clock + Threads + Wait + Sync
             worker.work(rt, live, &reading, calls);
         },
     );
-    let mut all = Tally::EMPTY;
+    let mut all = Timed::EMPTY;
     for worker in workers {
         all = all.with(worker.outcome?);
     }
