@@ -5,7 +5,7 @@ use Rattle.std.proofs.lemmas.List.Elements.{All-drop}
 use Rattle.fdb_history.specs.declared.grv.Priority.TheVariants.{System, Default, Batch}
 use Rattle.fdb_queue.specs.Kept.{IsQueue, IsAdmitted}
 use Rattle.fdb_queue.specs.Queue.{Queue}
-use Rattle.fdb_queue.specs.Waiting.{row, without_first}
+use Rattle.fdb_queue.specs.Waiting.{without_first}
 
 pub IsQueue-popped : {T : Type 0} (queue : Queue T) → IsQueue queue → IsQueue (record queue { waiting = without_first queue.waiting })
 IsQueue-popped queue h =
