@@ -8,3 +8,4 @@ pub mod Lost
 pub mod Turning
 pub mod Keeping
 mod Examples
+pub mod Popping

@@ -1,5 +1,5 @@
 -- What waits at a GRV proxy, as one row.
-use Rattle.std.specs.Prelude.{ℕ, Bool, true, false, List, [], ◌∷◌, ◌++◌, Option, None, Some, filter, sum_by}
+use Rattle.std.specs.Prelude.{ℕ, Bool, true, false, ◌==◌, if◌then◌else◌, List, [], ◌∷◌, ◌++◌, Option, None, Some, drop, filter, length, sum_by}
 use Rattle.fdb_history.specs.declared.grv.Priority.{Priority}
 use Rattle.fdb_history.specs.declared.grv.Priority.TheVariants.{System, Default, Batch}
 use Rattle.fdb_queue.specs.declared.request.Req.{Req}
@@ -44,3 +44,10 @@ abbrev pub with_last : {T : Type 0} → Requests T → Req T → Priority → Re
 with_last waiting request System = record waiting { system = waiting.system ++ request ∷ [] }
 with_last waiting request Default = record waiting { default_ = waiting.default_ ++ request ∷ [] }
 with_last waiting request Batch = record waiting { batch = waiting.batch ++ request ∷ [] }
+
+-- the requests without the first of the row
+abbrev pub without_first : {T : Type 0} → Requests T → Requests T
+without_first waiting =
+    if length waiting.system == 0 then (
+    if length waiting.default_ == 0 then record waiting { batch = drop 1 waiting.batch } else record waiting { default_ = drop 1 waiting.default_ }
+    ) else record waiting { system = drop 1 waiting.system }

@@ -1,13 +1,13 @@
 //! The queue of a GRV proxy.
 
-ghost use Rattle.std.specs.Prelude.{◌≡◌, ◌+◌, ◌*◌, ◌<◌, ◌≤◌, ◌⊎◌, ◌↔◌, ◌∷◌, ◌++◌, ◌^◌, ◌==◌, [], length, drop, if◌then◌else◌, OnOk, OnErr, IfOk, IfErr, IsSome, IfSome, IsSomeAnd};
+ghost use Rattle.std.specs.Prelude.{◌≡◌, ◌+◌, ◌*◌, ◌<◌, ◌≤◌, ◌⊎◌, ◌↔◌, ◌∷◌, ◌++◌, ◌^◌, ◌==◌, [], length, drop, if◌then◌else◌, OnOk, OnErr, IfOk, IfErr, IsSome, IfSome, IsSomeAnd, option_to_list};
 ghost use Rattle.std.specs.Int.{div_ceil};
 ghost use Rattle.fdb_queue.specs.Admission.{refusal_of, admitted, pushed_out, is_full, IsCause};
 ghost use Rattle.fdb_queue.specs.Config.{IsConfig, IsElapsed};
 ghost use Rattle.fdb_queue.specs.Kept.{IsQueue};
 ghost use Rattle.fdb_queue.specs.Queue.{new_queue};
 ghost use Rattle.fdb_queue.specs.Throttles.{limits_of, SameThrottles};
-ghost use Rattle.fdb_queue.specs.Waiting.{first, row, total};
+ghost use Rattle.fdb_queue.specs.Waiting.{first, row, total, without_first};
 ghost use Rattle.fdb_queue.specs.Waits.{budget_of, IsSure, limit_of, StartsAfter};
 ghost use Rattle.fdb_queue.specs.declared.config.TheConstants.{MAX_COUNT, MAX_ELAPSED};
 ghost use Rattle.fdb_queue.specs.Window.{window, after_window};
@@ -134,6 +134,16 @@ impl<T> GrvQueue<T> {
             ),
         };
         Ok(started)
+    }
+
+    /// Takes the first request of the row out, whatever the rates say of it, for a proxy that closes. The budgets stay.
+    /// It takes constant time and no memory.
+    pub fn pop(&mut self) -> Option<Req<T>>
+        ensures out { result ≡ first (row self.old.waiting) }
+        ensures rest { self.new ≡ record self.old { waiting = without_first self.old.waiting } }
+        ensures row { row self.old.waiting ≡ option_to_list result ++ row self.new.waiting }
+    {
+        self.waiting.pop_first()
     }
 
     /// How many windows of `elapsed` microseconds, with no offer between them, start nothing before one starts something. It

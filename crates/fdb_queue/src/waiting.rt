@@ -5,7 +5,7 @@ ghost use Rattle.std.specs.Option.{option_copied};
 ghost use Rattle.fdb_queue.specs.Admission.{below, without_oldest};
 ghost use Rattle.fdb_queue.specs.Kept.{IsQueue};
 ghost use Rattle.fdb_queue.specs.Reach.{IsReach};
-ghost use Rattle.fdb_queue.specs.Waiting.{nothing, row, first, with_last};
+ghost use Rattle.fdb_queue.specs.Waiting.{nothing, row, first, with_last, without_first};
 
 use crate::budgets::Budgets;
 use crate::config::QueueConfig;
@@ -140,6 +140,20 @@ impl<T> Waiting<T> {
             return self.default_.pop_front();
         }
         self.batch.pop_front()
+    }
+
+    /// Takes out the first of the row.
+    pub(crate) fn pop_first(&mut self) -> Option<Req<T>>
+        ensures out { result ≡ first (row self.old) }
+        ensures rest { self.new ≡ without_first self.old }
+    {
+        if !self.system.is_empty() {
+            return self.system.pop_front();
+        }
+        if self.default_.is_empty() {
+            return self.batch.pop_front();
+        }
+        self.default_.pop_front()
     }
 
     /// How far a window comes.

@@ -1,0 +1,32 @@
+-- What a batch's loops keep.
+use Rattle.std.proofs.Common.{◌≡◌, ℕ, All, List, [], ◌∷◌, ◌++◌, length, take, drop, refl, sym, ap, ◌∙◌, arith, append_assoc}
+use Rattle.std.proofs.lemmas.List.{take_all, take-append-le}
+use mathlib.Core.List.{IsPrefix}
+use Rattle.fdb_history.specs.declared.service.Service.{Ghosts as ServiceGhosts}
+use Rattle.fdb_live.specs.declared.live.Live.{Ghosts as LiveGhosts}
+use Rattle.fdb_live.specs.declared.raise.Raise.{Raise}
+use Rattle.fdb_proxy.specs.declared.request.Request.{Request}
+use Rattle.fdb_queue.specs.declared.request.Req.{Req}
+
+module _ {A : Type 0} where
+  pub prefix_trans : (xs ys zs : List A) → IsPrefix xs ys → IsPrefix ys zs → IsPrefix xs zs
+  prefix_trans xs ys zs p q = (p.0 ++ q.0, sym (append_assoc xs p.0 q.0) ∙ (ap (λ w. w ++ q.0) p.1 ∙ q.1))
+
+  -- a list that was lent and came back as it was
+  pub written_back : (n : ℕ) (xs ys : List A) → ys ≡ xs → n ≡ length xs → take n (ys ++ drop (length ys) xs) ≡ xs
+  written_back n xs ys same len = rw same (take-append-le n xs (drop (length xs) xs) (omega arith) ∙ take_all n xs (omega arith))
+
+  pub same_head : {x y : A} {xs ys : List A} → x ∷ xs ≡ y ∷ ys → x ≡ y
+  same_head h = cc (h)
+
+  pub none_left : (xs : List A) → length xs ≡ 0 → xs ≡ []
+  none_left [] none = refl
+  none_left (x ∷ xs) none = absurd (omega arith)
+
+module _ {J : Type 0} {live : LiveGhosts J} {service : ServiceGhosts J} where
+  -- what each of some askers had seen begins what was seen
+  abbrev pub AreTold : List Raise → List (Req (Request J live service)) → Type 0
+  AreTold raises requests = All (λ request. IsPrefix request.payload.seen.raises raises) requests
+
+  pub told_more : (raises more : List Raise) (requests : List (Req (Request J live service))) → IsPrefix raises more → AreTold raises requests → AreTold more requests
+  told_more raises more requests grown told = λ k d less. prefix_trans _ raises more (told k d less) grown

@@ -1,0 +1,17 @@
+use Rattle.std.proofs.Common.{◌∙◌, sym, ap, map}
+use Rattle.fdb_proxy.specs.Batch.{own_limits}
+use Rattle.fdb_proxy.proofs.Batches.{told_more, written_back}
+use Rattle.fdb_proxy.proofs.batch.serve_batch.Goals as goal
+
+pub answer_all-requires-clause-told : goal.answer_all-requires-clause-told
+answer_all-requires-clause-told g c =
+    let back = written_back c.args.requests.len c.args.requests.items c.learn_all.new.requests (c.learn_all.ensures.same ∙ c.as_mut_slice.ensures.value) c.args.requests.ok.0 in
+    let told = rw c.as_mut_slice.ensures.value at c.learn_all.ensures.told in
+    rw back (told_more c.learn_all.new.seen.raises c.read-fetched.new.seen.raises c.args.requests.items c.read-fetched.ensures.extends told)
+
+pub returns-clause-replies : goal.returns-clause-replies
+returns-clause-replies g c =
+    let back = written_back c.args.requests.len c.args.requests.items c.learn_all.new.requests (c.learn_all.ensures.same ∙ c.as_mut_slice.ensures.value) c.args.requests.ok.0 in
+    let limits = c.in-Ok.ensures.limits ∙ ap (map (own_limits c.args.queue.now.throttles)) (c.as_slice.ensures.value ∙ sym back) in
+    let all = c.answer_all.ensures.replies c.args.queue.now.throttles limits in
+    rw back at all

@@ -1,0 +1,9 @@
+use Rattle.std.proofs.Common.{◌≡◌, true}
+use Rattle.std.proofs.lemmas.List.Elements.{All-tail}
+use Rattle.fdb_proxy.specs.Cause.{is_of_an_offer}
+use Rattle.fdb_proxy.proofs.proxy.turn_away.Goals as goal
+
+pub loop-gone-preserved : goal.loop-gone-preserved
+loop-gone-preserved g c =
+    let due = rw c.in-Some.ensures.items at c.loop-gone.invariant in
+    All-tail (λ gone. is_of_an_offer gone.cause ≡ true) c.in-Some.gone c.pop_front.new.self.items due

@@ -1,0 +1,38 @@
+-- What the answers to a batch have to do with its requests.
+use Rattle.std.specs.Prelude.{◌≡◌, List, length}
+use mathlib.Core.List.{IsPrefix}
+use Rattle.fdb_history.specs.declared.grv.TagLimit.{TagLimit}
+use Rattle.fdb_history.specs.declared.service.Service.{Ghosts as ServiceGhosts}
+use Rattle.fdb_live.specs.declared.live.Live.{Ghosts as LiveGhosts}
+use Rattle.fdb_live.specs.declared.raise.Raise.{Raise}
+use Rattle.fdb_live.specs.Seen.{last_record}
+use Rattle.fdb_proxy.specs.declared.answer.Answer.{Answer}
+use Rattle.fdb_proxy.specs.declared.answer.Answer.TheVariants as answer
+use Rattle.fdb_proxy.specs.declared.answer.Reply.{Reply}
+use Rattle.fdb_proxy.specs.declared.request.Request.{Request}
+use Rattle.fdb_queue.specs.declared.request.Req.{Req}
+use Rattle.fdb_queue.specs.Throttles.{Throttle, limits_of}
+
+module _ {J : Type 0} {live : LiveGhosts J} {service : ServiceGhosts J} where
+  -- what throttles the tags of a request, at its own priority and moment
+  abbrev pub own_limits : List Throttle → Req (Request J live service) → List TagLimit
+  own_limits throttles request = limits_of throttles request.payload.opts.priority request.payload.opts.at request.payload.opts.tags
+
+  -- A reply answers a request, where these throttles stand, and where a read saw these raises. It has the request's
+  -- client, serial number and asked position, and the limits of its tags. Its record is the last of the raises and its
+  -- position their number; it proves them to the asker, who had seen the first of them.
+  -- (`sendGrvReplies` of GrvProxyServer; what it proves is this product's own)
+  pub record IsReplyTo (throttles : List Throttle) (raises : List Raise) (request : Req (Request J live service)) (reply : Reply J live service) : Type 0 where
+    pub client : reply.client ≡ request.payload.client
+    pub serial : reply.serial ≡ request.payload.serial
+    pub asked : reply.asked ≡ request.payload.asked
+    pub limits : reply.limits ≡ own_limits throttles request
+    pub rec : reply.rec ≡ last_record service.start raises
+    pub position : reply.position ≡ length raises
+    pub seen : reply.seen.raises ≡ raises
+    pub extends : IsPrefix request.payload.seen.raises raises
+
+  -- An answer is such a reply.
+  abbrev pub Replies : List Throttle → List Raise → Req (Request J live service) → Answer J live service → Type 0
+  Replies throttles raises request (answer.Reply reply) = IsReplyTo throttles raises request reply
+  Replies throttles raises request (answer.Refused refused) = ⊥

@@ -1,0 +1,48 @@
+-- A turn of a proxy, by the definitions of its queue.
+use Rattle.std.specs.Prelude.{◌≡◌, ◌⊎◌, ℕ, List, [], ◌∷◌, ◌++◌, Option, None, Some, map, option_to_list}
+use Rattle.std.specs.List.{FoldsTo}
+use Rattle.fdb_proxy.specs.declared.turn.TurnedAway.{TurnedAway}
+use Rattle.fdb_queue.specs.declared.error.QueueError.{QueueError}
+use Rattle.fdb_queue.specs.declared.error.QueueError.TheVariants.{Full, Memory}
+use Rattle.fdb_queue.specs.declared.request.Req.{Req}
+use Rattle.fdb_queue.specs.Admission.{refusal_of, admitted, pushed_out}
+use Rattle.fdb_queue.specs.Queue.{Queue}
+use Rattle.fdb_queue.specs.Window.{window, after_window}
+
+-- A queue while requests are offered to it, and those that it turned away so far, in order.
+pub record Offering (T : Type 0) : Type 0 where
+  pub queue : Queue T
+  pub turned_away : List (TurnedAway T)
+
+-- a request was refused, and the queue is as it was
+abbrev pub refusing : {T : Type 0} → Offering T → QueueError → Req T → Offering T
+refusing before cause request = record before { turned_away = before.turned_away ++ record { cause = cause; request = request } ∷ [] }
+
+-- a request was let in, and whoever it pushed out was turned away as `Full`
+abbrev pub admitting : {T : Type 0} → Offering T → Req T → Offering T
+admitting before request = record {
+  queue = admitted before.queue request;
+  turned_away = before.turned_away ++ map (λ out. record { cause = Full; request = out }) (option_to_list (pushed_out before.queue request));
+}
+
+-- What an offer may come to: the request is refused for what the queue has against it. Where it has nothing, the request
+-- is let in, or memory was refused.
+abbrev pub IsOutcome : {T : Type 0} → Option QueueError → Offering T → Req T → Offering T → Type 0
+IsOutcome (Some due) before request after = after ≡ refusing before due request
+IsOutcome None before request after = (after ≡ admitting before request) ⊎ (after ≡ refusing before Memory request)
+
+abbrev pub Offers : {T : Type 0} → Offering T → Req T → Offering T → Type 0
+Offers before request after = IsOutcome (refusal_of before.queue request) before request after
+
+-- A turn of a proxy: each of some requests is offered to its queue, in order, and then one window is held. It gives what
+-- the window starts, and whom the offers turned away. (`transactionStarter` and `queueGetReadVersionRequests` of
+-- GrvProxyServer; that one turn follows the other with this time between them is this product's own)
+pub record IsTurn {T : Type 0} (elapsed : ℕ) (before : Queue T) (offered started : List (Req T)) (turned_away : List (TurnedAway T)) (after : Queue T) : Type 0 where
+  pub filled : Queue T
+  pub offers : FoldsTo Offers (record { queue = before; turned_away = [] }) offered (record { queue = filled; turned_away = turned_away })
+  pub starts : started ≡ window filled
+  pub leaves : after ≡ after_window elapsed filled
+
+-- One turn with some requests leads from one queue to another.
+abbrev pub HasTurn : {T : Type 0} → ℕ → Queue T → List (Req T) → Queue T → Type 0
+HasTurn {T} elapsed before offered after = (started : List (Req T)) × (turned_away : List (TurnedAway T)) × IsTurn elapsed before offered started turned_away after

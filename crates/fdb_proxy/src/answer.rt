@@ -1,0 +1,60 @@
+//! What a proxy answers a request.
+
+ghost use Rattle.std.specs.Prelude.{◌≡◌, ◌≤◌, length, None, true};
+ghost use Rattle.fdb_live.specs.Seen.{last_record};
+ghost use Rattle.fdb_proxy.specs.Cause.{is_due};
+
+use crate::cause::Cause;
+use fdb_history::{Record, Sequence, TagLimit};
+use fdb_live::{Live, Seen};
+
+/// The answer to a request for a read version.
+#[derive(Drop)]
+pub enum Answer<J: Live> {
+    /// The transactions start, and with this read version.
+    Reply(Reply<J>),
+    /// They do not start.
+    Refused(Refused<J>),
+}
+
+/// A read version, and whose request it answers (`GetReadVersionReply` of GrvProxyServer, FoundationDB 7.1; the
+/// request's own numbers, the token and the position are this product's own).
+#[derive(Drop)]
+pub struct Reply<J: Live> {
+    /// The client that asked.
+    pub client: u32,
+    /// Its number for the request.
+    pub serial: u64,
+    /// The position that it had seen when it asked.
+    pub asked: u64,
+    /// What it has seen with this reply: all that it had seen when it asked, and the record that it got.
+    pub seen: Seen<J>,
+    /// The record.
+    pub rec: Record,
+    /// Its position: the number of raises before it.
+    pub position: u64,
+    /// What throttles the request's tags, in their order.
+    pub limits: Sequence<TagLimit>,
+    pub ghost unnumbered: { seen.reporter ≡ None },
+    pub ghost last: { rec ≡ last_record J.start seen.raises },
+    pub ghost at: { position ≡ length seen.raises },
+    pub ghost not_below: { asked ≤ position },
+}
+
+/// A request that does not start, and why. Its token comes back as it was.
+#[derive(Drop)]
+pub struct Refused<J: Live> {
+    /// The client that asked.
+    pub client: u32,
+    /// Its number for the request.
+    pub serial: u64,
+    /// The position that it had seen when it asked.
+    pub asked: u64,
+    /// The token of the request.
+    pub seen: Seen<J>,
+    /// Why.
+    pub cause: Cause,
+    pub ghost unnumbered: { seen.reporter ≡ None },
+    pub ghost position: { asked ≡ length seen.raises },
+    pub ghost due: { is_due cause ≡ true },
+}

@@ -1,0 +1,192 @@
+//! The requests that start together, and the one read that serves them.
+
+ghost use Rattle.std.specs.Prelude.{◌≡◌, ◌≤◌, [], All, List, IfOk, IfErr, OnErr, length, map, vec_len, vec_capacity};
+ghost use Rattle.std.specs.List.{AllZip};
+ghost use mathlib.Core.List.{IsPrefix};
+ghost use Rattle.fdb_live.specs.Seen.{last_record, own_positions};
+ghost use Rattle.fdb_proxy.specs.Batch.{IsReplyTo, Replies, own_limits};
+ghost use Rattle.fdb_queue.specs.Throttles.{Throttle};
+
+use crate::answer::{Answer, Reply};
+use crate::error::ProxyError;
+use crate::request::Request;
+use fdb_history::{Sequence, TagLimit};
+use fdb_live::{Fetched, Live, LiveRecord, Seen};
+use fdb_queue::{GrvQueue, QueueError, Req};
+use std::alloc::{AllocError, Global};
+use std::collections::VecDeque;
+use std::sync::Wait;
+
+/// Serves the requests of one window: learns what each asker had seen, makes one read of the live record, and answers
+/// all with it, in order, each with a token of its own (`transactionStarter`, `getLiveCommittedVersion` and
+/// `sendGrvReplies` of GrvProxyServer, FoundationDB 7.1). The throttles are those of the queue. An empty batch makes no
+/// read.
+///
+/// It is refused as `Memory` alone, before anything has happened; the requests are then handed back. It waits as a read
+/// does, and takes constant time for each request, the limits of its tags aside.
+pub fn serve_batch<J: Live, R: Wait>(
+    rt: &R,
+    alloc: Global,
+    record: &LiveRecord<J>,
+    seen: &mut Seen<J>,
+    queue: &GrvQueue<Request<J>>,
+    mut requests: Vec<Req<Request<J>>>,
+) -> Result<Vec<Answer<J>>, (ProxyError, Vec<Req<Request<J>>>)>
+    ensures replies { IfOk result (λ answers. AllZip (Replies queue.now.throttles seen.new.raises) requests.items answers.items) }
+    ensures reporter { seen.new.reporter ≡ seen.old.reporter }
+    ensures extends { IsPrefix seen.old.raises seen.new.raises }
+    ensures own { own_positions seen.new ≡ own_positions seen.old }
+    ensures no_read { requests.items ≡ [] → seen.new ≡ seen.old }
+    ensures memory { IfErr result (λ refused. refused.0 ≡ ProxyError.Memory) }
+    ensures handed_back { IfErr result (λ refused. refused.1 ≡ requests) }
+    ensures unchanged { OnErr result (seen.new ≡ seen.old) }
+{
+    let Ok(room) = room_for(alloc, queue, requests.as_slice()) else {
+        return Err((ProxyError::Memory, requests));
+    };
+    if requests.is_empty() {
+        return Ok(room.answers);
+    }
+    learn_all(rt, record, seen, requests.as_mut_slice());
+    let fetched = record.read(rt, seen);
+    Ok(answer_all(record, seen, fetched, requests, room))
+}
+
+/// All that a batch takes memory for.
+#[derive(Drop)]
+struct Room<J: Live> {
+    /// The limits of each request.
+    limits: Vec<Sequence<TagLimit>>,
+    /// No answer yet, with room for all.
+    answers: Vec<Answer<J>>,
+}
+
+/// Takes the memory for a batch.
+fn room_for<J: Live>(
+    alloc: Global,
+    queue: &GrvQueue<Request<J>>,
+    requests: &[Req<Request<J>>],
+) -> Result<Room<J>, QueueError>
+    ensures limits { IfOk result (λ room. room.limits.items ≡ map (own_limits queue.now.throttles) requests.now) }
+    ensures answers { IfOk result (λ room. room.answers.items ≡ []) }
+    ensures none { IfOk result (λ room. vec_len room.answers ≡ 0) }
+    ensures len { IfOk result (λ room. vec_len room.limits ≡ length requests.now) }
+    ensures capacity { IfOk result (λ room. length requests.now ≤ vec_capacity room.answers) }
+{
+    let answers = Vec::with_capacity(alloc, requests.len())?;
+    let mut limits = Vec::with_capacity(alloc, requests.len())?;
+    for request in requests {
+        let opts = &request.payload.opts;
+        let own = queue.throttles(opts.priority, opts.tags.as_slice(), opts.at)?;
+        limits.push_reserved(Sequence::from(own));
+    }
+    Ok(Room { limits, answers })
+}
+
+/// Learns what each asker has seen. The requests stay as they are.
+fn learn_all<J: Live, R: Wait>(
+    rt: &R,
+    record: &LiveRecord<J>,
+    seen: &mut Seen<J>,
+    requests: &mut [Req<Request<J>>],
+)
+    ensures same { requests.new ≡ requests.old }
+    ensures reporter { seen.new.reporter ≡ seen.old.reporter }
+    ensures extends { IsPrefix seen.old.raises seen.new.raises }
+    ensures own { own_positions seen.new ≡ own_positions seen.old }
+    ensures told { All (λ request. IsPrefix request.payload.seen.raises seen.new.raises) requests.old }
+{
+    for request in requests.iter_mut() {
+        learn_from(rt, record, seen, &mut request.payload);
+    }
+}
+
+/// Learns what an asker has seen.
+fn learn_from<J: Live, R: Wait>(
+    rt: &R,
+    record: &LiveRecord<J>,
+    seen: &mut Seen<J>,
+    request: &mut Request<J>,
+)
+    ensures same { request.new ≡ request.old }
+    ensures reporter { seen.new.reporter ≡ seen.old.reporter }
+    ensures extends { IsPrefix seen.old.raises seen.new.raises }
+    ensures own { own_positions seen.new ≡ own_positions seen.old }
+    ensures told { IsPrefix request.old.seen.raises seen.new.raises }
+{
+    let told = record.split(&mut request.seen);
+    record.learn(rt, seen, told);
+}
+
+/// Answers all requests with what a read saw.
+fn answer_all<J: Live>(
+    record: &LiveRecord<J>,
+    seen: &mut Seen<J>,
+    fetched: Fetched,
+    requests: Vec<Req<Request<J>>>,
+    room: Room<J>,
+) -> Vec<Answer<J>>
+    requires rec { fetched.rec ≡ last_record J.start seen.old.raises }
+    requires position { fetched.position ≡ length seen.old.raises }
+    requires told { All (λ request. IsPrefix request.payload.seen.raises seen.old.raises) requests.items }
+    requires limits { vec_len room.limits ≡ vec_len requests }
+    requires answers { room.answers.items ≡ [] }
+    requires len { vec_len room.answers ≡ 0 }
+    requires capacity { vec_len requests ≤ vec_capacity room.answers }
+    ensures replies { (throttles : List Throttle) → room.limits.items ≡ map (own_limits throttles) requests.items → AllZip (Replies throttles seen.new.raises) requests.items result.items }
+    ensures same { seen.new ≡ seen.old }
+{
+    let Room {
+        limits,
+        mut answers,
+    } = room;
+    let mut limits = VecDeque::from(limits);
+    let mut requests = VecDeque::from(requests);
+    while let Some(request) = requests.pop_front() {
+        let Some(own) = limits.pop_front() else {
+            unreachable!()
+        };
+        let reply = answer(record, seen, fetched, request.payload, own);
+        answers.push_reserved(Answer::Reply(reply));
+    }
+    answers
+}
+
+/// Answers a request with what a read saw.
+fn answer<J: Live>(
+    record: &LiveRecord<J>,
+    seen: &mut Seen<J>,
+    fetched: Fetched,
+    request: Request<J>,
+    limits: Sequence<TagLimit>,
+) -> Reply<J>
+    requires rec { fetched.rec ≡ last_record J.start seen.old.raises }
+    requires position { fetched.position ≡ length seen.old.raises }
+    requires told { IsPrefix request.seen.raises seen.old.raises }
+    ensures same { seen.new ≡ seen.old }
+    ensures client { result.client ≡ request.client }
+    ensures serial { result.serial ≡ request.serial }
+    ensures asked { result.asked ≡ request.asked }
+    ensures limits { result.limits ≡ limits }
+    ensures rec { result.rec ≡ fetched.rec }
+    ensures position { result.position ≡ fetched.position }
+    ensures seen { result.seen.raises ≡ seen.old.raises }
+{
+    let Request {
+        client,
+        serial,
+        asked,
+        seen: _,
+        opts: _,
+        reply: _,
+    } = request;
+    Reply {
+        client,
+        serial,
+        asked,
+        seen: record.split(seen),
+        rec: fetched.rec,
+        position: fetched.position,
+        limits,
+    }
+}

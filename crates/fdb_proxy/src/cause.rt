@@ -1,0 +1,12 @@
+//! Why a request is not started.
+
+use fdb_queue::QueueError;
+
+/// Why a proxy does not start a request.
+#[derive(Clone, Copy, Debug, PartialEq, Eq)]
+pub enum Cause {
+    /// Its queue did not let it in, or pushed it out as `Full`.
+    Queue(QueueError),
+    /// The proxy's desk was closed before the request started.
+    Closed,
+}

@@ -1,0 +1,149 @@
+//! The desk at which requests wait for a proxy.
+
+ghost use Rattle.std.specs.Prelude.{◌≡◌, ◌≢◌, ◌<◌, ◌↔◌, [], ◌∷◌, ◌++◌, IfErr, OnErr, OnOk, true, false, vec_len};
+ghost use Rattle.std.specs.List.{list_all};
+ghost use Rattle.fdb_proxy.specs.Options.{has_own_options};
+
+use crate::error::ProxyError;
+use crate::request::Request;
+use fdb_live::Live;
+use fdb_queue::Req;
+use std::alloc::Global;
+use std::mem;
+use std::sync::{Condvar, Mutex, Wait};
+
+/// Where clients leave their requests for one proxy, from any thread (`GrvProxyInterface::getConsistentReadVersion`,
+/// FoundationDB 7.1).
+///
+/// Each request on it has in the queue the priority and the count of its own options.
+#[derive(Drop)]
+pub struct Desk<J: Live> {
+    tray: Mutex<Tray<J>>,
+    came: Condvar,
+}
+
+/// What was taken from a desk.
+#[derive(Drop)]
+pub struct Taken<J: Live> {
+    /// All requests that waited there, in the order in which they were submitted.
+    pub requests: Vec<Req<Request<J>>>,
+    /// Whether the desk is closed, so that none will come after these.
+    pub closed: bool,
+    pub ghost own_options: { list_all has_own_options requests.items ≡ true },
+}
+
+impl<J: Live> Desk<J> {
+    /// An open desk with no request on it. Takes no memory.
+    pub fn new(alloc: Global) -> Self {
+        Desk {
+            tray: Mutex::new(Tray::new(alloc)),
+            came: Condvar::new(),
+        }
+    }
+
+    /// Leaves a request on the desk, behind those that wait there.
+    ///
+    /// It is refused as `Closed` where the desk is closed, else for memory; the request is then handed back. It waits
+    /// for its turn at the desk, and takes constant time, the growth of the list aside.
+    pub fn submit<R: Wait>(
+        &self,
+        rt: &R,
+        request: Req<Request<J>>,
+    ) -> Result<(), (ProxyError, Req<Request<J>>)>
+        requires { has_own_options request ≡ true }
+        ensures handed_back { IfErr result (λ refused. refused.1 ≡ request) }
+    {
+        self.tray.lock(rt).add(request)?;
+        self.came.notify_one();
+        Ok(())
+    }
+
+    /// Takes all requests that wait on the desk, in the order in which they were submitted. Where it is told to wait, it
+    /// waits until there is one or the desk is closed. Takes no memory.
+    pub fn take<R: Wait>(&self, rt: &R, wait: bool) -> Taken<J>
+        ensures { wait ≡ true → result.closed ≡ false → 0 < vec_len result.requests }
+    {
+        let mut tray = self
+            .came
+            .wait_while(rt, self.tray.lock(rt), |tray| wait && tray.is_bare());
+        tray.take()
+    }
+
+    /// Closes the desk: from then on it refuses every request. Those that wait there stay. Takes no memory.
+    pub fn close<R: Wait>(&self, rt: &R) {
+        self.tray.lock(rt).close();
+        self.came.notify_all();
+    }
+}
+
+/// What lies on a desk.
+#[derive(Drop)]
+struct Tray<J: Live> {
+    alloc: Global,
+    waiting: Vec<Req<Request<J>>>,
+    closed: bool,
+    ghost own_options: { list_all has_own_options waiting.items ≡ true },
+}
+
+impl<J: Live> Tray<J> {
+    /// An open one with nothing on it.
+    fn new(alloc: Global) -> Self
+        ensures waiting { result.waiting.items ≡ [] }
+        ensures open { result.closed ≡ false }
+    {
+        Tray {
+            alloc,
+            waiting: Vec::new(alloc),
+            closed: false,
+        }
+    }
+
+    /// Adds a request at the end.
+    fn add(&mut self, request: Req<Request<J>>) -> Result<(), (ProxyError, Req<Request<J>>)>
+        requires { has_own_options request ≡ true }
+        ensures added { OnOk result (self.new.waiting.items ≡ self.old.waiting.items ++ request ∷ []) }
+        ensures open { OnOk result (self.old.closed ≡ false) }
+        ensures closed { self.old.closed ≡ true → IfErr result (λ refused. refused.0 ≡ ProxyError.Closed) }
+        ensures memory { self.old.closed ≡ false → IfErr result (λ refused. refused.0 ≡ ProxyError.Memory) }
+        ensures handed_back { IfErr result (λ refused. refused.1 ≡ request) }
+        ensures unchanged { OnErr result (self.new.waiting.items ≡ self.old.waiting.items) }
+        ensures stays { self.new.closed ≡ self.old.closed }
+    {
+        if self.closed {
+            return Err((ProxyError::Closed, request));
+        }
+        match self.waiting.push(request) {
+            Ok(()) => Ok(()),
+            Err(refused) => Err((ProxyError::Memory, refused.value)),
+        }
+    }
+
+    /// Whether it is open with nothing on it.
+    fn is_bare(&self) -> bool
+        ensures open { result ≡ false → self.now.closed ≡ false → 0 < vec_len self.now.waiting }
+    {
+        !self.closed && self.waiting.is_empty()
+    }
+
+    /// Takes all that is on it.
+    fn take(&mut self) -> Taken<J>
+        ensures requests { result.requests ≡ self.old.waiting }
+        ensures closed { result.closed ≡ self.old.closed }
+        ensures empty { self.new.waiting.items ≡ [] }
+        ensures stays { self.new.closed ≡ self.old.closed }
+    {
+        let requests = mem::replace(&mut self.waiting, Vec::new(self.alloc));
+        Taken {
+            requests,
+            closed: self.closed,
+        }
+    }
+
+    /// Closes it. What is on it stays.
+    fn close(&mut self)
+        ensures closed { self.new.closed ≡ true }
+        ensures same { self.new.waiting ≡ self.old.waiting }
+    {
+        self.closed = true;
+    }
+}

@@ -1,0 +1,26 @@
+//! Why a proxy or its desk refuses.
+
+use std::alloc::AllocError;
+use thiserror::Error;
+
+/// Why a request is not taken, a batch not served, or a proxy not run to its end.
+#[derive(Clone, Copy, Debug, PartialEq, Eq, Error)]
+pub enum ProxyError {
+    /// Memory was refused.
+    #[error("want of memory")]
+    Memory,
+    /// The desk is closed.
+    #[error("the proxy's desk is closed")]
+    Closed,
+}
+
+impl From<AllocError> for ProxyError {
+    ghost use Rattle.std.specs.Prelude.{◌≡◌};
+    ghost use Rattle.fdb_proxy.specs.declared.error.ProxyError.TheVariants.{Memory};
+
+    ghost from_gives = { λ _ cause. cause ≡ Memory };
+
+    fn from(_refused: AllocError) -> Self {
+        ProxyError::Memory
+    }
+}

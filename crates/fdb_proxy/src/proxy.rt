@@ -1,0 +1,234 @@
+//! A GRV proxy.
+
+ghost use Rattle.std.specs.Prelude.{◌≡◌, [], All, IfOk, IfErr, OnOk, length, true, vec_len};
+ghost use mathlib.Core.List.{IsPrefix};
+ghost use Rattle.fdb_proxy.specs.Cause.{is_due, is_of_an_offer};
+ghost use Rattle.fdb_proxy.specs.Turn.{HasTurn};
+ghost use Rattle.fdb_queue.specs.Config.{IsElapsed};
+ghost use Rattle.fdb_queue.specs.Waiting.{row};
+
+use crate::answer::Answer;
+use crate::batch;
+use crate::cause::Cause;
+use crate::desk::{Desk, Taken};
+use crate::error::ProxyError;
+use crate::request::Request;
+use crate::turn::{Line, Turn, TurnedAway};
+use crossbeam_channel::{SendError, Sender};
+use fdb_live::{Live, LiveRecord, Seen};
+use fdb_queue::{GrvQueue, Req};
+use std::alloc::{AllocError, Global};
+use std::collections::VecDeque;
+use std::marker::Model;
+use std::sync::Wait;
+
+/// A GRV proxy: it takes requests from its desk, lets them wait in its queue until their window, and answers those that
+/// start together with one read of the live record (`grvProxyServer` and `transactionStarter`, FoundationDB 7.1).
+///
+/// Contracts see it as what it has seen.
+#[derive(Drop)]
+pub struct GrvProxy<'a, J: Live> {
+    alloc: Global,
+    record: &'a LiveRecord<J>,
+    desk: &'a Desk<J>,
+    line: Line<Request<J>>,
+    seen: Seen<J>,
+}
+
+impl<'a, J: Live> Model for GrvProxy<'a, J> {
+    ghost use Rattle.fdb_live.specs.Seen.{Sight};
+
+    ghost Value = { Sight };
+
+    ghost view = { λ proxy. proxy.seen };
+}
+
+impl<'a, J: Live> GrvProxy<'a, J> {
+    /// A proxy between a desk and the live record, with its queue, the time between two of its windows in microseconds,
+    /// and a token. Takes no memory.
+    pub fn new(
+        alloc: Global,
+        record: &'a LiveRecord<J>,
+        desk: &'a Desk<J>,
+        queue: GrvQueue<Request<J>>,
+        elapsed: u64,
+        seen: Seen<J>,
+    ) -> Self
+        requires { IsElapsed elapsed }
+        ensures { result ≡ seen }
+    {
+        GrvProxy {
+            alloc,
+            record,
+            desk,
+            line: Line { queue, elapsed },
+            seen,
+        }
+    }
+
+    /// Serves the desk until it is closed, and gives back the token.
+    ///
+    /// In each turn it takes what waits at the desk, and waits there only where its queue is empty; it offers each
+    /// request to the queue, holds one window, and serves what started as one batch. A request that was refused or
+    /// pushed out is answered so. Once the desk is closed it has one more turn, and then answers all that is left
+    /// `Closed`. An answer whose receiver is gone is dropped.
+    ///
+    /// Where memory is refused to itself, or to the sending of an answer, it closes the desk, drops what it holds and what
+    /// waits there, and ends with `Memory`. In an offer it is the request that is refused so, and the proxy goes on.
+    pub fn run<R: Wait>(self, rt: &R) -> Result<Seen<J>, (ProxyError, Seen<J>)>
+        ensures reporter { IfOk result (λ seen. seen.reporter ≡ self.entry.reporter) }
+        ensures extends { IfOk result (λ seen. IsPrefix self.entry.raises seen.raises) }
+        ensures memory { IfErr result (λ ended. ended.0 ≡ ProxyError.Memory) }
+        ensures reporter_back { IfErr result (λ ended. ended.1.reporter ≡ self.entry.reporter) }
+        ensures extends_back { IfErr result (λ ended. IsPrefix self.entry.raises ended.1.raises) }
+    {
+        let GrvProxy {
+            alloc,
+            record,
+            desk,
+            mut line,
+            mut seen,
+        } = self;
+        let served = serve_desk(rt, alloc, record, desk, &mut line, &mut seen);
+        match served {
+            Ok(()) => Ok(seen),
+            Err(cause) => {
+                desk.close(rt);
+                desk.take(rt, false);
+                Err((cause, seen))
+            }
+        }
+    }
+}
+
+/// Serves a desk until it is closed.
+#[tactic(auto, using(crate::proofs::Batches::prefix_trans))]
+fn serve_desk<J: Live, R: Wait>(
+    rt: &R,
+    alloc: Global,
+    record: &LiveRecord<J>,
+    desk: &Desk<J>,
+    line: &mut Line<Request<J>>,
+    seen: &mut Seen<J>,
+) -> Result<(), ProxyError>
+    ensures left { OnOk result (row line.new.queue.waiting ≡ []) }
+    ensures reporter { seen.new.reporter ≡ seen.old.reporter }
+    ensures extends { IsPrefix seen.old.raises seen.new.raises }
+    ensures memory { IfErr result (λ cause. cause ≡ ProxyError.Memory) }
+{
+    for _ in rt.forever() {
+        let Taken { requests, closed } = desk.take(rt, line.is_empty());
+        serve_turn(rt, alloc, record, line, seen, requests)?;
+        if closed {
+            return close(rt, line);
+        }
+    }
+    unreachable!()
+}
+
+/// Has one turn with some requests, and answers all that it decides.
+fn serve_turn<J: Live, R: Wait>(
+    rt: &R,
+    alloc: Global,
+    record: &LiveRecord<J>,
+    line: &mut Line<Request<J>>,
+    seen: &mut Seen<J>,
+    requests: Vec<Req<Request<J>>>,
+) -> Result<(), ProxyError>
+    ensures turn { OnOk result (HasTurn line.old.elapsed line.old.queue requests.items line.new.queue) }
+    ensures elapsed { OnOk result (line.new.elapsed ≡ line.old.elapsed) }
+    ensures reporter { seen.new.reporter ≡ seen.old.reporter }
+    ensures extends { IsPrefix seen.old.raises seen.new.raises }
+    ensures memory { IfErr result (λ cause. cause ≡ ProxyError.Memory) }
+{
+    let Turn {
+        started,
+        turned_away,
+    } = line.turn(alloc, requests)?;
+    turn_away(rt, turned_away)?;
+    let senders = senders_of(alloc, started.as_slice())?;
+    match batch::serve_batch(rt, alloc, record, seen, &line.queue, started) {
+        Ok(answers) => send_all(rt, senders, answers),
+        Err((cause, _)) => Err(cause),
+    }
+}
+
+/// Answers those that a turn turned away.
+fn turn_away<J: Live, R: Wait>(
+    rt: &R,
+    turned_away: Vec<TurnedAway<Request<J>>>,
+) -> Result<(), ProxyError>
+    requires { All (λ gone. is_of_an_offer gone.cause ≡ true) turned_away.items }
+    ensures { IfErr result (λ cause. cause ≡ ProxyError.Memory) }
+{
+    let mut turned_away = VecDeque::from(turned_away);
+    while let Some(gone) = turned_away.pop_front() {
+        refuse(rt, gone.request.payload, Cause::Queue(gone.cause))?;
+    }
+    Ok(())
+}
+
+/// Answers all requests that are left.
+fn close<J: Live, R: Wait>(rt: &R, line: &mut Line<Request<J>>) -> Result<(), ProxyError>
+    ensures left { OnOk result (row line.new.queue.waiting ≡ []) }
+    ensures memory { IfErr result (λ cause. cause ≡ ProxyError.Memory) }
+{
+    while let Some(request) = line.leave() {
+        refuse(rt, request.payload, Cause::Closed)?;
+    }
+    Ok(())
+}
+
+/// Answers a request that does not start.
+fn refuse<J: Live, R: Wait>(rt: &R, request: Request<J>, cause: Cause) -> Result<(), ProxyError>
+    requires { is_due cause ≡ true }
+    ensures { IfErr result (λ cause. cause ≡ ProxyError.Memory) }
+{
+    let (reply, refused) = request.refused(cause);
+    send(rt, &reply, Answer::Refused(refused))
+}
+
+/// Where the answers to some requests go, in order.
+fn senders_of<J: Live>(
+    alloc: Global,
+    requests: &[Req<Request<J>>],
+) -> Result<Vec<Sender<Answer<J>>>, AllocError>
+    ensures { IfOk result (λ senders. vec_len senders ≡ length requests.now) }
+{
+    let mut senders = Vec::with_capacity(alloc, requests.len())?;
+    for request in requests {
+        senders.push_reserved(request.payload.reply.clone()?);
+    }
+    Ok(senders)
+}
+
+/// Sends each answer to where it goes, in order.
+fn send_all<J: Live, R: Wait>(
+    rt: &R,
+    senders: Vec<Sender<Answer<J>>>,
+    answers: Vec<Answer<J>>,
+) -> Result<(), ProxyError>
+    ensures { IfErr result (λ cause. cause ≡ ProxyError.Memory) }
+{
+    let mut answers = VecDeque::from(answers);
+    for reply in &senders {
+        if let Some(answer) = answers.pop_front() {
+            send(rt, reply, answer)?;
+        }
+    }
+    Ok(())
+}
+
+/// Sends an answer. One that nobody waits for any more is dropped.
+fn send<J: Live, R: Wait>(
+    rt: &R,
+    reply: &Sender<Answer<J>>,
+    answer: Answer<J>,
+) -> Result<(), ProxyError>
+    ensures { IfErr result (λ cause. cause ≡ ProxyError.Memory) }
+{
+    match reply.send(rt, answer) {
+        Ok(()) | Err(SendError::Disconnected(_)) => Ok(()),
+        Err(SendError::OutOfMemory(_)) => Err(ProxyError::Memory),
+    }
+}

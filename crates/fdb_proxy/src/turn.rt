@@ -1,0 +1,116 @@
+//! The queue of a proxy and its turns.
+
+ghost use Rattle.std.specs.Prelude.{◌≡◌, ◌==◌, ◌+◌, ◌<◌, ◌≤◌, ◌++◌, All, IfOk, IfErr, length, option_to_list, true, vec_len, vec_capacity};
+ghost use Rattle.fdb_proxy.specs.Cause.{is_of_an_offer};
+ghost use Rattle.fdb_proxy.specs.Turn.{IsTurn, Offers};
+ghost use Rattle.fdb_queue.specs.Config.{IsElapsed};
+ghost use Rattle.fdb_queue.specs.Waiting.{first, row};
+ghost use Rattle.fdb_queue.specs.Window.{window, after_window};
+
+use crate::error::ProxyError;
+use fdb_queue::{GrvQueue, QueueError, Req};
+use std::alloc::Global;
+use std::collections::VecDeque;
+
+/// A request that waits no more and does not start, and why.
+#[derive(Drop)]
+pub(crate) struct TurnedAway<T> {
+    /// What it was refused for, or `Full` where it was pushed out.
+    pub(crate) cause: QueueError,
+    /// The request.
+    pub(crate) request: Req<T>,
+}
+
+/// What a turn came to.
+#[derive(Drop)]
+pub(crate) struct Turn<T> {
+    /// The requests that start, in order.
+    pub(crate) started: Vec<Req<T>>,
+    /// Those that were turned away, in the order in which they were.
+    pub(crate) turned_away: Vec<TurnedAway<T>>,
+}
+
+/// The queue of a proxy, and the time between two of its windows in microseconds.
+#[derive(Drop)]
+pub(crate) struct Line<T> {
+    pub(crate) queue: GrvQueue<T>,
+    pub(crate) elapsed: u64,
+    pub(crate) ghost in_range: { IsElapsed elapsed },
+}
+
+impl<T: Drop> Line<T> {
+    /// Offers each of some requests to the queue, in order, and then holds one window.
+    ///
+    /// It is refused for want of memory alone: of the list of those that are turned away, before any offer, or of those
+    /// that start. A growth of the queue that is refused turns away the one that was offered, as `Memory`.
+    pub(crate) fn turn(
+        &mut self,
+        alloc: Global,
+        offered: Vec<Req<T>>,
+    ) -> Result<Turn<T>, ProxyError>
+        ensures turn { IfOk result (λ turn. IsTurn self.old.elapsed self.old.queue offered.items turn.started.items turn.turned_away.items self.new.queue) }
+        ensures due { IfOk result (λ turn. All (λ gone. is_of_an_offer gone.cause ≡ true) turn.turned_away.items) }
+        ensures elapsed { self.new.elapsed ≡ self.old.elapsed }
+        ensures memory { IfErr result (λ cause. cause ≡ ProxyError.Memory) }
+    {
+        let mut turned_away = Vec::with_capacity(alloc, offered.len())?;
+        let mut offered = VecDeque::from(offered);
+        while let Some(request) = offered.pop_front() {
+            self.offer(request, &mut turned_away);
+        }
+        let started = self.start()?;
+        Ok(Turn {
+            started,
+            turned_away,
+        })
+    }
+
+    /// Offers a request to the queue. Whoever is turned away is added to the list.
+    fn offer(&mut self, request: Req<T>, turned_away: &mut Vec<TurnedAway<T>>)
+        requires { vec_len turned_away.old < vec_capacity turned_away.old }
+        ensures offers { Offers (record { queue = self.old.queue; turned_away = turned_away.old.items }) request (record { queue = self.new.queue; turned_away = turned_away.new.items }) }
+        ensures due { All (λ gone. is_of_an_offer gone.cause ≡ true) turned_away.old.items → All (λ gone. is_of_an_offer gone.cause ≡ true) turned_away.new.items }
+        ensures elapsed { self.new.elapsed ≡ self.old.elapsed }
+        ensures len { vec_len turned_away.new ≤ vec_len turned_away.old + 1 }
+        ensures capacity { vec_capacity turned_away.new ≡ vec_capacity turned_away.old }
+    {
+        let gone = match self.queue.offer(request) {
+            Ok(None) => return,
+            Ok(Some(request)) => TurnedAway {
+                cause: QueueError::Full,
+                request,
+            },
+            Err((cause, request)) => TurnedAway { cause, request },
+        };
+        turned_away.push_reserved(gone);
+    }
+
+    /// Holds one window.
+    fn start(&mut self) -> Result<Vec<Req<T>>, ProxyError>
+        ensures started { IfOk result (λ started. started.items ≡ window self.old.queue) }
+        ensures after { IfOk result (λ _. self.new.queue ≡ after_window self.old.elapsed self.old.queue) }
+        ensures elapsed { self.new.elapsed ≡ self.old.elapsed }
+        ensures memory { IfErr result (λ cause. cause ≡ ProxyError.Memory) }
+    {
+        match self.queue.window(self.elapsed) {
+            Ok(started) => Ok(started),
+            Err(_) => Err(ProxyError::Memory),
+        }
+    }
+
+    /// Whether nobody waits.
+    pub(crate) fn is_empty(&self) -> bool
+        ensures { result ≡ (length (row self.now.queue.waiting) == 0) }
+    {
+        let lengths = self.queue.lengths();
+        lengths.system == 0 && lengths.default_ == 0 && lengths.batch == 0
+    }
+
+    /// Lets the first of the row go without a start.
+    pub(crate) fn leave(&mut self) -> Option<Req<T>>
+        ensures out { result ≡ first (row self.old.queue.waiting) }
+        ensures row { row self.old.queue.waiting ≡ option_to_list result ++ row self.new.queue.waiting }
+    {
+        self.queue.pop()
+    }
+}
