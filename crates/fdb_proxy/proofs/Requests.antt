@@ -1,10 +1,24 @@
--- A request whose token is as it was.
-use Rattle.std.proofs.Common.{◌≡◌, None, length, refl, sym, subst}
+-- Requests: a token that is as it was, and options of their own.
+use Rattle.std.proofs.Common.{ℕ, ◌==◌, true, arith, ◌≡◌, None, length, refl, sym, subst}
 use Rattle.std.proofs.Props.{props}
+use Rattle.std.proofs.lemmas.Bool.Decides.{nat_tests}
+use Rattle.fdb_history.specs.declared.grv.Priority.{Priority}
+use Rattle.fdb_history.specs.declared.grv.Priority.TheVariants.{System, Default, Batch}
+use Rattle.fdb_queue.specs.declared.request.Req.{Req}
+use Rattle.fdb_queue.specs.Waiting.{is_priority}
+use Rattle.fdb_proxy.specs.Options.{has_own_options}
 use Rattle.fdb_history.specs.declared.service.Service.{Ghosts as ServiceGhosts}
 use Rattle.fdb_live.specs.declared.live.Live.{Ghosts as LiveGhosts}
 use Rattle.fdb_live.specs.Seen.{Sight}
 use Rattle.fdb_proxy.specs.declared.request.Request.{Request}
+
+is_own : (priority : Priority) → is_priority priority priority ≡ true
+is_own System = refl
+is_own Default = refl
+is_own Batch = refl
+
+same_count : (one other : ℕ) → one ≡ other → (one == other) ≡ true
+same_count one other same = grind (arith, nat_tests)
 
 module _ {J : Type 0} {live : LiveGhosts J} {service : ServiceGhosts J} where
   pub same_request : (request : Request J live service) (seen : Sight) (unnumbered : seen.reporter ≡ None) (position : request.asked ≡ length seen.raises) → seen ≡ request.seen
@@ -17,3 +31,9 @@ module _ {J : Type 0} {live : LiveGhosts J} {service : ServiceGhosts J} where
       let same_u : u ≡ request.unnumbered = one_u u request.unnumbered in
       let same_p : p ≡ request.position = one_p p request.position in
       rw (same_u, same_p) refl) unnumbered position
+
+  pub own_options : (request : Req (Request J live service)) → request.priority ≡ request.payload.opts.priority → request.count ≡ request.payload.opts.count → has_own_options request ≡ true
+  own_options request priority count =
+      let one : is_priority request.priority request.payload.opts.priority ≡ true = rw priority (is_own request.payload.opts.priority) in
+      let other = same_count request.count request.payload.opts.count count in
+      rw (one, other) refl

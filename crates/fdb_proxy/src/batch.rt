@@ -27,7 +27,7 @@ use std::sync::Wait;
 pub fn serve_batch<J: Live, R: Wait>(
     rt: &R,
     alloc: Global,
-    record: &LiveRecord<J>,
+    live: &LiveRecord<J>,
     seen: &mut Seen<J>,
     queue: &GrvQueue<Request<J>>,
     mut requests: Vec<Req<Request<J>>>,
@@ -47,9 +47,9 @@ pub fn serve_batch<J: Live, R: Wait>(
     if requests.is_empty() {
         return Ok(room.answers);
     }
-    learn_all(rt, record, seen, requests.as_mut_slice());
-    let fetched = record.read(rt, seen);
-    Ok(answer_all(record, seen, fetched, requests, room))
+    learn_all(rt, live, seen, requests.as_mut_slice());
+    let fetched = live.read(rt, seen);
+    Ok(answer_all(live, seen, fetched, requests, room))
 }
 
 /// All that a batch takes memory for.
@@ -86,7 +86,7 @@ fn room_for<J: Live>(
 /// Learns what each asker has seen. The requests stay as they are.
 fn learn_all<J: Live, R: Wait>(
     rt: &R,
-    record: &LiveRecord<J>,
+    live: &LiveRecord<J>,
     seen: &mut Seen<J>,
     requests: &mut [Req<Request<J>>],
 )
@@ -97,14 +97,14 @@ fn learn_all<J: Live, R: Wait>(
     ensures told { All (λ request. IsPrefix request.payload.seen.raises seen.new.raises) requests.old }
 {
     for request in requests.iter_mut() {
-        learn_from(rt, record, seen, &mut request.payload);
+        learn_from(rt, live, seen, &mut request.payload);
     }
 }
 
 /// Learns what an asker has seen.
 fn learn_from<J: Live, R: Wait>(
     rt: &R,
-    record: &LiveRecord<J>,
+    live: &LiveRecord<J>,
     seen: &mut Seen<J>,
     request: &mut Request<J>,
 )
@@ -114,13 +114,13 @@ fn learn_from<J: Live, R: Wait>(
     ensures own { own_positions seen.new ≡ own_positions seen.old }
     ensures told { IsPrefix request.old.seen.raises seen.new.raises }
 {
-    let told = record.split(&mut request.seen);
-    record.learn(rt, seen, told);
+    let told = live.split(&mut request.seen);
+    live.learn(rt, seen, told);
 }
 
 /// Answers all requests with what a read saw.
 fn answer_all<J: Live>(
-    record: &LiveRecord<J>,
+    live: &LiveRecord<J>,
     seen: &mut Seen<J>,
     fetched: Fetched,
     requests: Vec<Req<Request<J>>>,
@@ -146,7 +146,7 @@ fn answer_all<J: Live>(
         let Some(own) = limits.pop_front() else {
             unreachable!()
         };
-        let reply = answer(record, seen, fetched, request.payload, own);
+        let reply = answer(live, seen, fetched, request.payload, own);
         answers.push_reserved(Answer::Reply(reply));
     }
     answers
@@ -154,7 +154,7 @@ fn answer_all<J: Live>(
 
 /// Answers a request with what a read saw.
 fn answer<J: Live>(
-    record: &LiveRecord<J>,
+    live: &LiveRecord<J>,
     seen: &mut Seen<J>,
     fetched: Fetched,
     request: Request<J>,
@@ -184,7 +184,7 @@ fn answer<J: Live>(
         client,
         serial,
         asked,
-        seen: record.split(seen),
+        seen: live.split(seen),
         rec: fetched.rec,
         position: fetched.position,
         limits,

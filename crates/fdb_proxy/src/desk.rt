@@ -50,7 +50,8 @@ impl<J: Live> Desk<J> {
         rt: &R,
         request: Req<Request<J>>,
     ) -> Result<(), (ProxyError, Req<Request<J>>)>
-        requires { has_own_options request ≡ true }
+        requires priority { request.priority ≡ request.payload.opts.priority }
+        requires count { request.count ≡ request.payload.opts.count }
         ensures handed_back { IfErr result (λ refused. refused.1 ≡ request) }
     {
         self.tray.lock(rt).add(request)?;

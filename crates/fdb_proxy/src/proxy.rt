@@ -29,7 +29,7 @@ use std::sync::Wait;
 #[derive(Drop)]
 pub struct GrvProxy<'a, J: Live> {
     alloc: Global,
-    record: &'a LiveRecord<J>,
+    live: &'a LiveRecord<J>,
     desk: &'a Desk<J>,
     line: Line<Request<J>>,
     seen: Seen<J>,
@@ -48,7 +48,7 @@ impl<'a, J: Live> GrvProxy<'a, J> {
     /// and a token. Takes no memory.
     pub fn new(
         alloc: Global,
-        record: &'a LiveRecord<J>,
+        live: &'a LiveRecord<J>,
         desk: &'a Desk<J>,
         queue: GrvQueue<Request<J>>,
         elapsed: u64,
@@ -59,7 +59,7 @@ impl<'a, J: Live> GrvProxy<'a, J> {
     {
         GrvProxy {
             alloc,
-            record,
+            live,
             desk,
             line: Line { queue, elapsed },
             seen,
@@ -84,12 +84,12 @@ impl<'a, J: Live> GrvProxy<'a, J> {
     {
         let GrvProxy {
             alloc,
-            record,
+            live,
             desk,
             mut line,
             mut seen,
         } = self;
-        let served = serve_desk(rt, alloc, record, desk, &mut line, &mut seen);
+        let served = serve_desk(rt, alloc, live, desk, &mut line, &mut seen);
         match served {
             Ok(()) => Ok(seen),
             Err(cause) => {
@@ -106,7 +106,7 @@ impl<'a, J: Live> GrvProxy<'a, J> {
 fn serve_desk<J: Live, R: Wait>(
     rt: &R,
     alloc: Global,
-    record: &LiveRecord<J>,
+    live: &LiveRecord<J>,
     desk: &Desk<J>,
     line: &mut Line<Request<J>>,
     seen: &mut Seen<J>,
@@ -118,7 +118,7 @@ fn serve_desk<J: Live, R: Wait>(
 {
     for _ in rt.forever() {
         let Taken { requests, closed } = desk.take(rt, line.is_empty());
-        serve_turn(rt, alloc, record, line, seen, requests)?;
+        serve_turn(rt, alloc, live, line, seen, requests)?;
         if closed {
             return close(rt, line);
         }
@@ -130,7 +130,7 @@ fn serve_desk<J: Live, R: Wait>(
 fn serve_turn<J: Live, R: Wait>(
     rt: &R,
     alloc: Global,
-    record: &LiveRecord<J>,
+    live: &LiveRecord<J>,
     line: &mut Line<Request<J>>,
     seen: &mut Seen<J>,
     requests: Vec<Req<Request<J>>>,
@@ -147,7 +147,7 @@ fn serve_turn<J: Live, R: Wait>(
     } = line.turn(alloc, requests)?;
     turn_away(rt, turned_away)?;
     let senders = senders_of(alloc, started.as_slice())?;
-    match batch::serve_batch(rt, alloc, record, seen, &line.queue, started) {
+    match batch::serve_batch(rt, alloc, live, seen, &line.queue, started) {
         Ok(answers) => send_all(rt, senders, answers),
         Err((cause, _)) => Err(cause),
     }
