@@ -4,6 +4,7 @@ pub mod Fitting
 pub mod Splits
 pub mod Joins
 pub mod Turning
+pub mod InWords
 pub mod Tokens
 pub mod Reports
 pub mod Opening

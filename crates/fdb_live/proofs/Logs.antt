@@ -4,9 +4,10 @@ use Rattle.std.specs.Prelude.{All}
 use Rattle.std.proofs.lemmas.Bool.{and_parts, and_from}
 use Rattle.std.proofs.lemmas.Bool.Decides.{nat_tests}
 use Rattle.std.proofs.lemmas.List.{append-nil, nil_from_length}
-use Rattle.std.proofs.lemmas.List.Elements.{All-nil, All-cons}
+use Rattle.std.proofs.lemmas.List.Elements.{All-nil, All-cons, All-head, All-tail}
 use mathlib.Core.List.{IsPrefix}
 use Rattle.fdb_history.specs.declared.register.Record.{Record}
+use Rattle.fdb_history.specs.declared.register.TheConstants.{MAX_VERSION}
 use Rattle.fdb_history.specs.Register.{raises}
 use Rattle.fdb_live.specs.Seen.{last_record, rises, raised_by}
 use Rattle.fdb_live.specs.declared.raise.Raise.{Raise}
@@ -30,6 +31,10 @@ position_below_version start [] h = omega arith
 position_below_version start (q ∷ log) h =
     let parts = and_parts (raises start q.rec) (rises q.rec log) h in
     omega (arith, raises_higher start q.rec parts.0, position_below_version q.rec log parts.1)
+
+pub last_in_range : (start : Record) (log : List Raise) → start.version ≤ MAX_VERSION → All (λ r. r.rec.version ≤ MAX_VERSION) log → (last_record start log).version ≤ MAX_VERSION
+last_in_range start [] begun all = begun
+last_in_range start (q ∷ log) begun all = last_in_range q.rec log (All-head (λ r. r.rec.version ≤ MAX_VERSION) q log all) (All-tail (λ r. r.rec.version ≤ MAX_VERSION) q log all)
 
 pub above_start : (start : Record) (log : List Raise) (rec : Record) → rises start log ≡ true → raises (last_record start log) rec ≡ true → start.version < rec.version
 above_start start log rec h up = omega (arith, position_below_version start log h, raises_higher (last_record start log) rec up)

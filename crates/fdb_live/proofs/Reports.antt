@@ -5,6 +5,7 @@ use Rattle.std.proofs.lemmas.Bool.Decides.{nat_tests}
 use Rattle.std.proofs.lemmas.List.Elements.{All-nil, All-cons, All-append}
 use mathlib.Core.List.{IsPrefix}
 use Rattle.fdb_history.specs.declared.register.Record.{Record}
+use Rattle.fdb_history.specs.declared.register.TheConstants.{MAX_VERSION}
 use Rattle.fdb_history.specs.Register.{raises}
 use Rattle.fdb_live.specs.declared.fetched.Fetched.{Fetched}
 use Rattle.fdb_live.specs.declared.raise.Raise.{Raise}
@@ -117,14 +118,16 @@ module _ (start : Record) (n : ℕ) where
       record { raises = down; not_above = not_raised_lower (last_record start new) rec down; own = ap (raised_by n 1) is ∙ own }
 
   -- what was seen after a report is a log
-  log_after : (reporters : ℕ) (found new : List Raise) (rec : Record) (raised : Bool) → n < reporters → IsLog start reporters found → raised ≡ raises (last_record start found) rec → MatchBool raised (new ≡ found ++ record { reporter = n; rec = rec } ∷ []) (new ≡ found) → IsLog start reporters new
-  log_after reporters found new rec true below legal up is =
+  log_after : (reporters : ℕ) (found new : List Raise) (rec : Record) (raised : Bool) → n < reporters → rec.version ≤ MAX_VERSION → IsLog start reporters found → raised ≡ raises (last_record start found) rec → MatchBool raised (new ≡ found ++ record { reporter = n; rec = rec } ∷ []) (new ≡ found) → IsLog start reporters new
+  log_after reporters found new rec true below in_range legal up is =
       let it : Raise = record { reporter = n; rec = rec } in
       subst (IsLog start reporters) (sym is) (record {
         rises = rises-push start found it legal.rises (sym up);
         numbered = All-append (λ r. r.reporter < reporters) found (it ∷ []) legal.numbered (All-cons (λ r. r.reporter < reporters) it [] below (All-nil _));
+        in_range = All-append (λ r. r.rec.version ≤ MAX_VERSION) found (it ∷ []) legal.in_range (All-cons (λ r. r.rec.version ≤ MAX_VERSION) it [] in_range (All-nil _));
+        start_in_range = legal.start_in_range;
       })
-  log_after reporters found new rec false below legal up is = subst (IsLog start reporters) (sym is) legal
+  log_after reporters found new rec false below in_range legal up is = subst (IsLog start reporters) (sym is) legal
 
   so : (old found new : List Raise) (rec : Record) (raised : Bool) → IsPrefix old found → raised_by n 1 found ≡ raised_by n 1 old → rises start found ≡ true → raised ≡ raises (last_record start found) rec → MatchBool raised (new ≡ found ++ record { reporter = n; rec = rec } ∷ []) (new ≡ found)
       → IsPrefix old new × (raised ≡ true → IsRaisedBy start rec (sight old) (sight new)) × (raised ≡ false → IsNotRaisedBy start rec (sight old) (sight new))
@@ -135,8 +138,8 @@ module _ (start : Record) (n : ℕ) where
   so old found new rec false seen own legal up is =
       (subst (IsPrefix old) (sym is) seen, λ e. absurd (true≢false (sym e)), λ _. unraised_so old found new rec own (sym up) is)
 
-reported_as : (start : Record) (reporters n : ℕ) (rv v u right token : View) (rec : Record) (raised : Bool) (position : ℕ) → IsRight start reporters rv → IsHolder start reporters (Some n) v → IsReported (taken rv v) rec raised position u → right ≡ without_lowest u → token ≡ lowest_of u → HasReported start reporters (Some n) (record { reporter = Some n; raises = v.seen }) rec raised position right token
-reported_as start reporters n rv v u right token rec raised position r h d e f =
+reported_as : (start : Record) (reporters n : ℕ) (rv v u right token : View) (rec : Record) (raised : Bool) (position : ℕ) → rec.version ≤ MAX_VERSION → IsRight start reporters rv → IsHolder start reporters (Some n) v → IsReported (taken rv v) rec raised position u → right ≡ without_lowest u → token ≡ lowest_of u → HasReported start reporters (Some n) (record { reporter = Some n; raises = v.seen }) rec raised position right token
+reported_as start reporters n rv v u right token rec raised position in_range r h d e f =
     let low : v.low ≡ n = h.numbers.0 in
     let seen : token.seen ≡ u.seen = ap (λ w. w.seen) f in
     let log : IsLog start reporters d.found = subst (λ (p : Record × ℕ). IsLog p.0 p.1 d.found) (λ i. (r.start_is i, r.reporters_is i)) d.legal in
@@ -158,7 +161,7 @@ reported_as start reporters n rv v u right token rec raised position r h d e f =
         opened = h.opened;
         settled = ap (λ w. w.mine) f ∙ (ap (λ w. w.mine) d.is ∙ sym seen);
         numbers = (ap (λ w. w.low) f ∙ (ap (λ w. w.low) d.is ∙ low), ap (λ w. w.high) f ∙ ap (λ (k : ℕ). k + 1) (ap (λ w. w.low) d.is ∙ low));
-        legal = log_after start n reporters d.found token.seen rec raised below log up is;
+        legal = log_after start n reporters d.found token.seen rec raised below in_range log up is;
       };
       position_is = d.position_is ∙ ap length (sym seen);
       extends = all.0;
@@ -166,13 +169,13 @@ reported_as start reporters n rv v u right token rec raised position r h d e f =
       not_raised = all.2;
     }
 
-reported : (start : Record) (reporters : ℕ) (number : Option ℕ) (rv v u right token : View) (rec : Record) (raised : Bool) (position : ℕ) → IsSome number → IsRight start reporters rv → IsHolder start reporters number v → IsReported (taken rv v) rec raised position u → right ≡ without_lowest u → token ≡ lowest_of u → HasReported start reporters number (record { reporter = number; raises = v.seen }) rec raised position right token
-reported start reporters None rv v u right token rec raised position some r h d e f = absurd (true≢false (sym some))
-reported start reporters (Some n) rv v u right token rec raised position some r h d e f = reported_as start reporters n rv v u right token rec raised position r h d e f
+reported : (start : Record) (reporters : ℕ) (number : Option ℕ) (rv v u right token : View) (rec : Record) (raised : Bool) (position : ℕ) → IsSome number → rec.version ≤ MAX_VERSION → IsRight start reporters rv → IsHolder start reporters number v → IsReported (taken rv v) rec raised position u → right ≡ without_lowest u → token ≡ lowest_of u → HasReported start reporters number (record { reporter = number; raises = v.seen }) rec raised position right token
+reported start reporters None rv v u right token rec raised position some in_range r h d e f = absurd (true≢false (sym some))
+reported start reporters (Some n) rv v u right token rec raised position some in_range r h d e f = reported_as start reporters n rv v u right token rec raised position in_range r h d e f
 
 -- the same of what each step has ensured
-pub has_reported : {start : Record} {reporters : ℕ} {number : Option ℕ} {old : Sight} {rv v given t u right token : View} {rec : Record} {raised : Bool} {position : ℕ} → record { reporter = number; raises = v.seen } ≡ old → IsSome old.reporter → IsRight start reporters rv → IsHolder start reporters number v → given ≡ v → t ≡ taken rv given → IsReported t rec raised position u → right ≡ without_lowest u → token ≡ lowest_of u → HasReported start reporters number old rec raised position right token
-has_reported {start} {reporters} {number} {old} {rv} {v} {given} {t} {u} {right} {token} {rec} {raised} {position} is some r h gives takes d e f =
+pub has_reported : {start : Record} {reporters : ℕ} {number : Option ℕ} {old : Sight} {rv v given t u right token : View} {rec : Record} {raised : Bool} {position : ℕ} → record { reporter = number; raises = v.seen } ≡ old → IsSome old.reporter → rec.version ≤ MAX_VERSION → IsRight start reporters rv → IsHolder start reporters number v → given ≡ v → t ≡ taken rv given → IsReported t rec raised position u → right ≡ without_lowest u → token ≡ lowest_of u → HasReported start reporters number old rec raised position right token
+has_reported {start} {reporters} {number} {old} {rv} {v} {given} {t} {u} {right} {token} {rec} {raised} {position} is some in_range r h gives takes d e f =
     let done = subst (λ (w : View). IsReported w rec raised position u) (takes ∙ ap (taken rv) gives) d in
     let numbered : IsSome number = subst (λ (s : Sight). IsSome s.reporter) (sym is) some in
-    subst (λ (s : Sight). HasReported start reporters number s rec raised position right token) is (reported start reporters number rv v u right token rec raised position numbered r h done e f)
+    subst (λ (s : Sight). HasReported start reporters number s rec raised position right token) is (reported start reporters number rv v u right token rec raised position numbered in_range r h done e f)

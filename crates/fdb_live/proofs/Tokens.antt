@@ -3,13 +3,14 @@ use Rattle.std.proofs.Common.{◌≡◌, ◌⊎◌, ℕ, ◌<◌, ◌≤◌, Boo
 use Rattle.std.specs.Prelude.{nat_lt}
 use mathlib.Core.List.{IsPrefix}
 use Rattle.fdb_history.specs.declared.register.Record.{Record}
+use Rattle.fdb_history.specs.declared.register.TheConstants.{MAX_VERSION}
 use Rattle.fdb_live.specs.declared.fetched.Fetched.{Fetched}
 use Rattle.fdb_live.specs.declared.raise.Raise.{Raise}
 use Rattle.fdb_live.specs.declared.view.View.{View}
 use Rattle.fdb_live.specs.Seen.{IsLog, own_among, longer}
 use Rattle.fdb_live.specs.Rule.{having_seen, joined, copy_of, Tells, Looks, Settles, IsRegister}
 use Rattle.fdb_live.specs.Token.{HasNumber, IsHolder}
-use Rattle.fdb_live.proofs.Logs.{position_below_version}
+use Rattle.fdb_live.proofs.Logs.{position_below_version, last_in_range}
 use Rattle.fdb_live.proofs.Prefixes.{prefix_either}
 
 -- a holder's own positions are those of the list that it had seen itself
@@ -72,6 +73,12 @@ looked_below {start} {reporters} {number} {v} {w} {x} h l =
     let at = all.register.position in
     let same = ap (λ (r : Record). r.version) all.register.rec in
     omega arith
+
+pub looked_in_range : {start : Record} {reporters : ℕ} {number : Option ℕ} {v w : View} {x : Fetched} → IsHolder start reporters number v → Looks v x x w → x.rec.version ≤ MAX_VERSION
+looked_in_range {start} {reporters} {number} {v} {w} {x} h l =
+    let all = looked start reporters number v w x h l in
+    let log = all.holder.legal in
+    subst (λ (r : Record). r.version ≤ MAX_VERSION) (sym all.register.rec) (last_in_range start w.seen log.start_in_range log.in_range)
 
 -- what a join and a look make of two tokens
 pub record HasLearnt (start : Record) (reporters : ℕ) (number : Option ℕ) (v u w : View) : Type 0 where

@@ -7,6 +7,7 @@ use mathlib.Core.Option.{some}
 use lib.ListN.{get_elem?}
 use Rattle.crossbeam_utils.specs.Register.{Turns}
 use Rattle.fdb_history.specs.declared.register.Record.{Record}
+use Rattle.fdb_history.specs.declared.register.TheConstants.{MAX_VERSION}
 use Rattle.fdb_history.specs.Register.{raises}
 use Rattle.fdb_live.specs.declared.fetched.Fetched.{Fetched}
 use Rattle.fdb_live.specs.declared.raise.Raise.{Raise}
@@ -18,8 +19,8 @@ use Rattle.fdb_live.proofs.Logs.{rises-push, last_record-push, raised_by-push_ot
 use Rattle.fdb_live.proofs.Fitting.{prefix_nil, fits_set}
 
 -- the service is opened
-pub opens : (reporters pass : ℕ) (v : View) (y : Fetched) → v ≡ first → y.position ≡ 0 → Turns Kept pass v (λ _. y) (Opens reporters)
-opens reporters pass v y is at_first x views k at =
+pub opens : (reporters pass : ℕ) (v : View) (y : Fetched) → v ≡ first → y.position ≡ 0 → y.rec.version ≤ MAX_VERSION → Turns Kept pass v (λ _. y) (Opens reporters)
+opens reporters pass v y is at_first in_range x views k at =
     let f = subst (Fits k.start k.reporters k.log k.seat k.holder pass) is (k.each pass v at) in
     let right = f.right refl in
     let closed : (u : View) (j : ℕ) → get_elem? views j ≡ some u → 0 < u.reporters → ⊥ = λ u j e o. (let same = ((k.each j u e).opened o).1 in let none = right.1 in omega arith) in
@@ -43,7 +44,7 @@ opens reporters pass v y is at_first x views k at =
         seat = k.seat;
         holder = λ n. pass;
         register = λ o. record { position = at_first; rec = refl };
-        legal = record { rises = refl; numbered = All-nil _ };
+        legal = record { rises = refl; numbered = All-nil _; in_range = All-nil _; start_in_range = in_range };
         each = fits_set y.rec reporters [] k.seat (λ n. pass) views pass (opened y.rec reporters) others mine;
       },
       refl,
@@ -96,8 +97,8 @@ settles pass v x views k at =
     (having_seen v v.seen, s.kept, record { is = refl; tells = s.tells })
 
 -- the pass with the right raises
-pub adds : (pass : ℕ) (v : View) (y : Fetched) → v.replaces ≡ true → v.low < v.high → y.position ≡ length v.seen + 1 → raises (last_record v.start v.seen) y.rec ≡ true → Turns Kept pass v (λ _. y) Adds
-adds pass v y replaces some_number position up x views k at =
+pub adds : (pass : ℕ) (v : View) (y : Fetched) → v.replaces ≡ true → v.low < v.high → y.position ≡ length v.seen + 1 → raises (last_record v.start v.seen) y.rec ≡ true → y.rec.version ≤ MAX_VERSION → Turns Kept pass v (λ _. y) Adds
+adds pass v y replaces some_number position up in_range x views k at =
     let f = k.each pass v at in
     let right = f.right replaces in
     let numbers = f.numbers in
@@ -129,7 +130,7 @@ adds pass v y replaces some_number position up x views k at =
         seat = k.seat;
         holder = k.holder;
         register = λ o. record { position = position ∙ (sym (length-append v.seen (new ∷ []))); rec = sym (last_record-push k.start v.seen new) };
-        legal = record { rises = rises'; numbered = numbered };
+        legal = record { rises = rises'; numbered = numbered; in_range = All-append (λ r. r.rec.version ≤ MAX_VERSION) v.seen (new ∷ []) legal.in_range (All-cons (λ r. r.rec.version ≤ MAX_VERSION) new [] in_range (All-nil _)); start_in_range = legal.start_in_range };
         each = fits_set k.start k.reporters log k.seat k.holder views pass (having_seen v log) others mine;
       },
       refl,

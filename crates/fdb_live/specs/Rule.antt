@@ -5,7 +5,9 @@ use mathlib.Core.Option.{some}
 use lib.ListN.{get_elem?}
 use Rattle.fdb_history.specs.declared.register.Record.{Record}
 use Rattle.fdb_live.specs.Seen.{last_record, IsLog, raised_by, longer}
+use Rattle.fdb_live.specs.Words.{fetched_of}
 use Rattle.fdb_live.specs.declared.fetched.Fetched.{Fetched}
+use Rattle.fdb_live.specs.declared.held.Held.{Held}
 use Rattle.fdb_live.specs.declared.raise.Raise.{Raise}
 use Rattle.fdb_live.specs.declared.view.View.{View}
 
@@ -108,3 +110,10 @@ Adds v before after w = w ≡ having_seen v (v.seen ++ record { reporter = v.low
 -- The service is opened with what is then written, and with this many reporters.
 abbrev pub Opens : ℕ → View → Fetched → Fetched → View → Type 0
 Opens reporters v before after w = w ≡ opened after.rec reporters
+
+-- The rule, and what a step tells, of the words that the cell keeps.
+abbrev pub Keeps : Held → List View → Type 0
+Keeps held views = Kept (fetched_of held) views
+
+abbrev pub InWords : (View → Fetched → Fetched → View → Type 0) → View → Held → Held → View → Type 0
+InWords then v before after w = then v (fetched_of before) (fetched_of after) w

@@ -3,6 +3,7 @@ use Rattle.std.specs.Prelude.{◌≡◌, ℕ, ◌+◌, ◌<◌, ◌≤◌, ◌==
 use mathlib.Core.List.{IsPrefix}
 use Rattle.atomic_table.specs.Seated.{TableId}
 use Rattle.fdb_history.specs.declared.register.Record.{Record}
+use Rattle.fdb_history.specs.declared.register.TheConstants.{MAX_VERSION}
 use Rattle.fdb_history.specs.Register.{raises}
 use Rattle.fdb_live.specs.declared.raise.Raise.{Raise}
 
@@ -22,10 +23,13 @@ abbrev pub rises : Record → List Raise → Bool
 rises start [] = true
 rises start (r ∷ rs) = raises start r.rec && rises r.rec rs
 
--- The raises of a service: each did raise the record, and was reported by one of its reporters.
+-- The raises of a service: each did raise the record, and was reported by one of its reporters. No version is above the
+-- greatest one.
 pub record IsLog (start : Record) (reporters : ℕ) (log : List Raise) : Type 0 where
   pub rises : rises start log ≡ true
   pub numbered : All (λ r. r.reporter < reporters) log
+  pub in_range : All (λ r. r.rec.version ≤ MAX_VERSION) log
+  pub start_in_range : start.version ≤ MAX_VERSION
 
 -- The positions of the raises that carry this number. The position of a raise is its place, the first being `at`.
 abbrev pub raised_by : ℕ → ℕ → List Raise → List ℕ

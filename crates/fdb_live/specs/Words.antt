@@ -1,7 +1,8 @@
 -- How the cell keeps the record and its position. (this product's own)
-use Rattle.std.specs.Prelude.{ℕ, ◌+◌, Option, None, Some, List, [], ◌∷◌, if◌then◌else◌}
+use Rattle.std.specs.Prelude.{ℕ, ◌+◌, ◌==◌, Bool, not, Option, None, Some, List, [], ◌∷◌, if◌then◌else◌, bit_and}
 use Rattle.fdb_history.specs.declared.register.Record.{Record}
 use Rattle.fdb_live.specs.declared.fetched.Fetched.{Fetched}
+use Rattle.fdb_live.specs.declared.held.Held.{Held}
 
 -- Bit 0 says that the database is locked, bit 1 that there is a metadata version.
 abbrev pub has_metadata : Option ℕ → ℕ
@@ -16,6 +17,16 @@ abbrev pub metadata_of : Option ℕ → ℕ
 metadata_of None = 0
 metadata_of (Some metadata) = metadata
 
+abbrev pub held_of : Fetched → Held
+held_of fetched = record { position = fetched.position; version = fetched.rec.version; flags = flags_of fetched.rec; metadata = metadata_of fetched.rec.metadata }
+
+-- And what they say.
+abbrev pub is_set : ℕ → ℕ → Bool
+is_set flag flags = not (bit_and flags flag == 0)
+
+abbrev pub fetched_of : Held → Fetched
+fetched_of held = record { rec = record { version = held.version; locked = is_set 1 held.flags; metadata = if is_set 2 held.flags then Some held.metadata else None }; position = held.position }
+
 -- Four words: the position, the version, the flags and the metadata version.
-abbrev pub words_of : Fetched → List ℕ
-words_of fetched = fetched.position ∷ fetched.rec.version ∷ flags_of fetched.rec ∷ metadata_of fetched.rec.metadata ∷ []
+abbrev pub words_of : Held → List ℕ
+words_of held = held.position ∷ held.version ∷ held.flags ∷ held.metadata ∷ []

@@ -5,6 +5,7 @@
 mod ack;
 mod error;
 mod fetched;
+mod held;
 mod live;
 mod opened;
 mod passes;

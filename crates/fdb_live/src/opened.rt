@@ -6,6 +6,7 @@ ghost use Rattle.fdb_live.specs.Rule.{opened, view};
 
 use crate::error::LiveError;
 use crate::fetched::Fetched;
+use crate::held::Held;
 use crate::live::Live;
 use crate::passes;
 use crate::passes::Pass;
@@ -32,8 +33,9 @@ pub struct Opened {
 }
 
 impl Model for Opened {
-    ghost use Rattle.std.specs.Prelude.{◌≡◌, ◌<◌};
+    ghost use Rattle.std.specs.Prelude.{◌≡◌, ◌<◌, ◌≤◌};
     ghost use Rattle.crossbeam_utils.specs.Seq.{cell_view};
+    ghost use Rattle.fdb_history.specs.declared.register.TheConstants.{MAX_VERSION};
     ghost use Rattle.fdb_live.specs.Rule.{opened};
     ghost use Rattle.fdb_live.specs.Seen.{Origin};
 
@@ -41,7 +43,7 @@ impl Model for Opened {
 
     ghost view = { λ o. record { table = o.cell.table.shared.table_id; start = (cell_view o.pass).start; reporters = o.reporters } };
 
-    ghost invariant = { λ o. (o.pass.table_id ≡ o.cell.table.shared.table_id) × (0 < o.reporters) × (cell_view o.pass ≡ opened (cell_view o.pass).start o.reporters) };
+    ghost invariant = { λ o. (o.pass.table_id ≡ o.cell.table.shared.table_id) × (0 < o.reporters) × ((cell_view o.pass).start.version ≤ MAX_VERSION) × (cell_view o.pass ≡ opened (cell_view o.pass).start o.reporters) };
 }
 
 impl LiveRecord<Brand> {
@@ -66,7 +68,7 @@ impl LiveRecord<Brand> {
             rec: start,
             position: 0,
         };
-        let (cell, mut pass) = Cell::ruled(alloc, begun)?;
+        let (cell, mut pass) = Cell::ruled(alloc, Held::of(begun))?;
         passes::open_as::<Brand, R>(rt, &cell, &mut pass, start, reporters);
         Ok(Opened {
             cell,
@@ -125,6 +127,7 @@ fn numbered<J: Live>(
     requires pass { pass.old.table_id ≡ J.table }
     requires named { reporters ≡ J.reporters }
     requires opened { cell_view pass.old ≡ opened J.start reporters }
+    requires in_range { J.start.version ≤ MAX_VERSION }
     ensures cell { pass.new.table_id ≡ J.table }
     ensures left { IfOk result (λ _. cell_view pass.new ≡ view J.start reporters reporters reporters true [] [] []) }
     ensures count { IfOk result (λ tokens. vec_len tokens ≡ reporters) }
@@ -142,6 +145,7 @@ fn token<J: Live>(cell: &Cell, pass: &mut Pass, number: u32) -> Seen<J>
     requires cell { cell.now.table.shared.table_id ≡ J.table }
     requires pass { pass.old.table_id ≡ J.table }
     requires below { number < J.reporters }
+    requires in_range { J.start.version ≤ MAX_VERSION }
     requires left { cell_view pass.old ≡ view J.start J.reporters number J.reporters true [] [] [] }
     ensures cell { pass.new.table_id ≡ J.table }
     ensures left { cell_view pass.new ≡ view J.start J.reporters (number + 1) J.reporters true [] [] [] }

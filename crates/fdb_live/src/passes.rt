@@ -1,6 +1,6 @@
 //! The steps on passes of the cell: each keeps the rule, and says what has become of the views.
 
-ghost use Rattle.std.specs.Prelude.{◌≡◌, ◌+◌, ◌<◌, [], length, true};
+ghost use Rattle.std.specs.Prelude.{◌≡◌, ◌+◌, ◌<◌, ◌≤◌, [], length, true};
 ghost use Rattle.crossbeam_utils.specs.Seq.{IsSamePass, cell_view};
 ghost use Rattle.fdb_history.specs.Register.{raises};
 ghost use Rattle.fdb_live.specs.Seen.{last_record};
@@ -9,14 +9,15 @@ ghost use Rattle.fdb_live.specs.Rule.{Adds, Looks, Settles, copy_of, first, join
 
 use crate::ack::Ack;
 use crate::fetched::Fetched;
+use crate::held::Held;
 use crate::view;
 use crate::view::{Cell, View};
 use crossbeam_utils::atomic::seq_cell;
-use fdb_history::{Record, Service};
+use fdb_history::{MAX_VERSION, Record, Service};
 use std::sync::Wait;
 
 /// A pass of the cell. It has no bytes.
-pub(crate) type Pass = seq_cell::Pass<Fetched, View>;
+pub(crate) type Pass = seq_cell::Pass<Held, View>;
 
 /// Opens the service of a name.
 pub(crate) fn open_as<S: Service, R: Wait>(
@@ -29,6 +30,7 @@ pub(crate) fn open_as<S: Service, R: Wait>(
     requires cell { pass.old.table_id ≡ cell.now.table.shared.table_id }
     requires first { cell_view pass.old ≡ first }
     requires named { reporters ≡ S.reporters }
+    requires in_range { start.version ≤ MAX_VERSION }
     ensures cell { IsSamePass pass.old pass.new }
     ensures opened { cell_view pass.new ≡ opened start reporters }
 {
@@ -36,38 +38,42 @@ pub(crate) fn open_as<S: Service, R: Wait>(
         rec: start,
         position: 0,
     };
-    cell.swap_as::<view::Opens<S>, R>(rt, pass, begun);
+    cell.swap_as::<view::Opens<S>, R>(rt, pass, Held::of(begun));
 }
 
 /// Loads the record.
+#[inline]
 pub(crate) fn look<R: Wait>(rt: &R, cell: &Cell, pass: &mut Pass) -> Fetched
     requires { pass.old.table_id ≡ cell.now.table.shared.table_id }
     ensures cell { IsSamePass pass.old pass.new }
     ensures looks { Looks (cell_view pass.old) result result (cell_view pass.new) }
 {
-    cell.load_as::<view::Looks, R>(rt, pass)
+    cell.load_as::<view::Looks, R>(rt, pass).fetched()
 }
 
 /// Ends a join by a load, and leaves what was seen as it is.
+#[inline]
 pub(crate) fn settle<R: Wait>(rt: &R, cell: &Cell, pass: &mut Pass) -> Fetched
     requires { pass.old.table_id ≡ cell.now.table.shared.table_id }
     ensures cell { IsSamePass pass.old pass.new }
     ensures settles { Settles (cell_view pass.old) result result (cell_view pass.new) }
 {
-    cell.load_as::<view::Settles, R>(rt, pass)
+    cell.load_as::<view::Settles, R>(rt, pass).fetched()
 }
 
 /// Replaces the record by a later one.
+#[inline]
 pub(crate) fn add<R: Wait>(rt: &R, cell: &Cell, pass: &mut Pass, raised: Fetched)
     requires cell { pass.old.table_id ≡ cell.now.table.shared.table_id }
     requires right { (cell_view pass.old).replaces ≡ true }
     requires numbered { (cell_view pass.old).low < (cell_view pass.old).high }
     requires next { raised.position ≡ length (cell_view pass.old).seen + 1 }
     requires raises { raises (last_record (cell_view pass.old).start (cell_view pass.old).seen) raised.rec ≡ true }
+    requires in_range { raised.rec.version ≤ MAX_VERSION }
     ensures cell { IsSamePass pass.old pass.new }
     ensures adds { Adds (cell_view pass.old) raised raised (cell_view pass.new) }
 {
-    cell.swap_as::<view::Adds, R>(rt, pass, raised);
+    cell.swap_as::<view::Adds, R>(rt, pass, Held::of(raised));
 }
 
 /// Splits off a copy of what was seen.
@@ -118,11 +124,13 @@ pub(crate) fn take(cell: &Cell, pass: &mut Pass, other: Pass)
 }
 
 /// Reports a record by the pass with the right to replace, under its lowest number.
+#[inline]
 pub(crate) fn report<R: Wait>(rt: &R, cell: &Cell, pass: &mut Pass, rec: Record) -> Ack
     requires cell { pass.old.table_id ≡ cell.now.table.shared.table_id }
     requires opened { 0 < (cell_view pass.old).reporters }
     requires right { (cell_view pass.old).replaces ≡ true }
     requires numbered { (cell_view pass.old).low < (cell_view pass.old).high }
+    requires in_range { rec.version ≤ MAX_VERSION }
     ensures cell { IsSamePass pass.old pass.new }
     ensures reported { IsReported (cell_view pass.old) rec result.raised result.position (cell_view pass.new) }
 {

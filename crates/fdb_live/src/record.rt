@@ -8,10 +8,12 @@ use crate::ack::Ack;
 use crate::error::LiveError;
 use crate::fetched::Fetched;
 use crate::live::Live;
+use crate::passes;
 use crate::right::Right;
 use crate::seen::Seen;
 use crate::view::Cell;
 use fdb_history::{Gate, MAX_VERSION, Place, Record};
+use std::marker::PhantomData;
 use std::sync::{Mutex, Wait};
 
 /// The live committed version of the service `J`, in one register that threads share
@@ -33,6 +35,7 @@ impl<J: Live> LiveRecord<J> {
     ///
     /// It waits for a replacement that is under way, and not for the lock of the reports. That it sees a report of
     /// which its caller had seen nothing, no clause says.
+    #[inline]
     pub fn read<R: Wait>(&self, rt: &R, seen: &mut Seen<J>) -> Fetched
         ensures reporter { seen.new.reporter ≡ seen.old.reporter }
         ensures extends { IsPrefix seen.old.raises seen.new.raises }
@@ -40,9 +43,12 @@ impl<J: Live> LiveRecord<J> {
         ensures rec { result.rec ≡ last_record J.start seen.new.raises }
         ensures position { result.position ≡ length seen.new.raises }
         ensures below { result.position ≤ result.rec.version }
+        ensures in_range { result.rec.version ≤ MAX_VERSION }
         ensures log { IsLog J.start J.reporters seen.new.raises }
     {
-        seen.look(rt, &self.cell)
+        let fetched = passes::look(rt, &self.cell, &mut seen.pass);
+        seen.position = fetched.position;
+        fetched
     }
 
     /// Reports a committed version (`reportLiveCommittedVersion` of masterserver) for the reporter whose token it is.
@@ -50,6 +56,7 @@ impl<J: Live> LiveRecord<J> {
     ///
     /// It is refused as `TooLarge` where the version is above the greatest one, and for nothing else. It waits for
     /// the other reports. While it holds their lock it passes the gate as `who`, before it looks at the record.
+    #[inline]
     pub fn report<R: Wait, G: Gate>(
         &self,
         rt: &R,
@@ -78,14 +85,22 @@ impl<J: Live> LiveRecord<J> {
     }
 
     /// A second token that has seen the same, with no number. It waits for nobody.
+    #[inline]
     pub fn split(&self, seen: &mut Seen<J>) -> Seen<J>
         ensures same { seen.new ≡ seen.old }
         ensures given { result ≡ record { reporter = None; raises = seen.old.raises } }
+        ensures log { IsLog J.start J.reporters result.raises }
     {
-        seen.split(&self.cell)
+        Seen {
+            number: None,
+            position: seen.position,
+            pass: passes::copy(&self.cell, &mut seen.pass),
+            of: PhantomData,
+        }
     }
 
     /// The holder of the first token learns what that of the second has seen. It keeps its number.
+    #[inline]
     pub fn learn<R: Wait>(&self, rt: &R, seen: &mut Seen<J>, told: Seen<J>)
         requires { told.reporter ≡ None }
         ensures reporter { seen.new.reporter ≡ seen.old.reporter }
@@ -93,16 +108,33 @@ impl<J: Live> LiveRecord<J> {
         ensures extends { IsPrefix seen.old.raises seen.new.raises }
         ensures told { IsPrefix told.raises seen.new.raises }
         ensures own { own_positions seen.new ≡ own_positions seen.old }
+        ensures log { IsLog J.start J.reporters seen.new.raises }
     {
-        seen.learn(rt, &self.cell, told);
+        let Seen {
+            number: _,
+            position,
+            mut pass,
+            of: _,
+        } = told;
+        let told = passes::give_all(&self.cell, &mut pass);
+        passes::join(&self.cell, &mut seen.pass, told);
+        passes::settle(rt, &self.cell, &mut seen.pass);
+        if seen.position < position {
+            seen.position = position;
+        }
     }
 
     /// Of what the holders of two tokens have seen, one begins the other. Both tokens stay as they are.
+    #[inline]
     pub fn meet<R: Wait>(&self, rt: &R, first: &mut Seen<J>, second: &mut Seen<J>)
         ensures first { first.new ≡ first.old }
         ensures second { second.new ≡ second.old }
         ensures one { (IsPrefix first.old.raises second.old.raises) ⊎ (IsPrefix second.old.raises first.old.raises) }
+        ensures log { IsLog J.start J.reporters first.new.raises × IsLog J.start J.reporters second.new.raises }
     {
-        first.meet(rt, &self.cell, second);
+        let mut mine = passes::copy(&self.cell, &mut first.pass);
+        let theirs = passes::copy(&self.cell, &mut second.pass);
+        passes::join(&self.cell, &mut mine, theirs);
+        passes::settle(rt, &self.cell, &mut mine);
     }
 }

@@ -1,6 +1,6 @@
 //! The right to replace the record.
 
-ghost use Rattle.std.specs.Prelude.{◌≡◌, length, IsSome, true, false};
+ghost use Rattle.std.specs.Prelude.{◌≡◌, ◌≤◌, length, IsSome, true, false};
 ghost use mathlib.Core.List.{IsPrefix};
 ghost use Rattle.fdb_live.specs.Seen.{IsLog, IsRaisedBy, IsNotRaisedBy};
 
@@ -10,7 +10,7 @@ use crate::passes;
 use crate::passes::Pass;
 use crate::seen::Seen;
 use crate::view::Cell;
-use fdb_history::Record;
+use fdb_history::{MAX_VERSION, Record};
 use std::marker::{Model, PhantomData};
 use std::sync::Wait;
 
@@ -35,6 +35,7 @@ impl<J: Live> Model for Right<J> {
 
 impl<J: Live> Right<J> {
     /// Reports a record for the holder of a token. For that, the token's pass is taken in, and its number is split off again.
+    #[inline]
     pub(crate) fn report<R: Wait>(
         &mut self,
         rt: &R,
@@ -44,6 +45,7 @@ impl<J: Live> Right<J> {
     ) -> Ack
         requires cell { cell.now.table.shared.table_id ≡ J.table }
         requires numbered { IsSome seen.old.reporter }
+        requires in_range { rec.version ≤ MAX_VERSION }
         ensures reporter { seen.new.reporter ≡ seen.old.reporter }
         ensures seen { IsPrefix seen.old.raises seen.new.raises }
         ensures position { result.position ≡ length seen.new.raises }

@@ -1,6 +1,6 @@
 //! What each pass of the cell knows. It exists in proofs alone: no value of these types is made.
 
-use crate::fetched::Fetched;
+use crate::held::Held;
 use crate::raise::Raise;
 use atomic_table::{Join, Split};
 use crossbeam_utils::atomic::seq_cell::RuledSeqCell;
@@ -32,53 +32,53 @@ pub struct View {
 /// The rule of the cell.
 pub struct Law;
 
-impl Protocol<Fetched, View> for Law {
-    ghost use Rattle.fdb_live.specs.Rule.{Kept, first};
+impl Protocol<Held, View> for Law {
+    ghost use Rattle.fdb_live.specs.Rule.{Keeps, first};
 
-    ghost holds = { Kept };
+    ghost holds = { Keeps };
 
     ghost first = { first };
 }
 
 /// The cell: one record and its position, in four words.
-pub type Cell = RuledSeqCell<Fetched, View, Law, 4>;
+pub type Cell = RuledSeqCell<Held, View, Law, 4>;
 
 /// A step that opens the service of a name.
 pub struct Opens<S: Service> {
     service: PhantomData<S>,
 }
 
-impl<S: Service> Outcome<Fetched, View> for Opens<S> {
-    ghost use Rattle.fdb_live.specs.Rule.{Opens as HasOpened};
+impl<S: Service> Outcome<Held, View> for Opens<S> {
+    ghost use Rattle.fdb_live.specs.Rule.{InWords, Opens as HasOpened};
 
-    ghost then = { HasOpened S.reporters };
+    ghost then = { InWords (HasOpened S.reporters) };
 }
 
 /// A look at the record.
 pub struct Looks;
 
-impl Outcome<Fetched, View> for Looks {
-    ghost use Rattle.fdb_live.specs.Rule.{Looks as HasLooked};
+impl Outcome<Held, View> for Looks {
+    ghost use Rattle.fdb_live.specs.Rule.{InWords, Looks as HasLooked};
 
-    ghost then = { HasLooked };
+    ghost then = { InWords HasLooked };
 }
 
 /// A look that ends a join.
 pub struct Settles;
 
-impl Outcome<Fetched, View> for Settles {
-    ghost use Rattle.fdb_live.specs.Rule.{Settles as HasSettled};
+impl Outcome<Held, View> for Settles {
+    ghost use Rattle.fdb_live.specs.Rule.{InWords, Settles as HasSettled};
 
-    ghost then = { HasSettled };
+    ghost then = { InWords HasSettled };
 }
 
 /// A raise.
 pub struct Adds;
 
-impl Outcome<Fetched, View> for Adds {
-    ghost use Rattle.fdb_live.specs.Rule.{Adds as HasAdded};
+impl Outcome<Held, View> for Adds {
+    ghost use Rattle.fdb_live.specs.Rule.{Adds as HasAdded, InWords};
 
-    ghost then = { HasAdded };
+    ghost then = { InWords HasAdded };
 }
 
 /// A copy of what was seen is split off.

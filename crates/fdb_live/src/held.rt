@@ -1,0 +1,91 @@
+//! How the cell keeps the record and its position.
+
+ghost use Rattle.std.specs.Prelude.{◌≡◌};
+ghost use Rattle.fdb_live.specs.Words.{fetched_of, held_of};
+
+use crate::fetched::Fetched;
+use crossbeam_utils::atomic::Words;
+use fdb_history::Record;
+
+/// The flag of a locked database.
+const LOCKED: u64 = 1;
+
+/// The flag of a record with a metadata version.
+const HAS_METADATA: u64 = 2;
+
+/// The record and its position in four words. They have no gaps, which a copy of a [`Fetched`] would move as well, a few
+/// bytes at a time.
+#[derive(Clone, Copy)]
+pub struct Held {
+    /// The number of raises.
+    pub position: u64,
+    /// The live committed version.
+    pub version: u64,
+    /// Whether the database is locked, and whether there is a metadata version.
+    pub flags: u64,
+    /// The metadata version, and 0 where there is none.
+    pub metadata: u64,
+}
+
+impl Held {
+    /// What the cell keeps of this.
+    #[inline]
+    pub fn of(fetched: Fetched) -> Held
+        ensures words { result ≡ held_of fetched }
+        ensures back { fetched_of result ≡ fetched }
+    {
+        let locked = if fetched.rec.locked { LOCKED } else { 0 };
+        let (flags, metadata) = match fetched.rec.metadata {
+            None => (locked, 0),
+            Some(metadata) => (locked + HAS_METADATA, metadata),
+        };
+        Held {
+            position: fetched.position,
+            version: fetched.rec.version,
+            flags,
+            metadata,
+        }
+    }
+
+    /// What these words say.
+    #[inline]
+    pub fn fetched(self) -> Fetched
+        ensures { result ≡ fetched_of self }
+    {
+        let metadata = if self.flags & HAS_METADATA != 0 {
+            Some(self.metadata)
+        } else {
+            None
+        };
+        Fetched {
+            rec: Record {
+                version: self.version,
+                locked: self.flags & LOCKED != 0,
+                metadata,
+            },
+            position: self.position,
+        }
+    }
+}
+
+impl Words<4> for Held {
+    ghost use Rattle.fdb_live.specs.Words.{words_of};
+
+    ghost words = { words_of };
+
+    #[inline]
+    fn to_words(self) -> [u64; 4] {
+        [self.position, self.version, self.flags, self.metadata]
+    }
+
+    #[inline]
+    fn from_words(bits: &[u64; 4]) -> Held {
+        let [position, version, flags, metadata] = *bits;
+        Held {
+            position,
+            version,
+            flags,
+            metadata,
+        }
+    }
+}
