@@ -19,11 +19,11 @@ const REQUESTS: u64 = 10;
 
 /// Two desks, and the record that their proxies read.
 #[derive(Drop)]
-struct Service<'a, J: Live> {
+struct Service<J: Live> {
     alloc: Global,
-    live: &'a LiveRecord<J>,
-    one: &'a Desk<J>,
-    other: &'a Desk<J>,
+    live: LiveRecord<J>,
+    one: Desk<J>,
+    other: Desk<J>,
 }
 
 /// One that reports and asks.
@@ -40,13 +40,13 @@ impl<J: Live> Client<J> {
     fn work<R: Wait + Abort>(
         &mut self,
         rt: &R,
-        service: &Service<'_, J>,
+        service: &Service<J>,
     ) -> Result<(), AllocError> {
         for turn in 0..TURNS {
             let version = turn
                 .saturating_mul(4)
                 .saturating_add(u64::from(self.number) + 200);
-            let acked = report_at(rt, service.live, &OpenGate, &mut self.token, version);
+            let acked = report_at(rt, &service.live, &OpenGate, &mut self.token, version);
             assert!(rt; acked.is_ok(), "{version} by {}", self.number);
             let first = turn.saturating_mul(REQUESTS);
             let asked = self.token.position();
@@ -60,7 +60,7 @@ impl<J: Live> Client<J> {
     fn ask<R: Wait>(
         &mut self,
         rt: &R,
-        service: &Service<'_, J>,
+        service: &Service<J>,
         first: u64,
     ) -> Result<Vec<Waiter<J>>, AllocError> {
         let mut waiters = Vec::new(service.alloc);
@@ -74,25 +74,18 @@ impl<J: Live> Client<J> {
     fn ask_one<R: Wait>(
         &mut self,
         rt: &R,
-        service: &Service<'_, J>,
+        service: &Service<J>,
         serial: u64,
     ) -> Result<Waiter<J>, AllocError> {
-        let Service {
-            alloc,
-            live,
-            one,
-            other,
-        } = service;
-        let desk = if serial % 2 == 0 { one } else { other };
-        let opts = opts_of(Priority::Default, 1, Vec::new(*alloc), 0);
-        let (request, waiter) = request_of(
-            *alloc,
-            live,
-            &mut self.token,
-            self.number,
-            serial,
-            opts,
-        )?;
+        let (alloc, live) = (service.alloc, &service.live);
+        let opts = opts_of(Priority::Default, 1, Vec::new(alloc), 0);
+        let (request, waiter) =
+            request_of(alloc, live, &mut self.token, self.number, serial, opts)?;
+        let desk = if serial % 2 == 0 {
+            &service.one
+        } else {
+            &service.other
+        };
         match submit(rt, desk, request) {
             Ok(()) => Ok(waiter),
             Err(_) => Err(AllocError),
@@ -103,7 +96,7 @@ impl<J: Live> Client<J> {
     fn hear<R: Wait>(
         &mut self,
         rt: &R,
-        service: &Service<'_, J>,
+        service: &Service<J>,
         first: u64,
         asked: u64,
         waiters: &[Waiter<J>],
@@ -119,7 +112,7 @@ impl<J: Live> Client<J> {
     fn hear_one<R: Wait>(
         &mut self,
         rt: &R,
-        service: &Service<'_, J>,
+        service: &Service<J>,
         serial: u64,
         asked: u64,
         waiter: &Waiter<J>,
@@ -163,16 +156,13 @@ pub fn ask_all<J: Live + Send + Sync, R: Threads + Wait + Abort + Sync>(
         ..
     } = stand;
     let mut clients = clients_of(alloc, reporters)?;
-    let (one, other) = (Desk::new(alloc), Desk::new(alloc));
-    let first = proxy_of(alloc, &live, &one, &mut seen)?;
-    let second = proxy_of(alloc, &live, &other, &mut seen)?;
     let service = Service {
         alloc,
-        live: &live,
-        one: &one,
-        other: &other,
+        live,
+        one: Desk::new(alloc),
+        other: Desk::new(alloc),
     };
-    let served = serve_clients(rt, &service, first, second, clients.as_mut_slice());
+    let served = serve_clients(rt, &service, &mut seen, clients.as_mut_slice())?;
     assert!(rt; served, "a proxy has no thread, or met want of memory");
     for client in &clients {
         let number = client.number;
@@ -183,12 +173,12 @@ pub fn ask_all<J: Live + Send + Sync, R: Threads + Wait + Abort + Sync>(
 
 /// A proxy that lets 100,000 transactions start in each window.
 fn proxy_of<'a, J: Live>(
-    alloc: Global,
-    live: &'a LiveRecord<J>,
+    service: &'a Service<J>,
     desk: &'a Desk<J>,
     seen: &mut Seen<J>,
 ) -> Result<GrvProxy<'a, J>, AllocError> {
-    let queue = queue_of(alloc, 100_000, 100_000, 100_000)?;
+    let queue = queue_of(service.alloc, 100_000, 100_000, 100_000)?;
+    let (alloc, live) = (service.alloc, &service.live);
     let token = live.split(seen);
     Ok(GrvProxy::new(alloc, live, desk, queue, 10_000_000, token))
 }
@@ -197,12 +187,13 @@ fn proxy_of<'a, J: Live>(
 /// proxies ended because their desks were closed.
 fn serve_clients<J: Live + Send + Sync, R: Threads + Wait + Abort + Sync>(
     rt: &R,
-    service: &Service<'_, J>,
-    first: GrvProxy<'_, J>,
-    second: GrvProxy<'_, J>,
+    service: &Service<J>,
+    seen: &mut Seen<J>,
     clients: &mut [Client<J>],
-) -> bool {
-    thread::scope(thread::scope_env(), rt, |scope| {
+) -> Result<bool, AllocError> {
+    let first = proxy_of(service, &service.one, seen)?;
+    let second = proxy_of(service, &service.other, seen)?;
+    let served = thread::scope(thread::scope_env(), rt, |scope| {
         let first = scope.spawn(move || first.run(rt).is_ok());
         let second = scope.spawn(move || second.run(rt).is_ok());
         if first.is_ok() && second.is_ok() {
@@ -214,13 +205,14 @@ fn serve_clients<J: Live + Send + Sync, R: Threads + Wait + Abort + Sync>(
             (Ok(first), Ok(second)) => first.join(rt) && second.join(rt),
             _ => false,
         }
-    })
+    });
+    Ok(served)
 }
 
 /// Lets each client work in a thread of its own.
 fn ask_side_by_side<J: Live + Send + Sync, R: Threads + Wait + Abort + Sync>(
     rt: &R,
-    service: &Service<'_, J>,
+    service: &Service<J>,
     clients: &mut [Client<J>],
 ) {
     let threads = clients.len().max(1);
