@@ -37,11 +37,7 @@ struct Client<J: Live> {
 
 impl<J: Live> Client<J> {
     /// Reports versions that no other client reports, and asks. It stops where memory is refused.
-    fn work<R: Wait + Abort>(
-        &mut self,
-        rt: &R,
-        service: &Service<J>,
-    ) -> Result<(), AllocError> {
+    fn work<R: Wait + Abort>(&mut self, rt: &R, service: &Service<J>) -> Result<(), AllocError> {
         for turn in 0..TURNS {
             let version = turn
                 .saturating_mul(4)
@@ -79,8 +75,14 @@ impl<J: Live> Client<J> {
     ) -> Result<Waiter<J>, AllocError> {
         let (alloc, live) = (service.alloc, &service.live);
         let opts = opts_of(Priority::Default, 1, Vec::new(alloc), 0);
-        let (request, waiter) =
-            request_of(alloc, live, &mut self.token, self.number, serial, opts)?;
+        let (request, waiter) = request_of(
+            alloc,
+            live,
+            &mut self.token,
+            self.number,
+            serial,
+            opts,
+        )?;
         let desk = if serial % 2 == 0 {
             &service.one
         } else {

@@ -97,11 +97,11 @@ fn opts(rt: &impl Abort, alloc: Global, line: &mut Line<'_>) -> Result<GrvOpts, 
 /// The tags of the words that are left in front of `=>`.
 fn tags(alloc: Global, line: &mut Line<'_>) -> Result<Vec<Tag>, AllocError> {
     let mut tags = Vec::new(alloc);
-    while let Some(word) = line.next_word() {
-        if word == "=>" {
-            break;
+    for _ in 0..10 {
+        match line.next_word() {
+            None | Some("=>") => break,
+            Some(word) => tags.push(tag(alloc, word)?)?,
         }
-        tags.push(tag(alloc, word)?)?;
     }
     Ok(tags)
 }
