@@ -2,6 +2,7 @@
 
 mod asking;
 mod auditing;
+mod proxying;
 mod queueing;
 mod replaying;
 mod sequencing;
@@ -36,6 +37,10 @@ pub fn of_name(name: &str) -> Option<fn(u32) -> Measured> {
         "reports_of_two" => Some(|size| serving::reports(2, size)),
         "reports_of_four" => Some(|size| serving::reports(4, size)),
         "tokens" => Some(serving::tokens),
+        "batches" => Some(proxying::batches),
+        "proxies_of_one" => Some(|size| proxying::asks(1, size)),
+        "proxies_of_two" => Some(|size| proxying::asks(2, size)),
+        "proxies_of_four" => Some(|size| proxying::asks(4, size)),
         _ => None,
     }
 }

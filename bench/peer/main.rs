@@ -7,6 +7,7 @@ mod history;
 mod json;
 mod live;
 mod measuring;
+mod proxy;
 mod queue;
 mod replay;
 mod tally;

@@ -180,6 +180,15 @@ impl<T> GrvQueue<T> {
         limits
     }
 
+    pub fn is_empty(&self) -> bool {
+        self.len() == 0
+    }
+
+    /// Takes out the first of the row, without a start.
+    pub fn pop(&mut self) -> Option<Req<T>> {
+        self.waiting.iter_mut().find_map(VecDeque::pop_front)
+    }
+
     fn len(&self) -> usize {
         self.waiting.iter().map(VecDeque::len).sum()
     }

@@ -42,7 +42,7 @@ pub enum Benchmark {
 
 impl Benchmark {
     /// All of them.
-    pub const ALL: [Benchmark; 23] = [
+    pub const ALL: [Benchmark; 27] = [
         Benchmark::FreshOfOne,
         Benchmark::FreshOfMany,
         Benchmark::Repeats,
@@ -66,6 +66,10 @@ impl Benchmark {
         Benchmark::Live(Load::Reports(Team::Two)),
         Benchmark::Live(Load::Reports(Team::Four)),
         Benchmark::Live(Load::Tokens),
+        Benchmark::Live(Load::Batches),
+        Benchmark::Live(Load::Proxies(Team::One)),
+        Benchmark::Live(Load::Proxies(Team::Two)),
+        Benchmark::Live(Load::Proxies(Team::Four)),
     ];
 
     /// Its name.

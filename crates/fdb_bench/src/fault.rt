@@ -9,6 +9,7 @@ pub enum Fault {
     Chain,
     Live,
     Queue,
+    Proxy,
     Audit,
     Replay,
 }
@@ -21,6 +22,7 @@ impl Fault {
             Fault::Chain => "the chain of commit versions failed",
             Fault::Live => "the live record failed",
             Fault::Queue => "the queue failed",
+            Fault::Proxy => "the proxy failed",
             Fault::Audit => "the audit failed",
             Fault::Replay => "the replay failed",
         }

@@ -11,6 +11,10 @@ pub enum Load {
     ReadsBesideReports(Team),
     /// Reports by a team. The size is how many each of its threads makes.
     Reports(Team),
+    /// Batches of requests for a read version. The size is how many requests a batch has.
+    Batches,
+    /// Requests by a team at a proxy. The size is how many each of its threads makes.
+    Proxies(Team),
     /// Tokens that are split off, learned and met. The size is how many times, and the number of raises before.
     Tokens,
 }
@@ -28,12 +32,16 @@ impl Load {
             Load::Reports(Team::One) => "reports_of_one",
             Load::Reports(Team::Two) => "reports_of_two",
             Load::Reports(Team::Four) => "reports_of_four",
+            Load::Batches => "batches",
+            Load::Proxies(Team::One) => "proxies_of_one",
+            Load::Proxies(Team::Two) => "proxies_of_two",
+            Load::Proxies(Team::Four) => "proxies_of_four",
             Load::Tokens => "tokens",
         }
     }
 
     /// Whether threads do it side by side.
     pub fn is_shared(self) -> bool {
-        !matches!(self, Load::Tokens)
+        !matches!(self, Load::Batches | Load::Tokens)
     }
 }

@@ -7,16 +7,19 @@
 
 mod asking;
 mod auditing;
+mod batching;
 mod benchmark;
 mod checksum;
 mod draws;
 mod fault;
 mod load;
 mod measured;
+mod proxying;
 mod queueing;
 mod reading;
 mod replaying;
 mod reporting;
+mod requesting;
 mod scripted;
 mod sequencing;
 mod serving;

@@ -8,7 +8,7 @@ use crate::load::Load;
 use crate::measured::Measured;
 use crate::tally::Tally;
 use crate::working::{Role, Worker, work_side_by_side};
-use crate::{reporting, telling};
+use crate::{batching, proxying, reporting, telling};
 use fdb_history::Record;
 use fdb_live::{Live, LiveRecord, Opened, Seen};
 use std::alloc::Global;
@@ -77,7 +77,7 @@ fn measure_named<J: Live + Send + Sync, R: Clock + CpuClock + Threads + Wait + S
 impl<J: Live + Send + Sync> Served<J> {
     /// Measures it under a load.
     fn measure<R: Clock + CpuClock + Threads + Wait + Sync>(
-        self,
+        mut self,
         rt: &R,
         alloc: Global,
         load: Load,
@@ -87,6 +87,8 @@ impl<J: Live + Send + Sync> Served<J> {
             Load::Reads(team) => self.reads(rt, alloc, team.threads(), size),
             Load::ReadsBesideReports(team) => self.reads_beside(rt, alloc, team.threads(), size),
             Load::Reports(team) => self.reports(rt, alloc, team.threads(), size),
+            Load::Batches => batching::batches(rt, alloc, &self.live, &mut self.reader, size),
+            Load::Proxies(team) => self.proxies(rt, alloc, team.threads(), size),
             Load::Tokens => self.tokens(rt, size),
         }
     }
@@ -168,6 +170,18 @@ impl<J: Live + Send + Sync> Served<J> {
             .with(last.rec.version)
             .with(u64::from(all.tally.marked == last.position));
         Ok(all.measured(checksum))
+    }
+
+    /// So many requests by each of so many threads at a proxy of the record.
+    fn proxies<R: Clock + Threads + Wait + Sync>(
+        mut self,
+        rt: &R,
+        alloc: Global,
+        threads: u32,
+        requests: u32,
+    ) -> Result<Measured, Fault> {
+        let all = proxying::asks(rt, alloc, &self.live, &mut self.reader, threads, requests)?;
+        Ok(all.measured(of_tally(all.tally).with(all.tally.sum)))
     }
 
     /// So many times a token that has seen as many raises is split off another, learned by a third one, and met by it.

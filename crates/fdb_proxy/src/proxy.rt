@@ -117,13 +117,37 @@ fn serve_desk<J: Live, R: Wait>(
     ensures memory { IfErr result (λ cause. cause ≡ ProxyError.Memory) }
 {
     for _ in rt.forever() {
-        let Taken { requests, closed } = desk.take(rt, line.is_empty());
-        serve_turn(rt, alloc, live, line, seen, requests)?;
-        if closed {
-            return close(rt, line);
+        let taken = desk.take(rt, line.is_empty());
+        let last = serve_taken(rt, alloc, live, line, seen, taken)?;
+        if last {
+            return Ok(());
         }
     }
     unreachable!()
+}
+
+/// Has one turn with what was taken from a desk. Where the desk is closed the turn is the last one, as is answered, and
+/// all that are left are answered too.
+fn serve_taken<J: Live, R: Wait>(
+    rt: &R,
+    alloc: Global,
+    live: &LiveRecord<J>,
+    line: &mut Line<Request<J>>,
+    seen: &mut Seen<J>,
+    taken: Taken<J>,
+) -> Result<bool, ProxyError>
+    ensures last { IfOk result (λ last. last ≡ taken.closed) }
+    ensures left { taken.closed ≡ true → OnOk result (row line.new.queue.waiting ≡ []) }
+    ensures reporter { seen.new.reporter ≡ seen.old.reporter }
+    ensures extends { IsPrefix seen.old.raises seen.new.raises }
+    ensures memory { IfErr result (λ cause. cause ≡ ProxyError.Memory) }
+{
+    let Taken { requests, closed } = taken;
+    serve_turn(rt, alloc, live, line, seen, requests)?;
+    if closed {
+        close(rt, line)?;
+    }
+    Ok(closed)
 }
 
 /// Has one turn with some requests, and answers all that it decides.

@@ -16,6 +16,8 @@ mod line;
 #[cfg(test)]
 mod live;
 #[cfg(test)]
+mod proxy;
+#[cfg(test)]
 mod queue;
 #[cfg(test)]
 mod refused_memory;

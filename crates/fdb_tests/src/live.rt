@@ -3,7 +3,7 @@
 ghost use Rattle.std.specs.Prelude.{◌≡◌};
 
 mod held;
-mod steps;
+pub mod steps;
 mod threads;
 
 use crate::live::held::read_beside_report;

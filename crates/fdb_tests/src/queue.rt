@@ -94,7 +94,7 @@ fn called(
     }
 }
 
-fn priority(rt: &impl Abort, line: &mut Line<'_>) -> Priority {
+pub fn priority(rt: &impl Abort, line: &mut Line<'_>) -> Priority {
     match line.word(rt) {
         "system" => Priority::System,
         "default" => Priority::Default,
@@ -152,7 +152,7 @@ fn lengths_text(alloc: Global, queue: &GrvQueue<u32>) -> Result<String, AllocErr
 }
 
 /// The tag of a word's bytes.
-fn tag(alloc: Global, word: &str) -> Result<Tag, AllocError> {
+pub fn tag(alloc: Global, word: &str) -> Result<Tag, AllocError> {
     Ok(Tag::from(Vec::from_slice(alloc, word.as_bytes())?))
 }
 

@@ -5,6 +5,7 @@
 mod audits;
 mod chains;
 mod live_records;
+mod proxies;
 mod queues;
 mod records;
 mod replays;

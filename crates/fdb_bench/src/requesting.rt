@@ -1,0 +1,72 @@
+//! Requests for a read version, and their answers.
+
+use crate::fault::Fault;
+use crossbeam_channel::{Receiver, bounded};
+use fdb_history::{GrvOpts, Priority, Sequence};
+use fdb_live::{Live, LiveRecord, Seen};
+use fdb_proxy::{Answer, Request};
+use fdb_queue::{GrvQueue, QueueConfig};
+use std::alloc::{AllocError, Global};
+
+/// The time between two windows: at the greatest rate each may start as many transactions as any.
+pub const ELAPSED: u64 = 10_000_000;
+
+/// The greatest rate and the greatest room.
+const MOST: u64 = 100_000;
+
+/// Where the answer to a request comes.
+pub type Waiter<J> = Receiver<Answer<J>>;
+
+/// A queue in which nobody waits for long.
+pub fn queue<J: Live>(alloc: Global) -> Result<GrvQueue<Request<J>>, Fault> {
+    let config = QueueConfig {
+        normal: MOST,
+        batch: MOST,
+        room: MOST,
+    };
+    GrvQueue::new(alloc, config).map_err(|_| Fault::Queue)
+}
+
+/// A default request for one transaction, by the client 0 and with what a token has seen, and where its answer comes.
+pub fn request<J: Live>(
+    alloc: Global,
+    live: &LiveRecord<J>,
+    seen: &mut Seen<J>,
+    serial: u64,
+) -> Result<(Request<J>, Waiter<J>), AllocError> {
+    let (reply, waiter) = bounded(alloc, 1)?;
+    let request = Request {
+        client: 0,
+        serial,
+        asked: seen.position(),
+        seen: live.split(seen),
+        opts: opts(alloc),
+        reply,
+    };
+    Ok((request, waiter))
+}
+
+/// What each request asks for.
+fn opts(alloc: Global) -> GrvOpts {
+    GrvOpts {
+        priority: Priority::Default,
+        count: 1,
+        tags: Sequence::new(alloc),
+        lock_aware: false,
+        at: 0,
+    }
+}
+
+/// A word for an answer, if it is a reply.
+pub fn answer_word<J: Live>(answer: &Answer<J>) -> Option<u64> {
+    match answer {
+        Answer::Reply(reply) => {
+            let word = reply
+                .rec
+                .version
+                .wrapping_add(reply.position.wrapping_mul(31));
+            Some(word.wrapping_add(reply.serial.wrapping_mul(3)))
+        }
+        Answer::Refused(_) => None,
+    }
+}

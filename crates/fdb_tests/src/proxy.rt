@@ -1,0 +1,71 @@
+//! Desks, the batch server and proxies. Each case is played on a live record that was opened with version 100.
+
+ghost use Rattle.std.specs.Prelude.{◌≡◌};
+
+mod answers;
+mod crowd;
+mod lines;
+mod refused;
+mod rows;
+mod stand;
+
+use crate::live::steps::unlocked;
+use crate::proxy::crowd::ask_all;
+use crate::proxy::lines::play_lines;
+use crate::proxy::refused::{run_refused, serve_refused};
+use crate::proxy::stand::Stand;
+use fdb_live::{Live, LiveRecord, Opened};
+use std::alloc::{AllocError, Global};
+use std::marker::Brand;
+use std::process::Abort;
+use std::sync::Wait;
+use std::thread::Threads;
+
+/// How many reporters the record has.
+const REPORTERS: u32 = 4;
+
+/// What a test does at a desk and with its proxy.
+#[derive(Clone, Copy)]
+pub enum Case {
+    /// The lines of a text, one after another.
+    Lines(&'static str),
+    /// Four clients ask two proxies, each in a thread of its own.
+    Crowd,
+    /// A batch is served that may be refused memory.
+    ServeRefused,
+    /// A proxy is run that may be refused memory, with a queue that has had requests before or none.
+    RunRefused { used: bool },
+}
+
+/// Plays a case. It fails where memory is refused, and passes else.
+pub fn play<R: Threads + Wait + Abort + Sync>(
+    rt: &R,
+    alloc: Global,
+    case: Case,
+) -> Result<(), AllocError> {
+    match LiveRecord::<Brand>::open(rt, alloc, unlocked(100), REPORTERS) {
+        Ok(opened) => play_named::<Brand, R>(rt, alloc, opened, case),
+        Err(_) => Err(AllocError),
+    }
+}
+
+/// Plays a case under the name of the service.
+fn play_named<J: Live + Send + Sync, R: Threads + Wait + Abort + Sync>(
+    rt: &R,
+    alloc: Global,
+    opened: Opened,
+    case: Case,
+) -> Result<(), AllocError>
+    requires { opened ≡ record { table = J.table; start = J.start; reporters = J.reporters } }
+{
+    let Ok((live, seen, reporters)) = opened.parts::<J>() else {
+        return Err(AllocError);
+    };
+    let stand = Stand::new(alloc, live, seen, reporters);
+    match case {
+        Case::Lines(text) => play_lines(rt, stand, text),
+        Case::Crowd => ask_all(rt, stand),
+        Case::ServeRefused => serve_refused(rt, stand),
+        Case::RunRefused { used } => run_refused(rt, stand, used),
+    }
+}

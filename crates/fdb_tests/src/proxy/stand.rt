@@ -1,0 +1,140 @@
+//! A desk with what stands round it.
+
+use crate::live::steps::report_at;
+use crossbeam_channel::{Receiver, bounded};
+use fdb_history::{GrvOpts, OpenGate, Priority, Sequence, Tag};
+use fdb_live::{Live, LiveRecord, Seen};
+use fdb_proxy::{Answer, Desk, GrvProxy, ProxyError, Request};
+use fdb_queue::{GrvQueue, QueueConfig, Req};
+use std::alloc::{AllocError, Global};
+use std::process::Abort;
+use std::sync::Wait;
+
+/// The queue of a proxy.
+pub type Queue<J> = GrvQueue<Request<J>>;
+
+/// Where a request's answer comes.
+pub type Waiter<J> = Receiver<Answer<J>>;
+
+/// How a proxy ends.
+pub type Ended<J> = Result<Seen<J>, (ProxyError, Seen<J>)>;
+
+/// A live record and a desk, with the tokens of those who use them.
+#[derive(Drop)]
+pub struct Stand<J: Live> {
+    pub alloc: Global,
+    pub live: LiveRecord<J>,
+    /// What the clients have seen.
+    pub seen: Seen<J>,
+    /// What the proxy has seen.
+    pub served: Seen<J>,
+    pub reporters: Vec<Seen<J>>,
+    pub desk: Desk<J>,
+    /// Where the answers come, in the order of the requests.
+    pub waiters: Vec<Waiter<J>>,
+}
+
+impl<J: Live> Stand<J> {
+    /// An open desk with no request on it.
+    pub fn new(
+        alloc: Global,
+        live: LiveRecord<J>,
+        mut seen: Seen<J>,
+        reporters: Vec<Seen<J>>,
+    ) -> Self {
+        let served = live.split(&mut seen);
+        Stand {
+            alloc,
+            live,
+            seen,
+            served,
+            reporters,
+            desk: Desk::new(alloc),
+            waiters: Vec::new(alloc),
+        }
+    }
+
+    /// A request with what the clients have seen, and where its answer comes.
+    pub fn request(
+        &mut self,
+        client: u32,
+        serial: u64,
+        opts: GrvOpts,
+    ) -> Result<(Request<J>, Waiter<J>), AllocError> {
+        request_of(self.alloc, &self.live, &mut self.seen, client, serial, opts)
+    }
+
+    /// A proxy of the desk with a queue, and a second between two of its windows.
+    pub fn proxy(&mut self, queue: Queue<J>) -> GrvProxy<'_, J> {
+        let token = self.live.split(&mut self.served);
+        GrvProxy::new(self.alloc, &self.live, &self.desk, queue, 1_000_000, token)
+    }
+
+    /// A report by one of the reporters, and the position after it.
+    pub fn report<R: Wait + Abort>(&mut self, rt: &R, version: u64) -> u64 {
+        let mut token = self.reporters.pop().expect(rt, "a reporter is left");
+        let acked = report_at(rt, &self.live, &OpenGate, &mut token, version);
+        acked.map_or(0, |ack| ack.position)
+    }
+}
+
+/// A request with what a token has seen, and where its answer comes.
+pub fn request_of<J: Live>(
+    alloc: Global,
+    live: &LiveRecord<J>,
+    seen: &mut Seen<J>,
+    client: u32,
+    serial: u64,
+    opts: GrvOpts,
+) -> Result<(Request<J>, Waiter<J>), AllocError> {
+    let (reply, waiter) = bounded(alloc, 1)?;
+    let request = Request {
+        client,
+        serial,
+        asked: seen.position(),
+        seen: live.split(seen),
+        opts,
+        reply,
+    };
+    Ok((request, waiter))
+}
+
+/// Leaves a request on a desk.
+pub fn submit<J: Live, R: Wait>(
+    rt: &R,
+    desk: &Desk<J>,
+    request: Request<J>,
+) -> Result<(), (ProxyError, Req<Request<J>>)> {
+    let request = Req {
+        priority: request.opts.priority,
+        count: request.opts.count,
+        payload: request,
+    };
+    desk.submit(rt, request)
+}
+
+/// What a client asks for at a moment, which has nothing to do with locks.
+pub fn opts_of(priority: Priority, count: u64, tags: Vec<Tag>, at: u64) -> GrvOpts {
+    GrvOpts {
+        priority,
+        count,
+        tags: Sequence::from(tags),
+        lock_aware: false,
+        at,
+    }
+}
+
+/// A queue of these limits and this room, with no request in it.
+pub fn queue_of<J: Live>(
+    alloc: Global,
+    normal: u64,
+    batch: u64,
+    room: u64,
+) -> Result<Queue<J>, AllocError> {
+    let config = QueueConfig {
+        normal,
+        batch,
+        room,
+    };
+    GrvQueue::new(alloc, config).map_err(|_| AllocError)
+}
