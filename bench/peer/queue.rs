@@ -180,6 +180,15 @@ impl<T> GrvQueue<T> {
         limits
     }
 
+    pub fn is_empty(&self) -> bool {
+        self.waiting.iter().all(VecDeque::is_empty)
+    }
+
+    /// All that wait, in the order of the row.
+    pub fn into_requests(self) -> impl Iterator<Item = Req<T>> {
+        self.waiting.into_iter().flatten()
+    }
+
     fn len(&self) -> usize {
         self.waiting.iter().map(VecDeque::len).sum()
     }

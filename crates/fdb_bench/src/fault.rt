@@ -10,7 +10,6 @@ pub enum Fault {
     Live,
     Queue,
     Audit,
-    Replay,
 }
 
 impl Fault {
@@ -22,7 +21,6 @@ impl Fault {
             Fault::Live => "the live record failed",
             Fault::Queue => "the queue failed",
             Fault::Audit => "the audit failed",
-            Fault::Replay => "the replay failed",
         }
     }
 }
