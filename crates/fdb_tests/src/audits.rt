@@ -51,6 +51,14 @@ fn audits(rt: &impl Abort, alloc: Global, begin: &str, text: &str) -> Result<(),
     Ok(())
 }
 
+/// Plays the cases of some texts, which begin with nothing.
+fn audits_each(rt: &impl Abort, alloc: Global, texts: &[&str]) -> Result<(), Fail> {
+    for text in texts {
+        audits(rt, alloc, "", text)?;
+    }
+    Ok(())
+}
+
 /// A case of these items, of which none ends it.
 pub fn begun(rt: &impl Abort, alloc: Global, begin: &str) -> Result<Case, AllocError> {
     let mut case = Case {

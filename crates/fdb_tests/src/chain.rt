@@ -141,9 +141,11 @@ new 0 9223372036854775808 4 => the recovery version is out of range
 
 /// With ample memory there is a chain for each number of proxies, and for no proxy beyond that.
 
+const TEXTS: &[&str] = &[VERSIONS, KEPT, LAST, MEMBERS];
+
 #[test]
 fn requests_for_commit_versions(rt: HostRuntime) -> Result<(), Fail> {
-    for text in &[VERSIONS, KEPT, LAST, MEMBERS] {
+    for text in TEXTS {
         play(&rt, rt.alloc(), text)?;
     }
     says(&rt, rt.alloc(), &ChainError::Memory, "want of memory")

@@ -92,9 +92,9 @@ fn refusal_of<R: Wait>(rt: &R, alloc: Global, version: u64) -> Option<LiveError>
 /// Reads and reports of one thread, tokens that learn crosswise, and a read beside a report.
 #[test]
 fn reads_and_reports(rt: HostRuntime) -> Result<(), Fail> {
-    for case in &[Case::Worked, Case::Crosswise, Case::ReadBesideReport] {
-        play(&rt, rt.alloc(), 2, *case)?;
-    }
+    play(&rt, rt.alloc(), 2, Case::Worked)?;
+    play(&rt, rt.alloc(), 2, Case::Crosswise)?;
+    play(&rt, rt.alloc(), 2, Case::ReadBesideReport)?;
     Ok(())
 }
 

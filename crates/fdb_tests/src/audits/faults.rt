@@ -1,6 +1,6 @@
 //! Faults of the history and of versions, and which of two is named.
 
-use super::audits;
+use super::{audits, audits_each};
 use std::alloc::Global;
 use std::process::Abort;
 use std::test::Fail;
@@ -142,11 +142,10 @@ fn the_first_kind_is_named(rt: HostRuntime) -> Result<(), Fail> {
     Ok(())
 }
 
+const TEXTS: &[&str] = &[ORDER, POSITIONS, WRONG, LOW];
+
 /// Faults of order, of positions and of answers, and versions that are not above.
 #[test]
 fn faults_of_each_kind(rt: HostRuntime) -> Result<(), Fail> {
-    for text in &[ORDER, POSITIONS, WRONG, LOW] {
-        audits(&rt, rt.alloc(), "", text)?;
-    }
-    Ok(())
+    audits_each(&rt, rt.alloc(), TEXTS)
 }

@@ -1,6 +1,6 @@
 //! Answers of another kind, clients that are turned away, and reports of what was not issued.
 
-use super::audits;
+use super::{audits, audits_each};
 use std::test::Fail;
 
 const REFUSALS: &str = "
@@ -155,16 +155,16 @@ log; draws 0 0 0 1 0 0 200 200 fresh; raises 0 1 1 200
 log; call 0 1 grv refused Full; reads 1 1 200; draws 1 1 1 1 0 200 300 300 fresh; => ok
 ";
 
+const TEXTS: &[&str] = &[
+    REFUSALS,
+    OTHER_KINDS,
+    TURNED_AWAY,
+    REPORTS_OF_OTHERS,
+    LEARNT,
+];
+
 #[test]
 fn answers_that_are_not_borne_out(rt: HostRuntime) -> Result<(), Fail> {
-    for text in &[
-        REFUSALS,
-        OTHER_KINDS,
-        TURNED_AWAY,
-        REPORTS_OF_OTHERS,
-        LEARNT,
-    ] {
-        audits(&rt, rt.alloc(), "", text)?;
-    }
+    audits_each(&rt, rt.alloc(), TEXTS)?;
     audits(&rt, rt.alloc(), DRAWN, REPORTS)
 }

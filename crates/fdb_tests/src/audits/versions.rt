@@ -1,6 +1,6 @@
 //! Commit versions that the chain does not have, that were not due, and that nobody drew.
 
-use super::audits;
+use super::{audits, audits_each};
 use std::alloc::{AllocError, Global};
 use std::test::Fail;
 
@@ -139,11 +139,11 @@ fn entries_of_as_many_clients_as_there_may_be(rt: HostRuntime) -> Result<(), Fai
     audits(&rt, rt.alloc(), &crowd(rt.alloc(), 63)?, foreign)
 }
 
+const TEXTS: &[&str] = &[OTHERS, OTHERS_NOT_DUE, USED_UP, UNDRAWN];
+
 /// Commit versions that the chain does not have, that were not due, used up, or drawn by nobody.
 #[test]
 fn commit_versions(rt: HostRuntime) -> Result<(), Fail> {
-    for text in &[OTHERS, OTHERS_NOT_DUE, USED_UP, UNDRAWN] {
-        audits(&rt, rt.alloc(), "", text)?;
-    }
+    audits_each(&rt, rt.alloc(), TEXTS)?;
     audits(&rt, rt.alloc(), PROCESSED, NOT_DUE)
 }

@@ -99,9 +99,11 @@ window 1 => | 1 1
 window 10000000 => | 10000001 10000001
 ";
 
+const TEXTS: &[&str] = &[RATES, HEAD, BURST, OFFERS, RANGES];
+
 #[test]
 fn offers_and_windows(rt: HostRuntime) -> Result<(), Fail> {
-    for text in &[RATES, HEAD, BURST, OFFERS, RANGES] {
+    for text in TEXTS {
         play(&rt, rt.alloc(), text)?;
     }
     Ok(())

@@ -97,10 +97,13 @@ fn words_that_could_not_be_had(rt: HostRuntime) -> Result<(), Fail> {
     wordless(&rt, rt.alloc(), ErrorKind::OutOfMemory, 3, line)
 }
 
+/// Words that ask for the help.
+const HELPS: &[&str] = &["--help", "--proxies 2 --history one.json --help"];
+
 #[test]
 fn help_is_written(rt: HostRuntime) -> Result<(), Fail> {
     let usage = "Usage: fdb_replay [OPTIONS] [SCRIPT]\n";
-    for words in &["--help", "--proxies 2 --history one.json --help"] {
+    for words in HELPS {
         let given = words_of(rt.alloc(), words);
         let ran = driven(&rt, rt.alloc(), given, &mut SCRIPT.as_bytes());
         same(&rt, &ran.status, &0, &words);
