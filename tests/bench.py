@@ -22,7 +22,7 @@ REFUSALS = [
     (["waits", "0"], "the size 0 is not 1 to 10000000"),
     (["waits", "10000001"], "the size 10000001 is not 1 to 10000000"),
     (["windows", "100001"], "the size 100001 is not 1 to 100000"),
-    (["replay", "10001"], "the size 10001 is not 1 to 10000"),
+    (["replay"], "there is no benchmark replay"),
     (["tokens", "1000001"], "the size 1000001 is not 1 to 1000000"),
     (["waits", "-1"], 'the size "-1"'),
     (["waits", "4294967296"], 'the size "4294967296"'),

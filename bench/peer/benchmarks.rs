@@ -4,7 +4,6 @@ mod asking;
 mod auditing;
 mod proxying;
 mod queueing;
-mod replaying;
 mod sequencing;
 mod serving;
 mod throttling;
@@ -22,7 +21,6 @@ pub fn of_name(name: &str) -> Option<fn(u32) -> Measured> {
         "push_outs" => Some(queueing::push_outs),
         "throttles" => Some(throttling::throttles),
         "waits" => Some(queueing::waits),
-        "replay" => Some(replaying::replays),
         "audit" => Some(auditing::audits),
         "sequencer_of_one" => Some(|size| sequencing::asks(1, size)),
         "sequencer_of_two" => Some(|size| sequencing::asks(2, size)),

@@ -91,6 +91,10 @@ impl ChainCore {
         &self.answers
     }
 
+    pub fn into_answers(self) -> Vec<Issued> {
+        self.answers
+    }
+
     // (as the crate has it)
     #[inline(always)]
     pub fn ask(&mut self, ask: Ask) -> Result<Issued, ChainError> {

@@ -31,7 +31,7 @@ impl fmt::Display for Record {
     }
 }
 
-#[allow(dead_code)] // (a client may say what nobody here reads)
+#[derive(Clone)]
 pub struct GrvOpts {
     pub priority: Priority,
     pub count: u64,
@@ -53,7 +53,6 @@ impl GrvOpts {
     }
 }
 
-#[allow(dead_code)] // (a log may have calls that no benchmark makes)
 pub enum Input {
     Grv(GrvOpts),
     Ask {
@@ -70,11 +69,11 @@ pub enum Input {
         to: u32,
     },
     Learn {
+        #[allow(dead_code)] // (no line has it)
         from: u32,
     },
 }
 
-#[allow(dead_code)]
 pub enum CallAnswer {
     Version {
         rec: Record,
@@ -147,6 +146,25 @@ pub enum Event {
         call: u64,
         rec: Record,
     },
+}
+
+impl fmt::Display for Event {
+    fn fmt(&self, f: &mut fmt::Formatter) -> fmt::Result {
+        match self {
+            Event::Report {
+                client,
+                call,
+                rec,
+                raised,
+            } => {
+                let raised = if *raised { "raised" } else { "not raised" };
+                write!(f, "client {client} call {call} report {rec} {raised}")
+            }
+            Event::Read { client, call, rec } => {
+                write!(f, "client {client} call {call} read {rec}")
+            }
+        }
+    }
 }
 
 impl Event {

@@ -1,22 +1,33 @@
-//! The work of crates/fdb_bench once more, in plain Rust with std alone and without proofs: peer NAME SIZE.
+//! The work of the crates once more, in plain Rust with std alone and without proofs: `peer NAME SIZE` runs a benchmark of
+//! crates/fdb_bench, and `peer replay [SCRIPT] [--proxies N] [--history]` is the program of crates/fdb_replay_cli.
 
 mod audit;
+mod batches;
 mod benchmarks;
 mod chain;
+mod client;
 mod history;
 mod json;
 mod live;
 mod measuring;
+mod program;
 mod proxy;
 mod queue;
 mod replay;
+mod script;
 mod tally;
+mod text;
 
 use std::env;
 use std::process::ExitCode;
 
 fn main() -> ExitCode {
     let words: Vec<String> = env::args().skip(1).collect();
+    if let Some((name, others)) = words.split_first()
+        && name == "replay"
+    {
+        return program::run(others);
+    }
     let [name, size] = words.as_slice() else {
         eprintln!("peer: a benchmark and its size are wanted");
         return ExitCode::FAILURE;

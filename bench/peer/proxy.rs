@@ -1,179 +1,147 @@
-//! A GRV proxy, its desk and its batch server.
+//! GRV proxies: a desk that takes requests from clients' threads, and the thread that serves them.
 
-use crate::history::Record;
-use crate::live::{LiveRecord, Seen};
-use crate::queue::{GrvQueue, Priority, QueueError, Req, TagLimit};
-use std::mem;
+use crate::history::{GrvOpts, Refusal};
+use crate::live::{Fetched, LiveRecord, Seen};
+use crate::queue::{GrvQueue, QueueError, Req, TagLimit};
+use crate::script::Script;
 use std::sync::mpsc::SyncSender;
 use std::sync::{Condvar, Mutex};
 
-pub struct GrvOpts {
-    pub priority: Priority,
-    pub count: u64,
-    pub tags: Vec<Vec<u8>>,
-    pub at: u64,
-}
-
-pub struct Request {
-    pub client: u32,
-    pub serial: u64,
-    pub asked: u64,
+/// A client's request for a read version.
+pub struct Request<'a> {
+    pub opts: &'a GrvOpts,
     pub seen: Seen,
-    pub opts: GrvOpts,
     pub reply: SyncSender<Answer>,
 }
 
-#[allow(dead_code)]
-pub enum Answer {
-    Reply(Reply),
-    Refused(Refused),
-}
+/// What the live record was, with the limits of the request's tags, or why the request was refused.
+pub type Answer = Result<(Fetched, Vec<TagLimit>), Refusal>;
 
-#[allow(dead_code)]
-pub struct Reply {
-    pub client: u32,
-    pub serial: u64,
-    pub asked: u64,
-    pub seen: Seen,
-    pub rec: Record,
-    pub position: u64,
-    pub limits: Vec<TagLimit>,
-}
-
-#[allow(dead_code)]
-pub struct Refused {
-    pub client: u32,
-    pub serial: u64,
-    pub asked: u64,
-    pub seen: Seen,
-    pub cause: Cause,
-}
-
-#[allow(dead_code)]
-pub enum Cause {
-    Queue(QueueError),
-    Closed,
-}
-
-impl Request {
-    fn refuse(self, cause: Cause) {
-        let refused = Refused {
-            client: self.client,
-            serial: self.serial,
-            asked: self.asked,
-            seen: self.seen,
-            cause,
-        };
-        // nobody may wait for it any more
-        let _ = self.reply.send(Answer::Refused(refused));
-    }
-}
-
-/// Answers all requests with one read.
-pub fn serve_batch(
-    live: &LiveRecord,
-    seen: &mut Seen,
-    queue: &GrvQueue<Request>,
-    requests: Vec<Req<Request>>,
-) -> Vec<Answer> {
-    if requests.is_empty() {
-        return Vec::new();
-    }
-    for request in &requests {
-        live.learn(seen, live.split(&request.payload.seen));
-    }
-    let fetched = live.read(seen);
-    let reply_to = |Req { payload, .. }: Req<Request>| {
-        let opts = &payload.opts;
-        Answer::Reply(Reply {
-            client: payload.client,
-            serial: payload.serial,
-            asked: payload.asked,
-            seen: live.split(seen),
-            rec: fetched.rec,
-            position: fetched.position,
-            limits: queue.throttles(opts.priority, &opts.tags, opts.at),
-        })
-    };
-    requests.into_iter().map(reply_to).collect()
+/// Where requests wait until their proxy takes them.
+#[derive(Default)]
+pub struct Desk<'a> {
+    state: Mutex<DeskState<'a>>,
+    changed: Condvar,
 }
 
 #[derive(Default)]
-struct Tray {
-    waiting: Vec<Req<Request>>,
-    closed: bool,
+struct DeskState<'a> {
+    waiting: Vec<Req<Request<'a>>>,
+    is_closed: bool,
 }
 
-#[derive(Default)]
-pub struct Desk {
-    tray: Mutex<Tray>,
-    came: Condvar,
-}
-
-impl Desk {
-    /// Hands the request back where the desk is closed.
-    pub fn submit(&self, request: Req<Request>) -> Result<(), Req<Request>> {
-        let mut tray = self.tray.lock().expect("nobody panics");
-        if tray.closed {
-            return Err(request);
+impl<'a> Desk<'a> {
+    /// Answers whether the desk took the request. A closed one takes none.
+    pub fn submit(&self, request: Req<Request<'a>>) -> bool {
+        let mut state = self.state.lock().expect("no panic at a desk");
+        if state.is_closed {
+            return false;
         }
-        tray.waiting.push(request);
-        drop(tray);
-        self.came.notify_one();
-        Ok(())
+        state.waiting.push(request);
+        drop(state);
+        self.changed.notify_one();
+        true
     }
 
-    /// Answers what waits, and whether the desk is closed.
-    fn take(&self, wait: bool) -> (Vec<Req<Request>>, bool) {
-        let tray = self.tray.lock().expect("nobody panics");
-        let is_bare = |tray: &mut Tray| wait && !tray.closed && tray.waiting.is_empty();
-        let mut tray = self.came.wait_while(tray, is_bare).expect("nobody panics");
-        (mem::take(&mut tray.waiting), tray.closed)
+    /// Swaps the requests that wait with an empty list, where wanted once there is one, and answers whether the desk is
+    /// still open.
+    fn take(&self, wait: bool, taken: &mut Vec<Req<Request<'a>>>) -> bool {
+        let mut state = self.state.lock().expect("no panic at a desk");
+        if wait {
+            let is_quiet = |state: &mut DeskState| state.waiting.is_empty() && !state.is_closed;
+            let woken = self.changed.wait_while(state, is_quiet);
+            state = woken.expect("no panic at a desk");
+        }
+        std::mem::swap(&mut state.waiting, taken);
+        !state.is_closed
     }
 
     pub fn close(&self) {
-        self.tray.lock().expect("nobody panics").closed = true;
-        self.came.notify_all();
+        let mut state = self.state.lock().expect("no panic at a desk");
+        state.is_closed = true;
+        drop(state);
+        self.changed.notify_one();
     }
 }
 
-pub struct GrvProxy<'a> {
-    pub live: &'a LiveRecord,
-    pub desk: &'a Desk,
-    pub queue: GrvQueue<Request>,
-    pub elapsed: u64,
-    pub seen: Seen,
+pub struct GrvProxy<'r, 'a> {
+    live: &'r LiveRecord,
+    desk: &'r Desk<'a>,
+    queue: GrvQueue<Request<'a>>,
+    elapsed: u64,
+    seen: Seen,
 }
 
-impl GrvProxy<'_> {
-    /// Serves the desk until it is closed.
+impl<'r, 'a> GrvProxy<'r, 'a> {
+    pub fn new(script: &Script, live: &'r LiveRecord, desk: &'r Desk<'a>) -> GrvProxy<'r, 'a> {
+        let mut queue = GrvQueue::new(script.config).expect("a script's limits");
+        for throttle in &script.throttles {
+            let TagLimit { tag, rate, expires } = throttle.limit.clone();
+            let set = queue.set_throttle(throttle.priority, tag, rate, expires);
+            set.expect("a script's tag");
+        }
+        GrvProxy {
+            live,
+            desk,
+            queue,
+            elapsed: script.elapsed,
+            seen: Seen::default(),
+        }
+    }
+
+    /// Serves until the desk is closed.
     pub fn run(mut self) {
-        loop {
-            let (requests, closed) = self.desk.take(self.queue.is_empty());
-            self.turn(requests);
-            if closed {
-                break;
+        let mut taken = Vec::new();
+        while self.desk.take(self.queue.is_empty(), &mut taken) {
+            for request in taken.drain(..) {
+                self.offer(request);
             }
+            let started = self.queue.window(self.elapsed);
+            self.serve(started.expect("a script's time between windows"));
         }
-        while let Some(request) = self.queue.pop() {
-            request.payload.refuse(Cause::Closed);
+        for request in taken.into_iter().chain(self.queue.into_requests()) {
+            answer(&request.payload, Err(Refusal::ProxyClosed));
         }
     }
 
-    /// Offers some requests, holds a window and answers.
-    fn turn(&mut self, requests: Vec<Req<Request>>) {
-        for request in requests {
-            match self.queue.offer(request) {
-                Ok(None) => {}
-                Ok(Some(out)) => out.payload.refuse(Cause::Queue(QueueError::Full)),
-                Err((cause, request)) => request.payload.refuse(Cause::Queue(cause)),
-            }
+    fn offer(&mut self, request: Req<Request<'a>>) {
+        match self.queue.offer(request) {
+            Ok(None) => {}
+            Ok(Some(out)) => answer(&out.payload, Err(Refusal::Full)),
+            Err((cause, refused)) => answer(&refused.payload, Err(refusal_of(cause))),
         }
-        let started = self.queue.window(self.elapsed).expect("a time in range");
-        let senders: Vec<_> = started.iter().map(|it| it.payload.reply.clone()).collect();
-        let answers = serve_batch(self.live, &mut self.seen, &self.queue, started);
-        for (reply, answer) in senders.iter().zip(answers) {
-            let _ = reply.send(answer);
+    }
+
+    /// Answers what was started, by one read.
+    fn serve(&mut self, started: Vec<Req<Request<'a>>>) {
+        if started.is_empty() {
+            return;
         }
+        for request in &started {
+            self.live
+                .learn(&mut self.seen, self.live.split(&request.payload.seen));
+        }
+        let fetched = self.live.read(&mut self.seen);
+        for request in &started {
+            let GrvOpts {
+                priority, tags, at, ..
+            } = request.payload.opts;
+            let limits = self.queue.throttles(*priority, tags, *at);
+            answer(&request.payload, Ok((fetched, limits)));
+        }
+    }
+}
+
+/// Sends an answer, which is dropped where nobody waits for it.
+fn answer(request: &Request, answer: Answer) {
+    let _ = request.reply.send(answer);
+}
+
+fn refusal_of(cause: QueueError) -> Refusal {
+    match cause {
+        QueueError::BadCount => Refusal::BadCount,
+        QueueError::BatchThrottled => Refusal::BatchThrottled,
+        QueueError::Full => Refusal::Full,
+        QueueError::BadConfig | QueueError::TagTooLong => unreachable!("{cause:?} of an offer"),
     }
 }

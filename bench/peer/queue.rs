@@ -189,6 +189,11 @@ impl<T> GrvQueue<T> {
         self.waiting.iter_mut().find_map(VecDeque::pop_front)
     }
 
+    /// All that wait, in the order of the row.
+    pub fn into_requests(self) -> impl Iterator<Item = Req<T>> {
+        self.waiting.into_iter().flatten()
+    }
+
     fn len(&self) -> usize {
         self.waiting.iter().map(VecDeque::len).sum()
     }

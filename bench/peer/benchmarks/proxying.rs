@@ -4,7 +4,7 @@ use crate::benchmarks::asking::RECOVERY;
 use crate::history::Record;
 use crate::live::{LiveRecord, Seen};
 use crate::measuring::{Checksum, Measured, Stopwatch};
-use crate::proxy::{Answer, Desk, GrvOpts, GrvProxy, Request, serve_batch};
+use crate::batches::{Answer, Desk, GrvOpts, GrvProxy, Request, serve_batch};
 use crate::queue::{GrvQueue, Priority, QueueConfig, Req};
 use crate::tally::{Tally, side_by_side};
 use std::sync::mpsc::{Receiver, sync_channel};

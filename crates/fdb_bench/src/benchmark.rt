@@ -4,7 +4,7 @@ use crate::fault::Fault;
 use crate::load::Load;
 use crate::measured::Measured;
 use crate::team::Team;
-use crate::{asking, auditing, queueing, replaying, sequencing, serving, throttling};
+use crate::{asking, auditing, queueing, sequencing, serving, throttling};
 use anyhow::{Context, Result, ensure};
 use std::alloc::Global;
 use std::sync::Wait;
@@ -30,8 +30,6 @@ pub enum Benchmark {
     Throttles,
     /// Questions how many windows a request waits. The size is how many there are.
     Waits,
-    /// A script from its bytes to the printed bytes. The size is the number of its commands.
-    Replay,
     /// An audit of 64 logs. The size is the number of their calls.
     Audit,
     /// Requests for commit versions by threads that share a sequencer. The size is how many there are.
@@ -42,7 +40,7 @@ pub enum Benchmark {
 
 impl Benchmark {
     /// All of them.
-    pub const ALL: [Benchmark; 27] = [
+    pub const ALL: [Benchmark; 26] = [
         Benchmark::FreshOfOne,
         Benchmark::FreshOfMany,
         Benchmark::Repeats,
@@ -51,7 +49,6 @@ impl Benchmark {
         Benchmark::PushOuts,
         Benchmark::Throttles,
         Benchmark::Waits,
-        Benchmark::Replay,
         Benchmark::Audit,
         Benchmark::Sequencer(Team::One),
         Benchmark::Sequencer(Team::Two),
@@ -83,7 +80,6 @@ impl Benchmark {
             Benchmark::PushOuts => "push_outs",
             Benchmark::Throttles => "throttles",
             Benchmark::Waits => "waits",
-            Benchmark::Replay => "replay",
             Benchmark::Audit => "audit",
             Benchmark::Sequencer(Team::One) => "sequencer_of_one",
             Benchmark::Sequencer(Team::Two) => "sequencer_of_two",
@@ -125,7 +121,7 @@ impl Benchmark {
         match self {
             Benchmark::Windows | Benchmark::PushOuts | Benchmark::Throttles | Benchmark::Live(_) =>
                 100,
-            Benchmark::Replay | Benchmark::Audit => 300,
+            Benchmark::Audit => 300,
             _ => 1_000,
         }
     }
@@ -134,7 +130,6 @@ impl Benchmark {
     fn greatest_size(self) -> u32 {
         match self {
             Benchmark::Windows | Benchmark::PushOuts | Benchmark::Throttles => 100_000,
-            Benchmark::Replay => 10_000,
             Benchmark::Live(_) => 1_000_000,
             _ => 10_000_000,
         }
@@ -169,7 +164,6 @@ impl Benchmark {
             Benchmark::PushOuts => queueing::push_outs(rt, alloc, size),
             Benchmark::Throttles => throttling::throttles(rt, alloc, size),
             Benchmark::Waits => queueing::waits(rt, alloc, size),
-            Benchmark::Replay => replaying::replay(rt, alloc, size),
             Benchmark::Audit => auditing::audits(rt, alloc, size),
             Benchmark::Sequencer(team) => sequencing::asks(rt, alloc, team.threads(), size),
             Benchmark::Live(load) => serving::measure(rt, alloc, load, size),

@@ -11,7 +11,6 @@ pub enum Fault {
     Queue,
     Proxy,
     Audit,
-    Replay,
 }
 
 impl Fault {
@@ -24,7 +23,6 @@ impl Fault {
             Fault::Queue => "the queue failed",
             Fault::Proxy => "the proxy failed",
             Fault::Audit => "the audit failed",
-            Fault::Replay => "the replay failed",
         }
     }
 }

@@ -17,6 +17,7 @@ mod versions;
 pub mod words;
 
 use crate::line::Line;
+use crate::same::{holds, same_text};
 use fdb_history::{AuditFault, ClientLog, Event, History, Issued, Record, Sequence, audit};
 use std::alloc::{AllocError, Global};
 use std::process::Abort;
@@ -46,7 +47,15 @@ fn audits(rt: &impl Abort, alloc: Global, begin: &str, text: &str) -> Result<(),
             case = begun(rt, alloc, begin)?;
         }
     }
-    assert!(rt; text.contains("=>"), "a text without a case");
+    holds(rt, text.contains("=>"), &"a text with a case");
+    Ok(())
+}
+
+/// Plays the cases of some texts, which begin with nothing.
+fn audits_each(rt: &impl Abort, alloc: Global, texts: &[&str]) -> Result<(), Fail> {
+    for text in texts {
+        audits(rt, alloc, "", text)?;
+    }
     Ok(())
 }
 
@@ -119,7 +128,7 @@ fn finds(rt: &impl Abort, alloc: Global, case: &Case, text: &str, item: &str) ->
         Ok(_) => format!(in alloc; "=> ok")?,
         Err(fault) => format!(in alloc; "=> {fault}")?,
     };
-    assert_eq!(rt; found.as_str(), item.trim(), "{text}");
+    same_text(rt, found.as_str(), item.trim(), text);
     Ok(())
 }
 
@@ -151,7 +160,7 @@ fn explains(
         Some(event) => event_text(alloc, event)?,
     };
     let wanted = format!(in alloc; "event {place} {shown}")?;
-    assert_eq!(rt; line.text.trim(), wanted.as_str());
+    same_text(rt, line.text.trim(), wanted.as_str(), "an event");
     Ok(())
 }
 

@@ -5,6 +5,7 @@
 //! answers stand after it, and the members of the one that was given, or why there is none.
 
 use crate::line::Line;
+use crate::same::{same, says};
 use fdb_chain::{ChainCore, ChainError, MAX_PROXIES};
 use fdb_history::{Ask, Issued};
 use std::alloc::{AllocError, Global};
@@ -93,11 +94,6 @@ ask 0 2 0 500 => 2: 1 0 2 0 100 101 500 fresh
 ask 0 3 0 1200 => 3: 2 0 3 0 101 801 1200 fresh
 ";
 
-#[test]
-fn versions_follow_one_another(rt: HostRuntime) -> Result<(), Fail> {
-    play(&rt, rt.alloc(), VERSIONS)
-}
-
 const KEPT: &str = "
 # one processed
 new 0 100 4 => ok
@@ -123,11 +119,6 @@ ask 0 1 0 4000 => 2: the answer is not kept any more
 ask 0 2 0 4000 => 2: 1 0 2 9 100 2100 3000 kept
 ";
 
-#[test]
-fn answers_are_kept_until_processed(rt: HostRuntime) -> Result<(), Fail> {
-    play(&rt, rt.alloc(), KEPT)
-}
-
 const LAST: &str = "
 # the last versions
 new 0 9223372036854775806 4 => ok
@@ -136,11 +127,6 @@ ask 0 2 0 0 => 2: 1 0 2 0 9223372036854775806 9223372036854775807 0 fresh
 ask 0 3 0 0 => 2: the versions are used up
 ask 0 2 0 0 => 2: 1 0 2 0 9223372036854775806 9223372036854775807 0 kept
 ";
-
-#[test]
-fn versions_end(rt: HostRuntime) -> Result<(), Fail> {
-    play(&rt, rt.alloc(), LAST)
-}
 
 const MEMBERS: &str = "
 new 0 100 1 => ok
@@ -153,9 +139,28 @@ new 100 100 0 => the recovery version is out of range
 new 0 9223372036854775808 4 => the recovery version is out of range
 ";
 
+/// With ample memory there is a chain for each number of proxies, and for no proxy beyond that.
+
+const TEXTS: &[&str] = &[VERSIONS, KEPT, LAST, MEMBERS];
+
 #[test]
-fn members_in_and_out_of_range(rt: HostRuntime) -> Result<(), Fail> {
-    play(&rt, rt.alloc(), MEMBERS)
+fn requests_for_commit_versions(rt: HostRuntime) -> Result<(), Fail> {
+    for text in TEXTS {
+        play(&rt, rt.alloc(), text)?;
+    }
+    says(&rt, rt.alloc(), &ChainError::Memory, "want of memory")
+}
+
+/// Asks for the first commit version of a proxy.
+fn first_of(chain: &mut ChainCore, proxy: u32) -> Result<u64, ChainError> {
+    let ask = Ask {
+        proxy,
+        num: 1,
+        processed: 0,
+        at: 0,
+    };
+    let issued = chain.ask(ask)?;
+    Ok(issued.version)
 }
 
 /// With ample memory there is a chain for each number of proxies, and for no proxy beyond that.
@@ -163,23 +168,10 @@ fn members_in_and_out_of_range(rt: HostRuntime) -> Result<(), Fail> {
 fn chains_of_each_number_of_proxies(rt: HostRuntime) -> Result<(), Fail> {
     for proxies in 1..=MAX_PROXIES {
         let mut chain = ChainCore::new(rt.alloc(), 0, 100, proxies)?;
-        let ask = |proxy| Ask {
-            proxy,
-            num: 1,
-            processed: 0,
-            at: 0,
-        };
-        let last = chain.ask(ask(proxies - 1))?;
-        assert_eq!(rt; last.version, 100, "of {proxies}");
-        let beyond = chain.ask(ask(proxies)).err();
-        assert_eq!(rt; beyond, Some(ChainError::UnknownProxy), "of {proxies}");
+        let last = first_of(&mut chain, proxies - 1);
+        same(&rt, &last, &Ok(100), &proxies);
+        let beyond = first_of(&mut chain, proxies);
+        same(&rt, &beyond, &Err(ChainError::UnknownProxy), &proxies);
     }
-    Ok(())
-}
-
-#[test]
-fn want_of_memory_as_text(rt: HostRuntime) -> Result<(), Fail> {
-    let text = ChainError::Memory.to_string(rt.alloc())?;
-    assert_eq!(rt; text.as_str(), "want of memory");
     Ok(())
 }

@@ -26,6 +26,8 @@ mod register;
 #[cfg(test)]
 mod replay;
 #[cfg(test)]
+mod same;
+#[cfg(test)]
 mod script;
 #[cfg(test)]
 mod sequencer;

@@ -1,5 +1,6 @@
 //! A line of a test's text, word by word. Where it is not what it should be, the test fails and shows the line.
 
+use crate::same::same_text;
 use std::process::Abort;
 use std::str::SplitWhitespace;
 
@@ -61,7 +62,7 @@ impl<'a> Line<'a> {
     /// Compares what was found with what the line wants behind its `=>`.
     pub fn wants(&self, rt: &impl Abort, found: &str) {
         let wanted = self.text.split_once("=>").map(|parts| parts.1.trim());
-        assert_eq!(rt; Some(found), wanted, "{}", self.text);
+        same_text(rt, found, wanted.unwrap_or("no arrow"), self.text);
     }
 
     /// Fails the test.

@@ -9,6 +9,7 @@ mod threads;
 use crate::live::held::read_beside_report;
 use crate::live::steps::{learn_crosswise, unlocked, work_through};
 use crate::live::threads::run_all;
+use crate::same::{same, says};
 use fdb_live::{Live, LiveError, LiveRecord, Opened, Seen};
 use std::alloc::Global;
 use std::marker::Brand;
@@ -83,59 +84,35 @@ fn play_named<J: Live + Send + Sync, R: Threads + Wait + Abort + Sync>(
     Ok(())
 }
 
-#[test]
-fn reads_and_reports(rt: HostRuntime) -> Result<(), Fail> {
-    play(&rt, rt.alloc(), 2, Case::Worked)?;
-    Ok(())
-}
-
 /// Why a live record is not opened with a version, if it is not.
 fn refusal_of<R: Wait>(rt: &R, alloc: Global, version: u64) -> Option<LiveError> {
     LiveRecord::<Brand>::open(rt, alloc, unlocked(version), 2).err()
 }
 
+/// Reads and reports of one thread, tokens that learn crosswise, and a read beside a report.
 #[test]
-fn versions_in_and_out_of_range(rt: HostRuntime) -> Result<(), Fail> {
-    for (version, wanted) in [
-        (0, None),
-        (9_223_372_036_854_775_807, None),
-        (9_223_372_036_854_775_808, Some(LiveError::TooLarge)),
-    ] {
-        let refusal = refusal_of(&rt, rt.alloc(), version);
-        assert_eq!(rt; refusal, wanted, "{version}");
-    }
-    Ok(())
-}
-
-#[test]
-fn tokens_learn_crosswise(rt: HostRuntime) -> Result<(), Fail> {
+fn reads_and_reports(rt: HostRuntime) -> Result<(), Fail> {
+    play(&rt, rt.alloc(), 2, Case::Worked)?;
     play(&rt, rt.alloc(), 2, Case::Crosswise)?;
-    Ok(())
-}
-
-#[test]
-fn a_read_takes_no_lock_of_the_reports(rt: HostRuntime) -> Result<(), Fail> {
     play(&rt, rt.alloc(), 2, Case::ReadBesideReport)?;
     Ok(())
 }
 
 #[test]
-fn two_reporters_and_a_reader(rt: HostRuntime) -> Result<(), Fail> {
+fn reporters_and_readers_in_threads(rt: HostRuntime) -> Result<(), Fail> {
     play(&rt, rt.alloc(), 2, Case::Threads { readers: 1 })?;
-    Ok(())
-}
-
-#[test]
-fn eight_reporters_and_four_readers(rt: HostRuntime) -> Result<(), Fail> {
     play(&rt, rt.alloc(), 8, Case::Threads { readers: 4 })?;
     Ok(())
 }
 
 #[test]
-fn errors_as_text(rt: HostRuntime) -> Result<(), Fail> {
-    let memory = LiveError::Memory.to_string(rt.alloc())?;
-    assert_eq!(rt; memory.as_str(), "want of memory");
-    let too_large = LiveError::TooLarge.to_string(rt.alloc())?;
-    assert_eq!(rt; too_large.as_str(), "the version is out of range");
-    Ok(())
+fn versions_in_and_out_of_range(rt: HostRuntime) -> Result<(), Fail> {
+    same(&rt, &refusal_of(&rt, rt.alloc(), 0), &None, &0);
+    let greatest = refusal_of(&rt, rt.alloc(), 9_223_372_036_854_775_807);
+    same(&rt, &greatest, &None, &"the greatest");
+    let above = refusal_of(&rt, rt.alloc(), 9_223_372_036_854_775_808);
+    same(&rt, &above, &Some(LiveError::TooLarge), &"above");
+    says(&rt, rt.alloc(), &LiveError::Memory, "want of memory")?;
+    let text = "the version is out of range";
+    says(&rt, rt.alloc(), &LiveError::TooLarge, text)
 }

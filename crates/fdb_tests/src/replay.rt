@@ -6,7 +6,10 @@ mod streams;
 mod values;
 mod words;
 
+ghost use Rattle.std.specs.Prelude.{◌<◌, ◌≤◌};
+
 use crate::calls::{drives, replays};
+use crate::same::{same, same_text};
 use std::alloc::Global;
 use std::fs::Files;
 use std::io;
@@ -75,19 +78,33 @@ fn driven<R: Threads + Wait + Sync + Files, I: Read>(
 fn assert_ran(rt: &impl Abort, ran: &Ran, status: u8, text: &str, case: &str) -> Result<(), Fail> {
     let (out, err) = (from_utf8(&ran.out)?, from_utf8(&ran.err)?);
     let (wanted_out, wanted_err) = if status == 0 { (text, "") } else { ("", text) };
-    assert_eq!(rt; out, wanted_out, "{case}");
-    assert_eq!(rt; err, wanted_err, "{case}");
-    assert_eq!(rt; ran.status, status, "{case}");
+    same_text(rt, out, wanted_out, case);
+    same_text(rt, err, wanted_err, case);
+    same(rt, &ran.status, &status, &case);
     Ok(())
 }
 
 #[test]
 fn the_first_script_as_text(rt: HostRuntime) -> Result<(), Fail> {
-    for (proxies, with_history) in [(1, false), (1, true), (16, true)] {
-        let mut out = Vec::new(rt.alloc());
-        replays(&rt, rt.alloc(), SCRIPT, proxies, with_history, &mut out)?;
-        let history = from_utf8(&out)?.strip_prefix(REPLIES);
-        assert_eq!(rt; history, Some(if with_history { HISTORY } else { "" }));
-    }
+    first_writes(&rt, rt.alloc(), 1, false, "")?;
+    first_writes(&rt, rt.alloc(), 1, true, HISTORY)?;
+    first_writes(&rt, rt.alloc(), 16, true, HISTORY)
+}
+
+/// Replays the first script, and compares what is written behind the replies.
+fn first_writes<R: Threads + Wait + Abort + Sync>(
+    rt: &R,
+    alloc: Global,
+    proxies: u32,
+    with_history: bool,
+    wanted: &str,
+) -> Result<(), Fail>
+    requires some_proxy { 0 < proxies }
+    requires few_proxies { proxies ≤ 16 }
+{
+    let mut out = Vec::new(alloc);
+    replays(rt, alloc, SCRIPT, proxies, with_history, &mut out)?;
+    let history = from_utf8(&out)?.strip_prefix(REPLIES);
+    same_text(rt, history.unwrap_or("no replies"), wanted, "the history");
     Ok(())
 }

@@ -3,6 +3,7 @@
 mod refused;
 
 use crate::calls::script_of;
+use crate::same::same_text;
 use fdb_history::{GrvOpts, Tag};
 use fdb_script::{Act, Command, Script, Throttle};
 use std::alloc::{AllocError, Global};
@@ -80,7 +81,12 @@ fn read_text(alloc: Global, opts: &GrvOpts) -> Result<String, AllocError> {
 /// Reads a script, and compares its parts.
 fn says(rt: &impl Abort, alloc: Global, script: &str, wanted: &str) -> Result<(), Fail> {
     let script = script_of(alloc, script.as_bytes())?;
-    assert_eq!(rt; script_text(alloc, &script)?.as_str(), wanted);
+    same_text(
+        rt,
+        script_text(alloc, &script)?.as_str(),
+        wanted,
+        "a script",
+    );
     Ok(())
 }
 

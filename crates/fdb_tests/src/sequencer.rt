@@ -3,6 +3,7 @@
 
 use crate::chain::issued_text;
 use crate::line::Line;
+use crate::same::same;
 use fdb_chain::{ChainCore, ChainError, Sequencer};
 use fdb_history::{Ask, Gate, Issued, OpenGate, Place, Service};
 use std::alloc::Global;
@@ -65,11 +66,9 @@ impl Noting {
         let held = self.held.load(Ordering::SeqCst);
         let elsewhere = self.elsewhere.load(Ordering::SeqCst);
         let who = self.who.load(Ordering::SeqCst);
-        assert_eq!(rt;
-            (held, elsewhere, who),
-            (times, 0, proxy as u64),
-            "request {times}"
-        );
+        same(rt, &held, &times, &"passed with the lock held");
+        same(rt, &elsewhere, &0, &"passed elsewhere");
+        same(rt, &who, &u64::from(proxy), &"passed last");
     }
 }
 
@@ -116,7 +115,7 @@ fn play<S: Service, R: Wait + Abort>(
         requests = requests.saturating_add(1);
         gate.was_passed(rt, requests as u64, ask.proxy);
     }
-    assert_eq!(rt; sequencer.close().answers().len(), standing, "{text}");
+    same(rt, &sequencer.close().answers().len(), &standing, &text);
     Ok(())
 }
 
@@ -157,15 +156,18 @@ ask 0 1 0 4000 => the answer is not kept any more
 ask 0 2 0 4000 => 1 0 2 9 100 2100 3000 kept
 ";
 
+/// The requests, and how many answers stand after them.
+const CASES: &[(&str, usize)] = &[
+    (REPEATED, 3),
+    (PROCESSED, 3),
+    (OUT_OF_RANGE, 2),
+    (PROCESSED_AHEAD, 2),
+];
+
 #[test]
 fn requests_through_the_lock(rt: HostRuntime) -> Result<(), Fail> {
-    for (text, standing) in [
-        (REPEATED, 3),
-        (PROCESSED, 3),
-        (OUT_OF_RANGE, 2),
-        (PROCESSED_AHEAD, 2),
-    ] {
-        play(&rt, rt.alloc(), from_hundred(rt.alloc())?, text, standing)?;
+    for (text, standing) in CASES {
+        play(&rt, rt.alloc(), from_hundred(rt.alloc())?, text, *standing)?;
     }
     Ok(())
 }
@@ -207,7 +209,7 @@ fn counted(rt: &impl Abort, answers: &[Issued], proxy: u32) -> u64 {
     let mut last = 0u64;
     for answer in answers {
         if answer.proxy == proxy {
-            assert_eq!(rt; answer.num, last.saturating_add(1), "of {proxy}");
+            same(rt, &answer.num, &last.saturating_add(1), &proxy);
             last = answer.num;
         }
     }
@@ -225,13 +227,14 @@ fn two_threads<R: Threads + Wait + Abort + Sync>(rt: &R, alloc: Global) -> Resul
     first?;
     second?;
     let answers = sequencer.close().into_answers();
-    assert_eq!(rt; answers.len(), 200);
-    let last = answers.last().map(|last| (last.ordinal, last.version));
+    same(rt, &answers.len(), &200, &"all answers");
     // a version for each request, since no time passes
-    assert_eq!(rt; last, Some((199, 299)));
-    for proxy in [0, 1] {
-        assert_eq!(rt; counted(rt, answers.as_slice(), proxy), 100, "of {proxy}");
-    }
+    let last = answers.last().map(|last| last.version);
+    same(rt, &last, &Some(299), &"the last version");
+    let ordinal = answers.last().map(|last| last.ordinal);
+    same(rt, &ordinal, &Some(199), &"the last ordinal");
+    same(rt, &counted(rt, answers.as_slice(), 0), &100, &"of 0");
+    same(rt, &counted(rt, answers.as_slice(), 1), &100, &"of 1");
     Ok(())
 }
 

@@ -1,6 +1,6 @@
 //! Faults of the history and of versions, and which of two is named.
 
-use super::audits;
+use super::{audits, audits_each};
 use std::alloc::Global;
 use std::process::Abort;
 use std::test::Fail;
@@ -17,11 +17,6 @@ log; reads 0 0 100; reads 0 5 100; reads 4 5 100; => Order 0 2
 # the last log of two
 log; reads 0 0 100; log; reads 18446744073709551615 0 100; => Order 1 0
 ";
-
-#[test]
-fn faults_of_order(rt: HostRuntime) -> Result<(), Fail> {
-    audits(&rt, rt.alloc(), "", ORDER)
-}
 
 const POSITIONS: &str = "
 # raises at some positions, of a client each
@@ -45,11 +40,6 @@ log; call 0 1 tell 0 told; => Gap 1
 # a raise and a read at 2
 log; raises 0 2 1 200; log; reads 0 2 200; => Gap 1
 ";
-
-#[test]
-fn faults_of_positions(rt: HostRuntime) -> Result<(), Fail> {
-    audits(&rt, rt.alloc(), "", POSITIONS)
-}
 
 const WRONG: &str = "
 # reads of another record
@@ -76,11 +66,6 @@ log; reads 0 1 100; log; call 0 1 report 1 unlocked none acked 100 locked none r
 log; reads 0 0 100; reads 0 0 100; log; reads 0 0 100; reads 0 0 99; => Wrong 1 1
 ";
 
-#[test]
-fn wrong_answers(rt: HostRuntime) -> Result<(), Fail> {
-    audits(&rt, rt.alloc(), "", WRONG)
-}
-
 /// Client 0 raises the register to 2100, with the last version of the chain.
 const LOW: &str = "
 # asked before the raise was seen
@@ -101,11 +86,6 @@ log; draws 0 0 0 1 0 0 100 100 fresh; draws 0 2 0 2 0 2050 2100 2100 fresh; rais
 log; draws 0 1 1 1 0 100 2050 2050 fresh; reads 0 1 2100; call 1 1 ask 1 0 2050 issued 1 1 1 0 100 2050 2050 kept
 => ok
 ";
-
-#[test]
-fn versions_that_are_not_above(rt: HostRuntime) -> Result<(), Fail> {
-    audits(&rt, rt.alloc(), "", LOW)
-}
 
 /// Client 0 raises the register to 2100 at position 1.
 const RAISED: &str = "
@@ -160,4 +140,12 @@ fn the_first_kind_is_named(rt: HostRuntime) -> Result<(), Fail> {
         }
     }
     Ok(())
+}
+
+const TEXTS: &[&str] = &[ORDER, POSITIONS, WRONG, LOW];
+
+/// Faults of order, of positions and of answers, and versions that are not above.
+#[test]
+fn faults_of_each_kind(rt: HostRuntime) -> Result<(), Fail> {
+    audits_each(&rt, rt.alloc(), TEXTS)
 }

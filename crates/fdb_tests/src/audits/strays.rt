@@ -1,6 +1,6 @@
 //! Answers of another kind, clients that are turned away, and reports of what was not issued.
 
-use super::audits;
+use super::{audits, audits_each};
 use std::test::Fail;
 
 const REFUSALS: &str = "
@@ -66,11 +66,6 @@ log; call 0 0 learn 0 refused Stranger; => Stray 0 0
 log; call 0 0 learn 0 refused TooLarge; => Stray 0 0
 ";
 
-#[test]
-fn calls_that_are_refused(rt: HostRuntime) -> Result<(), Fail> {
-    audits(&rt, rt.alloc(), "", REFUSALS)
-}
-
 const OTHER_KINDS: &str = "
 entry 0 0 1 0 0 100 100 fresh; log; call 0 0 grv acked 100 unlocked none unraised; => Stray 0 0
 entry 0 0 1 0 0 100 100 fresh; log; call 0 0 grv told; => Stray 0 0
@@ -92,11 +87,6 @@ log; call 0 0 tell 0 told; => ok
 log; call 0 0 learn 0 told; => ok
 ";
 
-#[test]
-fn answers_of_another_kind(rt: HostRuntime) -> Result<(), Fail> {
-    audits(&rt, rt.alloc(), "", OTHER_KINDS)
-}
-
 const TURNED_AWAY: &str = "
 # reads of a locked record
 entry 0 0 1 0 0 200 200 fresh
@@ -117,11 +107,6 @@ log; call 0 0 grv turned_away 100 unlocked none; => Stray 0 0
 log; call 0 0 grv_aware read 100 unlocked none; => ok
 log; call 0 0 grv_aware turned_away 100 unlocked none; => Stray 0 0
 ";
-
-#[test]
-fn clients_that_are_turned_away(rt: HostRuntime) -> Result<(), Fail> {
-    audits(&rt, rt.alloc(), "", TURNED_AWAY)
-}
 
 /// The client has drawn two versions.
 const DRAWN: &str = "
@@ -160,12 +145,6 @@ log; draws 0 0 0 1 0 0 200 200 fresh; draws 0 1 0 2 1 200 300 300 fresh
 call 0 0 report 1 unlocked none refused NotIssued; => Stray 0 2
 ";
 
-#[test]
-fn reports_of_what_was_not_issued(rt: HostRuntime) -> Result<(), Fail> {
-    audits(&rt, rt.alloc(), DRAWN, REPORTS)?;
-    audits(&rt, rt.alloc(), "", REPORTS_OF_OTHERS)
-}
-
 const LEARNT: &str = "
 # client 1 learns of client 0's raise and then reads and draws, and a read that was refused goes as far
 entry 0 0 1 0 0 200 200 fresh; entry 1 1 1 0 200 300 300 fresh
@@ -176,7 +155,16 @@ log; draws 0 0 0 1 0 0 200 200 fresh; raises 0 1 1 200
 log; call 0 1 grv refused Full; reads 1 1 200; draws 1 1 1 1 0 200 300 300 fresh; => ok
 ";
 
+const TEXTS: &[&str] = &[
+    REFUSALS,
+    OTHER_KINDS,
+    TURNED_AWAY,
+    REPORTS_OF_OTHERS,
+    LEARNT,
+];
+
 #[test]
-fn positions_that_were_learnt(rt: HostRuntime) -> Result<(), Fail> {
-    audits(&rt, rt.alloc(), "", LEARNT)
+fn answers_that_are_not_borne_out(rt: HostRuntime) -> Result<(), Fail> {
+    audits_each(&rt, rt.alloc(), TEXTS)?;
+    audits(&rt, rt.alloc(), DRAWN, REPORTS)
 }

@@ -1,6 +1,6 @@
 //! Commit versions that the chain does not have, that were not due, and that nobody drew.
 
-use super::audits;
+use super::{audits, audits_each};
 use std::alloc::{AllocError, Global};
 use std::test::Fail;
 
@@ -34,11 +34,6 @@ log; call 0 0 ask 1 0 100 issued 0 0 1 0 0 100 101 fresh; draws 0 1 0 2 0 100 20
 # another client's number, drawn by client 0
 entry 0 1 1 0 0 100 100 fresh; log; draws 0 0 1 1 0 0 100 100 fresh; log; => Stray 0 0
 ";
-
-#[test]
-fn answers_that_the_chain_does_not_have(rt: HostRuntime) -> Result<(), Fail> {
-    audits(&rt, rt.alloc(), "", OTHERS)
-}
 
 /// The client has drawn two versions, and had processed the first when it drew the second.
 const PROCESSED: &str = "
@@ -83,12 +78,6 @@ log; draws 0 0 0 1 18446744073709551615 0 100 100 fresh
 call 0 0 ask 1 0 0 issued 0 0 1 18446744073709551615 0 100 100 kept; => ok
 ";
 
-#[test]
-fn answers_that_were_not_due(rt: HostRuntime) -> Result<(), Fail> {
-    audits(&rt, rt.alloc(), PROCESSED, NOT_DUE)?;
-    audits(&rt, rt.alloc(), "", OTHERS_NOT_DUE)
-}
-
 const USED_UP: &str = "
 # the greatest version is 9223372036854775807, and the greatest step 5000000
 entry 0 0 1 0 0 9223372036849775806 9223372036849775806 fresh
@@ -108,11 +97,6 @@ log; draws 0 0 1 1 0 0 9223372036854775807 9223372036854775807 fresh; => ok
 # no version was drawn yet
 log; call 0 0 ask 1 0 0 refused Exhausted; => Stray 0 0
 ";
-
-#[test]
-fn versions_that_are_used_up(rt: HostRuntime) -> Result<(), Fail> {
-    audits(&rt, rt.alloc(), "", USED_UP)
-}
 
 const UNDRAWN: &str = "
 # an empty log
@@ -134,11 +118,6 @@ entry 0 4294967295 1 0 0 100 100 fresh; log; reads 0 0 100; log; => Stray 429496
 entry 0 7 1 0 0 100 100 fresh; => Stray 7 0
 ";
 
-#[test]
-fn versions_that_nobody_drew(rt: HostRuntime) -> Result<(), Fail> {
-    audits(&rt, rt.alloc(), "", UNDRAWN)
-}
-
 /// The logs of 64 clients, of which so many have drawn the chain's entry of their own number.
 fn crowd(alloc: Global, drawn: u64) -> Result<String, AllocError> {
     let mut text = String::new(alloc);
@@ -158,4 +137,13 @@ fn entries_of_as_many_clients_as_there_may_be(rt: HostRuntime) -> Result<(), Fai
     audits(&rt, rt.alloc(), &crowd(rt.alloc(), 64)?, "=> ok")?;
     let foreign = "entry 63 64 1 0 0 163 163 fresh; => Stray 64 0";
     audits(&rt, rt.alloc(), &crowd(rt.alloc(), 63)?, foreign)
+}
+
+const TEXTS: &[&str] = &[OTHERS, OTHERS_NOT_DUE, USED_UP, UNDRAWN];
+
+/// Commit versions that the chain does not have, that were not due, used up, or drawn by nobody.
+#[test]
+fn commit_versions(rt: HostRuntime) -> Result<(), Fail> {
+    audits_each(&rt, rt.alloc(), TEXTS)?;
+    audits(&rt, rt.alloc(), PROCESSED, NOT_DUE)
 }

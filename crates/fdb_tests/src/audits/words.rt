@@ -1,7 +1,9 @@
-//! Calls, their inputs and their answers, from words.
+//! Calls, their inputs and their answers, and what an audit finds, from words.
 
 use crate::line::Line;
-use fdb_history::{Call, CallAnswer, GrvOpts, Input, Issued, Priority, Record, Refusal, Sequence};
+use fdb_history::{
+    AuditFault, Call, CallAnswer, GrvOpts, Input, Issued, Priority, Record, Refusal, Sequence,
+};
 use std::alloc::Global;
 use std::process::Abort;
 
@@ -154,7 +156,8 @@ pub fn issued(rt: &impl Abort, line: &mut Line<'_>) -> Issued {
     }
 }
 
-fn refusal(rt: &impl Abort, line: &mut Line<'_>) -> Refusal {
+/// A refusal.
+pub fn refusal(rt: &impl Abort, line: &mut Line<'_>) -> Refusal {
     match line.word(rt) {
         "Early" => Refusal::Early {
             expected: line.number(rt),
@@ -170,5 +173,34 @@ fn refusal(rt: &impl Abort, line: &mut Line<'_>) -> Refusal {
         "Stranger" => Refusal::Stranger,
         "TooLarge" => Refusal::TooLarge,
         _ => line.fails(rt, "no refusal"),
+    }
+}
+
+/// A fault of an audit, from its words.
+pub fn fault(rt: &impl Abort, line: &mut Line<'_>) -> AuditFault {
+    match line.word(rt) {
+        "Clash" => AuditFault::Clash {
+            position: line.number(rt),
+        },
+        "Gap" => AuditFault::Gap {
+            position: line.number(rt),
+        },
+        "Order" => AuditFault::Order {
+            client: line.who(rt),
+            call: line.number(rt),
+        },
+        "Wrong" => AuditFault::Wrong {
+            client: line.who(rt),
+            call: line.number(rt),
+        },
+        "Stray" => AuditFault::Stray {
+            client: line.who(rt),
+            call: line.number(rt),
+        },
+        "NotAbove" => AuditFault::NotAbove {
+            client: line.who(rt),
+            call: line.number(rt),
+        },
+        _ => line.fails(rt, "no fault"),
     }
 }

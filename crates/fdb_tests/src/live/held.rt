@@ -2,6 +2,7 @@
 
 use crate::live::Parts;
 use crate::live::steps::{report_at, unlocked};
+use crate::same::{holds, same};
 use crossbeam_utils::Backoff;
 use fdb_history::{Gate, Place};
 use fdb_live::{Ack, Fetched, Live};
@@ -79,15 +80,15 @@ pub fn read_beside_report<J: Live + Send + Sync, R: Threads + Wait + Abort + Syn
             fetched
         },
     );
-    assert!(rt; !gate.failed.load(Ordering::SeqCst), "waited in vain");
+    holds(rt, !gate.failed.load(Ordering::SeqCst), &"waited in vain");
     let begun = Fetched {
         rec: unlocked(100),
         position: 0,
     };
-    assert_eq!(rt; fetched, begun);
+    same(rt, &fetched, &begun, &"the read");
     let raised = Ack {
         raised: true,
         position: 1,
     };
-    assert_eq!(rt; acked, Ok(raised));
+    same(rt, &acked, &Ok(raised), &"the report");
 }

@@ -1,6 +1,7 @@
 //! What one thread does with a live record.
 
 use crate::live::Parts;
+use crate::same::{holds, same};
 use fdb_history::{Gate, OpenGate, Record};
 use fdb_live::{Ack, Fetched, Live, LiveError, LiveRecord, Seen};
 use std::process::Abort;
@@ -36,8 +37,8 @@ fn reports<J: Live, R: Wait + Abort>(
     (raised, position): (bool, u64),
 ) {
     let found = report_at(rt, live, &OpenGate, seen, version);
-    assert_eq!(rt; found, Ok(Ack { raised, position }), "{version}");
-    assert_eq!(rt; seen.position(), position, "after {version}");
+    same(rt, &found, &Ok(Ack { raised, position }), &version);
+    same(rt, &seen.position(), &position, &version);
 }
 
 /// Checks what a read answers, and its token's position.
@@ -49,8 +50,13 @@ pub fn reads<J: Live, R: Wait + Abort>(
     position: u64,
 ) {
     let rec = unlocked(version);
-    assert_eq!(rt; live.read(rt, seen), Fetched { rec, position });
-    assert_eq!(rt; seen.position(), position, "after {version}");
+    same(
+        rt,
+        &live.read(rt, seen),
+        &Fetched { rec, position },
+        &version,
+    );
+    same(rt, &seen.position(), &position, &version);
 }
 
 /// Checks that the report of a version above the greatest one is refused, and changes nothing.
@@ -62,7 +68,7 @@ fn refuses<J: Live, R: Wait + Abort>(
     position: u64,
 ) {
     let found = report_at(rt, live, &OpenGate, seen, 9_223_372_036_854_775_808);
-    assert_eq!(rt; found, Err(LiveError::TooLarge));
+    same(rt, &found, &Err(LiveError::TooLarge), &"too large");
     reads(rt, live, seen, version, position);
 }
 
@@ -74,9 +80,9 @@ pub fn work_through<J: Live, R: Wait + Abort>(rt: &R, mut parts: Parts<J>) {
         mut first,
         tokens,
     } = parts;
-    assert!(rt; tokens.is_empty(), "two reporters");
-    let numbers = (first.reporter(), zero.reporter(), one.reporter());
-    assert_eq!(rt; numbers, (None, Some(0), Some(1)));
+    holds(rt, tokens.is_empty(), &"two reporters");
+    same(rt, &first.reporter(), &None, &"the first token");
+    are_numbered(rt, &zero, &one);
     reads(rt, &live, &mut zero, 100, 0);
     refuses(rt, &live, &mut zero, 100, 0);
     reports(rt, &live, &mut zero, 200, (true, 1));
@@ -85,9 +91,16 @@ pub fn work_through<J: Live, R: Wait + Abort>(rt: &R, mut parts: Parts<J>) {
     reports(rt, &live, &mut one, 150, (false, 1));
 }
 
-/// The positions of two tokens.
-fn positions<J: Live>(zero: &Seen<J>, one: &Seen<J>) -> (u64, u64) {
-    (zero.position(), one.position())
+/// Checks that two tokens are those of the reporters 0 and 1.
+fn are_numbered<J: Live>(rt: &impl Abort, zero: &Seen<J>, one: &Seen<J>) {
+    same(rt, &zero.reporter(), &Some(0), &"reporter 0");
+    same(rt, &one.reporter(), &Some(1), &"reporter 1");
+}
+
+/// Checks the positions of two tokens.
+fn are_at<J: Live>(rt: &impl Abort, (zero, at): (&Seen<J>, u64), (one, place): (&Seen<J>, u64)) {
+    same(rt, &zero.position(), &at, &"reporter 0");
+    same(rt, &one.position(), &place, &"reporter 1");
 }
 
 /// Each of two reporters raises the record and learns what the other has seen, and keeps its number.
@@ -97,12 +110,13 @@ pub fn learn_crosswise<J: Live, R: Wait + Abort>(rt: &R, mut parts: Parts<J>) {
     reports(rt, &live, &mut zero, 200, (true, 1));
     let early = live.split(&mut zero);
     reports(rt, &live, &mut one, 300, (true, 2));
-    assert_eq!(rt; positions(&zero, &one), (1, 2));
+    are_at(rt, (&zero, 1), (&one, 2));
     exchange(rt, &live, &mut zero, &mut one);
-    assert_eq!(rt; positions(&zero, &one), (2, 2));
-    assert_eq!(rt; (zero.reporter(), one.reporter()), (Some(0), Some(1)));
+    are_at(rt, (&zero, 2), (&one, 2));
+    are_numbered(rt, &zero, &one);
+    // told of less
     live.learn(rt, &mut zero, early);
-    assert_eq!(rt; positions(&zero, &one), (2, 2), "told of less");
+    are_at(rt, (&zero, 2), (&one, 2));
     live.meet(rt, &mut zero, &mut one);
     reports(rt, &live, &mut zero, 400, (true, 3));
 }
@@ -116,7 +130,8 @@ fn exchange<J: Live, R: Wait + Abort>(
 ) {
     let of_zero = live.split(zero);
     let of_one = live.split(one);
-    assert_eq!(rt; (of_zero.reporter(), of_one.reporter()), (None, None));
+    same(rt, &of_zero.reporter(), &None, &"split off");
+    same(rt, &of_one.reporter(), &None, &"split off");
     live.learn(rt, zero, of_one);
     live.learn(rt, one, of_zero);
 }

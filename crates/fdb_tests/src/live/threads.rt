@@ -2,6 +2,7 @@
 
 use crate::live::Parts;
 use crate::live::steps::{reads, unlocked};
+use crate::same::{holds, same};
 use fdb_history::OpenGate;
 use fdb_live::{Live, LiveRecord, Seen};
 use std::alloc::{AllocError, Global};
@@ -123,7 +124,7 @@ pub fn run_all<J: Live + Send + Sync, R: Threads + Wait + Abort + Sync>(
 fn raises_of<J: Live>(rt: &impl Abort, workers: &[Worker<J>]) -> u64 {
     let mut raises = 0u64;
     for worker in workers {
-        assert!(rt; !worker.failed, "what was seen fell, or was refused");
+        holds(rt, !worker.failed, &"what was seen fell, or was refused");
         raises = raises.saturating_add(worker.raises);
     }
     raises
@@ -147,6 +148,6 @@ fn all_meet<J: Live, R: Wait + Abort>(
         live.meet(rt, first, &mut one.token);
         let told = live.split(&mut one.token);
         live.learn(rt, first, told);
-        assert_eq!(rt; first.position(), all, "told of no more");
+        same(rt, &first.position(), &all, &"told of no more");
     }
 }

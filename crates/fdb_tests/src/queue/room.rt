@@ -1,8 +1,9 @@
 //! Queues of many requests.
 
 use super::queue;
+use crate::same::{holds, same};
 use fdb_history::Priority;
-use fdb_queue::{Budgets, GrvQueue, Req};
+use fdb_queue::{Budgets, GrvQueue, QueueError, Req};
 use std::process::Abort;
 use std::test::Fail;
 
@@ -14,7 +15,22 @@ fn offer(rt: &impl Abort, queue: &mut GrvQueue<u32>, priority: Priority, count: 
         payload,
     };
     let out = queue.offer(request);
-    assert!(rt; matches!(out, Ok(None)), "{payload} is let in");
+    holds(rt, matches!(out, Ok(None)), &payload);
+}
+
+/// Holds a window, which starts so many requests, of which the first has this payload.
+fn starts(
+    rt: &impl Abort,
+    queue: &mut GrvQueue<u32>,
+    elapsed: u64,
+    count: usize,
+    payload: Option<u32>,
+) -> Result<(), QueueError> {
+    let started = queue.window(elapsed)?;
+    same(rt, &started.len(), &count, &"how many start");
+    let first = started.first().map(|request| request.payload);
+    same(rt, &first, &payload, &"the first that starts");
+    Ok(())
 }
 
 /// The greatest count starts by the least rate at last, and leaves nothing of the budget.
@@ -23,12 +39,15 @@ fn the_greatest_count_starts(rt: HostRuntime) -> Result<(), Fail> {
     let mut queue = queue(rt.alloc(), 1, 0, 1)?;
     offer(&rt, &mut queue, Priority::Default, 100_000, 7);
     for _ in 1..100_000 {
-        assert!(rt; queue.window(2_000_000)?.is_empty());
+        starts(&rt, &mut queue, 2_000_000, 0, None)?;
     }
-    let started = queue.window(2_000_000)?;
-    assert_eq!(rt; started.len(), 1);
-    assert_eq!(rt; started.first().map(|request| request.payload), Some(7));
-    assert_eq!(rt; queue.budgets(), Budgets::default());
+    starts(&rt, &mut queue, 2_000_000, 1, Some(7))?;
+    same(
+        &rt,
+        &queue.budgets(),
+        &Budgets::default(),
+        &"nothing is left",
+    );
     Ok(())
 }
 
@@ -45,12 +64,8 @@ fn a_window_has_room_for_ten_thousand(rt: HostRuntime) -> Result<(), Fail> {
             };
             offer(&rt, &mut queue, priority, 1, payload);
         }
-        let first = queue.window(1)?;
-        assert_eq!(rt; first.len(), 10_000, "{system} system requests");
-        let second = queue.window(1)?;
-        assert_eq!(rt; second.len(), 1, "{system} system requests");
-        let payload = second.first().map(|request| request.payload);
-        assert_eq!(rt; payload, Some(10_000), "{system} system requests");
+        starts(&rt, &mut queue, 1, 10_000, Some(0))?;
+        starts(&rt, &mut queue, 1, 1, Some(10_000))?;
     }
     Ok(())
 }

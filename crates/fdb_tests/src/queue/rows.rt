@@ -17,11 +17,6 @@ window 1000000 => 3 | 3000000 1000000
 window 10000000 => | 20000000 20000000
 ";
 
-#[test]
-fn rates_hold_requests(rt: HostRuntime) -> Result<(), Fail> {
-    play(&rt, rt.alloc(), RATES)
-}
-
 /// The head of the row blocks what comes after it, however small that is. The batch budget, for which nothing else pays,
 /// gains as much until the three start.
 const HEAD: &str = "
@@ -35,11 +30,6 @@ window 1000000 => | 4000000 4000000
 window 1000000 => 0 | 2000000 2000000
 ";
 
-#[test]
-fn the_head_waits_for_its_budget(rt: HostRuntime) -> Result<(), Fail> {
-    play(&rt, rt.alloc(), HEAD)
-}
-
 /// The greatest burst bounds what a window starts, whatever the budget, and a budget while somebody waits for it.
 const BURST: &str = "
 new 100000 100000 3 => ok
@@ -52,11 +42,6 @@ offer system 60000 2 => in
 window 10000000 => 2 | 200000000000 200000000000
 window 10000000 => 1 | 20000000 20000000
 ";
-
-#[test]
-fn a_burst_has_its_greatest(rt: HostRuntime) -> Result<(), Fail> {
-    play(&rt, rt.alloc(), BURST)
-}
 
 /// Counts, a full queue, and a batch limit of 0.
 const OFFERS: &str = "
@@ -97,11 +82,6 @@ offer batch 1 2 => batch requests are not let in
 offer batch 12 3 => the request's count is out of range
 ";
 
-#[test]
-fn offers_that_are_let_in_or_not(rt: HostRuntime) -> Result<(), Fail> {
-    play(&rt, rt.alloc(), OFFERS)
-}
-
 /// Configurations, and times between windows.
 const RANGES: &str = "
 new 1 0 1 => ok
@@ -119,7 +99,12 @@ window 1 => | 1 1
 window 10000000 => | 10000001 10000001
 ";
 
+const TEXTS: &[&str] = &[RATES, HEAD, BURST, OFFERS, RANGES];
+
 #[test]
-fn configurations_and_times(rt: HostRuntime) -> Result<(), Fail> {
-    play(&rt, rt.alloc(), RANGES)
+fn offers_and_windows(rt: HostRuntime) -> Result<(), Fail> {
+    for text in TEXTS {
+        play(&rt, rt.alloc(), text)?;
+    }
+    Ok(())
 }

@@ -19,11 +19,6 @@ new 1 1 1 => ok
 limits default 0 => 0
 ";
 
-#[test]
-fn throttles_hold_until_they_expire(rt: HostRuntime) -> Result<(), Fail> {
-    play(&rt, rt.alloc(), LIMITS)
-}
-
 /// Tags of 16 and of 17 bytes.
 const TAGS: &str = "
 new 1 1 1 => ok
@@ -33,6 +28,7 @@ limits batch 0 abcdefghijklmnop abcdefghijklmnopq => 1, abcdefghijklmnop 1 1
 ";
 
 #[test]
-fn tags_in_and_out_of_range(rt: HostRuntime) -> Result<(), Fail> {
+fn throttles_and_their_tags(rt: HostRuntime) -> Result<(), Fail> {
+    play(&rt, rt.alloc(), LIMITS)?;
     play(&rt, rt.alloc(), TAGS)
 }

@@ -2,6 +2,7 @@
 
 use super::{play, queue};
 use crate::line::Line;
+use crate::same::{holds, same};
 use fdb_history::Priority;
 use fdb_queue::{GrvQueue, QueueError, Req};
 use std::alloc::Global;
@@ -65,7 +66,7 @@ fn waiting(
         count: case.count,
         payload: 0,
     };
-    assert!(rt; queue.offer(request).is_ok(), "{priority:?} is let in");
+    holds(rt, queue.offer(request).is_ok(), &"it is let in");
     Ok(queue)
 }
 
@@ -91,10 +92,9 @@ fn compare(
     let mut other = waiting(rt, alloc, case, priority)?;
     // a batch request above the normal limit is let in, and is not sure to start
     let sure = priority == Priority::Default || case.count <= case.normal;
-    assert_eq!(rt; waits.is_some(), sure, "{priority:?} in {text}");
+    same(rt, &waits.is_some(), &sure, &text);
     if sure {
-        let shown = turned(&mut other, case.elapsed)?;
-        assert_eq!(rt; waits, shown, "{priority:?} in {text}");
+        same(rt, &waits, &turned(&mut other, case.elapsed)?, &text);
     }
     Ok(())
 }

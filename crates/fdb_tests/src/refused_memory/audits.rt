@@ -1,7 +1,9 @@
 //! Audits.
 
 use crate::audits::{Case, audited, begun};
-use fdb_history::{AuditFault, Event, History, Record};
+use crate::live::steps::unlocked;
+use crate::same::{holds, same};
+use fdb_history::{AuditFault, Event, History};
 use std::alloc::{AllocError, Global};
 use std::process::Abort;
 use std::test::Fail;
@@ -43,27 +45,31 @@ log; reads 0 1 200; draws 1 2 1 1 0 300 350 350 fresh; draws 1 3 1 2 0 350 200 2
 
 #[test]
 fn an_audit_bears_it(rt: HostRuntime) -> Result<(), Fail> {
-    let at = |version| Record {
-        version,
-        locked: false,
-        metadata: None,
-    };
-    let raise = |call, rec| Event::Report {
-        client: 0,
-        call,
-        rec,
-        raised: true,
-    };
+    let history = found(&rt, rt.alloc(), ABOVE)??;
+    are_events(&rt, history.events.as_slice());
+    let low = AuditFault::NotAbove { client: 1, call: 2 };
+    let fault = found(&rt, rt.alloc(), NOT_ABOVE)?.err();
+    same(&rt, &fault, &Some(low), &"not above");
+    Ok(())
+}
+
+/// The first client raises the register to 200, the second reads it, and the first raises it to 300.
+fn are_events(rt: &impl Abort, events: &[Event]) {
     let read = Event::Read {
         client: 1,
         call: 0,
-        rec: at(200),
+        rec: unlocked(200),
     };
-    let events = [raise(2, at(200)), read, raise(3, at(300))];
-    let history = found(&rt, rt.alloc(), ABOVE)??;
-    assert_eq!(rt; history.events.as_slice(), events.as_slice());
-    let low = AuditFault::NotAbove { client: 1, call: 2 };
-    let fault = found(&rt, rt.alloc(), NOT_ABOVE)?.err();
-    assert_eq!(rt; fault, Some(low));
-    Ok(())
+    let wanted = [raise(2, 200), read, raise(3, 300)];
+    holds(rt, events == wanted.as_slice(), &"the events");
+}
+
+/// A report of the first client that raises the register.
+fn raise(call: u64, version: u64) -> Event {
+    Event::Report {
+        client: 0,
+        call,
+        rec: unlocked(version),
+        raised: true,
+    }
 }

@@ -1,5 +1,6 @@
 //! Chains.
 
+use crate::same::{holds, same};
 use fdb_chain::{ChainCore, ChainError};
 use fdb_history::{Ask, Issued};
 use std::alloc::Global;
@@ -19,7 +20,12 @@ fn answer(rt: &impl Abort, chain: &mut ChainCore, ask: Ask) -> Result<Issued, Ch
     let before = chain.answers().len();
     match chain.ask(ask) {
         Err(ChainError::Memory) => {
-            assert_eq!(rt; chain.answers().len(), before, "after a refused {ask:?}");
+            same(
+                rt,
+                &chain.answers().len(),
+                &before,
+                &"after a refused request",
+            );
             chain.ask(ask)
         }
         outcome => outcome,
@@ -38,9 +44,9 @@ fn twice(rt: &impl Abort, chain: &mut ChainCore, proxy: u32, num: u64) -> Result
     let issued = answer(rt, chain, ask)?;
     let again = chain.ask(ask)?;
     // a version for each request, since no time passes
-    assert_eq!(rt; issued.version, place as u64 + 100, "{ask:?}");
-    assert_eq!(rt; again.version, issued.version, "{ask:?} again");
-    assert!(rt; issued.fresh && !again.fresh, "{ask:?} again");
+    same(rt, &issued.version, &(place as u64 + 100), &num);
+    same(rt, &again.version, &issued.version, &num);
+    holds(rt, issued.fresh && !again.fresh, &num);
     Ok(())
 }
 
@@ -53,6 +59,6 @@ fn a_chain_bears_it(rt: HostRuntime) -> Result<(), Fail> {
             twice(&rt, &mut chain, proxy, num)?;
         }
     }
-    assert_eq!(rt; chain.answers().len(), 80);
+    same(&rt, &chain.answers().len(), &80, &"four proxies");
     Ok(())
 }

@@ -1,6 +1,7 @@
 //! Live records.
 
 use crate::live::{Case, play};
+use crate::same::same;
 use fdb_live::LiveError;
 use std::alloc::Global;
 use std::process::Abort;
@@ -32,9 +33,9 @@ fn a_live_record_bears_it(rt: HostRuntime) -> Result<(), Fail> {
 /// calls on them answer as ever.
 #[test]
 fn without_memory(rt: HostRuntime) -> Result<(), Fail> {
-    for case in [Case::Worked, Case::Crosswise] {
-        if let Err(cause) = play(&rt, rt.alloc(), 2, case) {
-            assert_eq!(rt; cause, LiveError::Memory);
+    for case in &[Case::Worked, Case::Crosswise] {
+        if let Err(cause) = play(&rt, rt.alloc(), 2, *case) {
+            same(&rt, &cause, &LiveError::Memory, &"without memory");
         }
     }
     Ok(())

@@ -1,6 +1,7 @@
 //! Queues.
 
 use crate::queue::queue;
+use crate::same::{holds, same};
 use fdb_history::Priority;
 use fdb_queue::{GrvQueue, QueueError, Req};
 use std::process::Abort;
@@ -22,7 +23,7 @@ fn offer(
     let lengths = queue.lengths();
     let outcome = match queue.offer(request) {
         Err((QueueError::Memory, request)) => {
-            assert_eq!(rt; queue.lengths(), lengths, "after a refused offer");
+            same(rt, &queue.lengths(), &lengths, &"after a refused offer");
             queue.offer(request)
         }
         outcome => outcome,
@@ -38,8 +39,8 @@ fn window(rt: &impl Abort, queue: &mut GrvQueue<u32>) -> Result<Vec<Req<u32>>, Q
     let (lengths, budgets) = (queue.lengths(), queue.budgets());
     match queue.window(1) {
         Err(QueueError::Memory) => {
-            assert_eq!(rt; queue.lengths(), lengths, "after a refused window");
-            assert_eq!(rt; queue.budgets(), budgets, "after a refused window");
+            same(rt, &queue.lengths(), &lengths, &"after a refused window");
+            same(rt, &queue.budgets(), &budgets, &"after a refused window");
             queue.window(1)
         }
         outcome => outcome,
@@ -52,11 +53,11 @@ fn overfill(rt: &impl Abort, queue: &mut GrvQueue<u32>) -> Result<(), QueueError
     for payload in 0..20 {
         for priority in [Priority::Batch, Priority::Default, Priority::System] {
             let out = offer(rt, queue, priority, payload)?;
-            assert_eq!(rt; out, None, "{priority:?} {payload}");
+            same(rt, &out, &None, &payload);
         }
     }
     let out = offer(rt, queue, Priority::System, 20)?;
-    assert_eq!(rt; out, Some(0));
+    same(rt, &out, &Some(0), &"the oldest batch request");
     Ok(())
 }
 
@@ -77,15 +78,11 @@ fn a_queue_bears_it(rt: HostRuntime) -> Result<(), Fail> {
     for round in 0..3 {
         overfill(&rt, &mut queue)?;
         let started = window(&rt, &mut queue)?;
-        assert_eq!(rt; started.len(), 60, "in round {round}");
+        same(&rt, &started.len(), &60, &round);
         for (place, request) in started.iter().enumerate() {
             let (priority, payload) = wanted_at(place);
-            assert_eq!(rt; request.priority, priority, "{place} in round {round}");
-            assert_eq!(rt;
-                request.payload as usize,
-                payload,
-                "{place} in round {round}"
-            );
+            same(&rt, &request.priority, &priority, &place);
+            same(&rt, &(request.payload as usize), &payload, &place);
         }
     }
     Ok(())
@@ -96,9 +93,10 @@ fn a_queue_bears_it(rt: HostRuntime) -> Result<(), Fail> {
 fn without_memory(rt: HostRuntime) -> Result<(), Fail> {
     let mut queue = queue(rt.alloc(), 1, 1, 1)?;
     for priority in [Priority::System, Priority::Default, Priority::Batch] {
-        assert!(rt; queue.throttles(priority, &[], 0)?.is_empty(), "no tags");
+        let limits = queue.throttles(priority, &[], 0)?;
+        holds(&rt, limits.is_empty(), &"no tags");
     }
-    assert!(rt; queue.window(1)?.is_empty(), "nothing waits");
-    assert_eq!(rt; queue.waits(1), None);
+    holds(&rt, queue.window(1)?.is_empty(), &"nothing waits");
+    same(&rt, &queue.waits(1), &None, &"nobody waits");
     Ok(())
 }

@@ -1,8 +1,10 @@
 //! Sequences, and texts.
 
-use fdb_history::{AuditFault, Refusal, Sequence};
-use std::alloc::{AllocError, Global};
-use std::fmt::Display;
+use crate::audits::words::{fault, refusal};
+use crate::line::Line;
+use crate::same::{holds, same, says};
+use fdb_history::{AuditFault, Sequence};
+use std::alloc::AllocError;
 use std::process::Abort;
 use std::test::Fail;
 
@@ -10,8 +12,8 @@ use std::test::Fail;
 fn push(rt: &impl Abort, items: &mut Sequence<u64>, item: u64) -> Result<(), Fail> {
     let before = items.len();
     if let Err(failed) = items.push(item) {
-        assert_eq!(rt; items.len(), before, "after a refused push");
-        assert_eq!(rt; failed.value, item, "handed back");
+        same(rt, &items.len(), &before, &"after a refused push");
+        same(rt, &failed.value, &item, &"handed back");
         items.push(failed.value)?;
     }
     Ok(())
@@ -25,94 +27,87 @@ fn copy(items: &Sequence<u64>) -> Result<Sequence<u64>, AllocError> {
     }
 }
 
+/// Enough items that a list grows more than once.
+const SQUARES: &[u64] = &[0, 1, 4, 9, 16, 25, 36, 49, 64];
+
 #[test]
 fn a_sequence_is_its_items(rt: HostRuntime) -> Result<(), Fail> {
-    // enough of them that the list grows more than once
-    let squares: [u64; 9] = [0, 1, 4, 9, 16, 25, 36, 49, 64];
     let mut items = Sequence::from(Vec::new(rt.alloc()));
-    assert!(rt; items.is_empty());
-    assert_eq!(rt; items, Sequence::new(rt.alloc()));
-    for square in squares {
-        push(&rt, &mut items, square)?;
+    holds(&rt, items.is_empty(), &"no items");
+    same(&rt, &items, &Sequence::new(rt.alloc()), &"no items");
+    for square in SQUARES {
+        push(&rt, &mut items, *square)?;
     }
-    assert!(rt; !items.is_empty());
-    assert_eq!(rt; items.len(), 9);
-    assert_eq!(rt; items.as_slice(), squares.as_slice());
-    assert_eq!(rt; items.iter().count(), 9);
-    for (item, square) in items.iter().zip(squares.iter()) {
-        assert_eq!(rt; item, square);
-    }
-    for item in &items {
-        assert!(rt; squares.contains(item), "{item} is among them");
-    }
+    has_items(&rt, &items);
     copies(&rt, &items)
+}
+
+/// A sequence of all squares gives them as a slice, and by each of its iterators.
+fn has_items(rt: &impl Abort, items: &Sequence<u64>) {
+    holds(rt, !items.is_empty(), &"all items");
+    same(rt, &items.len(), &9, &"all items");
+    holds(rt, items.as_slice() == SQUARES, &"the items as a slice");
+    same(rt, &items.iter().count(), &9, &"all items");
+    for (item, square) in items.iter().zip(SQUARES.iter()) {
+        same(rt, item, square, &"in their order");
+    }
+    for item in items {
+        holds(rt, SQUARES.contains(item), item);
+    }
 }
 
 /// A copy has the same items, and is another list.
 fn copies(rt: &impl Abort, items: &Sequence<u64>) -> Result<(), Fail> {
     let mut other = copy(items)?;
-    assert_eq!(rt; &other, items);
+    same(rt, &other, items, &"a copy");
     push(rt, &mut other, 81)?;
-    assert_ne!(rt; &other, items);
-    assert_eq!(rt; items.len(), 9, "of the list that was copied");
+    holds(rt, &other != items, &"a copy that has grown");
+    same(rt, &items.len(), &9, &"of the list that was copied");
     let mut vec = other.into_vec();
-    assert_eq!(rt; vec.pop(), Some(81));
-    assert_eq!(rt; &Sequence::from(vec), items);
+    same(rt, &vec.pop(), &Some(81), &"the last item of the copy");
+    same(rt, &Sequence::from(vec), items, &"the copy without it");
     Ok(())
 }
 
-/// Compares a text, which is made once more where memory is refused.
-fn says(rt: &impl Abort, alloc: Global, shown: &impl Display, wanted: &str) -> Result<(), Fail> {
-    let text = match format!(in alloc; "{shown}") {
-        Ok(text) => text,
-        Err(_) => format!(in alloc; "{shown}")?,
-    };
-    assert_eq!(rt; text.as_str(), wanted);
-    Ok(())
-}
+/// Each refusal, as the words that it is read from.
+const REFUSALS: &str = "\
+Early 3
+Forgotten
+UnknownProxy
+Exhausted
+BadCount
+BatchThrottled
+Full
+ProxyClosed
+NotIssued
+Stranger
+TooLarge
+";
 
 #[test]
 fn refusals_as_text(rt: HostRuntime) -> Result<(), Fail> {
-    let cases = [
-        (Refusal::Early { expected: 3 }, "Early 3"),
-        (Refusal::Forgotten, "Forgotten"),
-        (Refusal::UnknownProxy, "UnknownProxy"),
-        (Refusal::Exhausted, "Exhausted"),
-        (Refusal::BadCount, "BadCount"),
-        (Refusal::BatchThrottled, "BatchThrottled"),
-        (Refusal::Full, "Full"),
-        (Refusal::ProxyClosed, "ProxyClosed"),
-        (Refusal::NotIssued, "NotIssued"),
-        (Refusal::Stranger, "Stranger"),
-        (Refusal::TooLarge, "TooLarge"),
-    ];
-    for (refusal, wanted) in cases {
-        says(&rt, rt.alloc(), &refusal, wanted)?;
+    for text in REFUSALS.lines() {
+        let refusal = refusal(&rt, &mut Line::new(text));
+        says(&rt, rt.alloc(), &refusal, text)?;
     }
     Ok(())
 }
 
 #[test]
 fn audit_faults_as_text(rt: HostRuntime) -> Result<(), Fail> {
-    let (client, call) = (4_294_967_295, 0);
-    let position = 18_446_744_073_709_551_615;
-    let cases = [
-        (AuditFault::Order { client: 0, call: 1 }, "Order 0 1"),
-        (AuditFault::Clash { position: 1 }, "Clash 1"),
-        (AuditFault::Gap { position }, "Gap 18446744073709551615"),
-        (AuditFault::Wrong { client, call }, "Wrong 4294967295 0"),
-        (
-            AuditFault::Stray {
-                client: 2,
-                call: 30,
-            },
-            "Stray 2 30",
-        ),
-        (AuditFault::NotAbove { client: 1, call: 1 }, "NotAbove 1 1"),
-        (AuditFault::Memory, "want of memory"),
-    ];
-    for (fault, wanted) in cases {
-        says(&rt, rt.alloc(), &fault, wanted)?;
+    for text in FAULTS.lines() {
+        let fault = fault(&rt, &mut Line::new(text));
+        says(&rt, rt.alloc(), &fault, text)?;
     }
-    Ok(())
+    says(&rt, rt.alloc(), &AuditFault::Memory, "want of memory")
 }
+
+/// Faults of an audit, as the words that they are read from.
+const FAULTS: &str = "\
+Order 0 1
+Clash 1
+Gap 18446744073709551615
+Wrong 4294967295 0
+Stray 2 30
+NotAbove 1 1
+";

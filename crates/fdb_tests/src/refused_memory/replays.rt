@@ -3,6 +3,7 @@
 use crate::calls::{outcome_of, replays, script_of, text_of};
 use crate::replay::scripts::TOLD;
 use crate::replay::{HISTORY, REPLIES, SCRIPT};
+use crate::same::{holds, same, same_text};
 use crate::script::FULL;
 use fdb_replay::{ReplayFault, RunFault};
 use fdb_script::ScriptError;
@@ -17,10 +18,10 @@ use std::thread::Threads;
 fn a_run_bears_it(rt: HostRuntime) -> Result<(), Fail> {
     let script = script_of(rt.alloc(), SCRIPT.as_bytes())?;
     let outcome = outcome_of(&rt, rt.alloc(), &script)?;
-    assert_eq!(rt; outcome.chain.len(), 2);
-    assert_eq!(rt; outcome.history.events.len(), 4);
+    same(&rt, &outcome.chain.len(), &2, &"the chain");
+    same(&rt, &outcome.history.events.len(), &4, &"the history");
     let full = script_of(rt.alloc(), FULL.as_bytes())?;
-    assert_eq!(rt; full.throttles().len(), 2);
+    same(&rt, &full.throttles().len(), &2, &"the throttles");
     Ok(())
 }
 
@@ -30,7 +31,7 @@ fn a_text_bears_it(rt: HostRuntime) -> Result<(), Fail> {
     let script = script_of(rt.alloc(), script.as_bytes())?;
     let outcome = outcome_of(&rt, rt.alloc(), &script)?;
     let bytes = text_of(rt.alloc(), &script, &outcome)?;
-    assert_eq!(rt; from_utf8(&bytes)?, wanted);
+    same_text(&rt, from_utf8(&bytes)?, wanted, "two clients");
     Ok(())
 }
 
@@ -52,8 +53,8 @@ fn replayed<R: Threads + Wait + Sync + Abort>(
 ) -> Result<Vec<u8>, ReplayFault> {
     let mut out = Vec::new(alloc);
     if let Err(fault) = replays(rt, alloc, script, 1, true, &mut out) {
-        assert!(rt; wants_memory(fault), "{fault}");
-        assert!(rt; out.is_empty(), "after a refused replay");
+        holds(rt, wants_memory(fault), &fault);
+        holds(rt, out.is_empty(), &"after a refused replay");
         replays(rt, alloc, script, 1, true, &mut out)?;
     }
     Ok(out)
@@ -62,6 +63,7 @@ fn replayed<R: Threads + Wait + Sync + Abort>(
 #[test]
 fn a_replay_bears_it(rt: HostRuntime) -> Result<(), Fail> {
     let out = replayed(&rt, rt.alloc(), SCRIPT)?;
-    assert_eq!(rt; from_utf8(&out)?.strip_prefix(REPLIES), Some(HISTORY));
+    let history = from_utf8(&out)?.strip_prefix(REPLIES);
+    same_text(&rt, history.unwrap_or("no replies"), HISTORY, "the history");
     Ok(())
 }

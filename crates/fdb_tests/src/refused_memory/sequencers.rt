@@ -1,5 +1,6 @@
 //! Sequencers.
 
+use crate::same::same;
 use crate::sequencer::{FromHundred, from_hundred};
 use fdb_chain::{ChainError, Sequencer};
 use fdb_history::{Ask, Issued, OpenGate};
@@ -44,8 +45,8 @@ fn next<R: Wait + Abort>(
     };
     let issued = answer(rt, sequencer, ask)?;
     // a version for each request, since no time passes
-    let wanted = (before as u64, before as u64 + 100);
-    assert_eq!(rt; (issued.ordinal, issued.version), wanted, "{ask:?}");
+    same(rt, &issued.ordinal, &u64::from(before), &num);
+    same(rt, &issued.version, &(u64::from(before) + 100), &num);
     Ok(())
 }
 
@@ -58,6 +59,11 @@ fn a_sequencer_bears_it(rt: HostRuntime) -> Result<(), Fail> {
             next(&rt, &sequencer, proxy, round as u64 + 1, round * 4 + proxy)?;
         }
     }
-    assert_eq!(rt; sequencer.close().answers().len(), 80);
+    same(
+        &rt,
+        &sequencer.close().answers().len(),
+        &80,
+        &"four proxies",
+    );
     Ok(())
 }

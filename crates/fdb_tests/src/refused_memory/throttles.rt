@@ -1,6 +1,7 @@
 //! Throttles.
 
 use crate::queue::queue;
+use crate::same::same;
 use fdb_history::{Priority, Tag, TagLimit};
 use fdb_queue::{GrvQueue, QueueError};
 use std::alloc::{AllocError, Global};
@@ -40,7 +41,7 @@ fn set(
     let outcome = queue.set_throttle(Priority::Default, tag_of(alloc, byte)?, rate, 1);
     if outcome == Err(QueueError::Memory) {
         let told = rate_of(queue, &[tag_of(alloc, byte)?])?;
-        assert_eq!(rt; told, (None, 0), "after a refused throttle");
+        same(rt, &told, &(None, 0), &"after a refused throttle");
         return queue.set_throttle(Priority::Default, tag_of(alloc, byte)?, rate, 1);
     }
     outcome
@@ -54,7 +55,7 @@ fn throttles_bear_it(rt: HostRuntime) -> Result<(), Fail> {
         set(&rt, rt.alloc(), &mut queue, byte)?;
     }
     let unknown = tag_of(rt.alloc(), 40)?;
-    assert_eq!(rt; rate_of(&queue, &[unknown])?, (None, 0));
+    same(&rt, &rate_of(&queue, &[unknown])?, &(None, 0), &"unknown");
     for byte in 0..40u8 {
         let tags = [
             tag_of(rt.alloc(), byte)?,
@@ -62,7 +63,7 @@ fn throttles_bear_it(rt: HostRuntime) -> Result<(), Fail> {
             tag_of(rt.alloc(), byte)?,
         ];
         let told = rate_of(&queue, &tags)?;
-        assert_eq!(rt; told, (Some(u64::from(byte)), 2), "tag {byte}");
+        same(&rt, &told, &(Some(u64::from(byte)), 2), &byte);
     }
     Ok(())
 }

@@ -1,6 +1,8 @@
 //! Faults: the line and the status that the program ends with.
 
-use fdb_history::AuditFault;
+use crate::audits::words::fault;
+use crate::line::Line;
+use crate::same::{same, says};
 use fdb_replay::Fault;
 use fdb_script::ScriptError;
 use std::alloc::Global;
@@ -9,42 +11,33 @@ use std::test::Fail;
 
 /// The text of a fault, and its status.
 fn ends(rt: &impl Abort, alloc: Global, fault: Fault, text: &str, status: u8) -> Result<(), Fail> {
-    assert_eq!(rt; fault.to_string(alloc)?.as_str(), text);
-    assert_eq!(rt; fault.status(), status, "{text}");
+    says(rt, alloc, &fault, text)?;
+    same(rt, &fault.status(), &status, &text);
     Ok(())
 }
 
-/// The text and the status of a fault that an audit found. No script brings one about.
-fn found(rt: &impl Abort, alloc: Global, fault: AuditFault, text: &str) -> Result<(), Fail> {
-    ends(rt, alloc, Fault::Audit(fault), text, 4)
+/// Faults that an audit found: in each line its words, and what is said of it. No script brings one about.
+const FOUND: &str = "\
+Order 0 1 => audit fault: Order 0 1
+Wrong 5 6 => audit fault: Wrong 5 6
+Stray 7 8 => audit fault: Stray 7 8
+NotAbove 4294967295 18446744073709551615 => audit fault: NotAbove 4294967295 18446744073709551615
+Clash 3 => audit fault: Clash 3
+Gap 18446744073709551615 => audit fault: Gap 18446744073709551615
+";
+
+#[test]
+fn faults_of_an_audit(rt: HostRuntime) -> Result<(), Fail> {
+    for text in FOUND.lines() {
+        let (words, wanted) = text.split_once(" => ").ok_or("no arrow")?;
+        let found = fault(&rt, &mut Line::new(words));
+        ends(&rt, rt.alloc(), Fault::Audit(found), wanted, 4)?;
+    }
+    Ok(())
 }
 
 #[test]
-fn faults_of_a_call(rt: HostRuntime) -> Result<(), Fail> {
-    let alloc = rt.alloc();
-    let order = AuditFault::Order { client: 0, call: 1 };
-    found(&rt, alloc, order, "audit fault: Order 0 1")?;
-    let wrong = AuditFault::Wrong { client: 5, call: 6 };
-    found(&rt, alloc, wrong, "audit fault: Wrong 5 6")?;
-    let stray = AuditFault::Stray { client: 7, call: 8 };
-    found(&rt, alloc, stray, "audit fault: Stray 7 8")?;
-    let (client, call) = (4_294_967_295, 18_446_744_073_709_551_615);
-    let low = AuditFault::NotAbove { client, call };
-    let text = "audit fault: NotAbove 4294967295 18446744073709551615";
-    found(&rt, alloc, low, text)
-}
-
-#[test]
-fn faults_of_a_position(rt: HostRuntime) -> Result<(), Fail> {
-    let clash = AuditFault::Clash { position: 3 };
-    found(&rt, rt.alloc(), clash, "audit fault: Clash 3")?;
-    let position = 18_446_744_073_709_551_615;
-    let text = "audit fault: Gap 18446744073709551615";
-    found(&rt, rt.alloc(), AuditFault::Gap { position }, text)
-}
-
-#[test]
-fn faults_of_a_script(rt: HostRuntime) -> Result<(), Fail> {
+fn other_faults(rt: HostRuntime) -> Result<(), Fail> {
     let alloc = rt.alloc();
     let no_json = Fault::Script(ScriptError::NotJson);
     ends(&rt, alloc, no_json, "script refused: NotJson", 1)?;
@@ -52,12 +45,7 @@ fn faults_of_a_script(rt: HostRuntime) -> Result<(), Fail> {
     ends(&rt, alloc, limit, "script refused: BadLimit", 1)?;
     let (round, command) = (10_000, 9_999);
     let field = Fault::Script(ScriptError::BadField { round, command });
-    ends(&rt, alloc, field, "script refused: BadField 10000 9999", 1)
-}
-
-#[test]
-fn other_faults(rt: HostRuntime) -> Result<(), Fail> {
-    let alloc = rt.alloc();
+    ends(&rt, alloc, field, "script refused: BadField 10000 9999", 1)?;
     ends(&rt, alloc, Fault::Words, "words refused", 2)?;
     ends(&rt, alloc, Fault::Memory, "want of memory", 3)?;
     ends(&rt, alloc, Fault::Reading, "reading failed", 5)?;

@@ -2,6 +2,7 @@
 
 use super::{REPLIES, SCRIPT, assert_ran, driven, words_of};
 use crate::calls::{drives, replays};
+use crate::same::{holds, same, same_text};
 use fdb_replay::{MAX_SCRIPT_BYTES, ReplayFault};
 use std::alloc::Global;
 use std::fs::Files;
@@ -95,11 +96,7 @@ fn a_reader_without_an_end(rt: HostRuntime) -> Result<(), Fail> {
     let mut input = Endless { taken: 0 };
     let ran = driven(&rt, rt.alloc(), words_of(rt.alloc(), ""), &mut input);
     assert_ran(&rt, &ran, 5, READING_FAILED, "without an end")?;
-    assert!(rt;
-        input.taken <= 16_777_217,
-        "{} bytes are taken",
-        input.taken
-    );
+    holds(&rt, input.taken <= 16_777_217, &input.taken);
     Ok(())
 }
 
@@ -170,9 +167,14 @@ fn replayed<R: Threads + Wait + Sync + Abort>(rt: &R, alloc: Global, fails_at: u
     } else {
         Ok(())
     };
-    assert_eq!(rt; outcome, wanted, "call {fails_at}");
-    assert_eq!(rt; out.taken.len(), taken_before(fails_at), "call {fails_at}");
-    assert!(rt; out.has_begun(REPLIES.as_bytes()), "call {fails_at}");
+    same(rt, &outcome, &wanted, &fails_at);
+    has_taken(rt, &out, fails_at);
+}
+
+/// Checks what such a writer has taken of the first script's text.
+fn has_taken(rt: &impl Abort, out: &Hundreds, fails_at: usize) {
+    same(rt, &out.taken.len(), &taken_before(fails_at), &fails_at);
+    holds(rt, out.has_begun(REPLIES.as_bytes()), &fails_at);
 }
 
 /// Drives the program over the first script and such a writer. A fourth call flushes.
@@ -191,16 +193,14 @@ fn flushed<R: Threads + Wait + Sync + Files + Abort>(
         &mut out,
         &mut err,
     );
-    let fails = fails_at <= 4;
-    let said = if fails {
-        "fdb_replay: writing failed\n"
+    let (wanted, said) = if fails_at <= 4 {
+        (5, "fdb_replay: writing failed\n")
     } else {
-        ""
+        (0, "")
     };
-    assert_eq!(rt; status, if fails { 5 } else { 0 }, "call {fails_at}");
-    assert_eq!(rt; from_utf8(&err)?, said, "call {fails_at}");
-    assert_eq!(rt; out.taken.len(), taken_before(fails_at), "call {fails_at}");
-    assert!(rt; out.has_begun(REPLIES.as_bytes()), "call {fails_at}");
+    same(rt, &status, &wanted, &fails_at);
+    same_text(rt, from_utf8(&err)?, said, "standard error");
+    has_taken(rt, &out, fails_at);
     Ok(())
 }
 
@@ -220,8 +220,8 @@ fn a_standard_error_that_fails(rt: HostRuntime) {
     let words = words_of(rt.alloc(), "");
     let mut input = b"{".as_slice();
     let status = drives(&rt, rt.alloc(), words, &mut input, &mut out, &mut err);
-    assert_eq!(rt; status, 1);
-    assert!(rt; out.is_empty());
+    same(&rt, &status, &1, &"a fault that cannot be written");
+    holds(&rt, out.is_empty(), &"a fault that cannot be written");
 }
 
 /// Asks for the help, over a writer that fails at a call.
@@ -240,13 +240,13 @@ fn helped<R: Threads + Wait + Sync + Files>(
 #[test]
 fn help_that_cannot_be_written(rt: HostRuntime) {
     let (status, whole) = helped(&rt, rt.alloc(), 0);
-    assert_eq!(rt; status, 0);
-    assert!(rt; whole.calls > 1);
+    same(&rt, &status, &0, &"the whole help");
+    holds(&rt, whole.calls > 1, &"the whole help");
     for fails_at in 1..=whole.calls {
         let (status, cut) = helped(&rt, rt.alloc(), fails_at);
-        assert_eq!(rt; status, 5, "call {fails_at}");
-        assert!(rt; cut.has_begun(whole.taken.as_slice()), "call {fails_at}");
+        same(&rt, &status, &5, &fails_at);
+        holds(&rt, cut.has_begun(whole.taken.as_slice()), &fails_at);
         let is_whole = cut.taken.len() == whole.taken.len();
-        assert_eq!(rt; is_whole, fails_at == whole.calls, "call {fails_at}");
+        same(&rt, &is_whole, &(fails_at == whole.calls), &fails_at);
     }
 }

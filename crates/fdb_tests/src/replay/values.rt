@@ -3,6 +3,7 @@
 use super::SCRIPT;
 use crate::audits;
 use crate::calls::{outcome_of, script_of, text_of};
+use crate::same::{holds, same, same_text, says};
 use fdb_history::AuditFault;
 use fdb_replay::{ReplayFault, RunFault};
 use fdb_script::{Outcome, ScriptError};
@@ -14,10 +15,12 @@ use std::test::Fail;
 /// Compares what a run left with the items of a text.
 fn left(rt: &impl Abort, alloc: Global, outcome: &Outcome, wanted: &str) -> Result<(), Fail> {
     let case = audits::begun(rt, alloc, wanted)?;
-    assert_eq!(rt; outcome.chain.as_slice(), case.chain.as_slice());
-    assert_eq!(rt; outcome.logs.len(), case.logs.len());
+    let chain = outcome.chain.as_slice();
+    holds(rt, chain == case.chain.as_slice(), &"the chain");
+    same(rt, &outcome.logs.len(), &case.logs.len(), &"the logs");
     for (log, wanted) in outcome.logs.iter().zip(case.logs.iter()) {
-        assert_eq!(rt; log.calls.as_slice(), wanted.calls.as_slice());
+        let calls = log.calls.as_slice();
+        holds(rt, calls == wanted.calls.as_slice(), &"a log");
     }
     Ok(())
 }
@@ -79,16 +82,8 @@ fn a_run_of_no_rounds_as_text(rt: HostRuntime) -> Result<(), Fail> {
     let script = script_of(rt.alloc(), IDLE.as_bytes())?;
     let outcome = outcome_of(&rt, rt.alloc(), &script)?;
     let bytes = text_of(rt.alloc(), &script, &outcome)?;
-    assert_eq!(rt;
-        from_utf8(&bytes)?,
-        "audit ok events 0 raised 0 versions 0\n"
-    );
-    Ok(())
-}
-
-/// The text of a replay's fault.
-fn says(rt: &impl Abort, alloc: Global, fault: ReplayFault, wanted: &str) -> Result<(), Fail> {
-    assert_eq!(rt; fault.to_string(alloc)?.as_str(), wanted);
+    let wanted = "audit ok events 0 raised 0 versions 0\n";
+    same_text(&rt, from_utf8(&bytes)?, wanted, "no rounds");
     Ok(())
 }
 
@@ -96,24 +91,12 @@ fn says(rt: &impl Abort, alloc: Global, fault: ReplayFault, wanted: &str) -> Res
 fn faults_of_a_replay_as_text(rt: HostRuntime) -> Result<(), Fail> {
     let (round, command) = (10_000, 9_999);
     let refused = ReplayFault::Script(ScriptError::BadField { round, command });
-    says(
-        &rt,
-        rt.alloc(),
-        refused,
-        "script refused: BadField 10000 9999",
-    )?;
-    says(
-        &rt,
-        rt.alloc(),
-        ReplayFault::Run(RunFault::Memory),
-        "want of memory",
-    )?;
-    let found = RunFault::Audit(AuditFault::Clash { position: 3 });
-    says(
-        &rt,
-        rt.alloc(),
-        ReplayFault::Run(found),
-        "audit fault: Clash 3",
-    )?;
-    says(&rt, rt.alloc(), ReplayFault::Write, "writing failed")
+    let text = "script refused: BadField 10000 9999";
+    says(&rt, rt.alloc(), &refused, text)?;
+    let memory = ReplayFault::Run(RunFault::Memory);
+    says(&rt, rt.alloc(), &memory, "want of memory")?;
+    let clash = RunFault::Audit(AuditFault::Clash { position: 3 });
+    let found = ReplayFault::Run(clash);
+    says(&rt, rt.alloc(), &found, "audit fault: Clash 3")?;
+    says(&rt, rt.alloc(), &ReplayFault::Write, "writing failed")
 }

@@ -1,6 +1,7 @@
 //! What words ask for, which are refused, and words that could not be had.
 
 use super::{HISTORY, REPLIES, SCRIPT, assert_ran, driven, words_of};
+use crate::same::{holds, same};
 use std::alloc::{AllocError, Global};
 use std::fs::Files;
 use std::io;
@@ -62,8 +63,9 @@ fn asks<R: Threads + Wait + Sync + Files + Abort>(
     let mut input = SCRIPT.as_bytes();
     let ran = driven(rt, alloc, words_of(alloc, words), &mut input);
     assert_ran(rt, &ran, status(wanted), &written(alloc, wanted)?, line)?;
-    assert_eq!(rt; input.is_empty(), ran.status == 0, "{line}");
-    assert!(rt; input.is_empty() || input.len() == SCRIPT.len(), "{line}");
+    same(rt, &input.is_empty(), &(ran.status == 0), &line);
+    let is_whole = input.len() == SCRIPT.len();
+    holds(rt, input.is_empty() || is_whole, &line);
     Ok(())
 }
 
@@ -95,15 +97,18 @@ fn words_that_could_not_be_had(rt: HostRuntime) -> Result<(), Fail> {
     wordless(&rt, rt.alloc(), ErrorKind::OutOfMemory, 3, line)
 }
 
+/// Words that ask for the help.
+const HELPS: &[&str] = &["--help", "--proxies 2 --history one.json --help"];
+
 #[test]
 fn help_is_written(rt: HostRuntime) -> Result<(), Fail> {
     let usage = "Usage: fdb_replay [OPTIONS] [SCRIPT]\n";
-    for words in ["--help", "--proxies 2 --history one.json --help"] {
+    for words in HELPS {
         let given = words_of(rt.alloc(), words);
         let ran = driven(&rt, rt.alloc(), given, &mut SCRIPT.as_bytes());
-        assert_eq!(rt; ran.status, 0, "{words}");
-        assert!(rt; ran.err.is_empty(), "{words}");
-        assert!(rt; from_utf8(&ran.out)?.contains(usage), "{words}");
+        same(&rt, &ran.status, &0, &words);
+        holds(&rt, ran.err.is_empty(), &words);
+        holds(&rt, from_utf8(&ran.out)?.contains(usage), &words);
     }
     Ok(())
 }

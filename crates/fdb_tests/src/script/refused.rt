@@ -1,6 +1,7 @@
 //! Scripts that are refused.
 
 use crate::calls::script_of;
+use crate::same::same_text;
 use std::alloc::{AllocError, Global};
 use std::process::Abort;
 use std::test::Fail;
@@ -24,7 +25,7 @@ fn refused(
         Ok(_) => String::from_str(alloc, "it is read")?,
         Err(cause) => cause.to_string(alloc)?,
     };
-    assert_eq!(rt; found.as_str(), wanted, "{case}");
+    same_text(rt, found.as_str(), wanted, case);
     Ok(())
 }
 

@@ -1,0 +1,74 @@
+//! The program that replays a script.
+
+use crate::replay::replay;
+use std::fs::File;
+use std::io::{self, Read, Write};
+use std::process::ExitCode;
+
+const MAX_SCRIPT_BYTES: u64 = 16_777_216;
+const MAX_PROXIES: usize = 16;
+
+struct Words<'a> {
+    script: Option<&'a str>,
+    proxies: usize,
+    with_history: bool,
+}
+
+pub fn run(words: &[String]) -> ExitCode {
+    let Some(words) = parsed(words) else {
+        eprintln!("peer: words refused");
+        return ExitCode::from(2);
+    };
+    let Ok(bytes) = script_bytes(words.script) else {
+        eprintln!("peer: reading failed");
+        return ExitCode::from(5);
+    };
+    match replay(&bytes, words.proxies, words.with_history) {
+        Ok(text) => match io::stdout().write_all(text.as_bytes()) {
+            Ok(()) => ExitCode::SUCCESS,
+            Err(_) => {
+                eprintln!("peer: writing failed");
+                ExitCode::from(5)
+            }
+        },
+        Err(fault) => {
+            eprintln!("peer: {fault}");
+            ExitCode::FAILURE
+        }
+    }
+}
+
+fn parsed(words: &[String]) -> Option<Words<'_>> {
+    let (mut script, mut proxies, mut with_history) = (None, 1, false);
+    let mut left = words.iter();
+    while let Some(word) = left.next() {
+        match word.as_str() {
+            "--proxies" => {
+                let said = left.next()?.parse().ok();
+                proxies = said.filter(|number| (1..=MAX_PROXIES).contains(number))?;
+            }
+            "--history" => with_history = true,
+            name if script.is_none() => script = Some(name),
+            _ => return None,
+        }
+    }
+    Some(Words {
+        script,
+        proxies,
+        with_history,
+    })
+}
+
+/// The bytes of a script's file, or of standard input.
+fn script_bytes(script: Option<&str>) -> io::Result<Vec<u8>> {
+    let mut bytes = Vec::new();
+    let most = MAX_SCRIPT_BYTES + 1;
+    let read = match script {
+        Some(path) => File::open(path)?.take(most).read_to_end(&mut bytes)?,
+        None => io::stdin().lock().take(most).read_to_end(&mut bytes)?,
+    };
+    if read as u64 > MAX_SCRIPT_BYTES {
+        return Err(io::ErrorKind::FileTooLarge.into());
+    }
+    Ok(bytes)
+}
