@@ -1,0 +1,84 @@
+"""Whether the judge judges: it accepts what schedules give, and refuses what wrong services and changed texts say."""
+import json
+import random
+from collections import Counter, defaultdict
+from functools import lru_cache
+
+import drawn
+from changes import LINES, REPLIES, Text, lines_changed, replies_changed
+from judge import fault_of_text, is_determined
+from model import Run, text_of
+from reader import script_of
+from schedules import Schedule
+from wrong_services import ALONE, ALWAYS
+
+DRAWN, WRONG, CHANGED = 300, 6, 60
+
+
+def proxies_of(seed):
+    return [1, 2, 16, 1 + seed % 16][seed % 4]
+
+
+@lru_cache(maxsize=None)
+def drawn_script(seed):
+    """Draws a script; in one of three clients hardly race."""
+    dice = random.Random(f"judged {seed}")
+    return script_of(drawn.lawful(dice).encode() if seed % 3 == 0 else json.dumps(drawn.racing(dice)).encode())
+
+
+def schedule_text(seed, service=Run):
+    """Returns what a schedule of these dice gives where calls come to this service."""
+    script = drawn_script(seed)
+    return Schedule(script, proxies_of(seed), random.Random(f"schedule {seed}"), service(script, threaded=True)).text()
+
+
+@lru_cache(maxsize=None)
+def right_text(seed):
+    return schedule_text(seed)
+
+
+def judged(seed, text):
+    return fault_of_text(drawn_script(seed), proxies_of(seed), text, threaded=True)
+
+
+def serial_text(script):
+    run = Run(script, threaded=True)
+    return text_of([*run.played(), run.audit(), *run.history()])
+
+
+def lawful_texts(_program):
+    """What the plainest run says is lawful, and so is what each drawn schedule gives, which is the same where nobody races."""
+    for seed in range(DRAWN):
+        serial, text = serial_text(drawn_script(seed)), right_text(seed)
+        yield f"the plainest run of seed {seed}", judged(seed, serial)
+        yield f"a schedule of seed {seed}", judged(seed, text)
+        if is_determined(drawn_script(seed), proxies_of(seed)):
+            yield f"nobody races in seed {seed}", None if text == serial else "the text is another"
+
+
+def wrong_services(_program):
+    """What a wrong service says is refused, where it is anything else than the right one says in the same schedule."""
+    for service in ALWAYS + ALONE:
+        met, accepted = 0, []
+        for seed in range(DRAWN):
+            if service in ALWAYS or is_determined(drawn_script(seed), proxies_of(seed)):
+                wrong = schedule_text(seed, service)
+                met += wrong != right_text(seed)
+                accepted += [seed] * (wrong != right_text(seed) and judged(seed, wrong) is None)
+            if met == WRONG:
+                break
+        yield service.__name__, f"accepted for the seeds {accepted[:5]}" if accepted else None if met else "it never was wrong"
+
+
+def changed_texts(_program):
+    """A lawful text is refused after each change of which no schedule can come."""
+    met, accepted = Counter(), defaultdict(list)
+    for seed in range(CHANGED):
+        dice, text = random.Random(f"change {seed}"), Text(drawn_script(seed), proxies_of(seed), right_text(seed))
+        for changes, changed_by in ((REPLIES, replies_changed), (LINES, lines_changed)):
+            for name in changes:
+                lines = changed_by(text, name, dice)
+                met[name] += lines is not None
+                accepted[name] += [seed] * (lines is not None and judged(seed, text_of(lines)) is None)
+    for name, times in met.items():
+        yield name, f"accepted for the seeds {accepted[name][:5]}" if accepted[name] else None if times else "it was never possible"
