@@ -15,9 +15,9 @@ from bisect import bisect_left
 from collections import Counter, defaultdict, deque
 from typing import NamedTuple
 
-from harness import DONE, Ran, fault_of
-from model import FULL, LAST_VERSION, THREADED, Run, expected, in_order, line_of
-from reader import script_of
+from harness import DONE, Ran, fault_of, refused
+from model import FULL, LAST_VERSION, THREADED, Run, in_order, line_of, printed
+from reader import Refused, script_of
 
 POSITION = re.compile(r"(?:\d+ (not )?raised|refused Locked \d+|\d+ (?:un)?locked \w+) pos (\d{1,20})(?= |$)")
 ORDINAL = re.compile(r"prev \d+ version \d+ ordinal (\d{1,20}) fresh$")
@@ -193,40 +193,48 @@ def crowd_fault(script, reads, before):
     A queue is full where `room` reads wait in it, of as many clients. A read that is refused then is of no higher priority than
     any of them. One that is pushed out is of no higher one than the read that does it and the others that wait.
     """
-    for proxy in sorted({read.proxy for read in reads}):
+    for proxy in sorted({read.proxy for read in reads if read.is_full}):
         here = [read for read in reads if read.proxy == proxy]
         full = [read for read in here if read.is_full]
-        for read in full:
-            others = beside(read, [it for it in here if it.rank >= read.rank], before)
-            if others < script.room:
-                return f"{others} reads can have waited beside that of {read.call.line!r}, and there is room for {script.room}"
-        fault = full and (nobody_stayed(script, here, full, before) or too_often(script, here, full))
+        fault = too_often(script, here, full)
+        for rank in sorted({read.rank for read in full}):
+            fault = fault or too_few(script.room, [it for it in here if it.rank >= rank], rank, before)
         if fault:
             return f"{fault} at proxy {proxy}"
     return None
 
 
-def beside(read, reads, before):
-    """Returns how many other clients have one of these reads that can have waited when a read was refused or pushed out."""
+def too_few(room, reads, rank, before):
+    """Returns whether too few of these reads, all of this rank or above, can have waited when one was refused or pushed out.
+
+    When the last of them went, those that waited then stayed until they started.
+    """
+    waited, stayed = places_of(reads), places_of(it for it in reads if not it.is_full)
+    full = [read for read in reads if read.is_full]
+    for read in (it for it in full if it.rank == rank):
+        others = beside(read, waited, before)
+        if others < room:
+            return f"{others} reads can have waited beside that of {read.call.line!r}, and there is room for {room}"
+    if all(beside(read, stayed, before) < room for read in full):
+        return f"too few reads found room for {len(full)} to find none"
+    return None
+
+
+def places_of(reads):
+    """Returns each client's calls among these."""
     places = defaultdict(list)
     for it in reads:
         places[it.client].append(it.index)
-    started = before[read.client][read.index]
-    count = 0
+    return places
+
+
+def beside(read, places, before):
+    """Returns how many other clients have a read there that can have waited when this one was refused or pushed out."""
+    begun, count = before[read.client][read.index], 0
     for client, indexes in places.items():
-        at = bisect_left(indexes, started[client])
+        at = bisect_left(indexes, begun[client])
         count += client != read.client and at < len(indexes) and before[client][indexes[at]][read.client] <= read.index
     return count
-
-
-def nobody_stayed(script, here, full, before):
-    """Returns whether too few reads found room: when the last of some rank went, as many as there is room for stayed for good."""
-    for rank in {read.rank for read in full}:
-        stayed = [it for it in here if it.rank >= rank and not it.is_full]
-        last = [read for read in full if read.rank >= rank]
-        if all(beside(read, stayed, before) < script.room for read in last):
-            return f"too few reads found room for {len(last)} to find none"
-    return None
 
 
 def too_often(script, here, full):
@@ -278,10 +286,11 @@ def is_determined(script, proxies):
 
 def fault_of_run(ran, given, proxies=1, history=True, threaded=THREADED):
     """Returns how a run differs from what is lawful for its script, or None. Where there is but one text, it has to be that."""
-    wanted = expected(given, history, threaded)
-    if wanted.status != DONE:
-        return fault_of(ran, wanted)
-    script = script_of(given)
-    has_one_text = not threaded or is_determined(script, proxies)
-    fault = fault_of(ran, wanted if has_one_text else Ran(DONE, None, b""))
-    return fault or fault_of_text(script, proxies, ran.out, history, threaded)
+    try:
+        script = script_of(given)
+    except Refused as why:
+        return fault_of(ran, refused(str(why)))
+    is_alone = is_determined(script, proxies)
+    wanted = printed(script, history, threaded) if is_alone or not threaded else None
+    fault = fault_of(ran, Ran(DONE, wanted, b""))
+    return fault or (None if is_alone else fault_of_text(script, proxies, ran.out, history, threaded))

@@ -7,7 +7,7 @@ from functools import lru_cache
 import drawn
 from changes import LINES, REPLIES, Text, lines_changed, replies_changed
 from judge import fault_of_text, is_determined
-from model import Run, text_of
+from model import Run, printed, text_of
 from reader import script_of
 from schedules import Schedule
 from wrong_services import ALONE, ALWAYS
@@ -41,15 +41,10 @@ def judged(seed, text):
     return fault_of_text(drawn_script(seed), proxies_of(seed), text, threaded=True)
 
 
-def serial_text(script):
-    run = Run(script, threaded=True)
-    return text_of([*run.played(), run.audit(), *run.history()])
-
-
 def lawful_texts(_program):
     """What the plainest run says is lawful, and so is what each drawn schedule gives, which is the same where nobody races."""
     for seed in range(DRAWN):
-        serial, text = serial_text(drawn_script(seed)), right_text(seed)
+        serial, text = printed(drawn_script(seed), True, True), right_text(seed)
         yield f"the plainest run of seed {seed}", judged(seed, serial)
         yield f"a schedule of seed {seed}", judged(seed, text)
         if is_determined(drawn_script(seed), proxies_of(seed)):

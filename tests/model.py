@@ -203,10 +203,15 @@ def line_of(number, place, it, said):
 def expected(given, history=False, threaded=THREADED):
     """Returns how the program is to end on these bytes where one call is made after the other."""
     try:
-        run = Run(script_of(given), threaded)
+        return done(printed(script_of(given), history, threaded))
     except Refused as why:
         return refused(str(why))
-    return done(text_of([*run.played(), run.audit(), *(run.history() if history else [])]))
+
+
+def printed(script, history=False, threaded=THREADED):
+    """Returns the text of a script's plainest run."""
+    run = Run(script, threaded)
+    return text_of([*run.played(), run.audit(), *(run.history() if history else [])])
 
 
 def text_of(lines):
