@@ -2,7 +2,7 @@
 import re
 from collections import Counter
 
-from judge import POSITION
+from judge import POSITION, RANKS
 from model import FULL, Event, Record, Run, in_order, line_of
 
 READ = re.compile(r"(?:(\d+) (un)?locked (\w+)|refused Locked (\d+)) pos (\d+)(.*)")
@@ -148,19 +148,34 @@ def ahead_of_its_round(text, index, said):
     return read_at(text, index, min(raised)) if raised else None
 
 
+def crowds(text):
+    """Returns the reads that are not refused for themselves: for each place among the replies, the round and the proxy."""
+    reads, found, run = Counter(), {}, Run(text.script, True)
+    for at, (number, _, it) in enumerate(text.calls):
+        if it.do == "grv":
+            if run.turned_away(it) is None:
+                found[at] = number, (it.client + reads[it.client]) % text.proxies
+            reads[it.client] += 1
+    return found
+
+
 def full_with_room(text, index, said):
-    """Lets a read find its queue full where too few other clients have reads for the same proxy."""
-    number, _, it = text.calls[index]
-    if it.do != "grv" or said == FULL:
+    """Lets a read find its queue full where too few other clients have reads of its priority or above for the same proxy."""
+    where, it = crowds(text), text.calls[index][2]
+    if index not in where or said == FULL:
         return None
-    reads, clients = Counter(), {}
-    for at, (when, _, other) in enumerate(text.calls):
-        if other.do == "grv":
-            proxy = (other.client + reads[other.client]) % text.proxies
-            reads[other.client] += 1
-            clients.setdefault((when, proxy), set()).add(other.client)
-            own = (when, proxy) if at == index else own if at > index else None
-    return FULL if len(clients[own]) <= text.script.room else None
+    beside = (text.calls[at][2] for at in where if where[at] == where[index])
+    others = {one.client for one in beside if RANKS[one.priority] >= RANKS[it.priority]} - {it.client}
+    return FULL if len(others) < text.script.room else None
+
+
+def nobody_found_room(text, dice):
+    """Lets all reads of a round that go to one proxy find its queue full."""
+    where = crowds(text)
+    if not where:
+        return None
+    chosen = dice.choice(sorted(where.values()))
+    return text.explained([FULL if where.get(at) == chosen else said for at, said in enumerate(text.replies)])
 
 
 def without_last_limit(_text, _index, said):
@@ -280,6 +295,14 @@ LINES = {
     "an event of the history dropped": ("history", event_dropped),
     "a line of the history doubled": ("history", one_doubled),
 }
+
+
+# A change of several replies, with the audit and the history that go with that.
+CROWDS = {"nobody found room": nobody_found_room}
+
+
+def crowd_changed(text, name, dice):
+    return CROWDS[name](text, dice)
 
 
 def replies_changed(text, name, dice):

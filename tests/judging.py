@@ -5,12 +5,12 @@ from collections import Counter, defaultdict
 from functools import lru_cache
 
 import drawn
-from changes import LINES, REPLIES, Text, lines_changed, replies_changed
+from changes import CROWDS, LINES, REPLIES, Text, crowd_changed, lines_changed, replies_changed
 from judge import fault_of_text, is_determined
 from model import Run, printed, text_of
 from reader import script_of
 from schedules import Schedule
-from wrong_services import ALONE, ALWAYS
+from wrong_services import ALONE, ALWAYS, SCHEDULES
 
 DRAWN, WRONG, CHANGED = 300, 6, 60
 
@@ -26,10 +26,10 @@ def drawn_script(seed):
     return script_of(drawn.lawful(dice).encode() if seed % 3 == 0 else json.dumps(drawn.racing(dice)).encode())
 
 
-def schedule_text(seed, service=Run):
+def schedule_text(seed, service=Run, schedule=Schedule):
     """Returns what a schedule of these dice gives where calls come to this service."""
     script = drawn_script(seed)
-    return Schedule(script, proxies_of(seed), random.Random(f"schedule {seed}"), service(script, threaded=True)).text()
+    return schedule(script, proxies_of(seed), random.Random(f"schedule {seed}"), service(script, threaded=True)).text()
 
 
 @lru_cache(maxsize=None)
@@ -53,16 +53,17 @@ def lawful_texts(_program):
 
 def wrong_services(_program):
     """What a wrong service says is refused, where it is anything else than the right one says in the same schedule."""
-    for service in ALWAYS + ALONE:
+    wrong = [*((it, it, Schedule, True) for it in ALWAYS), *((it, it, Schedule, False) for it in ALONE), *((it, Run, it, False) for it in SCHEDULES)]
+    for named, service, schedule, is_sure in wrong:
         met, accepted = 0, []
         for seed in range(DRAWN):
-            if service in ALWAYS or is_determined(drawn_script(seed), proxies_of(seed)):
-                wrong = schedule_text(seed, service)
-                met += wrong != right_text(seed)
-                accepted += [seed] * (wrong != right_text(seed) and judged(seed, wrong) is None)
+            if is_sure or is_determined(drawn_script(seed), proxies_of(seed)):
+                text = schedule_text(seed, service, schedule)
+                met += text != right_text(seed)
+                accepted += [seed] * (text != right_text(seed) and judged(seed, text) is None)
             if met == WRONG:
                 break
-        yield service.__name__, f"accepted for the seeds {accepted[:5]}" if accepted else None if met else "it never was wrong"
+        yield named.__name__, f"accepted for the seeds {accepted[:5]}" if accepted else None if met else "it never was wrong"
 
 
 def changed_texts(_program):
@@ -70,7 +71,7 @@ def changed_texts(_program):
     met, accepted = Counter(), defaultdict(list)
     for seed in range(CHANGED):
         dice, text = random.Random(f"change {seed}"), Text(drawn_script(seed), proxies_of(seed), right_text(seed))
-        for changes, changed_by in ((REPLIES, replies_changed), (LINES, lines_changed)):
+        for changes, changed_by in ((REPLIES, replies_changed), (CROWDS, crowd_changed), (LINES, lines_changed)):
             for name in changes:
                 lines = changed_by(text, name, dice)
                 met[name] += lines is not None

@@ -1,5 +1,8 @@
-"""Services that answer wrongly, each in one way, for the judge to refuse."""
+"""Services that answer wrongly and proxies that serve wrongly, each in one way, for the judge to refuse."""
+from types import SimpleNamespace
+
 from model import LAST_VERSION, Record, Run
+from schedules import Proxy, Schedule
 
 
 class OpeningReads(Run):
@@ -243,12 +246,57 @@ class LearnsBlindly(Run):
             self.logs[to].calls, self.logs[to].position = self.logs[to].calls + 1, position
 
 
+class AllToTheFirst(Schedule):
+    """Each read goes to the first proxy."""
+
+    def proxy_of(self, client):
+        return self.proxies[0]
+
+
+class ByTheReadAlone(Schedule):
+    """The first read of each client goes to the first proxy, and so on."""
+
+    def proxy_of(self, client):
+        self.reads[client] += 1
+        return self.proxies[(self.reads[client] - 1) % len(self.proxies)]
+
+
+class FullTooEarly(Schedule):
+    """A queue is full when there is room for one more."""
+
+    def __init__(self, script, proxies, dice, run):
+        super().__init__(script, proxies, dice, run)
+        less = SimpleNamespace(**{**vars(script), "room": script.room - 1})
+        self.proxies = [Proxy(less, run) for _ in range(proxies)]
+
+
+class CachedReads(Run):
+    """A read gives the record that stood a round before its own, unless its client has seen a later one."""
+
+    def __init__(self, script, threaded):
+        super().__init__(script, threaded)
+        self.before = self.last = self.record, 0
+
+    def grv(self, it):
+        live = self.record, self.position
+        is_cached = self.before[1] < self.last[1] and self.logs[it.client].position <= self.before[1]
+        self.record, self.position = self.before if is_cached else live
+        said = super().grv(it)
+        self.record, self.position = live
+        return said
+
+    def learned(self, told):
+        super().learned(told)
+        self.before, self.last = self.last, (self.record, self.position)
+
+
 # Where one of these says anything else than the right service in the same schedule, no schedule gives that.
 ALWAYS = [
     *(LowPositions, LaterReplaces, NeverRaises, KeepsLock, ForgottenRepeats, KeepsAll, SaysFresh, DrawsForRepeats, EarlyByTwo),
     *(OneNumbering, Forks, NoCap, StepsOfTwo, PassesTheLast, ExhaustedFromTheFirst, NoLimits, LimitsForAll, LimitsAtExpiry),
     *(LocksOutAll, LocksOutNobody, CountsFromNought, ThrottledFirst, ReportsAnything, ReportsKeptAlone),
-    *(TellsTheLatest, LosesLearns, LearnsBlindly),
+    *(TellsTheLatest, LosesLearns, LearnsBlindly, CachedReads),
 ]
 # Of these, another schedule may, unless nobody races.
 ALONE = [OpeningReads]
+SCHEDULES = [AllToTheFirst, ByTheReadAlone, FullTooEarly]
