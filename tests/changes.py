@@ -39,9 +39,8 @@ class Text:
                 run.events.append(Event(it.client, calls[it.client], int(position[2]), record_of(it, said), raised))
                 run.position += raised
             elif it.do == "grv" and read:
-                at_position = int(read[5])
-                record = records.get(at_position, records[0]) if read[4] else Record(int(read[1]), not read[2], None if read[3] == "none" else int(read[3]))
-                run.events.append(Event(it.client, calls[it.client], at_position, record, None))
+                record = records.get(int(read[5]), records[0]) if read[4] else record_read(read)
+                run.events.append(Event(it.client, calls[it.client], int(read[5]), record, None))
             calls[it.client] += 1
         run.chain = [said for said in replies if said.endswith(" fresh")]
         return self.whole(replies, run.audit(), run.history())
@@ -58,6 +57,10 @@ class Text:
             if it.do == "report" and position and position[1] is None:
                 found[int(position[2])] = record_of(it, said)
         return found
+
+
+def record_read(read):
+    return Record(int(read[1]), not read[2], None if read[3] == "none" else int(read[3]))
 
 
 def record_of(it, said):
@@ -126,26 +129,31 @@ def read_at(text, index, position):
     return f"{record} pos {position}{limits}"
 
 
+def raised_in(text, is_wanted):
+    """Returns the positions that reports of some rounds raised."""
+    ends = [POSITION.match(said) for (number, _, it), said in zip(text.calls, text.replies) if it.do == "report" and is_wanted(number)]
+    return [int(end[2]) for end in ends if end and end[1] is None]
+
+
 def stale_in_a_later_round(text, index, said):
     """Lets a read give the record before the last one that a round before it raised."""
-    before = [POSITION.match(end) for (number, _, it), end in zip(text.calls, text.replies) if number < text.calls[index][0] and it.do == "report"]
-    raised = [int(it[2]) for it in before if it and it[1] is None]
+    raised = raised_in(text, lambda number: number < text.calls[index][0])
     return read_at(text, index, max(raised) - 1) if raised else None
-
-
-def stale_after_own(text, index, said):
-    """Lets a read give the record before the one that its client had seen."""
-    number, _, it = text.calls[index]
-    own = [POSITION.match(end) for (at, _, other), end in zip(text.calls[:index], text.replies) if other.client == it.client and at == number]
-    seen = max((int(found[2]) for found in own if found), default=0)
-    return read_at(text, index, seen - 1) if seen else None
 
 
 def ahead_of_its_round(text, index, said):
     """Lets a read give a record that a later round raised."""
-    later = [POSITION.match(end) for (number, _, it), end in zip(text.calls, text.replies) if number > text.calls[index][0] and it.do == "report"]
-    raised = [int(it[2]) for it in later if it and it[1] is None]
+    raised = raised_in(text, lambda number: number > text.calls[index][0])
     return read_at(text, index, min(raised)) if raised else None
+
+
+def stale_after_own(text, index, said):
+    """Lets a read give the record before the one that its client had seen in the same round."""
+    number, _, it = text.calls[index]
+    before = zip(text.calls[:index], text.replies)
+    own = [POSITION.match(end) for (at, _, other), end in before if (at, other.client) == (number, it.client)]
+    seen = max((int(end[2]) for end in own if end), default=0)
+    return read_at(text, index, seen - 1) if seen else None
 
 
 def crowds(text):
@@ -274,7 +282,8 @@ def prevs_swapped(lines, dice):
     one, other = dice.sample(places, 2)
     first, second = (FRESH.search(lines[at])[1] for at in (one, other))
     changed = list(lines)
-    changed[one], changed[other] = lines[one].replace(f"prev {first} ", f"prev {second} "), lines[other].replace(f"prev {second} ", f"prev {first} ")
+    changed[one] = lines[one].replace(f"prev {first} ", f"prev {second} ")
+    changed[other] = lines[other].replace(f"prev {second} ", f"prev {first} ")
     return changed
 
 

@@ -5,9 +5,11 @@ from collections import Counter, defaultdict
 from functools import lru_cache
 
 import drawn
+import small_races
 from changes import CROWDS, LINES, REPLIES, Text, crowd_changed, lines_changed, replies_changed
+from harness import written
 from judge import fault_of_text, is_determined
-from model import Run, printed, text_of
+from model import Run, in_order, line_of, printed, text_of
 from reader import script_of
 from schedules import Schedule
 from wrong_services import ALONE, ALWAYS, SCHEDULES
@@ -21,9 +23,11 @@ def proxies_of(seed):
 
 @lru_cache(maxsize=None)
 def drawn_script(seed):
-    """Draws a script; in one of three clients hardly race."""
+    """Draws a script: one in which nearly all goes, clients that race, or reads for which there is just room enough."""
     dice = random.Random(f"judged {seed}")
-    return script_of(drawn.lawful(dice).encode() if seed % 3 == 0 else json.dumps(drawn.racing(dice)).encode())
+    if seed % 3 == 0:
+        return script_of(drawn.lawful(dice).encode())
+    return script_of(json.dumps(drawn.racing(dice) if seed % 3 == 1 else drawn.fitting(dice, proxies_of(seed))).encode())
 
 
 def schedule_text(seed, service=Run, schedule=Schedule):
@@ -49,6 +53,17 @@ def lawful_texts(_program):
         yield f"a schedule of seed {seed}", judged(seed, text)
         if is_determined(drawn_script(seed), proxies_of(seed)):
             yield f"nobody races in seed {seed}", None if text == serial else "the text is another"
+
+
+def worked_texts(_program):
+    """Small races, of which a hand calculation says what is lawful."""
+    for name, (rounds, top), proxies, counts, is_lawful, ends in small_races.RACES:
+        script = script_of(written(rounds, clients=3, **top))
+        audit = "audit ok events {} raised {} versions {}".format(*counts.split())
+        calls = [(number, place, it) for number, commands in enumerate(script.rounds) for place, it in in_order(commands)]
+        lines = [line_of(number, place, it, end) for (number, place, it), end in zip(calls, ends)]
+        fault = fault_of_text(script, proxies, text_of([*lines, audit]), history=False, threaded=True)
+        yield name, None if (fault is None) == is_lawful else fault or "it was accepted"
 
 
 def wrong_services(_program):
