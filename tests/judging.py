@@ -68,11 +68,11 @@ def worked_texts(_program):
 
 def wrong_services(_program):
     """What a wrong service says is refused, where it is anything else than the right one says in the same schedule."""
-    wrong = [*((it, it, Schedule, True) for it in ALWAYS), *((it, it, Schedule, False) for it in ALONE), *((it, Run, it, False) for it in SCHEDULES)]
-    for named, service, schedule, is_sure in wrong:
+    services, ways = [(it, it, Schedule) for it in ALWAYS + ALONE], [(it, Run, it) for it in SCHEDULES]
+    for named, service, schedule in services + ways:
         met, accepted = 0, []
         for seed in range(DRAWN):
-            if is_sure or is_determined(drawn_script(seed), proxies_of(seed)):
+            if named in ALWAYS or is_determined(drawn_script(seed), proxies_of(seed)):
                 text = schedule_text(seed, service, schedule)
                 met += text != right_text(seed)
                 accepted += [seed] * (text != right_text(seed) and judged(seed, text) is None)

@@ -1,6 +1,7 @@
 """Scripts whose clients race, run by the program with 1 to 16 proxies: each text has to be lawful, whatever the schedule was."""
 import json
 import random
+import re
 
 import drawn
 from answers import MOST_COMMANDS, Example, do
@@ -36,22 +37,36 @@ def both(*commands):
     return [{**it, "client": client} for client in (0, 1) for it in commands]
 
 
-FIRST = {"do": "ask", "client": 0, "at": 5}
+def turns(clients, times, what):
+    """As many calls of each of these clients, by a function of the client and the number of the call."""
+    return [what(who, at) for who in range(clients) for at in range(times)]
+
+
+TOLD = [[*both(*commit(0, 1)), do("tell", 0, to=1), do("tell", 1, to=0)], both(do("grv"), do("tell", to=2))]
+LOCKS = [[do("ask", at=5), *commit(0, 2, locked=True), *turns(1, 3, lambda _, at: do("grv", 1, lock_aware=at == 1)), *[do("grv", 2)] * 3]]
+RANKED = [turns(9, 10, lambda who, at: do("grv", who, priority=["system", "default", "batch"][(who + at) % 3]))]
+REPEATED = [[it for who in range(4) for it in (do("ask", who, at=9), do("reask", who, num=1, at=99), *commit(who, 2))]]
 # Worked scripts of clients that race, and the further members of their top level.
 WORKED = {
     "two clients ask, report and read": ([both(*commit(0, 1), do("grv"))], {"clients": 2}),
-    "each tells the other and reads": ([[*both(*commit(0, 1)), do("tell", 0, to=1), do("tell", 1, to=0)], both(do("grv"), do("tell", to=2))], {"clients": 3}),
+    "each tells the other and reads": (TOLD, {"clients": 3}),
     "one reports and one reads": ([[*commit(0, 1), *commit(0, 2), *[do("grv", 1)] * 6]], {"clients": 2}),
-    "a report that locks": ([[FIRST, *commit(0, 2, locked=True), *[do("grv", 1)] * 3, *[do("grv", 2, lock_aware=True)] * 3]], {"clients": 3}),
+    "a report that locks": (LOCKS, {"clients": 3}),
     "two rounds of three": ([[it for who in range(3) for it in (*commit(who, num), do("grv", who))] for num in (1, 2)], {"clients": 3}),
-    "reads through a room of one": ([[do("grv", who) for who in range(8) for _ in range(10)]], {"clients": 8, "room": 1, "normal": 1}),
-    "priorities through a room of two": (
-        [[do("grv", who, priority=["system", "default", "batch"][(who + it) % 3]) for who in range(9) for it in range(10)]],
-        {"clients": 9, "room": 2, "normal": 2, "batch": 1},
-    ),
-    "repeats beside commits": ([[it for who in range(4) for it in (do("ask", who, at=9), do("reask", who, num=1, at=99), *commit(who, 2))]], {"clients": 4}),
-    "the last versions": ([[do("ask", who, at=it) for who in range(4) for it in range(3)]], {"clients": 4, "recovery": 2**63 - 6}),
+    "reads through a room of one": ([turns(8, 10, lambda who, _: do("grv", who))], {"clients": 8, "room": 1, "normal": 1}),
+    "priorities through a room of two": (RANKED, {"clients": 9, "room": 2, "normal": 2, "batch": 1}),
+    "repeats beside commits": (REPEATED, {"clients": 4}),
+    "the last versions": ([turns(4, 3, lambda who, at: do("ask", who, at=at))], {"clients": 4, "recovery": 2**63 - 6}),
 }
+
+
+# What two clients print that each ask, report and read: the versions that they report and read.
+TWO_COMMITS = "".join(
+    rf"0 {who} {3 * who} ask prev \d+ version \d+ ordinal [01] fresh\n"
+    rf"0 {who} {3 * who + 1} report (\d+) (?:not )?raised pos [01]\n"
+    rf"0 {who} {3 * who + 2} grv (\d+) unlocked none pos [01]\n"
+    for who in (0, 1)
+) + r"audit ok events 4 raised 1 versions 2\n"
 
 
 def worked_races(program):
@@ -70,19 +85,18 @@ def seen_fault(program, proxies):
     """Returns what is wrong with a run of two clients that each ask, report and read, said without the judge."""
     rounds, top = WORKED["two clients ask, report and read"]
     ran = run([program, "--proxies", str(proxies)], written(rounds, **top))
-    *replies, audit = [line.split() for line in ran.out.decode().splitlines()] or [[]]
-    if ran.status or ran.err or [line[:4] for line in replies] != [[*"0", str(at // 3), str(at), ["ask", "report", "grv"][at % 3]] for at in range(6)]:
+    numbers = re.fullmatch(TWO_COMMITS, ran.out.decode())
+    if ran.status or ran.err or not numbers:
         return f"status {ran.status} and {ran.out!r}"
-    behind = [client for client in (0, 1) if int(replies[3 * client + 2][4]) < int(replies[3 * client + 1][4])]
-    is_audited = audit[:4] == ["audit", "ok", "events", "4"] and audit[6:] == ["versions", "2"]
-    return f"the reads of {behind} are below their reports" if behind else None if is_audited else f"the audit is {audit}"
+    reported, read, other_reported, other_read = map(int, numbers.groups())
+    return None if read >= reported and other_read >= other_reported else f"a read is below its client's report in {ran.out!r}"
 
 
 # Scripts that have one text in each schedule, though threads run. The first read of a client goes to the proxy of its number.
 SURE = [
-    ("reads of two clients through two proxies with room for one", 2, [both(do("grv", count=50))], {"clients": 2, "room": 1, "normal": 1, "elapsed": 1000}),
-    ("reads of 16 clients through 16 proxies with room for one", 16, [[do("grv", who, count=9) for who in range(16)]], {"clients": 16, "room": 1, "normal": 3}),
-    ("reads of 64 clients through one proxy with room for them", 1, [[do("grv", who) for who in range(64) for _ in range(3)]], {"clients": 64, "room": 64, "normal": 1}),
+    ("two clients and two proxies with room for one", 2, [both(do("grv", count=50))], {"clients": 2, "room": 1, "normal": 1, "elapsed": 1000}),
+    ("16 clients and proxies with room for one", 16, [turns(16, 1, lambda who, _: do("grv", who, count=9))], {"clients": 16, "room": 1, "normal": 3}),
+    ("64 clients and a proxy with room for them", 1, [turns(64, 3, lambda who, _: do("grv", who))], {"clients": 64, "room": 64, "normal": 1}),
 ]
 
 

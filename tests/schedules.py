@@ -60,8 +60,8 @@ class Proxy:
         for request in self.row()[:MOST_STARTED]:
             total, priority, count = sum(sums.values()), request.it.priority, request.it.count
             fits = lambda limit, budget: (total + count) * W <= min(limit * W + budget, HIGHEST_BUDGET)
-            may_start = priority == "system" or fits(self.script.normal, self.normal) and (priority == "default" or fits(self.script.batch, self.batch))
-            if not may_start:
+            may_start = priority == "system" or fits(self.script.normal, self.normal)
+            if not may_start or priority == "batch" and not fits(self.script.batch, self.batch):
                 break
             started.append(request)
             sums[priority] += count
@@ -140,7 +140,8 @@ class Schedule:
         """Plays a round. Its mood says how often it is a client's turn, and how often whoever took a step takes the next one."""
         self.number, self.told = number, []
         placed = in_order(commands)
-        clients = [Client(self, [one for one in placed if one[1].client == who]) for who in sorted({it.client for it in commands})]
+        names = sorted({it.client for it in commands})
+        clients = [Client(self, [one for one in placed if one[1].client == who]) for who in names]
         eager, lasting, last = self.dice.choice([0.05, 0.5, 0.9, 1]), self.dice.choice([0, 0, 0.5, 0.9]), None
         while not all(client.is_done for client in clients):
             able = [client for client in clients if client.can_go_on()]
