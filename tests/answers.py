@@ -4,7 +4,7 @@ import random
 
 import drawn
 from harness import ASK, EXAMPLES, GRV, Ran, command, done, fault_of, first_output, members, read, round_of, run, script, written
-from judge import fault_of_run, is_determined
+from judge import Lawful, is_determined
 from model import THREADED, expected
 from reader import script_of
 
@@ -199,7 +199,7 @@ def stored(program):
 def compared(program, given, *words):
     """Runs a script with these words, and returns how that differs from the model, or from what is lawful where clients race."""
     proxies = int(words[words.index("--proxies") + 1]) if "--proxies" in words else 1
-    return fault_of_run(run([program, *words], given), given, proxies, "--history" in words)
+    return Lawful(given, proxies).fault_of(run([program, *words], given), "--history" in words)
 
 
 def random_scripts(program):
@@ -275,6 +275,6 @@ def large_scripts(program):
     """As many commands as a script may have, with and without the history, in a few seconds each."""
     for name, rounds, top in large():
         given = written(rounds, **top)
-        for words in ([], ["--history"]):
-            ran = run([program, *words], given, LARGE_SECONDS)
-            yield f"{name}{', with the history' * len(words)}", fault_of_run(ran, given, history=bool(words))
+        lawful = Lawful(given)
+        yield name, lawful.fault_of(run([program], given, LARGE_SECONDS), history=False)
+        yield f"{name}, with the history", lawful.fault_of(run([program, "--history"], given, LARGE_SECONDS))

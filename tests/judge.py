@@ -15,7 +15,7 @@ from bisect import bisect_left
 from collections import Counter, defaultdict, deque
 from typing import NamedTuple
 
-from harness import DONE, Ran, fault_of, refused
+from harness import DONE, Ran, fault_of, refused, without_history
 from model import FULL, LAST_VERSION, THREADED, Run, in_order, line_of, printed
 from reader import Refused, script_of
 
@@ -284,13 +284,23 @@ def is_determined(script, proxies):
     return True
 
 
-def fault_of_run(ran, given, proxies=1, history=True, threaded=THREADED):
-    """Returns how a run differs from what is lawful for its script, or None. Where there is but one text, it has to be that."""
-    try:
-        script = script_of(given)
-    except Refused as why:
-        return fault_of(ran, refused(str(why)))
-    is_alone = is_determined(script, proxies)
-    wanted = printed(script, history, threaded) if is_alone or not threaded else None
-    fault = fault_of(ran, Ran(DONE, wanted, b""))
-    return fault or (None if is_alone else fault_of_text(script, proxies, ran.out, history, threaded))
+class Lawful:
+    """What may be printed for a script: where it is refused or nobody races, that is one text."""
+
+    def __init__(self, given, proxies=1, threaded=THREADED):
+        self.proxies, self.threaded, self.refusal = proxies, threaded, None
+        try:
+            self.script = script_of(given)
+        except Refused as why:
+            self.refusal = refused(str(why))
+            return
+        self.is_alone = is_determined(self.script, proxies)
+        self.text = printed(self.script, True, threaded) if self.is_alone or not threaded else None
+
+    def fault_of(self, ran, history=True):
+        """Returns how a run differs from what is lawful, or None."""
+        if self.refusal:
+            return fault_of(ran, self.refusal)
+        wanted = self.text if history or self.text is None else without_history(self.text)
+        fault = fault_of(ran, Ran(DONE, wanted, b""))
+        return fault or (None if self.is_alone else fault_of_text(self.script, self.proxies, ran.out, history, self.threaded))

@@ -7,7 +7,7 @@ import tempfile
 
 from answers import do
 from harness import EXAMPLES, NOT_ENDED, OUT_OF_MEMORY, READING_FAILED, ROOT, WORDS_REFUSED, done, fault_of, first_output, first_script, refused as refused_script, run, written
-from judge import fault_of_run
+from judge import Lawful
 from model import expected
 from races import commit
 
@@ -79,7 +79,7 @@ def refused(program):
     first, two, large = first_script(), written(TWO, clients=2, throttles=THROTTLES), written(LARGE)
     crowd = written(CROWD, clients=3, throttles=THROTTLES, room=1)
     by_words = ["--history", "--proxies=2", f"{EXAMPLES}/first.json"]
-    of_crowd = lambda proxies: (["--proxies", str(proxies), "--history"], crowd, lambda ran: fault_of_run(ran, crowd, proxies), each)
+    of_crowd = lambda proxies: (["--proxies", str(proxies), "--history"], crowd, Lawful(crowd, proxies).fault_of, each)
     sweeps = [
         ("the first script", [], first, exactly(done(first_output())), each),
         ("a script that is refused", [], first.replace(b'"num":2', b'"num":-2'), exactly(refused_script("BadField 0 4")), each),

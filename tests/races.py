@@ -6,7 +6,7 @@ import re
 import drawn
 from answers import MOST_COMMANDS, Example, do
 from harness import command, done, fault_of, run, script, written
-from judge import fault_of_run
+from judge import Lawful
 from model import THREADED, expected
 
 RANDOM, AGAIN = 400, 25
@@ -14,9 +14,9 @@ RANDOM, AGAIN = 400, 25
 LIMIT_SECONDS = 20
 
 
-def judged(program, given, proxies, seconds=LIMIT_SECONDS):
+def judged(program, given, proxies):
     """Runs a script with its history, and returns how that is not lawful."""
-    return fault_of_run(run([program, "--history", "--proxies", str(proxies)], given, seconds), given, proxies)
+    return Lawful(given, proxies).fault_of(run([program, "--history", "--proxies", str(proxies)], given, LIMIT_SECONDS))
 
 
 def random_races(program):
