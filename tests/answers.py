@@ -3,8 +3,10 @@ import os
 import random
 
 import drawn
-from harness import ASK, EXAMPLES, GRV, Ran, command, done, fault_of, first_output, members, read, round_of, run, script, without_history, written
-from model import expected
+from harness import ASK, EXAMPLES, GRV, Ran, command, done, fault_of, first_output, members, read, round_of, run, script, written
+from judge import Lawful, is_determined
+from model import THREADED, expected
+from reader import script_of
 
 SMALL, SPOILT, LARGE_SECONDS = 300, 300, 5
 HIGHEST = 2**64 - 1
@@ -39,10 +41,11 @@ def examples(program):
 
 
 def proxies(program):
-    """No number of proxies changes what a worked script prints."""
+    """No number of proxies changes what a worked script prints, since nobody races in it."""
     for it in all_examples():
         for count in (1, 2, 4, 16):
-            yield f"{it.name} with {count} proxies", fault_of(run([program, *it.words_for(count)], it.given), it.wanted)
+            fault = None if is_determined(script_of(it.given), count) else "its clients race"
+            yield f"{it.name} with {count} proxies", fault or fault_of(run([program, *it.words_for(count)], it.given), it.wanted)
 
 
 def replies(*lines, events=0, raised=0, versions=0):
@@ -54,6 +57,7 @@ ONE_READ = replies("0 0 0 grv 100 unlocked none pos 0", events=1)
 ONE_ASK = replies("0 0 0 ask prev 0 version 100 ordinal 0 fresh", versions=1)
 ONE_REASK = replies("0 0 0 reask prev 0 version 100 ordinal 0 fresh", versions=1)
 TOP_READ = replies("0 0 0 grv 9223372036854775807 unlocked none pos 0", events=1)
+BAD_COUNT = replies("0 0 0 grv refused BadCount") if THREADED else ONE_READ
 NOT_ISSUED = replies("0 0 0 report refused NotIssued")
 EARLY = replies("0 0 0 reask refused Early 1")
 
@@ -77,9 +81,9 @@ def limited(tag, rate=5, expires=6):
     return replies(f"0 0 0 grv 100 unlocked none pos 0 limit {tag} {rate} {expires}", events=1)
 
 
-# What changes no reply so far, since no read waits: the limits of the members of the top level, and any count.
+# What changes no reply: the limits of the members of the top level, and as long as no read waits in a queue, any count.
 EDGES = {"normal": ["1", "100000"], "batch": ["0", "100000"], "room": ["1", "100000"], "elapsed": ["1", "10000000"]}
-COUNTS = ["0", "1", "100000", "100001", "18446744073709551615"]
+COUNTS = {"0": BAD_COUNT, "1": ONE_READ, "100000": ONE_READ, "100001": BAD_COUNT, "18446744073709551615": BAD_COUNT}
 REPORTED = [
     ("not locked, without metadata", {"locked": "false", "metadata": "null"}, "unlocked none"),
     ("locked", {"locked": "true"}, "locked none"),
@@ -135,7 +139,7 @@ ACCEPTED = [
     ("a read with the usual members", script(one(command("grv", at="0", priority='"default"', count="1", tags="[]", lock_aware="false"))), ONE_READ),
     ("a read at the greatest moment", script(one(command("grv", at="18446744073709551615"))), ONE_READ),
     *[(f"a read of priority {it}", script(one(command("grv", priority=f'"{it}"'))), ONE_READ) for it in ("system", "default", "batch")],
-    *[(f"a read for {it} transactions", script(one(command("grv", count=it))), ONE_READ) for it in COUNTS],
+    *[(f"a read for {it} transactions", script(one(command("grv", count=it))), wanted) for it, wanted in COUNTS.items()],
     ("a lock-aware read", script(one(command("grv", lock_aware="true"))), ONE_READ),
     ("a read with 5 tags", script(one(command("grv", tags='["t","u","t","u","t"]'))), ONE_READ),
     *[(f"{name} {it}", script(ONE, **{name: it}), ONE_READ) for name, texts in EDGES.items() for it in texts],
@@ -193,8 +197,9 @@ def stored(program):
 
 
 def compared(program, given, *words):
-    """Runs a script with these words, and returns how that differs from the model."""
-    return fault_of(run([program, *words], given), expected(given, "--history" in words))
+    """Runs a script with these words, and returns how that differs from the model, or from what is lawful where clients race."""
+    proxies = int(words[words.index("--proxies") + 1]) if "--proxies" in words else 1
+    return Lawful(given, proxies).fault_of(run([program, *words], given), "--history" in words)
 
 
 def random_scripts(program):
@@ -270,6 +275,6 @@ def large_scripts(program):
     """As many commands as a script may have, with and without the history, in a few seconds each."""
     for name, rounds, top in large():
         given = written(rounds, **top)
-        wanted = expected(given, True)
-        yield name, fault_of(run([program], given, LARGE_SECONDS), done(without_history(wanted.out)))
-        yield f"{name}, with the history", fault_of(run([program, "--history"], given, LARGE_SECONDS), wanted)
+        lawful = Lawful(given)
+        yield name, lawful.fault_of(run([program], given, LARGE_SECONDS), history=False)
+        yield f"{name}, with the history", lawful.fault_of(run([program, "--history"], given, LARGE_SECONDS))

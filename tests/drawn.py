@@ -9,7 +9,9 @@ PRIORITIES = ["default", "default", "batch", "system"]
 MOMENTS = [0, 1, 4999, 5000, 10**6, HIGHEST - 1, HIGHEST]
 STEPS = [0, 1, 7, 1000, 4_999_999, 5_000_000, 5_000_001, 10**9, -3, -(10**7)]
 RECOVERIES = [1, 100, 100, 100, 10**9, 10**9, LAST_VERSION - 20_000_000, LAST_VERSION - 6, LAST_VERSION]
-# What may be said of the queue, which has no effect so far.
+ACTS = ["grv", "ask", "ask", "reask", "report", "report", "tell"]
+COUNTS = [0, 1, 100_001, HIGHEST]
+# What may be said of the queue; no read that is let in waits for long, since its count is 1.
 QUEUE = {"normal": [1, 100_000], "batch": [0, 100_000], "room": [1, 100_000], "elapsed": [1, 10_000_000]}
 IGNORED = {"note": {"client": [None, 1e-3]}, "to ": "é😀\n", "Do": -1, "": [[], {}]}
 
@@ -17,8 +19,8 @@ IGNORED = {"note": {"client": [None, 1e-3]}, "to ": "é😀\n", "Do": -1, "": [[
 class Drawing:
     """Draws the commands of some clients, and counts what each has asked for, so that numbers are old, new or too high."""
 
-    def __init__(self, dice, clients):
-        self.dice, self.clients = dice, clients
+    def __init__(self, dice, clients, acts=ACTS, counts=COUNTS):
+        self.dice, self.clients, self.acts, self.counts = dice, clients, acts, counts
         self.moment, self.asks = dice.choice([0, 10**6, HIGHEST - 10**7]), [0] * clients
 
     def at(self):
@@ -35,7 +37,7 @@ class Drawing:
 
     def grv(self, _):
         tags = [self.dice.choice(TAGS) for _ in range(self.dice.choice([0, 1, 2, 5]))]
-        count, priority, at = self.dice.choice([0, 1, 100_001, HIGHEST]), self.dice.choice(PRIORITIES), self.dice.choice(MOMENTS)
+        count, priority, at = self.dice.choice(self.counts), self.dice.choice(PRIORITIES), self.dice.choice(MOMENTS)
         return {}, {"at": at, "priority": priority, "count": count, "tags": tags, "lock_aware": self.dice.choice([True, False])}
 
     def ask(self, client):
@@ -56,7 +58,8 @@ class Drawing:
 
     def command(self):
         client = self.dice.randrange(self.clients)
-        do = self.dice.choice(["grv", "ask", "ask", "reask", "report", "report", "tell" if self.clients > 1 else "grv"])
+        do = self.dice.choice(self.acts)
+        do = "grv" if do == "tell" and self.clients == 1 else do
         if not self.asks[client] and do in ("reask", "report") and self.dice.random() < 0.7:
             do = "ask"
         required, optional = getattr(self, do)(client)
@@ -93,6 +96,33 @@ def lawful(dice):
     optional = {**queue, "throttles": throttles(dice, dice.choice([0, 1, 6, 12])), **IGNORED}
     members = shuffled(dice, {**required, **some(dice, optional, 0.7)})
     return json.dumps(members, ensure_ascii=dice.choice([True, False]), indent=dice.choice([None, 0, "\t"]))
+
+
+def racing(dice):
+    """Draws the values of a script in which 2 to 64 clients share rounds, most of them with little room and low limits.
+
+    Counts are as large as a read can have that starts within a few hundred windows.
+    """
+    clients, normal = dice.choice([2, 2, 3, 4, 8, 16, 64]), dice.choice([1, 2, 10, 1000])
+    acts = dice.choice([ACTS, ["grv"], ["grv"] * 12 + ACTS, ["ask", "report", "grv"], ["ask", "ask", "report", "report", "grv", "tell"]])
+    drawing = Drawing(dice, clients, acts, dice.choice([[1], [1, 1, 2, normal + 10], [0, 1, 1, 30, normal + 11, 100_001]]))
+    recovery = dice.choice(RECOVERIES)
+    rounds = in_rounds(dice, [drawing.command() for _ in range(dice.choice([10, 40, 40, 40 + 3 * clients]))])
+    queue = {"normal": normal, "batch": dice.choice([0, 1, 3, 500]), "room": dice.choice([1, 1, 2, 3, 7, clients, 1000]), "elapsed": 10**6}
+    return {"epoch_end": recovery // 2, "recovery": recovery, "clients": clients, **queue, "throttles": throttles(dice, 6), "rounds": rounds}
+
+
+def fitting(dice, proxies):
+    """Draws the values of a script in which clients share rounds of reads, with just so much room that none finds its queue full."""
+    drawing = Drawing(dice, dice.choice([2, 3, 5, 16]), ["grv"], [1, 30])
+    rounds = [[drawing.command() for _ in range(dice.randrange(1, 2 * drawing.clients))] for _ in range(dice.choice([1, 3]))]
+    reads, crowds = [0] * drawing.clients, {}
+    for number, it in ((number, it) for number, commands in enumerate(rounds) for it in commands):
+        client = it["client"]
+        crowds.setdefault((number, (client + reads[client]) % proxies), set()).add(client)
+        reads[client] += 1
+    queue = {"normal": dice.choice([1, 20]), "batch": dice.choice([1, 20]), "room": max(map(len, crowds.values())), "elapsed": 10**6}
+    return {"epoch_end": 0, "recovery": 100, "clients": drawing.clients, **queue, "rounds": rounds}
 
 
 TOKEN = re.compile(r'"[^"\\]*(?:\\.[^"\\]*)*"|[-+.\w]+|[][{},:]')

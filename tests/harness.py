@@ -35,7 +35,8 @@ def first_output():
 
 
 def without_history(out):
-    return out.partition(b"history ")[0]
+    replies, history, _ = out.partition(b"\nhistory ")
+    return replies + history[:1]
 
 
 def run(words, given=b"", seconds=SECONDS, **how):

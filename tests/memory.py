@@ -6,8 +6,10 @@ import subprocess
 import tempfile
 
 from answers import do
-from harness import EXAMPLES, OUT_OF_MEMORY, READING_FAILED, ROOT, WORDS_REFUSED, done, fault_of, first_output, first_script, refused as refused_script, run, written
+from harness import EXAMPLES, NOT_ENDED, OUT_OF_MEMORY, READING_FAILED, ROOT, WORDS_REFUSED, done, fault_of, first_output, first_script, refused as refused_script, run, written
+from judge import Lawful
 from model import expected
+from races import commit
 
 SOURCE = f"{ROOT}/tests/refuse.c"
 LARGE = [[do("ask", at=9 * it) for it in range(500)], [do("report", num=it + 1) for it in range(500)], [do("grv")] * 500]
@@ -18,7 +20,10 @@ TWO = [
     [do("grv", 1, tags=["t", "u", "sixteen-bytes-ab", "t"], lock_aware=True), do("grv", 1), do("ask", 1, at=5), do("tell", 1, to=0)],
     [do("report", num=3), do("reask", num=9, at=1), do("grv", priority="batch", tags=["t"]), do("tell", to=1), do("tell", to=1)],
 ]
-MOST_RUNS = 2_000
+# Three clients that share rounds, in which each commits, reads and tells.
+CROWD = [[it for who in range(3) for it in (*commit(who, num), do("grv", who, tags=["t"]), do("tell", who, to=(who + 1) % 3))] for num in (1, 2)]
+# The most runs of a sweep, how many end without the allocation before it is over, and the seconds after which a run hangs.
+MOST_RUNS, MISSED, HANGS = 2_000, 3, 10
 # The tests that pass whichever single allocation is refused: of each crate those whose names match.
 BEARING = {"fdb_tests": r"^refused_memory::"}
 # Those of them that pass also where all are refused from any one on.
@@ -39,47 +44,61 @@ def run_refused(words, preloaded, number, goes_on, given):
     """Runs a program with an allocation refused, and returns how it ended and whether it got that far."""
     tells, told = os.pipe()
     env = {"LD_PRELOAD": preloaded, "REFUSE": str(number), "REFUSE_TELLS": str(told), "REFUSE_ON": str(int(goes_on))}
-    ran = run(words, given, env=env, pass_fds=[told])
+    ran = run(words, given, HANGS, env=env, pass_fds=[told])
     os.close(told)
     with os.fdopen(tells, "rb") as it:
         return ran, it.read() != b""
 
 
-def swept(words, preloaded, given, without, wanted, goes_on, step):
-    """Refuses allocations until a run ends without one; `step` gives the next number. A run is to end as `wanted`, or as
-    `without` where an allocation was refused that it could not do without, as a sort can do without its buffer."""
-    number, got_there = 1, True
+def swept(words, preloaded, given, without, fault_of_ran, goes_on, step):
+    """Refuses allocations until runs end without one; `step` gives the next number.
+
+    A run is to end as `fault_of_ran` asks, or as `without` where an allocation was refused that it could not do without, as a
+    sort can do without its buffer. Threads do not allocate in the same order in each run, so that a run may end before an
+    allocation that another one comes to. Where a run does not end in time there are no further ones.
+    """
+    number, missed = 1, 0
     for _ in range(MOST_RUNS):
         ran, got_there = run_refused(words, preloaded, number, goes_on, given)
-        fault = fault_of(ran, wanted)
+        fault = fault_of_ran(ran)
         yield number, fault_of(ran, without) if fault and got_there else fault
-        if not got_there:
+        missed = 0 if got_there else missed + 1
+        if missed == MISSED or ran.status == NOT_ENDED:
             return
         number = step(number)
     yield number, f"memory is still asked for after {MOST_RUNS} runs"
+
+
+def exactly(wanted):
+    return lambda ran: fault_of(ran, wanted)
 
 
 def refused(program):
     """A run that is refused memory ends with status 3 and its line, or as ever where it can do without."""
     each, further = lambda at: at + 1, lambda at: at + 1 + at // 12
     first, two, large = first_script(), written(TWO, clients=2, throttles=THROTTLES), written(LARGE)
+    crowd = written(CROWD, clients=3, throttles=THROTTLES, room=1)
     by_words = ["--history", "--proxies=2", f"{EXAMPLES}/first.json"]
+    of_crowd = lambda proxies: (["--proxies", str(proxies), "--history"], crowd, Lawful(crowd, proxies).fault_of, each)
     sweeps = [
-        ("the first script", [], first, done(first_output()), each),
-        ("a script that is refused", [], first.replace(b'"num":2', b'"num":-2'), refused_script("BadField 0 4"), each),
-        ("two clients", ["--proxies", "2", "--history"], two, expected(two, True), each),
-        ("a large script", ["--history"], large, expected(large, True), further),
-        ("a file that words name", by_words, b"", expected(first, True), each),
-        ("a file that is not there", ["/none.json"], b"", READING_FAILED, each),
-        ("words that are refused", ["--proxies", "17"], first, WORDS_REFUSED, each),
-        ("help", ["--help"], b"", done(run([program, "--help"]).out), each),
+        ("the first script", [], first, exactly(done(first_output())), each),
+        ("a script that is refused", [], first.replace(b'"num":2', b'"num":-2'), exactly(refused_script("BadField 0 4")), each),
+        ("two clients", ["--proxies", "2", "--history"], two, exactly(expected(two, True)), each),
+        ("three clients that race", *of_crowd(1)),
+        ("three clients that race for two proxies", *of_crowd(2)),
+        ("three clients that race for two proxies, again", *of_crowd(2)),
+        ("a large script", ["--history"], large, exactly(expected(large, True)), further),
+        ("a file that words name", by_words, b"", exactly(expected(first, True)), each),
+        ("a file that is not there", ["/none.json"], b"", exactly(READING_FAILED), each),
+        ("words that are refused", ["--proxies", "17"], first, exactly(WORDS_REFUSED), each),
+        ("help", ["--help"], b"", exactly(done(run([program, "--help"]).out)), each),
     ]
     with tempfile.TemporaryDirectory(prefix="refuse-") as folder:
         preloaded = built(folder)
-        for name, words, given, wanted, step in sweeps:
+        for name, words, given, fault_of_ran, step in sweeps:
             for goes_on in (False, True):
                 what = f"{name}, from allocation" if goes_on else f"{name}, allocation"
-                for number, fault in swept([program, *words], preloaded, given, OUT_OF_MEMORY, wanted, goes_on, step):
+                for number, fault in swept([program, *words], preloaded, given, OUT_OF_MEMORY, fault_of_ran, goes_on, step):
                     yield f"{what} {number}", fault
 
 
@@ -105,5 +124,5 @@ def borne(_program):
             for name in names:
                 for goes_on in (False, True) if re.search(WITHOUT, name) else (False,):
                     what = f"{name}, {'from ' if goes_on else ''}allocation"
-                    for number, fault in swept([tests, name], preloaded, b"", PASSED, PASSED, goes_on, each):
+                    for number, fault in swept([tests, name], preloaded, b"", PASSED, exactly(PASSED), goes_on, each):
                         yield f"{what} {number}", fault

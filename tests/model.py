@@ -9,6 +9,11 @@ from harness import done, refused
 from reader import LAST_VERSION, Refused, script_of
 
 LONGEST_STEP = 5_000_000
+MOST_COUNT, IDLE_BURST = 100_000, 10
+FULL = "refused Full"
+# Whether the program serves a script with threads, so that clients race and reads wait in the queues of GRV proxies. As long as it
+# makes all calls one after the other, counts and the limits of a queue change no reply, and --proxies means nothing.
+THREADED = False
 
 
 class Record(NamedTuple):
@@ -59,8 +64,9 @@ class Log:
 class Run:
     """A run of a script. Each kind of command has a method, which returns the end of its line."""
 
-    def __init__(self, script):
+    def __init__(self, script, threaded=THREADED):
         self.epoch_end, self.recovery, self.rounds = script.epoch_end, script.recovery, script.rounds
+        self.normal, self.batch, self.threaded = script.normal, script.batch, threaded
         self.throttles = {(it["priority"], it["tag"]): it for it in script.throttles}
         self.chain, self.events = [], []
         self.record, self.position = Record(script.recovery, False, None), 0
@@ -72,7 +78,18 @@ class Run:
         log.position = self.position
         self.events.append(Event(client, log.calls, self.position, record, raised))
 
+    def turned_away(self, it):
+        """Returns why a read may not wait in a queue, whoever else waits there, or None."""
+        is_batch = it.priority == "batch"
+        most = min(MOST_COUNT, self.normal + IDLE_BURST) if is_batch else MOST_COUNT
+        if self.threaded and not 1 <= it.count <= most:
+            return "BadCount"
+        return "BatchThrottled" if self.threaded and is_batch and self.batch == 0 else None
+
     def grv(self, it):
+        why = self.turned_away(it)
+        if why is not None:
+            return f"refused {why}"
         self.answered(it.client, self.record, None)
         if self.record.locked and not it.lock_aware:
             return f"refused Locked {self.record.version} pos {self.position}"
@@ -109,16 +126,19 @@ class Run:
             if answer is None:
                 return "refused Forgotten"
             return f"{answer} kept"
-        prev, version = self.epoch_end, self.recovery
-        if self.chain:
-            last = self.chain[-1]
-            prev = last.version
-            version = prev + max(1, min(LONGEST_STEP, it.at - last.at))
+        prev, version = self.next_version(it.at)
         if version > LAST_VERSION:
             return "refused Exhausted"
         self.chain.append(Answer(len(self.chain), proxy, num, it.processed, prev, version, it.at))
         self.logs[proxy].versions[num] = version
         return f"{self.chain[-1]} fresh"
+
+    def next_version(self, at):
+        """Returns the last version that was drawn, and the one that a fresh request of this moment would get."""
+        if not self.chain:
+            return self.epoch_end, self.recovery
+        last = self.chain[-1]
+        return last.version, last.version + max(1, min(LONGEST_STEP, at - last.at))
 
     def report(self, it):
         version = self.logs[it.client].versions.get(it.num)
@@ -133,20 +153,33 @@ class Run:
     def tell(self, it):
         return f"{it.to} pos {self.logs[it.client].position}"
 
+    def called(self, it):
+        """Makes a client's call, and returns the end of its line."""
+        said = getattr(self, it.do)(it)
+        self.logs[it.client].calls += 1
+        return said
+
+    def found_full(self, it):
+        """Notes a read for which there was no room in its queue, which no run says where one call is made after the other."""
+        self.logs[it.client].calls += 1
+        return FULL
+
+    def learned(self, told):
+        """Notes what a round's tells came to, the receiver and the position of each, once all its calls are made."""
+        for to, position in told:
+            log = self.logs[to]
+            log.calls, log.position = log.calls + 1, max(log.position, position)
+
     def played(self):
         """Plays the rounds, and in each the clients by number and a client's commands in order; returns their lines."""
         lines = []
         for number, commands in enumerate(self.rounds):
             told = []
-            for place, it in sorted(enumerate(commands), key=lambda placed: placed[1].client):
-                lines.append(f"{number} {it.client} {place} {it.do} {getattr(self, it.do)(it)}")
-                log = self.logs[it.client]
-                log.calls += 1
+            for place, it in in_order(commands):
+                lines.append(line_of(number, place, it, self.called(it)))
                 if it.do == "tell":
-                    told.append((it.to, log.position))
-            for to, position in told:
-                log = self.logs[to]
-                log.calls, log.position = log.calls + 1, max(log.position, position)
+                    told.append((it.to, self.logs[it.client].position))
+            self.learned(told)
         return lines
 
     def audit(self):
@@ -158,11 +191,28 @@ class Run:
         return [f"history {number} {event}" for number, event in enumerate(ordered)]
 
 
-def expected(given, history=False):
-    """Returns how the program is to end on these bytes."""
+def in_order(commands):
+    """Returns a round's commands with their places, in the order in which their lines stand."""
+    return sorted(enumerate(commands), key=lambda placed: placed[1].client)
+
+
+def line_of(number, place, it, said):
+    return f"{number} {it.client} {place} {it.do} {said}"
+
+
+def expected(given, history=False, threaded=THREADED):
+    """Returns how the program is to end on these bytes where one call is made after the other."""
     try:
-        run = Run(script_of(given))
+        return done(printed(script_of(given), history, threaded))
     except Refused as why:
         return refused(str(why))
-    lines = [*run.played(), run.audit(), *(run.history() if history else [])]
-    return done("".join(f"{line}\n" for line in lines).encode())
+
+
+def printed(script, history=False, threaded=THREADED):
+    """Returns the text of a script's plainest run."""
+    run = Run(script, threaded)
+    return text_of([*run.played(), run.audit(), *(run.history() if history else [])])
+
+
+def text_of(lines):
+    return "".join(f"{line}\n" for line in lines).encode()

@@ -1,0 +1,178 @@
+"""Scripts whose clients race, run by the program with 1 to 16 proxies: each text has to be lawful, whatever the schedule was."""
+import json
+import random
+import re
+
+import drawn
+from answers import MOST_COMMANDS, Example, do
+from harness import command, done, fault_of, run, script, written
+from judge import Lawful
+from model import THREADED, expected
+
+RANDOM, AGAIN = 400, 25
+# How long a script at its limits may take, in seconds, on a machine that is busy with other things too.
+LIMIT_SECONDS = 20
+
+
+def judged(program, given, proxies):
+    """Runs a script with its history, and returns how that is not lawful."""
+    return Lawful(given, proxies).fault_of(run([program, "--history", "--proxies", str(proxies)], given, LIMIT_SECONDS))
+
+
+def random_races(program):
+    """Random scripts of 2 to 64 clients that share rounds, with little room and low limits."""
+    for seed in range(RANDOM):
+        dice = random.Random(f"race {seed}")
+        given, proxies = json.dumps(drawn.racing(dice)).encode(), dice.choice([1, 2, 4, 16, dice.randrange(1, 17)])
+        yield f"seed {seed} with {proxies} proxies", judged(program, given, proxies)
+
+
+def commit(client, num, **said):
+    """A client's commit: it asks for a version and reports it."""
+    return [do("ask", client, at=1000 * num), do("report", client, num=num, **said)]
+
+
+def both(*commands):
+    """The commands of client 0 and the same of client 1."""
+    return [{**it, "client": client} for client in (0, 1) for it in commands]
+
+
+def turns(clients, times, what):
+    """As many calls of each of these clients, by a function of the client and the number of the call."""
+    return [what(who, at) for who in range(clients) for at in range(times)]
+
+
+TOLD = [[*both(*commit(0, 1)), do("tell", 0, to=1), do("tell", 1, to=0)], both(do("grv"), do("tell", to=2))]
+LOCKS = [[do("ask", at=5), *commit(0, 2, locked=True), *turns(1, 3, lambda _, at: do("grv", 1, lock_aware=at == 1)), *[do("grv", 2)] * 3]]
+RANKED = [turns(9, 10, lambda who, at: do("grv", who, priority=["system", "default", "batch"][(who + at) % 3]))]
+REPEATED = [[it for who in range(4) for it in (do("ask", who, at=9), do("reask", who, num=1, at=99), *commit(who, 2))]]
+# Worked scripts of clients that race, and the further members of their top level.
+WORKED = {
+    "two clients ask, report and read": ([both(*commit(0, 1), do("grv"))], {"clients": 2}),
+    "each tells the other and reads": (TOLD, {"clients": 3}),
+    "one reports and one reads": ([[*commit(0, 1), *commit(0, 2), *[do("grv", 1)] * 6]], {"clients": 2}),
+    "a report that locks": (LOCKS, {"clients": 3}),
+    "two rounds of three": ([[it for who in range(3) for it in (*commit(who, num), do("grv", who))] for num in (1, 2)], {"clients": 3}),
+    "reads through a room of one": ([turns(8, 10, lambda who, _: do("grv", who))], {"clients": 8, "room": 1, "normal": 1}),
+    "priorities through a room of two": (RANKED, {"clients": 9, "room": 2, "normal": 2, "batch": 1}),
+    "repeats beside commits": (REPEATED, {"clients": 4}),
+    "the last versions": ([turns(4, 3, lambda who, at: do("ask", who, at=at))], {"clients": 4, "recovery": 2**63 - 6}),
+}
+
+
+# What two clients print that each ask, report and read: the versions that they report and read.
+TWO_COMMITS = "".join(
+    rf"0 {who} {3 * who} ask prev \d+ version \d+ ordinal [01] fresh\n"
+    rf"0 {who} {3 * who + 1} report (\d+) (?:not )?raised pos [01]\n"
+    rf"0 {who} {3 * who + 2} grv (\d+) unlocked none pos [01]\n"
+    for who in (0, 1)
+) + r"audit ok events 4 raised 1 versions 2\n"
+
+
+def worked_races(program):
+    """Worked scripts, time and again with 1, 2 and 16 proxies."""
+    for name, (rounds, top) in WORKED.items():
+        given = written(rounds, **top)
+        for proxies in (1, 2, 16):
+            for time in range(AGAIN):
+                yield f"{name}, {proxies} proxies, run {time}", judged(program, given, proxies)
+    for proxies in (1, 2, 16):
+        for time in range(AGAIN):
+            yield f"each read sees its client's report, {proxies} proxies, run {time}", seen_fault(program, proxies)
+
+
+def seen_fault(program, proxies):
+    """Returns what is wrong with a run of two clients that each ask, report and read, said without the judge."""
+    rounds, top = WORKED["two clients ask, report and read"]
+    ran = run([program, "--proxies", str(proxies)], written(rounds, **top))
+    numbers = re.fullmatch(TWO_COMMITS, ran.out.decode())
+    if ran.status or ran.err or not numbers:
+        return f"status {ran.status} and {ran.out!r}"
+    reported, read, other_reported, other_read = map(int, numbers.groups())
+    return None if read >= reported and other_read >= other_reported else f"a read is below its client's report in {ran.out!r}"
+
+
+# Scripts that have one text in each schedule, though threads run. The first read of a client goes to the proxy of its number.
+SURE = [
+    ("two clients and two proxies with room for one", 2, [both(do("grv", count=50))], {"clients": 2, "room": 1, "normal": 1, "elapsed": 1000}),
+    ("16 clients and proxies with room for one", 16, [turns(16, 1, lambda who, _: do("grv", who, count=9))], {"clients": 16, "room": 1, "normal": 3}),
+    ("64 clients and a proxy with room for them", 1, [turns(64, 3, lambda who, _: do("grv", who))], {"clients": 64, "room": 64, "normal": 1}),
+]
+
+
+def sure_texts(program):
+    """Clients that share rounds without a race: where each read finds room, and where a read comes after all reports."""
+    for name, proxies, rounds, top in SURE:
+        given = written(rounds, **top)
+        wanted = expected(given, True, True)
+        for time in range(AGAIN):
+            yield f"{name}, run {time}", fault_of(run([program, "--history", "--proxies", str(proxies)], given), wanted)
+    untold = Example("untold")
+    for proxies in (1, 4):
+        for time in range(AGAIN):
+            yield f"untold, {proxies} proxies, run {time}", fault_of(run([program, *untold.words_for(proxies)], untold.given), untold.wanted)
+
+
+def limits():
+    """Names scripts at their limits, with the number of proxies, the rounds and the further members of the top level."""
+    third = lambda who, at: (do("ask", who, at=9 * at), do("report", who, num=at // 3 + 1), do("grv", who))[at % 3]
+    reads = lambda clients: [[do("grv", who) for _ in range(MOST_COMMANDS // clients) for who in range(clients)]]
+    yield "10,000 rounds of one command", 4, [[third(0, at)] for at in range(MOST_COMMANDS)], {}
+    yield "10,000 rounds of one command, of 64 clients in turn", 16, [[third(at % 64, at // 64)] for at in range(MOST_COMMANDS)], {"clients": 64}
+    yield "64 clients in each of 150 rounds", 4, [[third(who, at) for who in range(64)] for at in range(150)], {"clients": 64}
+    yield "10,000 reads of one client through one proxy of room 1", 1, reads(1), {"room": 1}
+    yield "10,000 reads of 64 clients through one proxy of room 1", 1, reads(64), {"clients": 64, "room": 1, "normal": 1}
+    yield "10,000 reads of 64 clients through 16 proxies of room 1", 16, reads(64), {"clients": 64, "room": 1, "normal": 1}
+    yield "commits and reads of 64 clients in one round", 16, [[third(who, at) for at in range(150) for who in range(64)]], {"clients": 64}
+
+
+def at_limits(program):
+    """Scripts at their limits end in time, and with a lawful text."""
+    for name, proxies, rounds, top in limits():
+        yield name, judged(program, written(rounds, **top), proxies)
+
+
+def refused(cause):
+    return f"0 0 0 grv refused {cause}\naudit ok events 0 raised 0 versions 0\n".encode()
+
+
+READ = b"0 0 0 grv 100 unlocked none pos 0\naudit ok events 1 raised 0 versions 0\n"
+BAD_COUNT, THROTTLED, QUOTA = refused("BadCount"), refused("BatchThrottled"), {"normal": "7", "batch": "3", "elapsed": "10000000"}
+# A read of this priority and count, further members of the top level, and what is printed.
+COUNTS = [
+    *[(priority, count, {}, BAD_COUNT) for priority in ("system", "default", "batch") for count in (0, 100_001, 2**64 - 1)],
+    *[(priority, 100_000, {"normal": "1", "elapsed": "10000000"}, READ) for priority in ("system", "default")],
+    ("batch", 17, QUOTA, READ),
+    ("batch", 18, QUOTA, BAD_COUNT),
+    ("batch", 11, {"normal": "1", "batch": "1"}, READ),
+    ("batch", 12, {"normal": "1", "batch": "1"}, BAD_COUNT),
+    ("batch", 100_000, {"normal": "99990", "batch": "100000"}, READ),
+    ("batch", 100_000, {"normal": "99989", "batch": "100000"}, BAD_COUNT),
+    ("batch", 1, {"batch": "0"}, THROTTLED),
+    ("batch", 1010, {"batch": "0"}, THROTTLED),
+    ("batch", 1011, {"batch": "0"}, BAD_COUNT),
+    ("batch", 0, {"batch": "0"}, BAD_COUNT),
+    ("default", 1, {"batch": "0", "room": "1"}, READ),
+]
+
+
+def queue_refusals(program):
+    """What a read is refused for, whoever else waits: the model says it, and the program where reads wait in queues."""
+    for priority, count, top, wanted in COUNTS:
+        given = script(f"[[{command('grv', priority=json.dumps(priority), count=str(count))}]]", **top).encode()
+        name = f"a {priority} read for {count} transactions with {top}"
+        yield f"{name}, by the model", fault_of(expected(given, threaded=True), done(wanted))
+        if THREADED:
+            yield name, fault_of(run([program], given), done(wanted))
+    given, wanted = whole_refusals()
+    yield "all refusals in one script, by the model", fault_of(expected(given, threaded=True), done(wanted))
+    if THREADED:
+        yield "all refusals in one script", fault_of(run([program], given), done(wanted))
+
+
+def whole_refusals():
+    """The worked script of refused calls with a read for no transactions at its end, and what it prints."""
+    it = Example("refusals")
+    read = b',\n{"do":"grv","client":0,"count":0}]]}'
+    replies, audit, counts = it.wanted.out.partition(b"audit ")
+    return it.given.replace(b"]]}", read), replies + b"0 0 9 grv refused BadCount\n" + audit + counts

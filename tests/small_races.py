@@ -1,0 +1,196 @@
+"""Small races with what may come of them and what may not, worked out by hand."""
+
+
+def grv(client, **said):
+    return {"do": "grv", "client": client, **said}
+
+
+def ask(client, at=1000):
+    return {"do": "ask", "client": client, "at": at}
+
+
+def report(client, num=1):
+    return {"do": "report", "client": client, "num": num}
+
+
+def reads(*priorities, **top):
+    """A script of one round in which each client reads once, with these priorities."""
+    return [[grv(client, priority=it) for client, it in enumerate(priorities)]], top
+
+
+READ = "100 unlocked none pos 0"
+FULL = "refused Full"
+BOTH = [[ask(0), report(0), grv(0), ask(1), report(1), grv(1)]], {}
+SEEN = [[ask(0), ask(0), report(0, 2), grv(1), ask(1)]], {}
+AFTER = [[ask(0), ask(0), report(0, 2), ask(0), ask(1), grv(1)]], {}
+ROUNDS = [[ask(0), ask(0), report(0, 2)], [grv(1), ask(1)], [grv(0)]], {}
+APART = [[grv(0), ask(0), ask(1), grv(1)]], {"room": 1}
+OFTEN = [[grv(0), grv(0), grv(1)]], {"room": 1}
+LONG = [[grv(0), grv(0), grv(1, count=30)]], {"room": 1, "normal": 1}
+
+# A name, the rounds and further members of the top level, the number of proxies, the audit's numbers of events, raised reports
+# and versions, whether a schedule gives that, and the ends of the replies' lines.
+RACES = [
+    (
+        *("client 0 and then client 1", BOTH, 1, "4 1 2", True),
+        [
+            "prev 0 version 100 ordinal 0 fresh",
+            "100 not raised pos 0",
+            READ,
+            "prev 100 version 101 ordinal 1 fresh",
+            "101 raised pos 1",
+            "101 unlocked none pos 1",
+        ],
+    ),
+    (
+        *("the first report comes behind the second one", BOTH, 1, "4 1 2", True),
+        [
+            "prev 0 version 100 ordinal 0 fresh",
+            "100 not raised pos 1",
+            "101 unlocked none pos 1",
+            "prev 100 version 101 ordinal 1 fresh",
+            "101 raised pos 1",
+            "101 unlocked none pos 1",
+        ],
+    ),
+    (
+        *("client 1 is the first to ask, and the last to report", BOTH, 1, "4 1 2", True),
+        [
+            "prev 100 version 101 ordinal 1 fresh",
+            "101 raised pos 1",
+            "101 unlocked none pos 1",
+            "prev 0 version 100 ordinal 0 fresh",
+            "100 not raised pos 1",
+            "101 unlocked none pos 1",
+        ],
+    ),
+    (
+        *("a read goes back behind its client's report", BOTH, 1, "4 1 2", False),
+        [
+            "prev 0 version 100 ordinal 0 fresh",
+            "100 not raised pos 1",
+            READ,
+            "prev 100 version 101 ordinal 1 fresh",
+            "101 raised pos 1",
+            "101 unlocked none pos 1",
+        ],
+    ),
+    (
+        *("both drew the same version", BOTH, 1, "4 0 2", False),
+        [
+            "prev 0 version 100 ordinal 0 fresh",
+            "100 not raised pos 0",
+            READ,
+            "prev 0 version 100 ordinal 0 fresh",
+            "100 not raised pos 0",
+            READ,
+        ],
+    ),
+    (
+        *("a read before the report, a request between the two others", SEEN, 1, "2 1 3", True),
+        [
+            "prev 0 version 100 ordinal 0 fresh",
+            "prev 101 version 102 ordinal 2 fresh",
+            "102 raised pos 1",
+            READ,
+            "prev 100 version 101 ordinal 1 fresh",
+        ],
+    ),
+    (
+        *("a version that is not above the one that its client has read", SEEN, 1, "2 1 3", False),
+        [
+            "prev 0 version 100 ordinal 0 fresh",
+            "prev 101 version 102 ordinal 2 fresh",
+            "102 raised pos 1",
+            "102 unlocked none pos 1",
+            "prev 100 version 101 ordinal 1 fresh",
+        ],
+    ),
+    (
+        *("a read after a request that came behind the report", AFTER, 1, "2 1 4", True),
+        [
+            "prev 0 version 100 ordinal 0 fresh",
+            "prev 100 version 101 ordinal 1 fresh",
+            "101 raised pos 1",
+            "prev 101 version 102 ordinal 2 fresh",
+            "prev 102 version 103 ordinal 3 fresh",
+            "101 unlocked none pos 1",
+        ],
+    ),
+    (
+        *("a read that misses the report though a request before it came behind that", AFTER, 1, "2 1 4", False),
+        [
+            "prev 0 version 100 ordinal 0 fresh",
+            "prev 100 version 101 ordinal 1 fresh",
+            "101 raised pos 1",
+            "prev 101 version 102 ordinal 2 fresh",
+            "prev 102 version 103 ordinal 3 fresh",
+            READ,
+        ],
+    ),
+    (
+        *("rounds in their order", ROUNDS, 4, "3 1 3", True),
+        [
+            "prev 0 version 100 ordinal 0 fresh",
+            "prev 100 version 101 ordinal 1 fresh",
+            "101 raised pos 1",
+            "101 unlocked none pos 1",
+            "prev 101 version 102 ordinal 2 fresh",
+            "101 unlocked none pos 1",
+        ],
+    ),
+    (
+        *("a read of a later round that misses a report, which nobody told its client of", ROUNDS, 4, "3 1 3", False),
+        [
+            "prev 0 version 100 ordinal 0 fresh",
+            "prev 100 version 101 ordinal 1 fresh",
+            "101 raised pos 1",
+            READ,
+            "prev 101 version 102 ordinal 2 fresh",
+            "101 unlocked none pos 1",
+        ],
+    ),
+    (
+        *("a request of a later round that is drawn before one of an earlier round", ROUNDS, 4, "3 1 3", False),
+        [
+            "prev 0 version 100 ordinal 0 fresh",
+            "prev 101 version 102 ordinal 2 fresh",
+            "102 raised pos 1",
+            "102 unlocked none pos 1",
+            "prev 100 version 101 ordinal 1 fresh",
+            "102 unlocked none pos 1",
+        ],
+    ),
+    ("two of three find a queue of one full", reads("default", "default", "default", room=1), 1, "1 0 0", True, [FULL, READ, FULL]),
+    ("nobody finds room", reads("default", "default", "default", room=1), 1, "0 0 0", False, [FULL, FULL, FULL]),
+    ("one of three finds a queue of two full", reads("default", "default", "default", room=2), 1, "2 0 0", True, [READ, READ, FULL]),
+    ("two of three find a queue of two full", reads("default", "default", "default", room=2), 1, "1 0 0", False, [FULL, READ, FULL]),
+    ("one of three finds a queue of three full", reads("default", "default", "default", room=3), 1, "2 0 0", False, [READ, READ, FULL]),
+    ("two through two proxies", reads("default", "default", room=1), 2, "1 0 0", False, [READ, FULL]),
+    ("three through two proxies", reads("default", "default", "default", room=1), 2, "2 0 0", True, [READ, READ, FULL]),
+    ("the one between those", reads("default", "default", "default", room=1), 2, "2 0 0", False, [READ, FULL, READ]),
+    ("a batch read beside one of the system", reads("system", "batch", room=1), 1, "1 0 0", True, [READ, FULL]),
+    ("a read of the system beside a batch one", reads("system", "batch", room=1), 1, "1 0 0", False, [FULL, READ]),
+    ("a batch read that no batch read may wait", reads("default", "batch", room=1, batch=0), 1, "1 0 0", False, [READ, FULL]),
+    (
+        *("a queue that a read has left", APART, 1, "1 0 2", False),
+        [
+            READ,
+            "prev 0 version 100 ordinal 0 fresh",
+            "prev 100 version 101 ordinal 1 fresh",
+            FULL,
+        ],
+    ),
+    (
+        *("a queue in which a read may still wait", APART, 1, "1 0 2", True),
+        [
+            READ,
+            "prev 100 version 101 ordinal 1 fresh",
+            "prev 0 version 100 ordinal 0 fresh",
+            FULL,
+        ],
+    ),
+    ("full once beside one read", OFTEN, 1, "2 0 0", True, [FULL, READ, READ]),
+    ("full twice beside one read that starts at once", OFTEN, 1, "1 0 0", False, [FULL, FULL, READ]),
+    ("full twice beside one read that waits for its count", LONG, 1, "1 0 0", True, [FULL, FULL, READ]),
+]
