@@ -2,6 +2,7 @@
 import os
 import re
 
+from believed import headline
 from edits import BESIDE, TRIED, crates, edits_in, fault_of_edit
 from harness import EXAMPLES, ROOT, done, fault_of, run
 
@@ -82,6 +83,13 @@ def edits(_program):
                 yield f"crates/{crate}/{folder}/{name}.edit", fault_of_edit(crate, file)
         tried = len(edits_in(crate, TRIED)[0])
         yield f"crates/{crate}/{TRIED}", f"it has {tried} edits, and {MOST_TRIED} are the most" if tried > MOST_TRIED else None
+
+
+def believed(_program):
+    """What README.md and docs/DEFINITIONS.md say of how much the headline rests on is so."""
+    found, lines = headline()
+    for document, said in (("README.md", f"rests on {lines} lines"), ("docs/DEFINITIONS.md", f"rests on {lines} lines in {found} definitions")):
+        yield document, None if said in text_of(f"{ROOT}/{document}") else f"it does not say that the headline {said}"
 
 
 def blocks():

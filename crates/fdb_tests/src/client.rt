@@ -1,0 +1,174 @@
+//! Clients. Each line of a text is a call of one of two clients; the test itself serves the desk at which they read.
+
+ghost use Rattle.std.specs.Prelude.{◌≡◌};
+
+mod lines;
+mod pair;
+mod served;
+
+use crate::client::lines::play_lines;
+use crate::client::pair::over_two_proxies;
+use crate::live::steps::unlocked;
+use fdb_chain::{ChainCore, Sequencer};
+use fdb_client::Client;
+use fdb_live::{Live, LiveRecord, Opened, Seen};
+use fdb_proxy::Desk;
+use std::alloc::Global;
+use std::marker::Brand;
+use std::process::Abort;
+use std::sync::Wait;
+use std::test::Fail;
+use std::thread::Threads;
+
+/// Two clients with what they call.
+#[derive(Drop)]
+pub struct Stand<'a, J: Live> {
+    pub alloc: Global,
+    pub live: &'a LiveRecord<J>,
+    pub sequencer: &'a Sequencer<J>,
+    pub desk: Desk<J>,
+    /// What the server of the desk has seen.
+    pub served: Seen<J>,
+    pub clients: Vec<Client<'a, J>>,
+    /// What was told and not learnt yet.
+    pub told: Vec<Seen<J>>,
+}
+
+/// What is done with two clients.
+#[derive(Clone, Copy)]
+enum Case {
+    /// The lines of a text, one after another.
+    Lines(&'static str),
+    /// They report, tell each other and read, over two proxies.
+    OverTwoProxies,
+}
+
+/// Plays a case, with a sequencer for so many commit proxies.
+fn play<R: Threads + Wait + Abort + Sync>(
+    rt: &R,
+    alloc: Global,
+    proxies: u32,
+    case: Case,
+) -> Result<(), Fail> {
+    let opened = LiveRecord::<Brand>::open(rt, alloc, unlocked(100), 2)?;
+    let core = ChainCore::new(alloc, 0, 100, proxies)?;
+    play_named::<Brand, R>(rt, alloc, opened, core, case)
+}
+
+/// Plays a case under the name of the service.
+fn play_named<J: Live + Send + Sync, R: Threads + Wait + Abort + Sync>(
+    rt: &R,
+    alloc: Global,
+    opened: Opened,
+    core: ChainCore,
+    case: Case,
+) -> Result<(), Fail>
+    requires opened { opened ≡ record { table = J.table; start = J.start; reporters = J.reporters } }
+    requires epoch_end { core.epoch_end ≡ J.epoch_end }
+    requires recovery { core.recovery ≡ J.recovery }
+{
+    let (live, served, tokens) = opened.parts::<J>()?;
+    let sequencer = Sequencer::new(core);
+    let mut clients = Vec::new(alloc);
+    for token in tokens {
+        let client = client_of(alloc, &live, token);
+        clients.push(client.ok_or("the token of a reporter that has seen nothing")?)?;
+    }
+    let stand = Stand {
+        alloc,
+        live: &live,
+        sequencer: &sequencer,
+        desk: Desk::new(alloc),
+        served,
+        clients,
+        told: Vec::new(alloc),
+    };
+    match case {
+        Case::Lines(text) => play_lines(rt, stand, text),
+        Case::OverTwoProxies => over_two_proxies(rt, stand),
+    }
+}
+
+/// The client whose token it is, where it has seen nothing.
+fn client_of<'a, J: Live>(
+    alloc: Global,
+    live: &'a LiveRecord<J>,
+    token: Seen<J>,
+) -> Option<Client<'a, J>> {
+    match token.reporter() {
+        Some(number) if token.position() == 0 => Some(Client::new(alloc, number, live, token)),
+        _ => None,
+    }
+}
+
+/// What no GRV proxy has to do with. The sequencer knows one commit proxy, so client 1 is none.
+const CALLS: &str = "
+report 0 1 => no commit version was issued under this number
+ask 0 0 1000 => 100 after 0, fresh
+ask 0 0 3000 => 2100 after 100, fresh
+reask 0 1 0 9000 => 100 after 0, kept
+reask 0 5 0 9000 => the next request number is 3
+report 0 3 => no commit version was issued under this number
+report 0 2 => raised at 1
+report 0 1 => not raised at 1
+reask 0 2 1 9000 => 2100 after 100, kept
+ask 0 2 9000 => 8100 after 2100, fresh
+reask 0 1 0 9000 => the answer is not kept any more
+ask 1 0 9000 => there is no such commit proxy
+report 1 1 => no commit version was issued under this number
+log 0 => 11 calls, at 1
+log 1 => 2 calls, at 0
+tell 0 1 => at 1
+learn 1 0 => at 1
+learn 1 0 => nothing was told
+tell 1 0 => at 1
+report 0 3 => raised at 2
+learn 0 1 => at 2
+log 0 => 14 calls, at 2
+log 1 => 4 calls, at 1
+meet => ok
+";
+
+#[test]
+fn calls_without_a_proxy(rt: HostRuntime) -> Result<(), Fail> {
+    play(&rt, rt.alloc(), 1, Case::Lines(CALLS))
+}
+
+/// Reads whose answers are another call's, never come, or are refusals; after each the client goes on.
+const READS: &str = "
+read 0 served => 100 at 0
+read 0 serial => the answer is another call's
+read 0 client => the answer is another call's
+ask 0 0 1000 => 100 after 0, fresh
+ask 0 0 3000 => 2100 after 100, fresh
+report 0 2 => raised at 1
+# the server sees the raise, and answers a request that asked from position 1
+read 1 asked => the answer is another call's
+log 1 => 1 calls, at 0
+read 1 dropped => the GRV proxy is closed
+read 1 closed => the GRV proxy is closed
+read 1 full => the queue is full
+read 1 memory => want of memory
+log 1 => 4 calls, at 0
+read 1 served => 2100 at 1
+ask 0 0 4000 => 3100 after 2100, fresh
+lock 0 3 => raised at 2
+read 1 served => the database is locked at version 3100
+aware 1 served => 3100 at 2
+shut => ok
+read 1 served => the GRV proxy is closed
+ask 0 0 5000 => 4100 after 3100, fresh
+report 0 4 => raised at 3
+log 1 => 8 calls, at 2
+meet => ok
+";
+
+#[test]
+fn reads_at_a_desk(rt: HostRuntime) -> Result<(), Fail> {
+    play(&rt, rt.alloc(), 1, Case::Lines(READS))
+}
+
+#[test]
+fn two_clients_over_two_proxies(rt: HostRuntime) -> Result<(), Fail> {
+    play(&rt, rt.alloc(), 2, Case::OverTwoProxies)
+}

@@ -1,0 +1,136 @@
+//! Two clients over two proxies, each in a thread of its own.
+
+use crate::client::Stand;
+use crate::client::lines::opts_of;
+use fdb_chain::Sequencer;
+use fdb_client::{Client, ClientError, ReadVersion};
+use fdb_history::OpenGate;
+use fdb_live::{Live, LiveRecord, Seen};
+use fdb_proxy::{Desk, GrvProxy};
+use fdb_queue::{GrvQueue, QueueConfig};
+use std::alloc::Global;
+use std::process::Abort;
+use std::sync::Wait;
+use std::test::Fail;
+use std::thread;
+use std::thread::Threads;
+
+/// Both report, tell each other, and read. Each has then come at least as far as the other had told, and their tokens meet.
+pub fn over_two_proxies<J: Live + Send + Sync, R: Threads + Wait + Abort + Sync>(
+    rt: &R,
+    stand: Stand<'_, J>,
+) -> Result<(), Fail> {
+    let Stand {
+        alloc,
+        live,
+        sequencer,
+        desk,
+        mut served,
+        mut clients,
+        told: _,
+    } = stand;
+    let other = Desk::new(alloc);
+    let one = clients.pop().ok_or("a client")?;
+    let zero = clients.pop().ok_or("a client")?;
+    let first = proxy_of(alloc, live, &desk, &mut served)?;
+    let second = proxy_of(alloc, live, &other, &mut served)?;
+    let ended = thread::scope(thread::scope_env(), rt, |scope| {
+        let first = scope.spawn(move || first.run(rt).is_ok());
+        let second = scope.spawn(move || second.run(rt).is_ok());
+        if first.is_ok() && second.is_ok() {
+            work_side_by_side(rt, alloc, live, sequencer, (&desk, zero), (&other, one));
+        }
+        desk.close(rt);
+        other.close(rt);
+        match (first, second) {
+            (Ok(first), Ok(second)) => first.join(rt) && second.join(rt),
+            _ => false,
+        }
+    });
+    assert!(rt; ended, "a proxy has no thread, or met want of memory");
+    Ok(())
+}
+
+/// A proxy of a desk that lets 1,000 transactions start in each window.
+fn proxy_of<'a, J: Live>(
+    alloc: Global,
+    live: &'a LiveRecord<J>,
+    desk: &'a Desk<J>,
+    seen: &mut Seen<J>,
+) -> Result<GrvProxy<'a, J>, Fail> {
+    let config = QueueConfig {
+        normal: 1_000,
+        batch: 1_000,
+        room: 1_000,
+    };
+    let queue = GrvQueue::new(alloc, config)?;
+    let token = live.split(seen);
+    Ok(GrvProxy::new(alloc, live, desk, queue, 1_000_000, token))
+}
+
+/// Has both clients work, each at its own desk.
+fn work_side_by_side<J: Live + Send + Sync, R: Threads + Wait + Abort + Sync>(
+    rt: &R,
+    alloc: Global,
+    live: &LiveRecord<J>,
+    sequencer: &Sequencer<J>,
+    (desk, mut zero): (&Desk<J>, Client<'_, J>),
+    (other, mut one): (&Desk<J>, Client<'_, J>),
+) {
+    thread::join(
+        rt,
+        || commit(rt, sequencer, &mut zero),
+        || commit(rt, sequencer, &mut one),
+    );
+    let from_zero = exchange(rt, &mut zero, &mut one);
+    let from_one = exchange(rt, &mut one, &mut zero);
+    let (zeros, ones) = thread::join(rt, || read(rt, alloc, desk, &mut zero), || read(rt, alloc, other, &mut one));
+    let told = from_zero.max(from_one);
+    assert!(rt; told == 2 || told == 1, "both reported, and one raise is certain: {told}");
+    for found in [zeros, ones] {
+        let position = found.map_or(0, |read| read.position);
+        assert!(rt; position >= told, "{position} after {told} was told");
+    }
+    let ((_, mut zero), (_, mut one)) = (zero.finish(), one.finish());
+    live.meet(rt, &mut zero, &mut one);
+    assert!(rt; zero.position() >= told && one.position() >= told, "at the end");
+}
+
+/// Draws a commit version twice, and reports the second one.
+fn commit<J: Live, R: Wait + Abort>(rt: &R, sequencer: &Sequencer<J>, client: &mut Client<'_, J>) {
+    for at in [1_000, 2_000] {
+        let drawn = client.ask(rt, &OpenGate, sequencer, 0, at);
+        assert!(rt; drawn.is_ok(), "a commit version at {at}");
+    }
+    let acked = client.report(rt, &OpenGate, 2, false, None);
+    assert!(rt; acked.is_ok(), "a report");
+}
+
+/// One client tells another, who learns. Answers the position that was told.
+fn exchange<J: Live, R: Wait + Abort>(
+    rt: &R,
+    teller: &mut Client<'_, J>,
+    other: &mut Client<'_, J>,
+) -> u64 {
+    let Ok(token) = teller.tell(other.number()) else {
+        panic!(rt; "a tell is refused");
+    };
+    let position = token.position();
+    if token.reporter().is_none() {
+        let learnt = other.learn(rt, teller.number(), token);
+        assert!(rt; learnt.is_ok(), "a learn");
+    }
+    assert!(rt; other.position() >= position, "behind {position}, which was told");
+    position
+}
+
+/// A read at a desk.
+fn read<J: Live, R: Wait>(
+    rt: &R,
+    alloc: Global,
+    desk: &Desk<J>,
+    client: &mut Client<'_, J>,
+) -> Result<ReadVersion, ClientError> {
+    let opts = opts_of(alloc, false);
+    client.read_version(rt, &OpenGate, desk, opts)
+}
