@@ -3,7 +3,7 @@
 ghost use Rattle.std.specs.Prelude.{◌<◌, ◌≤◌, IfOk};
 ghost use Rattle.fdb_script.specs.Answering.{Answers};
 
-use fdb_history::OpenGate;
+use fdb_history::{Gate, OpenGate};
 use fdb_replay::{ReplayFault, RunFault, drive, replay, run};
 use fdb_script::{Outcome, Script, ScriptError, read_script, text};
 use std::alloc::Global;
@@ -78,4 +78,18 @@ pub fn drives<R: Threads + Wait + Sync + Files, I: Read, O: Write, E: Write>(
     err: &mut E,
 ) -> u8 {
     drive(rt, alloc, words, input, out, err)
+}
+
+/// Whether a run through a gate leaves an outcome.
+pub fn runs_through<R: Threads + Wait + Sync, G: Gate>(
+    rt: &R,
+    alloc: Global,
+    script: &Script,
+    proxies: u32,
+    gate: &G,
+) -> bool
+    requires some_proxy { 0 < proxies }
+    requires few_proxies { proxies ≤ 16 }
+{
+    run(rt, alloc, script, proxies, gate).is_ok()
 }

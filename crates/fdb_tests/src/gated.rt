@@ -45,7 +45,10 @@ fn reads_pass_held_locks(rt: HostRuntime) -> Result<(), Fail> {
     let script = script_of(rt.alloc(), BESIDE_READS.as_bytes())?;
     for at in [Place::SequencerHeld, Place::ReportHeld] {
         let gate = Crossing::new(at);
-        assert!(rt; runs_through(&rt, rt.alloc(), &script, 1, &gate), "{at:?}: no outcome");
+        assert!(rt;
+            runs_through(&rt, rt.alloc(), &script, 1, &gate),
+            "{at:?}: no outcome"
+        );
         assert!(rt; gate.is_passed(), "{at:?}: somebody waited in vain");
     }
     Ok(())
@@ -56,7 +59,10 @@ fn reads_pass_held_locks(rt: HostRuntime) -> Result<(), Fail> {
 fn nobody_meets_another_in_a_lock(rt: HostRuntime) -> Result<(), Fail> {
     let script = script_of(rt.alloc(), both_report(rt.alloc())?.as_bytes())?;
     let gate = Alone::new();
-    assert!(rt; runs_through(&rt, rt.alloc(), &script, 2, &gate), "no outcome");
+    assert!(rt;
+        runs_through(&rt, rt.alloc(), &script, 2, &gate),
+        "no outcome"
+    );
     assert!(rt; gate.is_kept(), "two were in one lock");
     Ok(())
 }

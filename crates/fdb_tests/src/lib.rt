@@ -12,6 +12,10 @@ mod calls;
 #[cfg(test)]
 mod chain;
 #[cfg(test)]
+mod client;
+#[cfg(test)]
+mod gated;
+#[cfg(test)]
 mod line;
 #[cfg(test)]
 mod live;

@@ -59,7 +59,16 @@ fn called<J: Live + Send + Sync, R: Threads + Wait + Abort + Sync>(
         "read" | "aware" => {
             let opts = opts_of(alloc, call == "aware");
             let way = way(rt, line);
-            let found = read_served(rt, alloc, &stand.desk, stand.live, &mut stand.served, client, opts, way);
+            let found = read_served(
+                rt,
+                alloc,
+                &stand.desk,
+                stand.live,
+                &mut stand.served,
+                client,
+                opts,
+                way,
+            );
             read_text(alloc, found)
         }
         "tell" => {
@@ -137,10 +146,7 @@ fn learnt<J: Live, R: Wait>(
     }
 }
 
-fn issued_text(
-    alloc: Global,
-    found: Result<Issued, ClientError>,
-) -> Result<String, AllocError> {
+fn issued_text(alloc: Global, found: Result<Issued, ClientError>) -> Result<String, AllocError> {
     match found {
         Ok(issued) => {
             let fresh = if issued.fresh { "fresh" } else { "kept" };
@@ -150,10 +156,7 @@ fn issued_text(
     }
 }
 
-fn read_text(
-    alloc: Global,
-    found: Result<ReadVersion, ClientError>,
-) -> Result<String, AllocError> {
+fn read_text(alloc: Global, found: Result<ReadVersion, ClientError>) -> Result<String, AllocError> {
     match found {
         Ok(read) => format!(in alloc; "{} at {}", read.rec.version, read.position),
         Err(cause) => cause.to_string(alloc),

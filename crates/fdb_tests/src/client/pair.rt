@@ -84,16 +84,26 @@ fn work_side_by_side<J: Live + Send + Sync, R: Threads + Wait + Abort + Sync>(
     );
     let from_zero = exchange(rt, &mut zero, &mut one);
     let from_one = exchange(rt, &mut one, &mut zero);
-    let (zeros, ones) = thread::join(rt, || read(rt, alloc, desk, &mut zero), || read(rt, alloc, other, &mut one));
+    let (zeros, ones) = thread::join(
+        rt,
+        || read(rt, alloc, desk, &mut zero),
+        || read(rt, alloc, other, &mut one),
+    );
     let told = from_zero.max(from_one);
-    assert!(rt; told == 2 || told == 1, "both reported, and one raise is certain: {told}");
+    assert!(rt;
+        told == 2 || told == 1,
+        "both reported, and one raise is certain: {told}"
+    );
     for found in [zeros, ones] {
         let position = found.map_or(0, |read| read.position);
         assert!(rt; position >= told, "{position} after {told} was told");
     }
     let ((_, mut zero), (_, mut one)) = (zero.finish(), one.finish());
     live.meet(rt, &mut zero, &mut one);
-    assert!(rt; zero.position() >= told && one.position() >= told, "at the end");
+    assert!(rt;
+        zero.position() >= told && one.position() >= told,
+        "at the end"
+    );
 }
 
 /// Draws a commit version twice, and reports the second one.
@@ -120,7 +130,10 @@ fn exchange<J: Live, R: Wait + Abort>(
         let learnt = other.learn(rt, teller.number(), token);
         assert!(rt; learnt.is_ok(), "a learn");
     }
-    assert!(rt; other.position() >= position, "behind {position}, which was told");
+    assert!(rt;
+        other.position() >= position,
+        "behind {position}, which was told"
+    );
     position
 }
 

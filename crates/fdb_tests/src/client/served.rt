@@ -3,12 +3,12 @@
 ghost use Rattle.std.specs.Prelude.{◌≡◌, true};
 ghost use Rattle.fdb_proxy.specs.Cause.{is_due};
 
+use crossbeam_channel::Sender;
 use fdb_client::{Client, ClientError, ReadVersion};
 use fdb_history::{GrvOpts, OpenGate, Sequence};
 use fdb_live::{Live, LiveRecord, Seen};
 use fdb_proxy::{Answer, Cause, Desk, Refused, Reply, Request};
 use fdb_queue::QueueError;
-use crossbeam_channel::Sender;
 use std::alloc::{AllocError, Global};
 use std::process::Abort;
 use std::sync::Wait;
