@@ -7,8 +7,10 @@ each that changes nothing for others as soon as the run is where its line says; 
 round is to be answered at the position that it leaves; and a fresh commit version where nothing else can go on. None of these
 steps shuts out an order that the one before allowed, so where they stop short there is none.
 
-The one reply that such an order does not explain is a read that found its queue full. `crowd_fault` says of it what can be said:
-there have to have been enough reads of other clients that waited for the same proxy meanwhile.
+The one reply that such an order does not explain is a read that found its queue full. `crowd_fault` asks what has to be so where
+there is one: enough reads of other clients, of its priority or above, that can have waited for the same proxy meanwhile and did not
+find it full in their turn. It refuses nothing that a schedule gives, but may accept a text in which several reads found their queues
+full and each could have, though not all in one schedule.
 """
 import re
 from bisect import bisect_left
@@ -238,15 +240,20 @@ def beside(read, places, before):
 
 
 def too_often(script, here, full):
-    """Returns whether a client found the queue full too often: in each such turn the first that waits starts, if its count fits."""
+    """Returns whether a client found the queue full too often.
+
+    In the window of such a turn the first that waits starts if its count fits, and it is of no lower priority than the read that
+    was refused or pushed out. A client has one read in a turn, and so each such turn starts another read of another client.
+    """
     fits = {"system": 100_000, "default": script.normal, "batch": min(script.normal, script.batch)}
     if any(it.call.it.count > fits[it.call.it.priority] for it in here):
         return None
-    refused = Counter(read.client for read in full)
-    started = Counter(read.client for read in here if not read.is_full)
-    for client, times in refused.items():
-        if times > sum(started.values()) - started[client]:
-            return f"client {client} found its queue full {times} times"
+    for rank in RANKS.values():
+        refused = Counter(read.client for read in full if read.rank >= rank)
+        started = Counter(read.client for read in here if read.rank >= rank and not read.is_full)
+        for client, times in refused.items():
+            if times > sum(started.values()) - started[client]:
+                return f"client {client} found its queue full {times} times"
     return None
 
 

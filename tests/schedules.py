@@ -7,8 +7,9 @@ from collections import Counter
 
 from model import Run, in_order, line_of, text_of
 
-W = 2_000_000
-MOST_STARTED, IDLE, HIGHEST_BUDGET = 10_000, 10 * W, 100_000 * W
+# A budget is kept as a whole numerator over this.
+RATE_WINDOW = 2_000_000
+MOST_STARTED, IDLE, HIGHEST_BUDGET = 10_000, 10 * RATE_WINDOW, 100_000 * RATE_WINDOW
 ORDER = ["system", "default", "batch"]
 OVER = object()
 
@@ -59,7 +60,7 @@ class Proxy:
         started, sums = [], Counter()
         for request in self.row()[:MOST_STARTED]:
             total, priority, count = sum(sums.values()), request.it.priority, request.it.count
-            fits = lambda limit, budget: (total + count) * W <= min(limit * W + budget, HIGHEST_BUDGET)
+            fits = lambda limit, budget: (total + count) * RATE_WINDOW <= min(limit * RATE_WINDOW + budget, HIGHEST_BUDGET)
             may_start = priority == "system" or fits(self.script.normal, self.normal)
             if not may_start or priority == "batch" and not fits(self.script.batch, self.batch):
                 break
