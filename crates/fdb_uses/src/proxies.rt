@@ -71,7 +71,10 @@ fn serve<J: Live + Send + Sync, R: Print + Threads + Wait + Sync>(
         found
     });
     for found in [write?, read?] {
-        println!(rt; "read version {} at position {}", found.rec.version, found.position)?;
+        println!(rt;
+            "read version {} at position {}",
+            found.rec.version, found.position
+        )?;
     }
     Ok(())
 }
@@ -98,7 +101,10 @@ fn commit<J: Live, R: Print + Wait>(
     client.ask(rt, &OpenGate, sequencer, 0, 1_000)?;
     client.ask(rt, &OpenGate, sequencer, 0, 3_000)?;
     let ack = client.report(rt, &OpenGate, 2, false, None)?;
-    println!(rt; "committed: raised {}, position {}", ack.raised, ack.position)?;
+    println!(rt;
+        "committed: raised {}, position {}",
+        ack.raised, ack.position
+    )?;
     Ok(())
 }
 
