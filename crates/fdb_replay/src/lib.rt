@@ -2,6 +2,7 @@
 #![tactic(auto)]
 
 mod client;
+mod desks;
 mod driving;
 mod fault;
 mod live;
@@ -10,6 +11,7 @@ mod rounds;
 mod running;
 mod service;
 mod words;
+mod world;
 
 pub use driving::{Fault, MAX_SCRIPT_BYTES, drive};
 pub use fault::RunFault;
