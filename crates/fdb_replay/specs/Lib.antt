@@ -2,7 +2,7 @@ pub mod Outcome
 pub mod Replay
 pub mod Rounds
 pub mod Routing
-pub mod Service
+pub mod Throttling
 pub mod Words
 pub use Rattle.fdb_script.specs.Answering
 pub use Rattle.fdb_script.specs.Plan
