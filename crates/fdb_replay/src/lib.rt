@@ -1,15 +1,15 @@
 //! A script of clients, replayed against the read-version service from the script's bytes to the printed lines.
 #![tactic(auto)]
 
-mod client;
+mod clients;
 mod desks;
 mod driving;
 mod fault;
-mod live;
+mod player;
 mod replaying;
 mod rounds;
 mod running;
-mod service;
+mod tale;
 mod words;
 mod world;
 

@@ -1,0 +1,57 @@
+//! The clients of a run.
+
+ghost use Rattle.std.specs.Prelude.{◌≡◌, ◌<◌, ◌≤◌, ℕ, [], IfOk, Some, replicate, slice_get, vec_len};
+ghost use Rattle.fdb_replay.specs.Rounds.{logs_of};
+
+use crate::player::Player;
+use fdb_history::ClientLog;
+use fdb_live::{Live, LiveRecord, Seen};
+use std::alloc::{AllocError, Global};
+use std::marker::Model;
+
+/// The clients of a run. Contracts see them as the calls of each, in the order of their numbers.
+#[derive(Drop)]
+pub(crate) struct Clients<'a, J: Live> {
+    players: Vec<Player<'a, J>>,
+}
+
+impl<'a, J: Live> Model for Clients<'a, J> {
+    ghost use Rattle.std.specs.Prelude.{List};
+    ghost use Rattle.fdb_history.specs.declared.log.Call.{Call};
+
+    ghost Value = { List (List Call) };
+
+    ghost view = { λ clients. clients.players.items };
+}
+
+impl<'a, J: Live> Clients<'a, J> {
+    /// A client for each token, which has called nobody yet. Takes memory for the clients.
+    pub(crate) fn new(
+        alloc: Global,
+        live: &'a LiveRecord<J>,
+        tokens: Vec<Seen<J>>,
+    ) -> Result<Self, AllocError>
+        requires numbered { (k : ℕ) → k < vec_len tokens → slice_get tokens.items k ≡ Some (record { reporter = Some k; raises = [] }) }
+        requires few { vec_len tokens ≤ 64 }
+        ensures { IfOk result (λ clients. clients ≡ replicate (vec_len tokens) []) }
+    {
+        let mut players = Vec::with_capacity(alloc, tokens.len())?;
+        let mut number = 0;
+        for seen in tokens {
+            players.push_reserved(Player::new(alloc, number, live, seen));
+            number += 1;
+        }
+        Ok(Clients { players })
+    }
+
+    /// The logs of all clients.
+    pub(crate) fn into_logs(self, alloc: Global) -> Result<Vec<ClientLog>, AllocError>
+        ensures { IfOk result (λ logs. logs.items ≡ logs_of self.entry) }
+    {
+        let mut logs = Vec::with_capacity(alloc, self.players.len())?;
+        for player in self.players {
+            logs.push_reserved(player.into_log());
+        }
+        Ok(logs)
+    }
+}
