@@ -1,7 +1,10 @@
+pub mod Acts
 pub mod Calls
 pub mod Given
+pub mod Grown
 pub mod Input
 pub mod Learnt
+pub mod Parts
 pub mod Performed
 pub mod Runs
 pub mod Written

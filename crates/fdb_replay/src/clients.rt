@@ -1,19 +1,26 @@
 //! The clients of a run.
 
-ghost use Rattle.std.specs.Prelude.{◌≡◌, ◌<◌, ℕ, [], IfOk, Some, replicate, slice_get, vec_len};
+ghost use Rattle.std.specs.Prelude.{◌≡◌, ◌<◌, ◌≤◌, ℕ, [], IfErr, IfOk, OnOk, Some, length, replicate, slice_get, vec_len};
+ghost use Rattle.std.specs.List.{FoldsTo};
 ghost use Rattle.fdb_replay.specs.Rounds.{logs_of};
+ghost use Rattle.fdb_script.specs.Answering.{AnswersRound};
 
-use fdb_history::{Call, ClientLog, Sequence};
+use crate::fault::RunFault;
+use crate::player::Player;
+use crate::rounds::play_rounds;
+use crate::world::World;
+use fdb_history::{ClientLog, Gate, Sequence};
 use fdb_live::{Live, LiveRecord, Seen};
+use fdb_script::Command;
 use std::alloc::{AllocError, Global};
 use std::marker::Model;
+use std::sync::Wait;
+use std::thread::Threads;
 
-/// The clients of a run.
+/// The clients of a run. Contracts see them as the calls of each, in the order of their numbers.
 #[derive(Drop)]
 pub(crate) struct Clients<'a, J: Live> {
-    live: &'a LiveRecord<J>,
-    tokens: Vec<Seen<J>>,
-    calls: Vec<Sequence<Call>>,
+    players: Vec<Player<'a, J>>,
 }
 
 impl<'a, J: Live> Model for Clients<'a, J> {
@@ -22,42 +29,53 @@ impl<'a, J: Live> Model for Clients<'a, J> {
 
     ghost Value = { List (List Call) };
 
-    ghost view = { λ clients. clients.calls.items };
+    ghost view = { λ clients. clients.players.items };
 }
 
 impl<'a, J: Live> Clients<'a, J> {
-    /// A client for each token, which has called nobody yet.
+    /// A client for each token, which has called nobody yet. Takes memory for the clients.
     pub(crate) fn new(
         alloc: Global,
         live: &'a LiveRecord<J>,
         tokens: Vec<Seen<J>>,
     ) -> Result<Self, AllocError>
         requires numbered { (k : ℕ) → k < vec_len tokens → slice_get tokens.items k ≡ Some (record { reporter = Some k; raises = [] }) }
+        requires few { vec_len tokens ≤ 64 }
         ensures { IfOk result (λ clients. clients ≡ replicate (vec_len tokens) []) }
     {
-        let mut calls = Vec::new(alloc);
-        for _ in 0..tokens.len() {
-            calls.push(Sequence::new(alloc))?;
+        let mut players = Vec::with_capacity(alloc, tokens.len())?;
+        let mut number = 0;
+        for seen in tokens {
+            players.push_reserved(Player::new(alloc, number, live, seen));
+            number += 1;
         }
-        Ok(Clients {
-            live,
-            tokens,
-            calls,
-        })
+        Ok(Clients { players })
     }
 
-    /// Their logs.
+    /// Plays rounds, one after another.
+    pub(crate) fn play<R: Threads + Wait + Sync, G: Gate>(
+        &mut self,
+        rt: &R,
+        alloc: Global,
+        world: &World<'_, J, G>,
+        rounds: &[Sequence<Command>],
+    ) -> Result<(), RunFault>
+    where
+        J: Send + Sync,
+        requires few { length self.old ≤ 64 }
+        ensures ok { OnOk result (FoldsTo AnswersRound (logs_of self.old) rounds.now (logs_of self.new)) }
+        ensures err { IfErr result (λ fault. fault ≡ RunFault.Memory) }
+    {
+        play_rounds(rt, alloc, world, self.players.as_mut_slice(), rounds)
+    }
+
+    /// The logs of all clients.
     pub(crate) fn into_logs(self, alloc: Global) -> Result<Vec<ClientLog>, AllocError>
         ensures { IfOk result (λ logs. logs.items ≡ logs_of self.entry) }
     {
-        let Clients {
-            live: _,
-            tokens: _,
-            calls,
-        } = self;
-        let mut logs = Vec::new(alloc);
-        for calls in calls {
-            logs.push(ClientLog { calls })?;
+        let mut logs = Vec::with_capacity(alloc, self.players.len())?;
+        for player in self.players {
+            logs.push_reserved(player.into_log());
         }
         Ok(logs)
     }

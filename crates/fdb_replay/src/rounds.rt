@@ -1,29 +1,74 @@
-//! The rounds of a run.
+//! A round of a run: each client does what it is told, and then they learn what they told one another.
 
-ghost use Rattle.std.specs.Prelude.{◌≡◌, ◌≤◌, IfErr, OnOk, length};
+ghost use Rattle.std.specs.Prelude.{◌≡◌, ◌+◌, ◌++◌, ◌≤◌, ◌<◌, [], ℕ, true, false, OnOk, IfOk, IfErr, length, drop, fold, get_or, slice_index_or};
 ghost use Rattle.std.specs.List.{FoldsTo};
-ghost use Rattle.fdb_replay.specs.Rounds.{logs_of};
-ghost use Rattle.fdb_script.specs.Answering.{AnswersRound};
+ghost use Rattle.std.specs.Thread.{IsSync, IsSend};
+ghost use Rattle.fdb_replay.specs.Rounds.{IsPlayed, PerformsFrom, all_told, logs_of, teach, told_in};
+ghost use Rattle.fdb_script.specs.Answering.{AnswersCommand, AnswersRound, commands_of};
 
-use crate::clients::Clients;
 use crate::fault::RunFault;
+use crate::player::Player;
 use crate::world::World;
+use crate::tale::Tale;
 use fdb_history::{Gate, Sequence};
 use fdb_live::Live;
 use fdb_script::Command;
 use std::alloc::Global;
 use std::sync::Wait;
-use std::thread::Threads;
+use std::thread::{Threads, join_mut};
 
-/// What a client told another.
-#[derive(Clone, Copy)]
-pub(crate) struct Told {
-    /// Who is told.
-    pub(crate) to: u32,
-    /// Who tells.
-    pub(crate) from: u32,
-    /// The position up to which the teller had seen the register.
-    pub(crate) position: u64,
+/// The most clients of a run.
+const MAX_CLIENTS: usize = 64;
+
+/// What is done in a round, and by whom.
+#[derive(Drop)]
+struct Round<'a> {
+    commands: &'a [Command],
+    /// Whether the client with this number is told anything.
+    acts: [bool; MAX_CLIENTS],
+    ghost idle: { (client : ℕ) → slice_index_or acts client true ≡ false → commands_of client commands.now ≡ [] },
+}
+
+impl<'a> Round<'a> {
+    /// The round of these commands.
+    fn new(commands: &'a [Command]) -> Self
+        ensures { result.commands.now ≡ commands.now }
+    {
+        Round {
+            commands,
+            acts: acts_in(commands),
+        }
+    }
+
+    /// Whether one of so many clients is told anything, the first of whom has this number.
+    fn acts_among(&self, first: u32, clients: usize) -> bool
+        requires { first + clients ≤ 64 }
+        ensures some { result ≡ true → 0 < clients }
+        ensures idle { result ≡ false → (k : ℕ) → k < clients → commands_of (first + k) self.now.commands.now ≡ [] }
+    {
+        let first = first as usize;
+        for number in first..first + clients {
+            if self.acts[number] {
+                return true;
+            }
+        }
+        false
+    }
+}
+
+/// Which clients are told anything by these commands.
+#[tactic(auto, using(crate::proofs::Acts::one_set, crate::proofs::Acts::none_set))]
+fn acts_in(commands: &[Command]) -> [bool; MAX_CLIENTS]
+    ensures { (client : ℕ) → slice_index_or result client true ≡ false → commands_of client commands.now ≡ [] }
+{
+    let mut acts = [false; MAX_CLIENTS];
+    for command in commands {
+        let number = command.client as usize;
+        if number < acts.len() {
+            acts[number] = true;
+        }
+    }
+    acts
 }
 
 /// Plays rounds, one after another.
@@ -31,12 +76,115 @@ pub(crate) fn play_rounds<J: Live + Send + Sync, R: Threads + Wait + Sync, G: Ga
     rt: &R,
     alloc: Global,
     world: &World<'_, J, G>,
-    clients: &mut Clients<'_, J>,
+    clients: &mut [Player<'_, J>],
     rounds: &[Sequence<Command>],
 ) -> Result<(), RunFault>
     requires few { length clients.old ≤ 64 }
     ensures ok { OnOk result (FoldsTo AnswersRound (logs_of clients.old) rounds.now (logs_of clients.new)) }
     ensures err { IfErr result (λ fault. fault ≡ RunFault.Memory) }
 {
-    Err(RunFault::Memory)
+    for commands in rounds {
+        play_round(rt, alloc, world, clients, commands.as_slice())?;
+    }
+    Ok(())
+}
+
+/// Plays a round. What was told in it is learnt at its end.
+fn play_round<J: Live + Send + Sync, R: Threads + Wait + Sync, G: Gate>(
+    rt: &R,
+    alloc: Global,
+    world: &World<'_, J, G>,
+    clients: &mut [Player<'_, J>],
+    commands: &[Command],
+) -> Result<(), RunFault>
+    requires few { length clients.old ≤ 64 }
+    ensures ok { OnOk result (AnswersRound (logs_of clients.old) commands.now (logs_of clients.new)) }
+    ensures err { IfErr result (λ fault. fault ≡ RunFault.Memory) }
+{
+    let round = Round::new(commands);
+    let tales = play_part(rt, alloc, world, &round, 0, clients)?;
+    learn_all(rt, clients, tales)
+}
+
+/// Has these clients, the first of whom has this number, do what they are told in a round, those who are told anything
+/// each in a thread of its own, the last of them in this one. Answers what they told, by client and then by command.
+#[cycle(parts)]
+#[tactic(auto, using(crate::proofs::Parts::one_played))]
+fn play_part<J: Live + Send + Sync, R: Threads + Wait + Sync, G: Gate>(
+    rt: &R,
+    alloc: Global,
+    world: &World<'_, J, G>,
+    round: &Round<'_>,
+    first: u32,
+    clients: &mut [Player<'_, J>],
+) -> Result<Vec<Tale<J>>, RunFault>
+    requires few { first + length clients.old ≤ 64 }
+    ensures ok { IfOk result (λ tales. IsPlayed first round.now.commands.now clients.old clients.new tales.items) }
+    ensures err { IfErr result (λ fault. fault ≡ RunFault.Memory) }
+{
+    if !round.acts_among(first, clients.len()) {
+        return Ok(Vec::new(alloc));
+    }
+    if clients.len() == 1 {
+        return play_client(rt, alloc, world, round.commands, first, &mut clients[0]);
+    }
+    let half = clients.len() / 2;
+    let next = first + half as u32;
+    let (front, back) = clients.split_at_mut(half);
+    let (front, back) = join_mut(
+        rt,
+        &mut || -> Result<Vec<Tale<J>>, RunFault>
+            requires { IsSync R.row × IsSync J.row × IsSend J.row × IsSync G.row × (first + length front.now ≤ 64) }
+            ensures { IfOk result (λ tales. IsPlayed first round.entry.now.commands.now front.entry.now front.exit.now tales.items) × IfErr result (λ fault. fault ≡ RunFault.Memory) }
+        { play_part(rt, alloc, world, round, first, front) },
+        &mut || -> Result<Vec<Tale<J>>, RunFault>
+            requires { IsSync R.row × IsSync J.row × IsSend J.row × IsSync G.row × (next + length back.now ≤ 64) }
+            ensures { IfOk result (λ tales. IsPlayed next round.entry.now.commands.now back.entry.now back.exit.now tales.items) × IfErr result (λ fault. fault ≡ RunFault.Memory) }
+        { play_part(rt, alloc, world, round, next, back) },
+    );
+    let mut tales = front?;
+    let mut others = back?;
+    tales.append(&mut others)?;
+    Ok(tales)
+}
+
+/// Has a client do what it is told in a round.
+#[tactic(auto, using(crate::proofs::Grown::not_grown))]
+fn play_client<J: Live, R: Wait, G: Gate>(
+    rt: &R,
+    alloc: Global,
+    world: &World<'_, J, G>,
+    commands: &[Command],
+    number: u32,
+    client: &mut Player<'_, J>,
+) -> Result<Vec<Tale<J>>, RunFault>
+    ensures ok { OnOk result (FoldsTo AnswersCommand client.old (commands_of number commands.now) client.new) }
+    ensures told { IfOk result (λ tales. tales.items ≡ told_in number (drop (length client.old) client.new)) }
+    ensures err { IfErr result (λ fault. fault ≡ RunFault.Memory) }
+{
+    let mut tales = Vec::new(alloc);
+    for command in commands {
+        if command.client == number {
+            client.perform(rt, world, number, &command.act, &mut tales)?;
+        }
+    }
+    Ok(tales)
+}
+
+/// Has each client learn what it was told.
+fn learn_all<J: Live, R: Wait>(
+    rt: &R,
+    clients: &mut [Player<'_, J>],
+    tales: Vec<Tale<J>>,
+) -> Result<(), RunFault>
+    ensures ok { OnOk result (clients.new ≡ fold teach clients.old tales.items) }
+    ensures err { IfErr result (λ fault. fault ≡ RunFault.Memory) }
+{
+    for tale in tales {
+        let to = tale.to as usize;
+        if to < clients.len() {
+            clients[to].learn(rt, tale)?;
+        }
+    }
+    Ok(())
 }

@@ -9,7 +9,6 @@ ghost use Rattle.fdb_script.specs.Plan.{IsPlan};
 use crate::clients::Clients;
 use crate::desks::Desks;
 use crate::fault::RunFault;
-use crate::rounds::play_rounds;
 use crate::throttles::throttled_queue;
 use crate::world::World;
 use fdb_history::{ClientLog, Gate, Sequence};
@@ -116,6 +115,6 @@ fn played<J: Live + Send + Sync, R: Threads + Wait + Sync, G: Gate>(
     ensures ok { IfOk result (λ logs. FoldsTo AnswersRound (logs_of clients.entry) rounds.now logs.items) }
     ensures err { IfErr result (λ fault. fault ≡ RunFault.Memory) }
 {
-    play_rounds(rt, alloc, world, &mut clients, rounds)?;
+    clients.play(rt, alloc, world, rounds)?;
     Ok(clients.into_logs(alloc)?)
 }

@@ -1,0 +1,44 @@
+-- What a client has called and seen, and how a call adds to it. (all of this is this product's own)
+use Rattle.std.specs.Prelude.{◌≡◌, ℕ, Bool, true, false, Some, List, [], ◌∷◌, ◌++◌, length}
+use mathlib.Core.List.{IsPrefix}
+use Rattle.fdb_history.specs.Added.{may_advance}
+use Rattle.fdb_history.specs.Log.{answer_raises, position_after_calls}
+use Rattle.fdb_history.specs.declared.log.Call.{Call}
+use Rattle.fdb_history.specs.declared.log.CallAnswer.{CallAnswer}
+use Rattle.fdb_history.specs.declared.log.Input.{Input}
+use Rattle.fdb_history.specs.declared.log.Input.TheVariants.{Learn}
+use Rattle.fdb_live.specs.Seen.{Sight, own_positions}
+use Rattle.fdb_live.specs.declared.raise.Raise.{Raise}
+
+-- A client: its number, the position that it began with, its calls in order, and the raises that it has seen.
+pub record Account : Type 0 where
+  pub number : ℕ
+  pub begun : ℕ
+  pub calls : List Call
+  pub raises : List Raise
+
+-- what its token proves
+abbrev pub sight : Account → Sight
+sight account = record { reporter = Some account.number; raises = account.raises }
+
+-- a client that has called nobody yet
+abbrev pub new_account : ℕ → List Raise → Account
+new_account number raises = record { number = number; begun = length raises; calls = []; raises = raises }
+
+-- whether a client may have seen more after a call than before it: where the register answered, and after a learn
+abbrev pub may_see_more : Input → CallAnswer → Bool
+may_see_more (Learn from) answer = true
+may_see_more input answer = may_advance input answer
+
+-- A call with this input was logged, with this answer: as the last of the client's calls, from the position that it had
+-- seen before to the one that it has seen since, which are those of its token. It has seen more only where it may have, and
+-- forgets nothing. A position became its own exactly where the answer says that the call raised the register.
+pub record Logs (before : Account) (input : Input) (answer : CallAnswer) (after : Account) : Type 0 where
+  pub number : after.number ≡ before.number
+  pub begun : after.begun ≡ before.begun
+  pub calls : after.calls ≡ before.calls ++ record { input = input; asked = length before.raises; position = length after.raises; answer = answer } ∷ []
+  pub come_to : position_after_calls before.begun before.calls ≡ length before.raises
+  pub extends : IsPrefix before.raises after.raises
+  pub stays : may_see_more input answer ≡ false → after.raises ≡ before.raises
+  pub own : answer_raises answer ≡ false → own_positions (sight after) ≡ own_positions (sight before)
+  pub raised : answer_raises answer ≡ true → own_positions (sight after) ≡ own_positions (sight before) ++ length after.raises ∷ []

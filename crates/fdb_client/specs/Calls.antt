@@ -1,0 +1,93 @@
+-- What a client's calls may log. (all of this is this product's own)
+use Rattle.std.specs.Prelude.{◌≡◌, ℕ, ◌+◌, ◌<◌, ◌≤◌, Bool, true, false, ◌&&◌, not, List, length, Option, None, Some, Result}
+use Rattle.std.specs.Bool.{MatchBool}
+use mathlib.Core.List.{IsPrefix}
+use Rattle.fdb_chain.specs.ChainCore.{IsOf}
+use Rattle.fdb_history.specs.Answer as definition
+use Rattle.fdb_history.specs.Log.{fresh_answers}
+use Rattle.fdb_history.specs.Strays.{issued_under, logged_as, may_refuse}
+use Rattle.fdb_history.specs.declared.chain.Ask.{Ask}
+use Rattle.fdb_history.specs.declared.chain.Issued.{Issued}
+use Rattle.fdb_history.specs.declared.grv.GrvOpts.{GrvOpts}
+use Rattle.fdb_history.specs.declared.log.CallAnswer.{CallAnswer}
+use Rattle.fdb_history.specs.declared.log.CallAnswer.TheVariants.{Version, Acked, Told, Refused}
+use Rattle.fdb_history.specs.declared.log.Input.{Input}
+use Rattle.fdb_history.specs.declared.log.Input.TheVariants as input
+use Rattle.fdb_history.specs.declared.log.Refusal.TheVariants as refusal
+use Rattle.fdb_history.specs.declared.register.Record.{Record}
+use Rattle.fdb_history.specs.declared.register.TheConstants.{MAX_VERSION}
+use Rattle.fdb_live.specs.Seen.{IsNotRaisedBy, IsRaisedBy, last_record, longer}
+use Rattle.fdb_live.specs.declared.ack.Ack.{Ack}
+use Rattle.fdb_live.specs.declared.raise.Raise.{Raise}
+use Rattle.fdb_client.specs.Account.{Account, Logs, sight}
+use Rattle.fdb_client.specs.Returned.{ReadReturns, AskReturns, ReportReturns}
+use Rattle.fdb_client.specs.declared.error.ClientError.{ClientError}
+use Rattle.fdb_client.specs.declared.read.ReadVersion.{ReadVersion}
+
+-- ---- reads
+
+-- A read gets the last record that the client has then seen, and is turned away exactly where that is locked and the read
+-- is not lock-aware. Else it was refused as a read may be.
+abbrev pub IsReadAnswer : Record → GrvOpts → Account → CallAnswer → Type 0
+IsReadAnswer start opts after (Version rec limits locked_out) = (rec ≡ last_record start after.raises) × (locked_out ≡ (rec.locked && not opts.lock_aware))
+IsReadAnswer start opts after (Refused cause) = may_refuse (input.Grv opts) cause ≡ true
+IsReadAnswer start opts after _ = ⊥
+
+-- A read was logged, and returned what it logged.
+pub record Reads (start : Record) (opts : GrvOpts) (before after : Account) (result : Result ReadVersion ClientError) : Type 0 where
+  pub answer : CallAnswer
+  pub logged : Logs before (input.Grv opts) answer after
+  pub answered : IsReadAnswer start opts after answer
+  pub returned : ReadReturns (length after.raises) answer result
+
+-- ---- requests for a commit version
+
+-- the number that a client's next request for a commit version has: one more than it has drawn
+abbrev pub next_number : Account → ℕ
+next_number account = 1 + length (fresh_answers account.calls)
+
+-- a client's request for a commit version: its number is that of the commit proxy
+abbrev pub request_of : Account → ℕ → ℕ → ℕ → Ask
+request_of account num processed at = record { proxy = account.number; num = num; processed = processed; at = at }
+
+-- A request for a commit version was logged, and returned what it logged: the definition's answer after some chain of the
+-- service.
+pub record Asks (epoch_end recovery num processed at : ℕ) (before after : Account) (result : Result Issued ClientError) : Type 0 where
+  pub answer : CallAnswer
+  pub logged : Logs before (input.Ask num processed at) answer after
+  pub chain : definition.Chain
+  pub of_service : IsOf epoch_end recovery chain
+  pub answered : answer ≡ logged_as (definition.answer_to chain (request_of before num processed at))
+  pub returned : AskReturns answer result
+
+-- ---- reports
+
+-- A report is of the version that the client's calls have under its number, with the flags that it was given. It raises the
+-- record as the client, or finds one that is not below it. It is refused as `NotIssued` only where there is no such version,
+-- and as `TooLarge` only where that is above the greatest one.
+abbrev pub IsReportAnswer : Record → Option ℕ → Bool → Option ℕ → Account → Account → CallAnswer → Type 0
+IsReportAnswer start version locked metadata before after (Acked rec raised) =
+    (version ≡ Some rec.version) × (rec.locked ≡ locked) × (rec.metadata ≡ metadata) × (rec.version ≤ MAX_VERSION)
+    × MatchBool raised (IsRaisedBy start rec (sight before) (sight after)) (IsNotRaisedBy start rec (sight before) (sight after))
+IsReportAnswer start version locked metadata before after (Refused refusal.NotIssued) = version ≡ None
+IsReportAnswer start (Some version) locked metadata before after (Refused refusal.TooLarge) = MAX_VERSION < version
+IsReportAnswer start version locked metadata before after _ = ⊥
+
+-- A report was logged, and returned what it logged.
+pub record Reports (start : Record) (num : ℕ) (locked : Bool) (metadata : Option ℕ) (before after : Account) (result : Result Ack ClientError) : Type 0 where
+  pub answer : CallAnswer
+  pub logged : Logs before (input.Report num locked metadata) answer after
+  pub answered : IsReportAnswer start (issued_under before.calls num) locked metadata before after answer
+  pub returned : ReportReturns (length after.raises) answer result
+
+-- ---- tells and learns
+
+-- A tell was logged.
+abbrev pub Tells : ℕ → Account → Account → Type 0
+Tells to before after = Logs before (input.Tell to) Told after
+
+-- A learn was logged, and the client has then seen the longer of its own list and the one that it was told.
+pub record Learns (from : ℕ) (told : List Raise) (before after : Account) : Type 0 where
+  pub logged : Logs before (input.Learn from) Told after
+  pub seen : after.raises ≡ longer before.raises told
+  pub knows : IsPrefix told after.raises

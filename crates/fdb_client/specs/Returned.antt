@@ -1,0 +1,53 @@
+-- Which value a call of a client returns for the answer that it logged. (all of this is this product's own)
+use Rattle.std.specs.Prelude.{◌≡◌, ℕ, Bool, true, false, Result, Ok, Err}
+use Rattle.fdb_chain.specs.declared.error.ChainError.TheVariants as chain
+use Rattle.fdb_history.specs.declared.chain.Issued.{Issued}
+use Rattle.fdb_history.specs.declared.log.CallAnswer.{CallAnswer}
+use Rattle.fdb_history.specs.declared.log.CallAnswer.TheVariants.{Version, Answered, Acked, Told, Refused}
+use Rattle.fdb_history.specs.declared.log.Refusal.{Refusal}
+use Rattle.fdb_history.specs.declared.log.Refusal.TheVariants as refusal
+use Rattle.fdb_live.specs.declared.ack.Ack.{Ack}
+use Rattle.fdb_live.specs.declared.error.LiveError.TheVariants as live
+use Rattle.fdb_queue.specs.declared.error.QueueError.TheVariants as queue
+use Rattle.fdb_client.specs.declared.error.ClientError.{ClientError}
+use Rattle.fdb_client.specs.declared.error.ClientError.TheVariants.{Locked, Stranger, ProxyClosed, Chain, Queue, NotIssued, Live}
+use Rattle.fdb_client.specs.declared.read.ReadVersion.{ReadVersion}
+
+-- the error for a refusal that was logged
+abbrev pub error_of : Refusal → ClientError
+error_of (refusal.Early expected) = Chain (chain.Early expected)
+error_of refusal.Forgotten = Chain chain.Forgotten
+error_of refusal.UnknownProxy = Chain chain.UnknownProxy
+error_of refusal.Exhausted = Chain chain.Exhausted
+error_of refusal.BadCount = Queue queue.BadCount
+error_of refusal.BatchThrottled = Queue queue.BatchThrottled
+error_of refusal.Full = Queue queue.Full
+error_of refusal.ProxyClosed = ProxyClosed
+error_of refusal.NotIssued = NotIssued
+error_of refusal.Stranger = Stranger
+error_of refusal.TooLarge = Live live.TooLarge
+
+-- A read returns what was read, at the position after it; the version alone, where it is turned away by the lock.
+abbrev pub ReadReturns : ℕ → CallAnswer → Result ReadVersion ClientError → Type 0
+ReadReturns position (Version rec limits false) result = result ≡ Ok (record { rec = rec; position = position; limits = limits })
+ReadReturns position (Version rec limits true) result = result ≡ Err (Locked rec.version)
+ReadReturns position (Refused cause) result = result ≡ Err (error_of cause)
+ReadReturns position (Answered issued) result = ⊥
+ReadReturns position (Acked rec raised) result = ⊥
+ReadReturns position Told result = ⊥
+
+-- A request for a commit version returns the answer.
+abbrev pub AskReturns : CallAnswer → Result Issued ClientError → Type 0
+AskReturns (Answered issued) result = result ≡ Ok issued
+AskReturns (Refused cause) result = result ≡ Err (error_of cause)
+AskReturns (Version rec limits locked_out) result = ⊥
+AskReturns (Acked rec raised) result = ⊥
+AskReturns Told result = ⊥
+
+-- A report returns whether it raised the record, and the position after it.
+abbrev pub ReportReturns : ℕ → CallAnswer → Result Ack ClientError → Type 0
+ReportReturns position (Acked rec raised) result = result ≡ Ok (record { raised = raised; position = position })
+ReportReturns position (Refused cause) result = result ≡ Err (error_of cause)
+ReportReturns position (Version rec limits locked_out) result = ⊥
+ReportReturns position (Answered issued) result = ⊥
+ReportReturns position Told result = ⊥

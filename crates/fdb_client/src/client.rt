@@ -1,0 +1,220 @@
+//! A client of the service.
+
+ghost use Rattle.std.specs.Prelude.{◌≡◌, ◌≢◌, ◌+◌, [], length, IfOk, IfErr, OnOk, OnErr, None, Some};
+ghost use Rattle.fdb_client.specs.Account.{Account, new_account, sight};
+ghost use Rattle.fdb_client.specs.Calls.{Asks, Learns, Reads, Reports, Tells, next_number, request_of};
+ghost use Rattle.fdb_chain.specs.ChainCore.{IsFor};
+ghost use Rattle.fdb_history.specs.Log.{position_after_calls};
+ghost use Rattle.fdb_live.specs.Seen.{own_positions};
+
+use crate::error::ClientError;
+use crate::read::ReadVersion;
+use fdb_chain::Sequencer;
+use fdb_history::{Call, ClientLog, Gate, GrvOpts, Issued, Sequence};
+use fdb_live::{Ack, Live, LiveRecord, Seen};
+use fdb_proxy::Desk;
+use std::alloc::Global;
+use std::marker::Model;
+use std::sync::Wait;
+
+/// A client of the service `J`, with the log of its calls. It plays the commit proxy of its own number.
+///
+/// Contracts see it as its number, the position that it began with, its calls, and the raises that it has seen. Each call
+/// below adds one entry to the log, and returns what `specs/Returned.antt` says for the answer that it logged. A call that is
+/// refused for memory is not logged, and leaves the client as it was; a refused call changes nothing but the log.
+#[derive(Drop)]
+pub struct Client<'a, J: Live> {
+    alloc: Global,
+    id: u32,
+    live: &'a LiveRecord<J>,
+    seen: Seen<J>,
+    /// The position that it began with.
+    begun: u64,
+    calls: Sequence<Call>,
+}
+
+impl<'a, J: Live> Model for Client<'a, J> {
+    ghost use Rattle.std.specs.Prelude.{◌≡◌, Some, length};
+    ghost use Rattle.fdb_client.specs.Account.{Account};
+    ghost use Rattle.fdb_history.specs.Log.{position_after_calls};
+
+    ghost Value = { Account };
+
+    ghost view = { λ client. record { number = client.id; begun = client.begun; calls = client.calls; raises = client.seen.raises } };
+
+    ghost invariant = { λ client. (client.seen.reporter ≡ Some client.id) × (position_after_calls client.begun client.calls ≡ length client.seen.raises) };
+}
+
+impl<'a, J: Live> Client<'a, J> {
+    /// A client that has called nobody yet, with the token of the reporter of its number. Takes no memory.
+    pub fn new(alloc: Global, id: u32, live: &'a LiveRecord<J>, seen: Seen<J>) -> Self
+        requires number { seen.reporter ≡ Some id }
+        requires owns_none { own_positions seen ≡ [] }
+        ensures { result ≡ new_account id seen.raises }
+    {
+        let begun = seen.position();
+        Client {
+            alloc,
+            id,
+            live,
+            seen,
+            begun,
+            calls: Sequence::new(alloc),
+        }
+    }
+
+    /// Its number.
+    pub fn number(&self) -> u32
+        ensures { result ≡ self.now.number }
+    {
+        self.id
+    }
+
+    /// The position that it began with.
+    pub fn begun(&self) -> u64
+        ensures { result ≡ self.now.begun }
+    {
+        self.begun
+    }
+
+    /// The position that it has come to: the number of raises that it has seen.
+    pub fn position(&self) -> u64
+        ensures seen { result ≡ length self.now.raises }
+        ensures logged { result ≡ position_after_calls self.now.begun self.now.calls }
+    {
+        self.seen.position()
+    }
+
+    /// Its calls, in order.
+    pub fn calls(&self) -> &[Call]
+        ensures { result.now ≡ self.now.calls }
+    {
+        self.calls.as_slice()
+    }
+
+    /// Reads the read version, through the proxy of a desk (`getReadVersion` of FoundationDB's client, 7.1). The request
+    /// carries a token of what the client has seen, and the length of the log as its number. Once an answer has come, the
+    /// gate's `ReadAnswered` is passed with the client's number.
+    ///
+    /// Where the record is locked and the read is not lock-aware, the client has seen it all the same, and the call is refused
+    /// as `Locked`. An answer to another client, number or position is refused as `Stranger`, before anything else of it is
+    /// looked at. A desk that is closed, an answer that says so and an answer that never comes are `ProxyClosed`; what the
+    /// proxy's queue refuses is `Queue` with `BadCount`, `BatchThrottled` or `Full`. Of a refused answer the client keeps
+    /// nothing. It waits for the answer.
+    pub fn read_version<R: Wait, G: Gate>(
+        &mut self,
+        rt: &R,
+        gate: &G,
+        desk: &Desk<J>,
+        opts: GrvOpts,
+    ) -> Result<ReadVersion, ClientError>
+        ensures logged { result ≢ Err ClientError.Memory → Reads J.start opts self.old self.new result }
+        ensures memory { result ≡ Err ClientError.Memory → self.new ≡ self.old }
+    {
+        Err(ClientError::Memory)
+    }
+
+    /// Asks the sequencer for the next commit version, with the next request number.
+    ///
+    /// It is refused as `Chain`, for what the sequencer says; the moments are microseconds. It waits for its turn at the
+    /// sequencer, and takes constant time, the growth of the log aside.
+    pub fn ask<R: Wait, G: Gate>(
+        &mut self,
+        rt: &R,
+        gate: &G,
+        sequencer: &Sequencer<J>,
+        processed: u64,
+        at: u64,
+    ) -> Result<Issued, ClientError>
+        ensures logged { result ≢ Err ClientError.Memory → Asks J.epoch_end J.recovery (next_number self.old) processed at self.old self.new result }
+        ensures request { IfOk result (IsFor (request_of self.old (next_number self.old) processed at)) }
+        ensures memory { result ≡ Err ClientError.Memory → self.new ≡ self.old }
+    {
+        Err(ClientError::Memory)
+    }
+
+    /// Asks the sequencer for the commit version under any request number, as one does who has missed the answer.
+    ///
+    /// It is refused and waits as `ask` does.
+    pub fn reask<R: Wait, G: Gate>(
+        &mut self,
+        rt: &R,
+        gate: &G,
+        sequencer: &Sequencer<J>,
+        num: u64,
+        processed: u64,
+        at: u64,
+    ) -> Result<Issued, ClientError>
+        ensures logged { result ≢ Err ClientError.Memory → Asks J.epoch_end J.recovery num processed at self.old self.new result }
+        ensures request { IfOk result (IsFor (request_of self.old num processed at)) }
+        ensures memory { result ≡ Err ClientError.Memory → self.new ≡ self.old }
+    {
+        Err(ClientError::Memory)
+    }
+
+    /// Reports the commit version that its log has under a request number, with these flags: the first, where there are
+    /// several.
+    ///
+    /// It is refused as `NotIssued` where the log has none, and as `Live` where the version is above the greatest one. It
+    /// waits for the other reports, and takes constant time, the growth of the log aside.
+    pub fn report<R: Wait, G: Gate>(
+        &mut self,
+        rt: &R,
+        gate: &G,
+        num: u64,
+        locked: bool,
+        metadata: Option<u64>,
+    ) -> Result<Ack, ClientError>
+        ensures logged { result ≢ Err ClientError.Memory → Reports J.start num locked metadata self.old self.new result }
+        ensures memory { result ≡ Err ClientError.Memory → self.new ≡ self.old }
+    {
+        Err(ClientError::Memory)
+    }
+
+    /// A token that has seen what the client has, for another client to learn.
+    ///
+    /// It is refused for memory alone, and waits for nobody.
+    pub fn tell(&mut self, to: u32) -> Result<Seen<J>, ClientError>
+        ensures logged { OnOk result (Tells to self.old self.new) }
+        ensures given { IfOk result (λ told. told ≡ record { reporter = None; raises = self.old.raises }) }
+        ensures memory { IfErr result (λ cause. cause ≡ ClientError.Memory) }
+        ensures unchanged { OnErr result (self.new ≡ self.old) }
+    {
+        Err(ClientError::Memory)
+    }
+
+    /// Learns what another client had seen when it told so.
+    ///
+    /// It is refused for memory alone, and the token is then handed back.
+    pub fn learn<R: Wait>(
+        &mut self,
+        rt: &R,
+        from: u32,
+        told: Seen<J>,
+    ) -> Result<(), (ClientError, Seen<J>)>
+        requires { told.reporter ≡ None }
+        ensures logged { OnOk result (Learns from told.raises self.old self.new) }
+        ensures memory { IfErr result (λ refused. refused.0 ≡ ClientError.Memory) }
+        ensures handed_back { IfErr result (λ refused. refused.1 ≡ told) }
+        ensures unchanged { OnErr result (self.new ≡ self.old) }
+    {
+        Err((ClientError::Memory, told))
+    }
+
+    /// The log and the token. Takes no memory.
+    pub fn finish(self) -> (ClientLog, Seen<J>)
+        ensures log { result.0 ≡ record { calls = self.entry.calls } }
+        ensures seen { result.1 ≡ sight self.entry }
+        ensures come_to { position_after_calls self.entry.begun self.entry.calls ≡ length self.entry.raises }
+    {
+        let Client {
+            alloc: _,
+            id: _,
+            live: _,
+            seen,
+            begun: _,
+            calls,
+        } = self;
+        (ClientLog { calls }, seen)
+    }
+}

@@ -1,0 +1,14 @@
+//! What a read of the read version gives.
+
+use fdb_history::{Record, Sequence, TagLimit};
+
+/// A read version (`GetReadVersionReply` of FoundationDB 7.1; the position is this product's own).
+#[derive(Debug, Drop, PartialEq, Eq)]
+pub struct ReadVersion {
+    /// The live committed version, with its lock flag and its metadata version.
+    pub rec: Record,
+    /// Its position: the number of raises before it.
+    pub position: u64,
+    /// What throttles the request's tags, in their order.
+    pub limits: Sequence<TagLimit>,
+}
