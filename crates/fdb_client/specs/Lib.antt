@@ -1,3 +1,5 @@
 pub mod Account
 pub mod Returned
 pub mod Calls
+pub mod Versions
+pub mod Exchange

@@ -1,19 +1,27 @@
 //! A client of the service.
 
-ghost use Rattle.std.specs.Prelude.{◌≡◌, ◌≢◌, ◌+◌, [], length, IfOk, IfErr, OnOk, OnErr, None, Some};
+ghost use Rattle.std.specs.Prelude.{◌≡◌, ◌≢◌, ◌+◌, [], length, IfOk, IfErr, IfNone, IfSome, OnOk, OnErr, Result, None, Some};
 ghost use Rattle.fdb_client.specs.Account.{Account, new_account, sight};
 ghost use Rattle.fdb_client.specs.Calls.{Asks, Learns, Reads, Reports, Tells, next_number, request_of};
-ghost use Rattle.fdb_chain.specs.ChainCore.{IsFor};
+ghost use Rattle.fdb_client.specs.Returned.{ReadReturns};
+ghost use Rattle.fdb_chain.specs.ChainCore.{IsAnswer, IsFor};
+ghost use Rattle.fdb_history.specs.declared.log.Refusal.{Refusal};
+ghost use Rattle.fdb_history.specs.declared.chain.Issued.{Issued};
 ghost use Rattle.fdb_history.specs.Log.{position_after_calls};
 ghost use Rattle.fdb_live.specs.Seen.{own_positions};
 
 use crate::error::ClientError;
+use crate::exchange;
+use crate::exchange::NoReply;
+use crate::journal::Journal;
 use crate::read::ReadVersion;
-use fdb_chain::Sequencer;
-use fdb_history::{Call, ClientLog, Gate, GrvOpts, Issued, Sequence};
+use fdb_chain::{ChainError, Sequencer};
+use fdb_history::{
+    Ask, Call, CallAnswer, ClientLog, Gate, GrvOpts, Input, Issued, Record, Refusal, Sequence,
+};
 use fdb_live::{Ack, Live, LiveRecord, Seen};
-use fdb_proxy::Desk;
-use std::alloc::Global;
+use fdb_proxy::{Desk, Reply, Request};
+use std::alloc::{AllocError, Global};
 use std::marker::Model;
 use std::sync::Wait;
 
@@ -30,7 +38,7 @@ pub struct Client<'a, J: Live> {
     seen: Seen<J>,
     /// The position that it began with.
     begun: u64,
-    calls: Sequence<Call>,
+    journal: Journal,
 }
 
 impl<'a, J: Live> Model for Client<'a, J> {
@@ -40,9 +48,9 @@ impl<'a, J: Live> Model for Client<'a, J> {
 
     ghost Value = { Account };
 
-    ghost view = { λ client. record { number = client.id; begun = client.begun; calls = client.calls; raises = client.seen.raises } };
+    ghost view = { λ client. record { number = client.id; begun = client.begun; calls = client.journal.calls.items; raises = client.seen.raises } };
 
-    ghost invariant = { λ client. (client.seen.reporter ≡ Some client.id) × (position_after_calls client.begun client.calls ≡ length client.seen.raises) };
+    ghost invariant = { λ client. (client.seen.reporter ≡ Some client.id) × (position_after_calls client.begun client.journal.calls.items ≡ length client.seen.raises) };
 }
 
 impl<'a, J: Live> Client<'a, J> {
@@ -59,7 +67,7 @@ impl<'a, J: Live> Client<'a, J> {
             live,
             seen,
             begun,
-            calls: Sequence::new(alloc),
+            journal: Journal::new(alloc),
         }
     }
 
@@ -89,7 +97,7 @@ impl<'a, J: Live> Client<'a, J> {
     pub fn calls(&self) -> &[Call]
         ensures { result.now ≡ self.now.calls }
     {
-        self.calls.as_slice()
+        self.journal.calls.as_slice()
     }
 
     /// Reads the read version, through the proxy of a desk (`getReadVersion` of FoundationDB's client, 7.1). The request
@@ -111,7 +119,49 @@ impl<'a, J: Live> Client<'a, J> {
         ensures logged { result ≢ Err ClientError.Memory → Reads J.start opts self.old self.new result }
         ensures memory { result ≡ Err ClientError.Memory → self.new ≡ self.old }
     {
-        Err(ClientError::Memory)
+        self.journal.reserve()?;
+        let input = Input::Grv(opts.clone()?);
+        let lock_aware = opts.lock_aware;
+        let (reply, answers) = crossbeam_channel::bounded(self.alloc, 1)?;
+        let asked = self.seen.position();
+        let request = Request {
+            client: self.id,
+            serial: self.journal.len(),
+            asked,
+            seen: self.live.split(&mut self.seen),
+            opts,
+            reply,
+        };
+        let reply = match exchange::reply_to(rt, gate, desk, request, answers) {
+            Ok(reply) => reply,
+            Err(NoReply::Refused(cause)) => {
+                return Err(self.journal.add_refused(input, asked, cause));
+            }
+            Err(NoReply::Memory) => return Err(ClientError::Memory),
+        };
+        let locked_out = reply.rec.locked && !lock_aware;
+        let value = value_of(&reply, locked_out)?;
+        let Reply {
+            client: _,
+            serial: _,
+            asked: _,
+            seen: told,
+            rec,
+            position,
+            limits,
+        } = reply;
+        self.live.learn(rt, &mut self.seen, told);
+        self.journal.add(Call {
+            input,
+            asked,
+            position,
+            answer: CallAnswer::Version {
+                rec,
+                limits,
+                locked_out,
+            },
+        });
+        value
     }
 
     /// Asks the sequencer for the next commit version, with the next request number.
@@ -130,7 +180,8 @@ impl<'a, J: Live> Client<'a, J> {
         ensures request { IfOk result (IsFor (request_of self.old (next_number self.old) processed at)) }
         ensures memory { result ≡ Err ClientError.Memory → self.new ≡ self.old }
     {
-        Err(ClientError::Memory)
+        let num = self.journal.next_number();
+        self.reask(rt, gate, sequencer, num, processed, at)
     }
 
     /// Asks the sequencer for the commit version under any request number, as one does who has missed the answer.
@@ -149,7 +200,25 @@ impl<'a, J: Live> Client<'a, J> {
         ensures request { IfOk result (IsFor (request_of self.old num processed at)) }
         ensures memory { result ≡ Err ClientError.Memory → self.new ≡ self.old }
     {
-        Err(ClientError::Memory)
+        self.journal.reserve_under(num)?;
+        let input = Input::Ask { num, processed, at };
+        let position = self.seen.position();
+        let ask = Ask {
+            proxy: self.id,
+            num,
+            processed,
+            at,
+        };
+        match sequencer.ask(rt, gate, ask) {
+            Ok(issued) => {
+                self.journal.add_answer(input, position, issued);
+                Ok(issued)
+            }
+            Err(cause) => match refusal_of(cause) {
+                Some(refusal) => Err(self.journal.add_refused(input, position, refusal)),
+                None => Err(ClientError::Memory),
+            },
+        }
     }
 
     /// Reports the commit version that its log has under a request number, with these flags: the first, where there are
@@ -168,7 +237,34 @@ impl<'a, J: Live> Client<'a, J> {
         ensures logged { result ≢ Err ClientError.Memory → Reports J.start num locked metadata self.old self.new result }
         ensures memory { result ≡ Err ClientError.Memory → self.new ≡ self.old }
     {
-        Err(ClientError::Memory)
+        self.journal.reserve()?;
+        let input = Input::Report {
+            num,
+            locked,
+            metadata,
+        };
+        let asked = self.seen.position();
+        let Some(version) = self.journal.version_under(num) else {
+            return Err(self.journal.add_refused(input, asked, Refusal::NotIssued));
+        };
+        let rec = Record {
+            version,
+            locked,
+            metadata,
+        };
+        let Ok(ack) = self.live.report(rt, gate, self.id, &mut self.seen, rec) else {
+            return Err(self.journal.add_refused(input, asked, Refusal::TooLarge));
+        };
+        self.journal.add(Call {
+            input,
+            asked,
+            position: ack.position,
+            answer: CallAnswer::Acked {
+                rec,
+                raised: ack.raised,
+            },
+        });
+        Ok(ack)
     }
 
     /// A token that has seen what the client has, for another client to learn.
@@ -180,7 +276,16 @@ impl<'a, J: Live> Client<'a, J> {
         ensures memory { IfErr result (λ cause. cause ≡ ClientError.Memory) }
         ensures unchanged { OnErr result (self.new ≡ self.old) }
     {
-        Err(ClientError::Memory)
+        self.journal.reserve()?;
+        let told = self.live.split(&mut self.seen);
+        let position = self.seen.position();
+        self.journal.add(Call {
+            input: Input::Tell { to },
+            asked: position,
+            position,
+            answer: CallAnswer::Told,
+        });
+        Ok(told)
     }
 
     /// Learns what another client had seen when it told so.
@@ -198,7 +303,18 @@ impl<'a, J: Live> Client<'a, J> {
         ensures handed_back { IfErr result (λ refused. refused.1 ≡ told) }
         ensures unchanged { OnErr result (self.new ≡ self.old) }
     {
-        Err((ClientError::Memory, told))
+        if self.journal.reserve().is_err() {
+            return Err((ClientError::Memory, told));
+        }
+        let asked = self.seen.position();
+        self.live.learn(rt, &mut self.seen, told);
+        self.journal.add(Call {
+            input: Input::Learn { from },
+            asked,
+            position: self.seen.position(),
+            answer: CallAnswer::Told,
+        });
+        Ok(())
     }
 
     /// The log and the token. Takes no memory.
@@ -213,8 +329,44 @@ impl<'a, J: Live> Client<'a, J> {
             live: _,
             seen,
             begun: _,
-            calls,
+            journal,
         } = self;
+        let calls = Sequence::from(journal.calls);
         (ClientLog { calls }, seen)
+    }
+}
+
+/// What a read returns for its reply. It takes memory for a copy of the limits alone.
+fn value_of<J: Live>(
+    reply: &Reply<J>,
+    locked_out: bool,
+) -> Result<Result<ReadVersion, ClientError>, AllocError>
+    ensures { IfOk result (ReadReturns reply.now.position (CallAnswer.Version reply.now.rec reply.now.limits locked_out)) }
+{
+    if locked_out {
+        return Ok(Err(ClientError::Locked {
+            version: reply.rec.version,
+        }));
+    }
+    Ok(Ok(ReadVersion {
+        rec: reply.rec,
+        position: reply.position,
+        limits: reply.limits.clone()?,
+    }))
+}
+
+/// How a refusal of the sequencer is logged: not at all, where it is for memory.
+fn refusal_of(cause: ChainError) -> Option<Refusal>
+    requires { (answer : Result Issued Refusal) × IsAnswer answer (Err cause) }
+    ensures some { (answer : Result Issued Refusal) → IsAnswer answer (Err cause) → IfSome result (λ refusal. answer ≡ Err refusal) }
+    ensures none { IfNone result (cause ≡ ChainError.Memory) }
+{
+    match cause {
+        ChainError::UnknownProxy => Some(Refusal::UnknownProxy),
+        ChainError::Early { expected } => Some(Refusal::Early { expected }),
+        ChainError::Forgotten => Some(Refusal::Forgotten),
+        ChainError::Exhausted => Some(Refusal::Exhausted),
+        ChainError::Memory => None,
+        ChainError::BadEpoch | ChainError::NoProxy => unreachable!(),
     }
 }

@@ -1,6 +1,7 @@
 //! Why a call of a client has no answer that serves it.
 
 use fdb_chain::ChainError;
+use fdb_history::Refusal;
 use fdb_live::LiveError;
 use fdb_queue::QueueError;
 use std::alloc::AllocError;
@@ -46,5 +47,28 @@ impl From<AllocError> for ClientError {
 
     fn from(_refused: AllocError) -> Self {
         ClientError::Memory
+    }
+}
+
+impl From<Refusal> for ClientError {
+    ghost use Rattle.std.specs.Prelude.{◌≡◌};
+    ghost use Rattle.fdb_client.specs.Returned.{error_of};
+
+    ghost from_gives = { λ cause error. error ≡ error_of cause };
+
+    fn from(cause: Refusal) -> Self {
+        match cause {
+            Refusal::Early { expected } => ClientError::Chain(ChainError::Early { expected }),
+            Refusal::Forgotten => ClientError::Chain(ChainError::Forgotten),
+            Refusal::UnknownProxy => ClientError::Chain(ChainError::UnknownProxy),
+            Refusal::Exhausted => ClientError::Chain(ChainError::Exhausted),
+            Refusal::BadCount => ClientError::Queue(QueueError::BadCount),
+            Refusal::BatchThrottled => ClientError::Queue(QueueError::BatchThrottled),
+            Refusal::Full => ClientError::Queue(QueueError::Full),
+            Refusal::ProxyClosed => ClientError::ProxyClosed,
+            Refusal::NotIssued => ClientError::NotIssued,
+            Refusal::Stranger => ClientError::Stranger,
+            Refusal::TooLarge => ClientError::Live(LiveError::TooLarge),
+        }
     }
 }

@@ -8,7 +8,10 @@
 
 mod client;
 mod error;
+mod exchange;
+mod journal;
 mod read;
+mod versions;
 
 pub use client::Client;
 pub use error::ClientError;

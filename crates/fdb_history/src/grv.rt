@@ -17,7 +17,7 @@ pub enum Priority {
 pub type Tag = Sequence<u8>;
 
 /// A throttle as a client is told of it (`ClientTagThrottleLimits`).
-#[derive(Debug, Drop, PartialEq, Eq)]
+#[derive(Clone, Debug, Drop, PartialEq, Eq)]
 pub struct TagLimit {
     /// The tag.
     pub tag: Tag,

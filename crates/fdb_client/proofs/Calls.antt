@@ -1,0 +1,27 @@
+-- Calls with one more at their end.
+use Rattle.std.proofs.Common.{◌≡◌, ℕ, ◌+◌, List, [], ◌∷◌, ◌++◌, length, refl, ap, ◌∙◌, filter}
+use Rattle.std.specs.Option.{option_or}
+use Rattle.std.proofs.lemmas.Grind.{flat_map-append}
+use Rattle.std.proofs.lemmas.List.{append-nil, length-append}
+use Rattle.std.proofs.lemmas.List.Elements.{filter-append}
+use Rattle.fdb_client.proofs.Kept.{among_more}
+use Rattle.fdb_client.specs.Versions.{version_among}
+use Rattle.fdb_history.specs.Log.{answer_in, answers_in, fresh_answers, position_after_calls}
+use Rattle.fdb_history.specs.Strays.{issued_under}
+use Rattle.fdb_history.specs.declared.log.Call.{Call}
+
+pub position_of_added : (before : ℕ) (calls : List Call) (call : Call) → position_after_calls before (calls ++ call ∷ []) ≡ call.position
+position_of_added before [] call = refl
+position_of_added before (first ∷ calls) call = position_of_added first.position calls call
+
+answers_of_added : (calls : List Call) (call : Call) → answers_in (calls ++ call ∷ []) ≡ answers_in calls ++ answer_in call.answer
+answers_of_added calls call = flat_map-append (λ one. answer_in one.answer) calls (call ∷ []) ∙ ap (λ last. answers_in calls ++ last) (append-nil (answer_in call.answer))
+
+pub fresh_of_added : (calls : List Call) (call : Call) → fresh_answers (calls ++ call ∷ []) ≡ fresh_answers calls ++ filter (λ issued. issued.fresh) (answer_in call.answer)
+fresh_of_added calls call = ap (filter (λ issued. issued.fresh)) (answers_of_added calls call) ∙ filter-append (λ issued. issued.fresh) (answers_in calls) (answer_in call.answer)
+
+pub count_of_added : (calls : List Call) (call : Call) → length (fresh_answers (calls ++ call ∷ [])) ≡ length (fresh_answers calls) + length (filter (λ issued. issued.fresh) (answer_in call.answer))
+count_of_added calls call = ap length (fresh_of_added calls call) ∙ length-append (fresh_answers calls) (filter (λ issued. issued.fresh) (answer_in call.answer))
+
+pub issued_of_added : (calls : List Call) (call : Call) (num : ℕ) → issued_under (calls ++ call ∷ []) num ≡ option_or (issued_under calls num) (version_among (answer_in call.answer) num)
+issued_of_added calls call num = ap (λ answers. version_among answers num) (answers_of_added calls call) ∙ among_more (answers_in calls) (answer_in call.answer) num

@@ -1,0 +1,131 @@
+//! The log of a client, and what makes it quick to look into.
+
+ghost use Rattle.std.specs.Prelude.{◌≡◌, ℕ, ◌+◌, ◌<◌, ◌≤◌, ◌++◌, ◌∷◌, [], OnOk, filter, length, vec_len, vec_capacity};
+ghost use Rattle.fdb_client.specs.Returned.{error_of};
+ghost use Rattle.fdb_client.specs.Versions.{HasRoomUnder, version_under};
+ghost use Rattle.fdb_history.specs.Log.{answer_in, fresh_answers, position_after_calls};
+ghost use Rattle.fdb_history.specs.Strays.{issued_under};
+
+use crate::error::ClientError;
+use crate::versions::Versions;
+use fdb_history::{Call, CallAnswer, Input, Issued, Refusal};
+use std::alloc::{AllocError, Global};
+
+/// The calls of a client, how many commit versions it drew, and the version under each request number.
+#[derive(Drop)]
+pub(crate) struct Journal {
+    /// The calls, in order.
+    pub(crate) calls: Vec<Call>,
+    /// How many of its answers are fresh ones.
+    pub(crate) drawn: u64,
+    /// The versions in its answers.
+    pub(crate) versions: Versions,
+    pub(crate) ghost few: { drawn ≤ vec_len calls },
+    pub(crate) ghost counted: { drawn ≡ length (fresh_answers calls.items) },
+    pub(crate) ghost found: { (num : ℕ) → version_under versions.in_turn.items versions.others.items num ≡ issued_under calls.items num },
+}
+
+impl Journal {
+    /// No calls. Takes no memory.
+    pub(crate) fn new(alloc: Global) -> Journal
+        ensures { result.calls.items ≡ [] }
+    {
+        Journal {
+            calls: Vec::new(alloc),
+            drawn: 0,
+            versions: Versions::new(alloc),
+        }
+    }
+
+    /// How many calls there are.
+    pub(crate) fn len(&self) -> u64
+        ensures { result ≡ length self.now.calls.items }
+    {
+        self.calls.len() as u64
+    }
+
+    /// The number of the next request for a commit version.
+    pub(crate) fn next_number(&self) -> u64
+        ensures { result ≡ 1 + length (fresh_answers self.now.calls.items) }
+    {
+        self.drawn + 1
+    }
+
+    /// The version under a request number, if there is one.
+    pub(crate) fn version_under(&self, num: u64) -> Option<u64>
+        ensures { result ≡ issued_under self.now.calls.items num }
+    {
+        self.versions.under(num)
+    }
+
+    /// Takes the room for a call that gets no commit version.
+    pub(crate) fn reserve(&mut self) -> Result<(), AllocError>
+        ensures calls { self.new.calls.items ≡ self.old.calls.items }
+        ensures room { OnOk result (vec_len self.new.calls < vec_capacity self.new.calls) }
+    {
+        self.calls.reserve(1)
+    }
+
+    /// Takes the room for a request under a number.
+    pub(crate) fn reserve_under(&mut self, num: u64) -> Result<(), AllocError>
+        ensures calls { self.new.calls.items ≡ self.old.calls.items }
+        ensures room { OnOk result (vec_len self.new.calls < vec_capacity self.new.calls) }
+        ensures under { OnOk result (HasRoomUnder num self.new.versions) }
+    {
+        self.calls.reserve(1)?;
+        self.versions.reserve(num)
+    }
+
+    /// Adds a call that got no commit version.
+    #[tactic(auto, using(crate::proofs::Calls::position_of_added))]
+    pub(crate) fn add(&mut self, call: Call)
+        requires room { vec_len self.old.calls < vec_capacity self.old.calls }
+        requires none { answer_in call.answer ≡ [] }
+        ensures calls { self.new.calls.items ≡ self.old.calls.items ++ call ∷ [] }
+        ensures come_to { (begun : ℕ) → position_after_calls begun self.new.calls.items ≡ call.position }
+    {
+        self.calls.push_reserved(call);
+    }
+
+    /// Adds a call that was refused, and says so.
+    pub(crate) fn add_refused(&mut self, input: Input, position: u64, cause: Refusal) -> ClientError
+        requires { vec_len self.old.calls < vec_capacity self.old.calls }
+        ensures calls { self.new.calls.items ≡ self.old.calls.items ++ record { input = input; asked = position; position = position; answer = CallAnswer.Refused cause } ∷ [] }
+        ensures come_to { (begun : ℕ) → position_after_calls begun self.new.calls.items ≡ position }
+        ensures error { result ≡ error_of cause }
+    {
+        self.add(Call {
+            input,
+            asked: position,
+            position,
+            answer: CallAnswer::Refused(cause),
+        });
+        ClientError::from(cause)
+    }
+
+    /// Adds a request that was answered.
+    #[tactic(auto, using(crate::proofs::Calls::position_of_added))]
+    pub(crate) fn add_answer(&mut self, input: Input, position: u64, issued: Issued)
+        requires room { vec_len self.old.calls < vec_capacity self.old.calls }
+        requires under { HasRoomUnder issued.num self.old.versions }
+        ensures calls { self.new.calls.items ≡ self.old.calls.items ++ record { input = input; asked = position; position = position; answer = CallAnswer.Answered issued } ∷ [] }
+        ensures come_to { (begun : ℕ) → position_after_calls begun self.new.calls.items ≡ position }
+    {
+        self.drawn += drawn_by(issued);
+        self.versions.keep(issued);
+        self.calls.push_reserved(Call {
+            input,
+            asked: position,
+            position,
+            answer: CallAnswer::Answered(issued),
+        });
+    }
+}
+
+/// How many commit versions were drawn for an answer: one, or none.
+fn drawn_by(issued: Issued) -> u64
+    ensures counted { result ≡ length (filter (λ one. one.fresh) (issued ∷ [])) }
+    ensures few { result ≤ 1 }
+{
+    u64::from(issued.fresh)
+}
