@@ -2,6 +2,7 @@
 
 ghost use Rattle.std.specs.Prelude.{◌≡◌, ◌≢◌, ◌+◌, ◌++◌, ◌∷◌, [], Err, Some, OnOk, IfOk, IfErr, drop, length};
 ghost use Rattle.fdb_history.specs.Added.{AddsCall};
+ghost use Rattle.fdb_history.specs.Log.{fresh_answers};
 ghost use Rattle.fdb_history.specs.declared.log.Input.TheVariants as input;
 ghost use Rattle.fdb_replay.specs.Rounds.{told_by, told_in};
 ghost use Rattle.fdb_script.specs.Answering.{input_of, learns};
@@ -51,7 +52,7 @@ impl<'a, J: Live> Player<'a, J> {
 
     /// Its log.
     pub(crate) fn into_log(self) -> ClientLog
-        ensures { result ≡ record { calls = self } }
+        ensures { result ≡ record { calls = self.entry } }
     {
         let Player { client, reads: _ } = self;
         client.finish().0
@@ -71,7 +72,17 @@ impl<'a, J: Live> Player<'a, J> {
         ensures told { OnOk result (tales.new.items ≡ tales.old.items ++ told_in number (drop (length self.old) self.new)) }
         ensures err { IfErr result (λ fault. fault ≡ RunFault.Memory) }
     {
-        Err(RunFault::Memory)
+        match act {
+            Act::Grv(opts) => self.read(rt, world, number, opts),
+            Act::Ask { processed, at } => self.ask(rt, world, *processed, *at),
+            Act::Reask { num, processed, at } => self.reask(rt, world, *num, *processed, *at),
+            Act::Report {
+                num,
+                locked,
+                metadata,
+            } => self.report(rt, world, *num, *locked, *metadata),
+            Act::Tell { to } => self.tell(number, *to, tales),
+        }
     }
 
     /// Reads the read version, at the desk of its next read.
@@ -85,7 +96,54 @@ impl<'a, J: Live> Player<'a, J> {
         ensures ok { OnOk result (AddsCall self.old (input.Grv opts.now) self.new) }
         ensures err { IfErr result (λ fault. fault ≡ RunFault.Memory) }
     {
-        Err(RunFault::Memory)
+        let opts = opts.clone()?;
+        let desk = world.desks.route(number, self.reads);
+        self.reads = self.reads.wrapping_add(1);
+        settled(self.client.read_version(rt, world.gate, desk, opts))
+    }
+
+    /// Asks for the next commit version.
+    fn ask<R: Wait, G: Gate>(
+        &mut self,
+        rt: &R,
+        world: &World<'_, J, G>,
+        processed: u64,
+        at: u64,
+    ) -> Result<(), RunFault>
+        ensures ok { OnOk result (AddsCall self.old (input.Ask (length (fresh_answers self.old) + 1) processed at) self.new) }
+        ensures err { IfErr result (λ fault. fault ≡ RunFault.Memory) }
+    {
+        settled(self.client.ask(rt, world.gate, world.sequencer, processed, at))
+    }
+
+    /// Asks for the commit version under a number.
+    fn reask<R: Wait, G: Gate>(
+        &mut self,
+        rt: &R,
+        world: &World<'_, J, G>,
+        num: u64,
+        processed: u64,
+        at: u64,
+    ) -> Result<(), RunFault>
+        ensures ok { OnOk result (AddsCall self.old (input.Ask num processed at) self.new) }
+        ensures err { IfErr result (λ fault. fault ≡ RunFault.Memory) }
+    {
+        settled(self.client.reask(rt, world.gate, world.sequencer, num, processed, at))
+    }
+
+    /// Reports the commit version under a number.
+    fn report<R: Wait, G: Gate>(
+        &mut self,
+        rt: &R,
+        world: &World<'_, J, G>,
+        num: u64,
+        locked: bool,
+        metadata: Option<u64>,
+    ) -> Result<(), RunFault>
+        ensures ok { OnOk result (AddsCall self.old (input.Report num locked metadata) self.new) }
+        ensures err { IfErr result (λ fault. fault ≡ RunFault.Memory) }
+    {
+        settled(self.client.report(rt, world.gate, num, locked, metadata))
     }
 
     /// Tells another what it has seen.
@@ -94,7 +152,11 @@ impl<'a, J: Live> Player<'a, J> {
         ensures told { OnOk result (tales.new.items ≡ tales.old.items ++ told_in number (drop (length self.old) self.new)) }
         ensures err { IfErr result (λ fault. fault ≡ RunFault.Memory) }
     {
-        Err(RunFault::Memory)
+        let Ok(seen) = self.client.tell(to) else {
+            return Err(RunFault::Memory);
+        };
+        tales.push(Tale::new(number, to, seen))?;
+        Ok(())
     }
 
     /// Learns what it was told.
@@ -102,17 +164,22 @@ impl<'a, J: Live> Player<'a, J> {
         ensures ok { OnOk result (self.new ≡ learns self.old (record { teller = tale.from; position = tale.position })) }
         ensures err { IfErr result (λ fault. fault ≡ RunFault.Memory) }
     {
-        Err(RunFault::Memory)
+        let Tale { to: _, from, seen } = tale;
+        match self.client.learn(rt, from, seen) {
+            Ok(()) => Ok(()),
+            Err(_) => Err(RunFault::Memory),
+        }
     }
 }
 
-/// What an answer leaves to be done: nothing, but where memory was refused.
+/// What an answer leaves to be done: nothing, but where memory was refused, which is also why a proxy closes its desk
+/// while rounds are played.
 fn settled<T: Drop>(answer: Result<T, ClientError>) -> Result<(), RunFault>
     ensures ok { OnOk result (answer ≢ Err ClientError.Memory) }
     ensures err { IfErr result (λ fault. fault ≡ RunFault.Memory) }
 {
     match answer {
-        Err(ClientError::Memory) => Err(RunFault::Memory),
+        Err(ClientError::Memory | ClientError::ProxyClosed) => Err(RunFault::Memory),
         _ => Ok(()),
     }
 }
