@@ -1,5 +1,5 @@
 -- What a client's calls may log. (all of this is this product's own)
-use Rattle.std.specs.Prelude.{◌≡◌, ℕ, ◌+◌, ◌<◌, ◌≤◌, Bool, true, false, ◌&&◌, not, List, length, Option, None, Some, Result}
+use Rattle.std.specs.Prelude.{◌≡◌, ℕ, ◌+◌, ◌<◌, ◌≤◌, Bool, true, ◌&&◌, not, List, length, Option, None, Some, Result}
 use Rattle.std.specs.Bool.{MatchBool}
 use mathlib.Core.List.{IsPrefix}
 use Rattle.fdb_chain.specs.ChainCore.{IsOf}
@@ -11,7 +11,6 @@ use Rattle.fdb_history.specs.declared.chain.Issued.{Issued}
 use Rattle.fdb_history.specs.declared.grv.GrvOpts.{GrvOpts}
 use Rattle.fdb_history.specs.declared.log.CallAnswer.{CallAnswer}
 use Rattle.fdb_history.specs.declared.log.CallAnswer.TheVariants.{Version, Acked, Told, Refused}
-use Rattle.fdb_history.specs.declared.log.Input.{Input}
 use Rattle.fdb_history.specs.declared.log.Input.TheVariants as input
 use Rattle.fdb_history.specs.declared.log.Refusal.TheVariants as refusal
 use Rattle.fdb_history.specs.declared.register.Record.{Record}

@@ -1,5 +1,5 @@
 -- Whether an answer is to a request, and what it comes to. (private to this crate)
-use Rattle.std.specs.Prelude.{◌≡◌, ℕ, Bool, true, ◌&&◌, ◌==◌, if◌then◌else◌, Result, Ok, Err}
+use Rattle.std.specs.Prelude.{◌≡◌, Bool, true, ◌&&◌, ◌==◌, if◌then◌else◌, Result, Ok, Err}
 use Rattle.fdb_history.specs.Strays.{may_refuse}
 use Rattle.fdb_history.specs.declared.grv.GrvOpts.{GrvOpts}
 use Rattle.fdb_history.specs.declared.log.Input.TheVariants as input

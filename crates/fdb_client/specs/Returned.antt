@@ -1,5 +1,5 @@
 -- Which value a call of a client returns for the answer that it logged. (all of this is this product's own)
-use Rattle.std.specs.Prelude.{◌≡◌, ℕ, Bool, true, false, Result, Ok, Err}
+use Rattle.std.specs.Prelude.{◌≡◌, ℕ, true, false, Result, Ok, Err}
 use Rattle.fdb_chain.specs.declared.error.ChainError.TheVariants as chain
 use Rattle.fdb_history.specs.declared.chain.Issued.{Issued}
 use Rattle.fdb_history.specs.declared.log.CallAnswer.{CallAnswer}

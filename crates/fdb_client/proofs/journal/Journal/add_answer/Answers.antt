@@ -1,4 +1,4 @@
-use Rattle.std.proofs.Common.{◌≡◌, ◌∙◌, ap, sym, ◌+◌, ◌++◌, ◌∷◌, [], length}
+use Rattle.std.proofs.Common.{◌∙◌, ap, sym, ◌+◌, length}
 use Rattle.std.specs.Option.{option_or}
 use Rattle.fdb_client.proofs.Calls.{count_of_added, issued_of_added}
 use Rattle.fdb_client.proofs.Kept.{among_one}

@@ -1,0 +1,22 @@
+use Rattle.std.proofs.Common.{rules, refl}
+use Rattle.fdb_client.proofs.Own.{own_same}
+use Rattle.fdb_history.specs.declared.log.CallAnswer.TheVariants.{Version}
+use Rattle.fdb_client.proofs.client.take_reply.Goals as goal
+
+pub returns-clause-logged : goal.returns-clause-logged
+returns-clause-logged g c _ number begun reporter come_to =
+    record {
+      answer = Version c.args.reply.rec c.args.reply.limits c.if-reply.locked_out;
+      logged = record {
+        number = refl;
+        begun = refl;
+        calls = cc (c.add.ensures.calls, c.requires.asked, c.args.reply.at, c.hear.ensures.raises);
+        come_to = come_to;
+        extends = c.hear.ensures.extends;
+        stays = λ is. absurd (cc is);
+        own = λ _. own_same number c.args.seen.now c.hear.new.seen reporter c.hear.ensures.reporter c.hear.ensures.own;
+        raised = λ is. absurd (cc is);
+      };
+      answered = search rules;
+      returned = search rules;
+    }
