@@ -51,7 +51,7 @@ impl<'a, J: Live> Player<'a, J> {
 
     /// Its log.
     pub(crate) fn into_log(self) -> ClientLog
-        ensures { result ≡ record { calls = self } }
+        ensures { result ≡ record { calls = self.entry } }
     {
         let Player { client, reads: _ } = self;
         client.finish().0
