@@ -1,7 +1,7 @@
 -- A round is performed part by part.
-use Rattle.std.proofs.Common.{◌≡◌, ℕ, zero, suc, ◌+◌, ◌<◌, ◌≤◌, List, [], ◌∷◌, ◌++◌, length, drop, refl, ap, sym, ◌∙◌, subst, append_assoc, arith}
+use Rattle.std.proofs.Common.{◌≡◌, ℕ, zero, suc, ◌+◌, ◌<◌, ◌≤◌, List, [], ◌∷◌, ◌++◌, Result, Ok, Err, IfOk, length, drop, get_or, map, set, refl, ap, sym, ◌∙◌, subst, append_assoc, arith}
 use Rattle.std.specs.List.{FoldsTo}
-use Rattle.std.proofs.lemmas.List.{append-nil, drop_all, length-append}
+use Rattle.std.proofs.lemmas.List.{append-nil, drop_all, length-map, map-append}
 use Rattle.fdb_history.specs.declared.log.Call.{Call}
 use Rattle.fdb_replay.specs.Rounds.{IsPlayed, PerformsFrom, Told, all_told, told_in}
 use Rattle.fdb_script.specs.Answering.{AnswersCommand, commands_of}
@@ -58,3 +58,36 @@ none_told first (own ∷ calls) = rw (drop_all (length own) own (omega arith), n
 -- clients that are told nothing
 pub none_played : (first : ℕ) (commands : List Command) (calls : List (List Call)) → ((k : ℕ) → k < length calls → commands_of (first + k) commands ≡ []) → IsPlayed first commands calls calls []
 none_played first commands calls idle = record { performed = none_perform first commands calls idle; told = sym (none_told first calls) }
+
+-- ---- clients as what they have called
+
+pub both_acted : {P : Type 0} (made : P → List Call) (first next : ℕ) (commands : List Command) (a b c d : List P) (these those : List Told) → next ≡ first + length a
+    → IsPlayed first commands (map made a) (map made b) these → IsPlayed next commands (map made c) (map made d) those
+    → IsPlayed first commands (map made (a ++ c)) (map made (b ++ d)) (these ++ those)
+both_acted made first next commands a b c d these those is front back =
+    rw (map-append made a c, map-append made b d)
+    (both_played first next commands (map made a) (map made b) (map made c) (map made d) these those (omega (arith, is, length-map a made)) front back)
+
+pub one_acted : {P : Type 0} (made : P → List Call) (first : ℕ) (commands : List Command) (all : List P) (before after : P) (tales : List Told) → length all ≡ 1 → before ≡ get_or all 0 before
+    → FoldsTo AnswersCommand (made before) (commands_of first commands) (made after) → tales ≡ told_in first (drop (length (made before)) (made after))
+    → IsPlayed first commands (map made all) (map made (set all 0 after)) tales
+one_acted made first commands [] before after tales one is performed told = absurd (omega (arith, one))
+one_acted made first commands (x ∷ []) before after tales one is performed told =
+    subst (λ own. IsPlayed first commands (made own ∷ []) (made after ∷ []) tales) is (one_played first commands (made before) (made after) tales performed told)
+one_acted made first commands (x ∷ y ∷ all) before after tales one is performed told = absurd (omega (arith, one))
+
+pub none_acted : {P : Type 0} (made : P → List Call) (first : ℕ) (commands : List Command) (all : List P) → ((k : ℕ) → k < length all → commands_of (first + k) commands ≡ [])
+    → IsPlayed first commands (map made all) (map made all) []
+none_acted made first commands all idle = none_played first commands (map made all) (λ k within. idle k (omega (arith, within, length-map all made)))
+
+pub all_same : {X : Type 0} (xs : List X) → map (λ x. x) xs ≡ xs
+all_same [] = refl
+all_same (x ∷ xs) = ap (λ rest. x ∷ rest) (all_same xs)
+
+-- two parts make one, where neither failed
+pub joined : {P V E : Type 0} (made : P → List Call) (items : V → List Told) (first next : ℕ) (commands : List Command) (a b c d : List P) (theirs ours : Result V E) → next ≡ first + length a
+    → IfOk theirs (λ tales. IsPlayed first commands (map made a) (map made b) (items tales)) → IfOk ours (λ tales. IsPlayed next commands (map made c) (map made d) (items tales))
+    → IfOk theirs (λ these. IfOk ours (λ those. IsPlayed first commands (map made (a ++ c)) (map made (b ++ d)) (items these ++ items those)))
+joined made items first next commands a b c d (Ok these) (Ok those) is front back = both_acted made first next commands a b c d (items these) (items those) is front back
+joined made items first next commands a b c d (Ok these) (Err e) is front back = tt
+joined made items first next commands a b c d (Err e) ours is front back = tt

@@ -43,10 +43,10 @@ impl<'a, J: Live> Clients<'a, J> {
         requires few { vec_len tokens ≤ 64 }
         ensures { IfOk result (λ clients. clients ≡ replicate (vec_len tokens) []) }
     {
-        let mut players = Vec::with_capacity(alloc, tokens.len())?;
+        let mut players = Vec::new(alloc);
         let mut number = 0;
         for seen in tokens {
-            players.push_reserved(Player::new(alloc, number, live, seen));
+            players.push(Player::new(alloc, number, live, seen))?;
             number += 1;
         }
         Ok(Clients { players })
@@ -73,9 +73,10 @@ impl<'a, J: Live> Clients<'a, J> {
     pub(crate) fn into_logs(self, alloc: Global) -> Result<Vec<ClientLog>, AllocError>
         ensures { IfOk result (λ logs. logs.items ≡ logs_of self.entry) }
     {
-        let mut logs = Vec::with_capacity(alloc, self.players.len())?;
-        for player in self.players {
-            logs.push_reserved(player.into_log());
+        let Clients { players } = self;
+        let mut logs = Vec::new(alloc);
+        for player in players {
+            logs.push(player.into_log())?;
         }
         Ok(logs)
     }

@@ -1,6 +1,6 @@
 //! A round of a run: each client does what it is told, and then they learn what they told one another.
 
-ghost use Rattle.std.specs.Prelude.{◌≡◌, ◌+◌, ◌++◌, ◌≤◌, ◌<◌, [], ℕ, true, false, OnOk, IfOk, IfErr, length, drop, fold, get_or, slice_index_or};
+ghost use Rattle.std.specs.Prelude.{◌≡◌, ◌+◌, ◌++◌, ◌≤◌, ◌<◌, [], ℕ, true, false, OnOk, IfOk, IfErr, length, drop, fold, get_or, map, slice_index_or};
 ghost use Rattle.std.specs.List.{FoldsTo};
 ghost use Rattle.std.specs.Thread.{IsSync, IsSend};
 ghost use Rattle.fdb_replay.specs.Rounds.{IsPlayed, PerformsFrom, all_told, logs_of, teach, told_in};
@@ -106,46 +106,102 @@ fn play_round<J: Live + Send + Sync, R: Threads + Wait + Sync, G: Gate>(
     learn_all(rt, clients, tales)
 }
 
+/// One who does what it is told in a round.
+trait Acts<J: Live> {
+    ghost use Rattle.std.specs.Prelude.{List};
+    ghost use Rattle.fdb_history.specs.declared.log.Call.{Call};
+
+    // The calls that it has made.
+    ghost calls_made: { Self → List Call };
+
+    /// Does what it is told, as the client with this number. Answers what it told others.
+    fn act<R: Wait, G: Gate>(
+        &mut self,
+        rt: &R,
+        alloc: Global,
+        world: &World<'_, J, G>,
+        commands: &[Command],
+        number: u32,
+    ) -> Result<Vec<Tale<J>>, RunFault>
+        ensures ok { OnOk result (FoldsTo AnswersCommand (calls_made self.old) (commands_of number commands.now) (calls_made self.new)) }
+        ensures told { IfOk result (λ tales. tales.items ≡ told_in number (drop (length (calls_made self.old)) (calls_made self.new))) }
+        ensures err { IfErr result (λ fault. fault ≡ RunFault.Memory) };
+}
+
+impl<'a, J: Live> Acts<J> for Player<'a, J> {
+    ghost calls_made = { λ player. player };
+
+    fn act<R: Wait, G: Gate>(
+        &mut self,
+        rt: &R,
+        alloc: Global,
+        world: &World<'_, J, G>,
+        commands: &[Command],
+        number: u32,
+    ) -> Result<Vec<Tale<J>>, RunFault> {
+        play_client(rt, alloc, world, commands, number, self)
+    }
+}
+
 /// Has these clients, the first of whom has this number, do what they are told in a round, those who are told anything
 /// each in a thread of its own, the last of them in this one. Answers what they told, by client and then by command.
 #[cycle(parts)]
-#[tactic(auto, using(crate::proofs::Parts::one_played))]
-fn play_part<J: Live + Send + Sync, R: Threads + Wait + Sync, G: Gate>(
+#[tactic(auto, using(crate::proofs::Parts::one_acted))]
+fn play_part<J: Live + Send + Sync, P: Acts<J> + Send, R: Threads + Wait + Sync, G: Gate>(
     rt: &R,
     alloc: Global,
     world: &World<'_, J, G>,
     round: &Round<'_>,
     first: u32,
-    clients: &mut [Player<'_, J>],
+    clients: &mut [P],
 ) -> Result<Vec<Tale<J>>, RunFault>
     requires few { first + length clients.old ≤ 64 }
-    ensures ok { IfOk result (λ tales. IsPlayed first round.now.commands.now clients.old clients.new tales.items) }
+    ensures ok { IfOk result (λ tales. IsPlayed first round.now.commands.now (map P.calls_made clients.old) (map P.calls_made clients.new) tales.items) }
     ensures err { IfErr result (λ fault. fault ≡ RunFault.Memory) }
 {
     if !round.acts_among(first, clients.len()) {
         return Ok(Vec::new(alloc));
     }
     if clients.len() == 1 {
-        return play_client(rt, alloc, world, round.commands, first, &mut clients[0]);
+        return clients[0].act(rt, alloc, world, round.commands, first);
     }
+    let (theirs, ours) = play_halves(rt, alloc, world, round, first, clients);
+    let mut tales = theirs?;
+    let mut others = ours?;
+    tales.append(&mut others)?;
+    Ok(tales)
+}
+
+/// Has the first half of the clients do what they are told in a new thread, and the others in this one. Where no thread
+/// can be had, the first half does it last.
+#[cycle(parts)]
+fn play_halves<J: Live + Send + Sync, P: Acts<J> + Send, R: Threads + Wait + Sync, G: Gate>(
+    rt: &R,
+    alloc: Global,
+    world: &World<'_, J, G>,
+    round: &Round<'_>,
+    first: u32,
+    clients: &mut [P],
+) -> (Result<Vec<Tale<J>>, RunFault>, Result<Vec<Tale<J>>, RunFault>)
+    requires some { 1 < length clients.old }
+    requires few { first + length clients.old ≤ 64 }
+    ensures ok { IfOk result.0 (λ these. IfOk result.1 (λ those. IsPlayed first round.now.commands.now (map P.calls_made clients.old) (map P.calls_made clients.new) (these.items ++ those.items))) }
+    ensures err { IfErr result.0 (λ fault. fault ≡ RunFault.Memory) × IfErr result.1 (λ fault. fault ≡ RunFault.Memory) }
+{
     let half = clients.len() / 2;
     let next = first + half as u32;
     let (front, back) = clients.split_at_mut(half);
-    let (front, back) = join_mut(
+    join_mut(
         rt,
         &mut || -> Result<Vec<Tale<J>>, RunFault>
-            requires { IsSync R.row × IsSync J.row × IsSend J.row × IsSync G.row × (first + length front.now ≤ 64) }
-            ensures { IfOk result (λ tales. IsPlayed first round.entry.now.commands.now front.entry.now front.exit.now tales.items) × IfErr result (λ fault. fault ≡ RunFault.Memory) }
+            requires { IsSync R.row × IsSync J.row × IsSend J.row × IsSync G.row × IsSend P.row × (first + length front.now ≤ 64) }
+            ensures { IfOk result (λ tales. IsPlayed first round.entry.now.commands.now (map P.calls_made front.entry.now) (map P.calls_made front.exit.now) tales.items) × IfErr result (λ fault. fault ≡ RunFault.Memory) }
         { play_part(rt, alloc, world, round, first, front) },
         &mut || -> Result<Vec<Tale<J>>, RunFault>
-            requires { IsSync R.row × IsSync J.row × IsSend J.row × IsSync G.row × (next + length back.now ≤ 64) }
-            ensures { IfOk result (λ tales. IsPlayed next round.entry.now.commands.now back.entry.now back.exit.now tales.items) × IfErr result (λ fault. fault ≡ RunFault.Memory) }
+            requires { IsSync R.row × IsSync J.row × IsSend J.row × IsSync G.row × IsSend P.row × (next + length back.now ≤ 64) }
+            ensures { IfOk result (λ tales. IsPlayed next round.entry.now.commands.now (map P.calls_made back.entry.now) (map P.calls_made back.exit.now) tales.items) × IfErr result (λ fault. fault ≡ RunFault.Memory) }
         { play_part(rt, alloc, world, round, next, back) },
-    );
-    let mut tales = front?;
-    let mut others = back?;
-    tales.append(&mut others)?;
-    Ok(tales)
+    )
 }
 
 /// Has a client do what it is told in a round.
