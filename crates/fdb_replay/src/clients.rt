@@ -1,13 +1,22 @@
 //! The clients of a run.
 
-ghost use Rattle.std.specs.Prelude.{◌≡◌, ◌<◌, ◌≤◌, ℕ, [], IfOk, Some, replicate, slice_get, vec_len};
+ghost use Rattle.std.specs.Prelude.{◌≡◌, ◌<◌, ◌≤◌, ℕ, [], IfErr, IfOk, OnOk, Some, length, replicate, slice_get, vec_len};
+ghost use Rattle.std.specs.List.{FoldsTo};
 ghost use Rattle.fdb_replay.specs.Rounds.{logs_of};
+ghost use Rattle.fdb_script.specs.Answering.{AnswersRound};
 
+use crate::fault::RunFault;
 use crate::player::Player;
-use fdb_history::ClientLog;
+use crate::rounds::play_rounds;
+use crate::world::World;
+use fdb_history::{ClientLog, Gate, Sequence};
 use fdb_live::{Live, LiveRecord, Seen};
+use fdb_script::Command;
 use std::alloc::{AllocError, Global};
 use std::marker::Model;
+use std::mem;
+use std::sync::Wait;
+use std::thread::Threads;
 
 /// The clients of a run. Contracts see them as the calls of each, in the order of their numbers.
 #[derive(Drop)]
@@ -24,7 +33,7 @@ impl<'a, J: Live> Model for Clients<'a, J> {
     ghost view = { λ clients. clients.players.items };
 }
 
-impl<'a, J: Live> Clients<'a, J> {
+impl<'a, J: Live + Send + Sync> Clients<'a, J> {
     /// A client for each token, which has called nobody yet. Takes memory for the clients.
     pub(crate) fn new(
         alloc: Global,
@@ -42,6 +51,23 @@ impl<'a, J: Live> Clients<'a, J> {
             number += 1;
         }
         Ok(Clients { players })
+    }
+
+    /// Has the clients play rounds, one after another.
+    pub(crate) fn play<R: Threads + Wait + Sync, G: Gate>(
+        &mut self,
+        rt: &R,
+        alloc: Global,
+        world: &World<'_, J, G>,
+        rounds: &[Sequence<Command>],
+    ) -> Result<(), RunFault>
+        requires few { length self.old ≤ 64 }
+        ensures ok { OnOk result (FoldsTo AnswersRound (logs_of self.old) rounds.now (logs_of self.new)) }
+        ensures err { IfErr result (λ fault. fault ≡ RunFault.Memory) }
+    {
+        let players = mem::replace(&mut self.players, Vec::new(alloc));
+        self.players = play_rounds(rt, alloc, world, players, rounds)?;
+        Ok(())
     }
 
     /// The logs of all clients.
