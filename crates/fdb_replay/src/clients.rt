@@ -14,6 +14,7 @@ use fdb_live::{Live, LiveRecord, Seen};
 use fdb_script::Command;
 use std::alloc::{AllocError, Global};
 use std::marker::Model;
+use std::mem;
 use std::sync::Wait;
 use std::thread::Threads;
 
@@ -32,7 +33,7 @@ impl<'a, J: Live> Model for Clients<'a, J> {
     ghost view = { λ clients. clients.players.items };
 }
 
-impl<'a, J: Live> Clients<'a, J> {
+impl<'a, J: Live + Send + Sync> Clients<'a, J> {
     /// A client for each token, which has called nobody yet. Takes memory for the clients.
     pub(crate) fn new(
         alloc: Global,
@@ -52,7 +53,7 @@ impl<'a, J: Live> Clients<'a, J> {
         Ok(Clients { players })
     }
 
-    /// Plays rounds, one after another.
+    /// Has the clients play rounds, one after another.
     pub(crate) fn play<R: Threads + Wait + Sync, G: Gate>(
         &mut self,
         rt: &R,
@@ -60,13 +61,13 @@ impl<'a, J: Live> Clients<'a, J> {
         world: &World<'_, J, G>,
         rounds: &[Sequence<Command>],
     ) -> Result<(), RunFault>
-    where
-        J: Send + Sync,
         requires few { length self.old ≤ 64 }
         ensures ok { OnOk result (FoldsTo AnswersRound (logs_of self.old) rounds.now (logs_of self.new)) }
         ensures err { IfErr result (λ fault. fault ≡ RunFault.Memory) }
     {
-        play_rounds(rt, alloc, world, self.players.as_mut_slice(), rounds)
+        let players = mem::replace(&mut self.players, Vec::new(alloc));
+        self.players = play_rounds(rt, alloc, world, players, rounds)?;
+        Ok(())
     }
 
     /// The logs of all clients.

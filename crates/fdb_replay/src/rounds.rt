@@ -1,6 +1,6 @@
 //! A round of a run: each client does what it is told, and then they learn what they told one another.
 
-ghost use Rattle.std.specs.Prelude.{◌≡◌, ◌+◌, ◌++◌, ◌≤◌, ◌<◌, [], ℕ, true, false, OnOk, IfOk, IfErr, length, drop, fold, get_or, map, slice_index_or};
+ghost use Rattle.std.specs.Prelude.{◌≡◌, ◌+◌, ◌++◌, ◌≤◌, ◌<◌, [], ℕ, true, false, OnOk, IfOk, IfErr, length, drop, fold, get_or, map, slice_index_or, vec_len};
 ghost use Rattle.std.specs.List.{FoldsTo};
 ghost use Rattle.std.specs.Thread.{IsSync, IsSend};
 ghost use Rattle.fdb_replay.specs.Rounds.{IsPlayed, PerformsFrom, all_told, logs_of, teach, told_in};
@@ -15,10 +15,47 @@ use fdb_live::Live;
 use fdb_script::Command;
 use std::alloc::Global;
 use std::sync::Wait;
-use std::thread::{Threads, join_mut};
+use std::thread::{Threads, join};
 
 /// The most clients of a run.
 const MAX_CLIENTS: usize = 64;
+
+/// One who does what it is told in a round.
+trait Acts<J: Live> {
+    ghost use Rattle.std.specs.Prelude.{List};
+    ghost use Rattle.fdb_history.specs.declared.log.Call.{Call};
+
+    // The calls that it has made.
+    ghost calls_made: { Self → List Call };
+
+    /// Does what it is told, as the client with this number. Answers what it told others.
+    fn act<R: Wait, G: Gate>(
+        &mut self,
+        rt: &R,
+        alloc: Global,
+        world: &World<'_, J, G>,
+        commands: &[Command],
+        number: u32,
+    ) -> Result<Vec<Tale<J>>, RunFault>
+        ensures ok { OnOk result (FoldsTo AnswersCommand (calls_made self.old) (commands_of number commands.now) (calls_made self.new)) }
+        ensures told { IfOk result (λ tales. tales.items ≡ told_in number (drop (length (calls_made self.old)) (calls_made self.new))) }
+        ensures err { IfErr result (λ fault. fault ≡ RunFault.Memory) };
+}
+
+impl<'a, J: Live> Acts<J> for Player<'a, J> {
+    ghost calls_made = { λ player. player };
+
+    fn act<R: Wait, G: Gate>(
+        &mut self,
+        rt: &R,
+        alloc: Global,
+        world: &World<'_, J, G>,
+        commands: &[Command],
+        number: u32,
+    ) -> Result<Vec<Tale<J>>, RunFault> {
+        play_client(rt, alloc, world, commands, number, self)
+    }
+}
 
 /// What is done in a round, and by whom.
 #[derive(Drop)]
@@ -72,136 +109,93 @@ fn acts_in(commands: &[Command]) -> [bool; MAX_CLIENTS]
 }
 
 /// Plays rounds, one after another.
-pub(crate) fn play_rounds<J: Live + Send + Sync, R: Threads + Wait + Sync, G: Gate>(
+pub(crate) fn play_rounds<'a, J: Live + Send + Sync, R: Threads + Wait + Sync, G: Gate>(
     rt: &R,
     alloc: Global,
     world: &World<'_, J, G>,
-    clients: &mut [Player<'_, J>],
+    mut clients: Vec<Player<'a, J>>,
     rounds: &[Sequence<Command>],
-) -> Result<(), RunFault>
-    requires few { length clients.old ≤ 64 }
-    ensures ok { OnOk result (FoldsTo AnswersRound (logs_of clients.old) rounds.now (logs_of clients.new)) }
+) -> Result<Vec<Player<'a, J>>, RunFault>
+    requires few { length clients.items ≤ 64 }
+    ensures ok { IfOk result (λ after. FoldsTo AnswersRound (logs_of clients.entry.items) rounds.now (logs_of after.items)) }
     ensures err { IfErr result (λ fault. fault ≡ RunFault.Memory) }
 {
     for commands in rounds {
-        play_round(rt, alloc, world, clients, commands.as_slice())?;
+        clients = play_round(rt, alloc, world, clients, commands.as_slice())?;
     }
-    Ok(())
+    Ok(clients)
 }
 
 /// Plays a round. What was told in it is learnt at its end.
-fn play_round<J: Live + Send + Sync, R: Threads + Wait + Sync, G: Gate>(
+fn play_round<'a, J: Live + Send + Sync, R: Threads + Wait + Sync, G: Gate>(
     rt: &R,
     alloc: Global,
     world: &World<'_, J, G>,
-    clients: &mut [Player<'_, J>],
+    clients: Vec<Player<'a, J>>,
     commands: &[Command],
-) -> Result<(), RunFault>
-    requires few { length clients.old ≤ 64 }
-    ensures ok { OnOk result (AnswersRound (logs_of clients.old) commands.now (logs_of clients.new)) }
+) -> Result<Vec<Player<'a, J>>, RunFault>
+    requires few { length clients.items ≤ 64 }
+    ensures ok { IfOk result (λ after. AnswersRound (logs_of clients.entry.items) commands.now (logs_of after.items)) }
+    ensures few { IfOk result (λ after. length after.items ≡ length clients.entry.items) }
     ensures err { IfErr result (λ fault. fault ≡ RunFault.Memory) }
 {
     let round = Round::new(commands);
-    let tales = play_part(rt, alloc, world, &round, 0, clients)?;
-    learn_all(rt, clients, tales)
+    let part = play_part(rt, alloc, world, &round, 0, clients)?;
+    let Part { mut clients, tales } = part;
+    learn_all(rt, &mut clients, tales)?;
+    Ok(clients)
 }
 
-/// One who does what it is told in a round.
-trait Acts<J: Live> {
-    ghost use Rattle.std.specs.Prelude.{List};
-    ghost use Rattle.fdb_history.specs.declared.log.Call.{Call};
-
-    // The calls that it has made.
-    ghost calls_made: { Self → List Call };
-
-    /// Does what it is told, as the client with this number. Answers what it told others.
-    fn act<R: Wait, G: Gate>(
-        &mut self,
-        rt: &R,
-        alloc: Global,
-        world: &World<'_, J, G>,
-        commands: &[Command],
-        number: u32,
-    ) -> Result<Vec<Tale<J>>, RunFault>
-        ensures ok { OnOk result (FoldsTo AnswersCommand (calls_made self.old) (commands_of number commands.now) (calls_made self.new)) }
-        ensures told { IfOk result (λ tales. tales.items ≡ told_in number (drop (length (calls_made self.old)) (calls_made self.new))) }
-        ensures err { IfErr result (λ fault. fault ≡ RunFault.Memory) };
-}
-
-impl<'a, J: Live> Acts<J> for Player<'a, J> {
-    ghost calls_made = { λ player. player };
-
-    fn act<R: Wait, G: Gate>(
-        &mut self,
-        rt: &R,
-        alloc: Global,
-        world: &World<'_, J, G>,
-        commands: &[Command],
-        number: u32,
-    ) -> Result<Vec<Tale<J>>, RunFault> {
-        play_client(rt, alloc, world, commands, number, self)
-    }
+/// Clients that have done what they were told in a round, and what they told others by that.
+#[derive(Drop)]
+struct Part<J: Live, P: Drop> {
+    clients: Vec<P>,
+    tales: Vec<Tale<J>>,
 }
 
 /// Has these clients, the first of whom has this number, do what they are told in a round, those who are told anything
 /// each in a thread of its own, the last of them in this one. Answers what they told, by client and then by command.
 #[cycle(parts)]
 #[tactic(auto, using(crate::proofs::Parts::one_acted))]
-fn play_part<J: Live + Send + Sync, P: Acts<J> + Send, R: Threads + Wait + Sync, G: Gate>(
+fn play_part<J: Live + Send + Sync, P: Acts<J> + Send + Drop, R: Threads + Wait + Sync, G: Gate>(
     rt: &R,
     alloc: Global,
     world: &World<'_, J, G>,
     round: &Round<'_>,
     first: u32,
-    clients: &mut [P],
-) -> Result<Vec<Tale<J>>, RunFault>
-    requires few { first + length clients.old ≤ 64 }
-    ensures ok { IfOk result (λ tales. IsPlayed first round.now.commands.now (map P.calls_made clients.old) (map P.calls_made clients.new) tales.items) }
+    mut clients: Vec<P>,
+) -> Result<Part<J, P>, RunFault>
+    requires few { first + vec_len clients ≤ 64 }
+    ensures ok { IfOk result (λ part. IsPlayed first round.now.commands.now (map P.calls_made clients.items) (map P.calls_made part.clients.items) part.tales.items) }
     ensures err { IfErr result (λ fault. fault ≡ RunFault.Memory) }
 {
     if !round.acts_among(first, clients.len()) {
-        return Ok(Vec::new(alloc));
+        return Ok(Part {
+            clients,
+            tales: Vec::new(alloc),
+        });
     }
     if clients.len() == 1 {
-        return clients[0].act(rt, alloc, world, round.commands, first);
+        let tales = clients[0].act(rt, alloc, world, round.commands, first)?;
+        return Ok(Part { clients, tales });
     }
-    let (theirs, ours) = play_halves(rt, alloc, world, round, first, clients);
-    let mut tales = theirs?;
-    let mut others = ours?;
-    tales.append(&mut others)?;
-    Ok(tales)
-}
-
-/// Has the first half of the clients do what they are told in a new thread, and the others in this one. Where no thread
-/// can be had, the first half does it last.
-#[cycle(parts)]
-fn play_halves<J: Live + Send + Sync, P: Acts<J> + Send, R: Threads + Wait + Sync, G: Gate>(
-    rt: &R,
-    alloc: Global,
-    world: &World<'_, J, G>,
-    round: &Round<'_>,
-    first: u32,
-    clients: &mut [P],
-) -> (Result<Vec<Tale<J>>, RunFault>, Result<Vec<Tale<J>>, RunFault>)
-    requires some { 1 < length clients.old }
-    requires few { first + length clients.old ≤ 64 }
-    ensures ok { IfOk result.0 (λ these. IfOk result.1 (λ those. IsPlayed first round.now.commands.now (map P.calls_made clients.old) (map P.calls_made clients.new) (these.items ++ those.items))) }
-    ensures err { IfErr result.0 (λ fault. fault ≡ RunFault.Memory) × IfErr result.1 (λ fault. fault ≡ RunFault.Memory) }
-{
     let half = clients.len() / 2;
     let next = first + half as u32;
-    let (front, back) = clients.split_at_mut(half);
-    join_mut(
-        rt,
-        &mut || -> Result<Vec<Tale<J>>, RunFault>
-            requires { IsSync R.row × IsSync J.row × IsSend J.row × IsSync G.row × IsSend P.row × (first + length front.now ≤ 64) }
-            ensures { IfOk result (λ tales. IsPlayed first round.entry.now.commands.now (map P.calls_made front.entry.now) (map P.calls_made front.exit.now) tales.items) × IfErr result (λ fault. fault ≡ RunFault.Memory) }
-        { play_part(rt, alloc, world, round, first, front) },
-        &mut || -> Result<Vec<Tale<J>>, RunFault>
-            requires { IsSync R.row × IsSync J.row × IsSend J.row × IsSync G.row × IsSend P.row × (next + length back.now ≤ 64) }
-            ensures { IfOk result (λ tales. IsPlayed next round.entry.now.commands.now (map P.calls_made back.entry.now) (map P.calls_made back.exit.now) tales.items) × IfErr result (λ fault. fault ≡ RunFault.Memory) }
-        { play_part(rt, alloc, world, round, next, back) },
-    )
+    let others = clients.split_off(half)?;
+    let front = move || -> Result<Part<J, P>, RunFault>
+        requires { IsSync R.row × IsSync J.row × IsSend J.row × IsSync G.row × IsSend P.row × (first + vec_len clients ≤ 64) }
+        ensures { IfOk result (λ part. IsPlayed first round.entry.now.commands.now (map P.calls_made clients.items) (map P.calls_made part.clients.items) part.tales.items) × IfErr result (λ fault. fault ≡ RunFault.Memory) }
+    { play_part(rt, alloc, world, round, first, clients) };
+    let back = move || -> Result<Part<J, P>, RunFault>
+        requires { IsSync R.row × IsSync J.row × IsSend J.row × IsSync G.row × IsSend P.row × (next + vec_len others ≤ 64) }
+        ensures { IfOk result (λ part. IsPlayed next round.entry.now.commands.now (map P.calls_made others.items) (map P.calls_made part.clients.items) part.tales.items) × IfErr result (λ fault. fault ≡ RunFault.Memory) }
+    { play_part(rt, alloc, world, round, next, others) };
+    let (theirs, ours) = join(rt, front, back);
+    let mut part = theirs?;
+    let mut rest = ours?;
+    part.clients.append(&mut rest.clients)?;
+    part.tales.append(&mut rest.tales)?;
+    Ok(part)
 }
 
 /// Has a client do what it is told in a round.
@@ -230,10 +224,11 @@ fn play_client<J: Live, R: Wait, G: Gate>(
 /// Has each client learn what it was told.
 fn learn_all<J: Live, R: Wait>(
     rt: &R,
-    clients: &mut [Player<'_, J>],
+    clients: &mut Vec<Player<'_, J>>,
     tales: Vec<Tale<J>>,
 ) -> Result<(), RunFault>
-    ensures ok { OnOk result (clients.new ≡ fold teach clients.old tales.items) }
+    ensures ok { OnOk result (clients.new.items ≡ fold teach clients.old.items tales.items) }
+    ensures len { OnOk result (length clients.new.items ≡ length clients.old.items) }
     ensures err { IfErr result (λ fault. fault ≡ RunFault.Memory) }
 {
     for tale in tales {

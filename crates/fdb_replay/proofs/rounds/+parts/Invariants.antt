@@ -1,14 +1,11 @@
-use Rattle.std.proofs.Common.{◌+◌, ◌*◌, ◌-◌, length}
+use Rattle.std.proofs.Common.{◌+◌, ◌*◌}
 use Rattle.fdb_replay.proofs.rounds.+parts.Given as goal
 
 abbrev pub decreases-play_part : goal.decreases-play_part
-decreases-play_part g l = 4 * length l.clients.now
+decreases-play_part g l = 2 * l.clients.len
 
-abbrev pub decreases-play_halves : goal.decreases-play_halves
-decreases-play_halves g l = 4 * length l.clients.now - 1
+abbrev pub decreases-front : goal.decreases-front
+decreases-front g l = 2 * l.clients.len + 1
 
-abbrev pub decreases-play_halves-join_mut+arg2 : goal.decreases-play_halves-join_mut+arg2
-decreases-play_halves-join_mut+arg2 g l = 4 * length l.front.now + 1
-
-abbrev pub decreases-play_halves-join_mut+arg3 : goal.decreases-play_halves-join_mut+arg3
-decreases-play_halves-join_mut+arg3 g l = 4 * length l.back.now + 1
+abbrev pub decreases-back : goal.decreases-back
+decreases-back g l = 2 * l.others.len + 1

@@ -8,6 +8,6 @@ use Rattle.fdb_replay.proofs.rounds.play_rounds.Given as goal
 -- whoever plays the rounds that are left from here has played all
 abbrev pub invariant-loop-commands : goal.invariant-loop-commands
 invariant-loop-commands g l = record {
-  same_clients : length l.clients ≡ length l.fn.clients;
-  forwards : (last : List (List Call)) → FoldsTo AnswersRound (logs_of l.clients) (drop l.commands-index l.rounds) (logs_of last) → FoldsTo AnswersRound (logs_of l.fn.clients) l.rounds (logs_of last);
+  same_clients : length l.clients.items ≡ length l.fn.clients.items;
+  forwards : (last : List (List Call)) → FoldsTo AnswersRound (logs_of l.clients.items) (drop l.commands-index l.rounds) (logs_of last) → FoldsTo AnswersRound (logs_of l.fn.clients.items) l.rounds (logs_of last);
 }
