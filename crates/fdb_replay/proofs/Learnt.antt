@@ -4,8 +4,7 @@ use Rattle.std.proofs.lemmas.Bool.{eq-eqb, ne_eqb}
 use Rattle.fdb_history.specs.declared.log.Call.{Call}
 use Rattle.fdb_history.specs.declared.log.Input.{Input}
 use Rattle.fdb_history.specs.declared.log.Input.TheVariants as input
-use Rattle.fdb_replay.specs.Rounds.{all_told, logs_of, teach, told_in}
-use Rattle.fdb_replay.specs.declared.rounds.Told.{Told}
+use Rattle.fdb_replay.specs.Rounds.{Told, all_told, logs_of, teach, told_in}
 use Rattle.fdb_script.specs.Answering.{Tale, added_calls, learnt_from, learns, tales_from, tells}
 
 abbrev tale_of : Told → Tale

@@ -1,8 +1,11 @@
+pub mod Acts
 pub mod Calls
-pub mod Epochs
 pub mod Given
+pub mod Grown
 pub mod Input
 pub mod Learnt
+pub mod Parts
 pub mod Performed
 pub mod Runs
 pub mod Written
+pub mod Throttled

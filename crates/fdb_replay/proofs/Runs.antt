@@ -1,7 +1,7 @@
 -- A run has played all rounds, and is audited.
-use Rattle.std.proofs.Common.{◌≡◌, ℕ, zero, suc, ◌+◌, ◌<◌, List, [], ◌∷◌, ◌++◌, length, replicate, drop, take, get_or, refl, ap, sym, ◌∙◌, subst, arith}
+use Rattle.std.proofs.Common.{◌≡◌, ℕ, zero, suc, ◌+◌, ◌<◌, List, [], ◌∷◌, length, replicate, drop, get_or, refl, ap, sym, ◌∙◌, subst}
 use Rattle.std.specs.List.{FoldsTo}
-use Rattle.std.proofs.lemmas.List.{append-nil, drop_all, drop_more, take_all}
+use Rattle.std.proofs.lemmas.List.{drop_more, length-replicate}
 use Rattle.fdb_history.specs.Audit.{IsFirstFault}
 use Rattle.fdb_history.specs.Chain.{IsChain}
 use Rattle.fdb_history.specs.declared.chain.Issued.{Issued}
@@ -11,7 +11,7 @@ use Rattle.fdb_history.specs.declared.log.Call.{Call}
 use Rattle.fdb_history.specs.declared.log.ClientLog.{ClientLog}
 use Rattle.fdb_replay.specs.Outcome.{Fails, opening, run_fault}
 use Rattle.fdb_replay.specs.Rounds.{logs_of}
-use Rattle.fdb_script.specs.Answering.{Answers, AnswersRound}
+use Rattle.fdb_script.specs.Answering.{Answers, AnswersRound, added_calls, learnt_from}
 use Rattle.fdb_script.specs.Plan.{Plan}
 use Rattle.fdb_script.specs.declared.script.Command.{Command}
 
@@ -34,10 +34,20 @@ one_round_more rounds round commands before after last within here answered rest
     let left : drop round rounds ≡ commands ∷ drop (round + 1) rounds = drop_more rounds round commands within ∙ ap (λ first. first ∷ drop (round + 1) rounds) (sym here) in
     subst (λ left. FoldsTo AnswersRound (logs_of before) left last) (sym left) (logs_of after, answered, rest)
 
--- what is lent whole comes back whole
-pub lent_whole : (old new : List (List Call)) (len : ℕ) → len ≡ length old → length new ≡ length old → take len (new ++ drop (length new) old) ≡ new
-lent_whole old new len is same =
-    ap (λ left. take len (new ++ left)) (drop_all (length new) old (omega (arith, same))) ∙ ap (take len) (append-nil new) ∙ take_all len new (omega (arith, is, same))
+-- ---- as many clients as before
+
+learnt_length : (client : ℕ) (calls : List (List Call)) (logs : List ClientLog) → length (learnt_from client calls logs) ≡ length logs
+learnt_length client calls [] = refl
+learnt_length client calls (log ∷ logs) = ap suc (learnt_length (client + 1) calls logs)
+
+rounds_length : (before : List ClientLog) (rounds : List (List Command)) (after : List ClientLog) → FoldsTo AnswersRound before rounds after → length after ≡ length before
+rounds_length before [] after same = ap length (sym same)
+rounds_length before (commands ∷ rounds) after (between, answered, rest) =
+    rounds_length between rounds after rest ∙ ap length answered.learnt ∙ learnt_length 0 (added_calls before answered.performed) answered.performed ∙ answered.performs.same_clients
+
+-- the logs of a run are as many as the script's clients
+pub same_clients : (plan : Plan) (logs : List ClientLog) → Answers plan logs → length logs ≡ plan.clients
+same_clients plan logs answers = rounds_length (replicate plan.clients (record { calls = [] })) plan.rounds logs answers ∙ length-replicate plan.clients (record { calls = [] })
 
 -- ---- the audit
 

@@ -1,14 +1,19 @@
 -- A round of a run, as the calls of all clients. (private to this crate)
-use Rattle.std.specs.Prelude.{ℕ, ◌+◌, List, [], ◌∷◌, ◌++◌, length, drop, map}
+use Rattle.std.specs.Prelude.{◌≡◌, ℕ, ◌+◌, List, [], ◌∷◌, ◌++◌, length, drop, map}
 use Rattle.std.proofs.Common.{set, get_or}
 use Rattle.std.specs.List.{FoldsTo, flat_map}
 use Rattle.fdb_history.specs.declared.log.Call.{Call}
 use Rattle.fdb_history.specs.declared.log.ClientLog.{ClientLog}
 use Rattle.fdb_history.specs.declared.log.Input.{Input}
 use Rattle.fdb_history.specs.declared.log.Input.TheVariants as input
-use Rattle.fdb_replay.specs.declared.rounds.Told.{Told}
 use Rattle.fdb_script.specs.Answering.{AnswersCommand, commands_of, learns}
 use Rattle.fdb_script.specs.declared.script.Command.{Command}
+
+-- what a client told another: who is told, who tells, and the position that the teller had come to
+pub record Told : Type 0 where
+  pub to : ℕ
+  pub from : ℕ
+  pub position : ℕ
 
 -- the logs that have these calls
 abbrev pub logs_of : List (List Call) → List ClientLog
@@ -40,3 +45,8 @@ all_told from (calls ∷ before) (more ∷ after) = told_in from (drop (length c
 -- the calls of all clients, once what was told is learnt
 abbrev pub teach : List (List Call) → Told → List (List Call)
 teach calls told = set calls told.to (learns (get_or calls told.to []) (record { teller = told.from; position = told.position }))
+
+-- These clients, the first of whom has this number, have done what they were told in a round, and told this by it.
+pub record IsPlayed (first : ℕ) (commands : List Command) (before after : List (List Call)) (tales : List Told) : Type 0 where
+  pub performed : PerformsFrom first commands before after
+  pub told : tales ≡ all_told first before after

@@ -1,15 +1,19 @@
 //! A script of clients, replayed against the read-version service from the script's bytes to the printed lines.
 #![tactic(auto)]
 
-mod client;
+mod clients;
+mod desks;
 mod driving;
 mod fault;
-mod live;
+mod player;
 mod replaying;
 mod rounds;
 mod running;
-mod service;
+mod serving;
+mod tale;
+mod throttles;
 mod words;
+mod world;
 
 pub use driving::{Fault, MAX_SCRIPT_BYTES, drive};
 pub use fault::RunFault;

@@ -1,114 +1,240 @@
 //! A round of a run: each client does what it is told, and then they learn what they told one another.
 
-ghost use Rattle.std.specs.Prelude.{◌≡◌, ◌+◌, ◌++◌, ◌≤◌, OnOk, IfErr, length, drop, fold};
+ghost use Rattle.std.specs.Prelude.{◌≡◌, ◌+◌, ◌++◌, ◌≤◌, ◌<◌, [], ℕ, true, false, OnOk, IfOk, IfErr, length, drop, fold, get_or, map, slice_index_or, vec_len};
 ghost use Rattle.std.specs.List.{FoldsTo};
-ghost use Rattle.fdb_replay.specs.Rounds.{PerformsFrom, all_told, logs_of, teach, told_in};
-ghost use Rattle.fdb_replay.specs.Service.{SameEpoch};
+ghost use Rattle.std.specs.Thread.{IsSync, IsSend};
+ghost use Rattle.fdb_replay.specs.Rounds.{IsPlayed, PerformsFrom, all_told, logs_of, teach, told_in};
 ghost use Rattle.fdb_script.specs.Answering.{AnswersCommand, AnswersRound, commands_of};
 
-use crate::client::Client;
 use crate::fault::RunFault;
-use crate::service::Service;
-use fdb_history::{Call, Input, Sequence};
+use crate::player::Player;
+use crate::world::World;
+use crate::tale::Tale;
+use fdb_history::{Gate, Sequence};
+use fdb_live::Live;
 use fdb_script::Command;
 use std::alloc::Global;
+use std::sync::Wait;
+use std::thread::{Threads, join};
 
-/// What a client told another.
-#[derive(Clone, Copy)]
-pub(crate) struct Told {
-    /// Who is told.
-    pub(crate) to: u32,
-    /// Who tells.
-    pub(crate) from: u32,
-    /// The position up to which the teller had seen the register.
-    pub(crate) position: u64,
+/// The most clients of a run.
+const MAX_CLIENTS: usize = 64;
+
+/// One who does what it is told in a round.
+trait Acts<J: Live> {
+    ghost use Rattle.std.specs.Prelude.{List};
+    ghost use Rattle.fdb_history.specs.declared.log.Call.{Call};
+
+    // The calls that it has made.
+    ghost calls_made: { Self → List Call };
+
+    /// Does what it is told, as the client with this number. Answers what it told others.
+    fn act<R: Wait, G: Gate>(
+        &mut self,
+        rt: &R,
+        alloc: Global,
+        world: &World<'_, J, G>,
+        commands: &[Command],
+        number: u32,
+    ) -> Result<Vec<Tale<J>>, RunFault>
+        ensures ok { OnOk result (FoldsTo AnswersCommand (calls_made self.old) (commands_of number commands.now) (calls_made self.new)) }
+        ensures told { IfOk result (λ tales. tales.items ≡ told_in number (drop (length (calls_made self.old)) (calls_made self.new))) }
+        ensures err { IfErr result (λ fault. fault ≡ RunFault.Memory) };
+}
+
+impl<'a, J: Live> Acts<J> for Player<'a, J> {
+    ghost calls_made = { λ player. player };
+
+    fn act<R: Wait, G: Gate>(
+        &mut self,
+        rt: &R,
+        alloc: Global,
+        world: &World<'_, J, G>,
+        commands: &[Command],
+        number: u32,
+    ) -> Result<Vec<Tale<J>>, RunFault> {
+        play_client(rt, alloc, world, commands, number, self)
+    }
+}
+
+/// What is done in a round, and by whom.
+#[derive(Drop)]
+struct Round<'a> {
+    commands: &'a [Command],
+    /// Whether the client with this number is told anything.
+    acts: [bool; MAX_CLIENTS],
+    ghost idle: { (client : ℕ) → slice_index_or acts client true ≡ false → commands_of client commands.now ≡ [] },
+}
+
+impl<'a> Round<'a> {
+    /// The round of these commands.
+    fn new(commands: &'a [Command]) -> Self
+        ensures { result.commands.now ≡ commands.now }
+    {
+        Round {
+            commands,
+            acts: acts_in(commands),
+        }
+    }
+
+    /// Whether one of so many clients is told anything, the first of whom has this number.
+    fn acts_among(&self, first: u32, clients: usize) -> bool
+        requires { first + clients ≤ 64 }
+        ensures some { result ≡ true → 0 < clients }
+        ensures idle { result ≡ false → (k : ℕ) → k < clients → commands_of (first + k) self.now.commands.now ≡ [] }
+    {
+        let first = first as usize;
+        for number in first..first + clients {
+            if self.acts[number] {
+                return true;
+            }
+        }
+        false
+    }
+}
+
+/// Which clients are told anything by these commands.
+#[tactic(auto, using(crate::proofs::Acts::one_set, crate::proofs::Acts::none_set))]
+fn acts_in(commands: &[Command]) -> [bool; MAX_CLIENTS]
+    ensures { (client : ℕ) → slice_index_or result client true ≡ false → commands_of client commands.now ≡ [] }
+{
+    let mut acts = [false; MAX_CLIENTS];
+    for command in commands {
+        let number = command.client as usize;
+        if number < acts.len() {
+            acts[number] = true;
+        }
+    }
+    acts
 }
 
 /// Plays rounds, one after another.
-pub(crate) fn play_rounds(
+pub(crate) fn play_rounds<'a, J: Live + Send + Sync, R: Threads + Wait + Sync, G: Gate>(
+    rt: &R,
     alloc: Global,
-    service: &mut Service,
-    clients: &mut [Client],
+    world: &World<'_, J, G>,
+    mut clients: Vec<Player<'a, J>>,
     rounds: &[Sequence<Command>],
-) -> Result<(), RunFault>
-    requires few { length clients.old ≤ 64 }
-    ensures ok { OnOk result (FoldsTo AnswersRound (logs_of clients.old) rounds.now (logs_of clients.new)) }
-    ensures epoch { OnOk result (SameEpoch service.old.core service.new.core) }
+) -> Result<Vec<Player<'a, J>>, RunFault>
+    requires few { length clients.items ≤ 64 }
+    ensures ok { IfOk result (λ after. FoldsTo AnswersRound (logs_of clients.entry.items) rounds.now (logs_of after.items)) }
     ensures err { IfErr result (λ fault. fault ≡ RunFault.Memory) }
 {
     for commands in rounds {
-        play_round(alloc, service, clients, commands.as_slice())?;
+        clients = play_round(rt, alloc, world, clients, commands.as_slice())?;
     }
-    Ok(())
+    Ok(clients)
 }
 
 /// Plays a round. What was told in it is learnt at its end.
-fn play_round(
+fn play_round<'a, J: Live + Send + Sync, R: Threads + Wait + Sync, G: Gate>(
+    rt: &R,
     alloc: Global,
-    service: &mut Service,
-    clients: &mut [Client],
+    world: &World<'_, J, G>,
+    clients: Vec<Player<'a, J>>,
     commands: &[Command],
-) -> Result<(), RunFault>
-    requires few { length clients.old ≤ 64 }
-    ensures ok { OnOk result (AnswersRound (logs_of clients.old) commands.now (logs_of clients.new)) }
-    ensures epoch { OnOk result (SameEpoch service.old.core service.new.core) }
+) -> Result<Vec<Player<'a, J>>, RunFault>
+    requires few { length clients.items ≤ 64 }
+    ensures ok { IfOk result (λ after. AnswersRound (logs_of clients.entry.items) commands.now (logs_of after.items)) }
+    ensures few { IfOk result (λ after. length after.items ≡ length clients.entry.items) }
     ensures err { IfErr result (λ fault. fault ≡ RunFault.Memory) }
 {
-    let mut tales = Vec::new(alloc);
-    for number in 0..clients.len() {
-        let client = &mut clients[number];
-        let since = client.calls().len();
-        play_client(service, client, number as u32, commands)?;
-        add_told(&mut tales, number as u32, &client.calls()[since..])?;
+    let round = Round::new(commands);
+    let part = play_part(rt, alloc, world, &round, 0, clients)?;
+    let Part { mut clients, tales } = part;
+    learn_all(rt, &mut clients, tales)?;
+    Ok(clients)
+}
+
+/// Clients that have done what they were told in a round, and what they told others by that.
+#[derive(Drop)]
+struct Part<J: Live, P: Drop> {
+    clients: Vec<P>,
+    tales: Vec<Tale<J>>,
+}
+
+/// Has these clients, the first of whom has this number, do what they are told in a round, those who are told anything
+/// each in a thread of its own, the last of them in this one. Answers what they told, by client and then by command.
+#[cycle(parts)]
+#[tactic(auto, using(crate::proofs::Parts::one_acted))]
+fn play_part<J: Live + Send + Sync, P: Acts<J> + Send + Drop, R: Threads + Wait + Sync, G: Gate>(
+    rt: &R,
+    alloc: Global,
+    world: &World<'_, J, G>,
+    round: &Round<'_>,
+    first: u32,
+    mut clients: Vec<P>,
+) -> Result<Part<J, P>, RunFault>
+    requires few { first + vec_len clients ≤ 64 }
+    ensures ok { IfOk result (λ part. IsPlayed first round.now.commands.now (map P.calls_made clients.items) (map P.calls_made part.clients.items) part.tales.items) }
+    ensures err { IfErr result (λ fault. fault ≡ RunFault.Memory) }
+{
+    if !round.acts_among(first, clients.len()) {
+        return Ok(Part {
+            clients,
+            tales: Vec::new(alloc),
+        });
     }
-    learn_all(clients, &tales)
+    if clients.len() == 1 {
+        let tales = clients[0].act(rt, alloc, world, round.commands, first)?;
+        return Ok(Part { clients, tales });
+    }
+    let half = clients.len() / 2;
+    let next = first + half as u32;
+    let others = clients.split_off(half)?;
+    let front = move || -> Result<Part<J, P>, RunFault>
+        requires { IsSync R.row × IsSync J.row × IsSend J.row × IsSync G.row × IsSend P.row × (first + vec_len clients ≤ 64) }
+        ensures { IfOk result (λ part. IsPlayed first round.entry.now.commands.now (map P.calls_made clients.items) (map P.calls_made part.clients.items) part.tales.items) × IfErr result (λ fault. fault ≡ RunFault.Memory) }
+    { play_part(rt, alloc, world, round, first, clients) };
+    let back = move || -> Result<Part<J, P>, RunFault>
+        requires { IsSync R.row × IsSync J.row × IsSend J.row × IsSync G.row × IsSend P.row × (next + vec_len others ≤ 64) }
+        ensures { IfOk result (λ part. IsPlayed next round.entry.now.commands.now (map P.calls_made others.items) (map P.calls_made part.clients.items) part.tales.items) × IfErr result (λ fault. fault ≡ RunFault.Memory) }
+    { play_part(rt, alloc, world, round, next, others) };
+    let (theirs, ours) = join(rt, front, back);
+    let mut part = theirs?;
+    let mut rest = ours?;
+    part.clients.append(&mut rest.clients)?;
+    part.tales.append(&mut rest.tales)?;
+    Ok(part)
 }
 
 /// Has a client do what it is told in a round.
-fn play_client(
-    service: &mut Service,
-    client: &mut Client,
-    number: u32,
+#[tactic(auto, using(crate::proofs::Grown::not_grown))]
+fn play_client<J: Live, R: Wait, G: Gate>(
+    rt: &R,
+    alloc: Global,
+    world: &World<'_, J, G>,
     commands: &[Command],
-) -> Result<(), RunFault>
+    number: u32,
+    client: &mut Player<'_, J>,
+) -> Result<Vec<Tale<J>>, RunFault>
     ensures ok { OnOk result (FoldsTo AnswersCommand client.old (commands_of number commands.now) client.new) }
-    ensures epoch { OnOk result (SameEpoch service.old.core service.new.core) }
+    ensures told { IfOk result (λ tales. tales.items ≡ told_in number (drop (length client.old) client.new)) }
     ensures err { IfErr result (λ fault. fault ≡ RunFault.Memory) }
 {
+    let mut tales = Vec::new(alloc);
     for command in commands {
         if command.client == number {
-            client.perform(service, number, &command.act)?;
+            client.perform(rt, world, number, &command.act, &mut tales)?;
         }
     }
-    Ok(())
-}
-
-/// Adds what a client told others in some calls.
-fn add_told(tales: &mut Vec<Told>, from: u32, calls: &[Call]) -> Result<(), RunFault>
-    ensures ok { OnOk result (tales.new.items ≡ tales.old.items ++ told_in from calls.now) }
-    ensures err { IfErr result (λ fault. fault ≡ RunFault.Memory) }
-{
-    for call in calls {
-        if let Input::Tell { to } = call.input {
-            tales.push(Told {
-                to,
-                from,
-                position: call.position,
-            })?;
-        }
-    }
-    Ok(())
+    Ok(tales)
 }
 
 /// Has each client learn what it was told.
-fn learn_all(clients: &mut [Client], tales: &[Told]) -> Result<(), RunFault>
-    ensures ok { OnOk result (clients.new ≡ fold teach clients.old tales.now) }
+fn learn_all<J: Live, R: Wait>(
+    rt: &R,
+    clients: &mut Vec<Player<'_, J>>,
+    tales: Vec<Tale<J>>,
+) -> Result<(), RunFault>
+    ensures ok { OnOk result (clients.new.items ≡ fold teach clients.old.items tales.items) }
+    ensures len { OnOk result (length clients.new.items ≡ length clients.old.items) }
     ensures err { IfErr result (λ fault. fault ≡ RunFault.Memory) }
 {
-    for told in tales {
-        let to = told.to as usize;
+    for tale in tales {
+        let to = tale.to as usize;
         if to < clients.len() {
-            clients[to].learn(told.from, told.position)?;
+            clients[to].learn(rt, tale)?;
         }
     }
     Ok(())

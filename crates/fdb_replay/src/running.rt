@@ -1,33 +1,33 @@
 //! A run of a script.
 
-ghost use Rattle.std.specs.Prelude.{◌≡◌, ◌<◌, ◌≤◌, length, map, replicate, [], OnOk, IfOk, IfErr, Ok};
-ghost use Rattle.fdb_chain.specs.ChainCore.{new_chain};
+ghost use Rattle.std.specs.Prelude.{◌≡◌, ◌<◌, ◌≤◌, ℕ, [], length, IfOk, IfErr, Some, slice_get, vec_len};
 ghost use Rattle.fdb_history.specs.Chain.{IsChain};
-ghost use Rattle.fdb_replay.specs.Outcome.{IsRunOf, Fails};
-ghost use Rattle.fdb_replay.specs.Rounds.{logs_of};
-ghost use Rattle.fdb_replay.specs.Service.{SameEpoch};
+ghost use Rattle.fdb_replay.specs.Outcome.{IsRunOf, Fails, opening};
 ghost use Rattle.fdb_script.specs.Answering.{Answers};
-ghost use Rattle.fdb_script.specs.Plan.{Plan};
+ghost use Rattle.fdb_script.specs.Plan.{IsPlan, Plan};
 
-use crate::client::Client;
+use crate::clients::Clients;
+use crate::desks::Desks;
 use crate::fault::RunFault;
-use crate::live::opening;
-use crate::rounds::play_rounds;
-use crate::service::Service;
-use fdb_history::{ClientLog, Gate, Issued, audit};
+use crate::serving::{proxies_of, served};
+use crate::world::World;
+use fdb_chain::{ChainCore, ChainError, Sequencer};
+use fdb_history::{ClientLog, Gate, Issued, Record, audit};
+use fdb_live::{Live, LiveError, LiveRecord, Opened, Seen};
 use fdb_script::{Outcome, Script};
-use std::alloc::{AllocError, Global};
+use std::alloc::Global;
+use std::marker::Brand;
 use std::sync::Wait;
 use std::thread::Threads;
 
 /// Plays a script, audits what it leaves, and answers it: the logs of its clients, the chain of commit versions, and
-/// a history that explains them, in the fixed order. It plays the rounds in order, in a round the clients by number, and
-/// the commands of each in order; what was told in a round is learnt at its end.
+/// a history that explains them, in the fixed order. It plays the rounds in order. In a round each client that is told to do
+/// something does it in a thread of its own, its commands in order; what was told in a round is learnt at its end.
 ///
-/// All is served in the calling thread, so that the runtime, the number of GRV proxies, which is 1 to 16, and the gate
-/// are not used yet; a read is answered at once, whatever its priority and count are.
+/// There are 1 to 16 GRV proxies, each in a thread of its own for the whole run. A client's reads go to them in turn.
+/// The gate is passed where the sequencer's lock is held, where that of the reports is, and where an answer to a read has come.
 ///
-/// It fails for want of memory, or with the fault that the audit finds.
+/// It fails for want of memory, that for a thread included, or with the fault that the audit finds.
 pub fn run<R: Threads + Wait + Sync, G: Gate>(
     rt: &R,
     alloc: Global,
@@ -40,58 +40,116 @@ pub fn run<R: Threads + Wait + Sync, G: Gate>(
     ensures ok { IfOk result (IsRunOf script.now) }
     ensures err { IfErr result (Fails script.now) }
 {
-    // Everybody is served here and now.
-    let _ = rt;
-    let _ = proxies;
-    let _ = gate;
-    let service = Service::new(alloc, script)?;
-    served(alloc, service, script)
+    // The plan of a script is within its limits.
+    let _ = script.epoch_end();
+    let start = opening(script.recovery());
+    match LiveRecord::<Brand>::open(rt, alloc, start, script.clients()) {
+        Ok(opened) => run_named::<Brand, R, G>(rt, alloc, opened, script, proxies, gate),
+        Err(LiveError::Memory) => Err(RunFault::Memory),
+        Err(LiveError::TooLarge) => unreachable!(),
+    }
 }
 
-/// The outcome of a script that a service serves which nobody has called yet.
-fn served(alloc: Global, mut service: Service, script: &Script) -> Result<Outcome, RunFault>
-    requires opened { service.core ≡ new_chain script.now.epoch_end script.now.recovery script.now.clients }
-    requires few { script.now.clients ≤ 64 }
+/// What serves a run, before any call.
+#[derive(Drop)]
+struct Service<J: Live> {
+    live: LiveRecord<J>,
+    sequencer: Sequencer<J>,
+    desks: Desks<J>,
+}
+
+/// Plays a script under a name that stands for its service, and audits what it leaves.
+fn run_named<J: Live + Send + Sync, R: Threads + Wait + Sync, G: Gate>(
+    rt: &R,
+    alloc: Global,
+    opened: Opened,
+    script: &Script,
+    proxies: u32,
+    gate: &G,
+) -> Result<Outcome, RunFault>
+    requires plan { IsPlan script.now }
+    requires opened { opened ≡ record { table = J.table; start = J.start; reporters = J.reporters } }
+    requires clients { J.reporters ≡ script.now.clients }
+    requires epoch_end { J.epoch_end ≡ script.now.epoch_end }
+    requires recovery { J.recovery ≡ script.now.recovery }
+    requires some_proxy { 0 < proxies }
+    requires few_proxies { proxies ≤ 16 }
     ensures ok { IfOk result (IsRunOf script.now) }
     ensures err { IfErr result (Fails script.now) }
 {
-    let logs = played(alloc, &mut service, script)?;
-    audited(alloc, script, service.into_chain(), logs)
+    let Ok((live, first, tokens)) = opened.parts::<J>() else {
+        return Err(RunFault::Memory);
+    };
+    let service = Service {
+        live,
+        sequencer: sequencer_of(alloc, script)?,
+        desks: Desks::new(alloc, proxies)?,
+    };
+    let logs = logs_at(rt, alloc, &service, gate, script, first, tokens)?;
+    let Service {
+        live: _,
+        sequencer,
+        desks: _,
+    } = service;
+    audited(alloc, script, sequencer.close().into_answers(), logs)
 }
 
-/// The logs of a script's clients, once a service has served all its rounds.
-fn played(alloc: Global, service: &mut Service, script: &Script) -> Result<Vec<ClientLog>, RunFault>
-    requires { script.now.clients ≤ 64 }
-    ensures few { IfOk result (λ logs. length logs.items ≤ 64) }
+/// The logs of a script's clients, once all its rounds are played at a service that nobody has called yet.
+fn logs_at<'a, J: Live + Send + Sync, R: Threads + Wait + Sync, G: Gate>(
+    rt: &R,
+    alloc: Global,
+    service: &'a Service<J>,
+    gate: &'a G,
+    script: &Script,
+    mut first: Seen<J>,
+    tokens: Vec<Seen<J>>,
+) -> Result<Vec<ClientLog>, RunFault>
+    requires plan { IsPlan script.now }
+    requires count { vec_len tokens ≡ script.now.clients }
+    requires numbered { (k : ℕ) → k < vec_len tokens → slice_get tokens.items k ≡ Some (record { reporter = Some k; raises = [] }) }
     ensures answers { IfOk result (λ logs. Answers script.now logs.items) }
-    ensures epoch { OnOk result (SameEpoch service.old.core service.new.core) }
+    ensures few { IfOk result (λ logs. length logs.items ≤ 64) }
     ensures err { IfErr result (λ fault. fault ≡ RunFault.Memory) }
 {
-    let mut clients = new_clients(alloc, script.clients())?;
-    play_rounds(alloc, service, &mut clients, script.rounds())?;
-    Ok(logs_of(alloc, clients)?)
+    let Service {
+        live,
+        sequencer,
+        desks,
+    } = service;
+    let proxies = proxies_of(alloc, live, desks, script, &mut first)?;
+    let clients = Clients::new(alloc, live, tokens)?;
+    let world = World {
+        live,
+        sequencer,
+        desks,
+        gate,
+    };
+    served(rt, alloc, &world, proxies, clients, script.rounds())
 }
 
-/// So many clients that have called nobody yet.
-fn new_clients(alloc: Global, clients: u32) -> Result<Vec<Client>, AllocError>
-    ensures { IfOk result (λ all. all.items ≡ replicate clients []) }
+/// A sequencer of which nobody has asked anything yet. There is a commit proxy for each client.
+fn sequencer_of<J: Live>(alloc: Global, script: &Script) -> Result<Sequencer<J>, RunFault>
+    requires epoch_end { J.epoch_end ≡ script.now.epoch_end }
+    requires recovery { J.recovery ≡ script.now.recovery }
+    ensures { IfErr result (λ fault. fault ≡ RunFault.Memory) }
 {
-    let mut all = Vec::new(alloc);
-    for _ in 0..clients {
-        all.push(Client::new(alloc))?;
+    let (epoch_end, recovery) = (script.epoch_end(), script.recovery());
+    match ChainCore::new(alloc, epoch_end, recovery, script.clients()) {
+        Ok(core) => Ok(Sequencer::new(core)),
+        Err(ChainError::Memory) => Err(RunFault::Memory),
+        Err(_) => unreachable!(),
     }
-    Ok(all)
 }
 
-/// The logs of all clients.
-fn logs_of(alloc: Global, clients: Vec<Client>) -> Result<Vec<ClientLog>, AllocError>
-    ensures { IfOk result (λ logs. logs.items ≡ logs_of clients.items) }
+/// The record before any report.
+fn opening(recovery: u64) -> Record
+    ensures { result ≡ opening recovery }
 {
-    let mut logs = Vec::new(alloc);
-    for client in clients {
-        logs.push(client.into_log())?;
+    Record {
+        version: recovery,
+        locked: false,
+        metadata: None,
     }
-    Ok(logs)
 }
 
 /// The outcome, with the history that the audit finds.

@@ -1,7 +1,10 @@
-use Rattle.std.proofs.Common.{◌≡◌, drop, fold}
+use Rattle.std.proofs.Common.{◌≡◌, fold, length}
 use Rattle.fdb_replay.specs.Rounds.{teach}
 use Rattle.fdb_replay.proofs.rounds.learn_all.Given as goal
 
--- once what is left is learnt, all is
-abbrev pub invariant-loop-told : goal.invariant-loop-told
-invariant-loop-told l = fold teach l.clients (drop l.told-index l.tales) ≡ fold teach l.fn.clients l.tales
+-- what was yielded is learnt
+abbrev pub invariant-loop-tale : goal.invariant-loop-tale
+invariant-loop-tale g l = record {
+  learnt : l.clients.items ≡ fold teach l.fn.clients.items l.yielded;
+  same : length l.clients.items ≡ length l.fn.clients.items;
+}

@@ -1,23 +1,21 @@
 use Rattle.std.proofs.Common.{◌<◌, length, subst, ◌∙◌, arith}
 use Rattle.fdb_replay.specs.Rounds.{logs_of}
 use Rattle.fdb_script.specs.Answering.{AnswersRound}
-use Rattle.fdb_replay.proofs.Epochs.{epoch_then}
 use Rattle.fdb_replay.proofs.Runs.{one_round_more}
 use Rattle.fdb_replay.proofs.rounds.play_rounds.Goals as goal
 
 pub loop-commands-preserved : goal.loop-commands-preserved
-loop-commands-preserved c =
+loop-commands-preserved g c =
     let so_far = c.loop-commands.invariant in
     let place = c.loop-commands.commands-index in
     let commands = c.commands-item.result in
     let rounds = c.args.rounds.now in
-    let before = c.loop-commands.clients in
-    let after = c.play_round.new.clients in
+    let before = c.loop-commands.clients.items in
+    let after = c.in_ok-play_round.clients.items in
     let within : place < length rounds = omega (arith, c.loop-commands-test.true, c.loop-commands.auto.commands-index-end) in
     let answered : AnswersRound (logs_of before) commands (logs_of after) =
     subst (λ own. AnswersRound (logs_of before) own (logs_of after)) c.as_slice.ensures c.in_ok-play_round.ensures.ok in
     record {
-      epoch = epoch_then c.args.service.now.core c.loop-commands.service.core c.play_round.new.service.core so_far.epoch c.in_ok-play_round.ensures.epoch;
-      same_clients = c.play_round.auto.clients ∙ so_far.same_clients;
+      same_clients = c.in_ok-play_round.ensures.few ∙ so_far.same_clients;
       forwards = λ last rest. so_far.forwards last (one_round_more rounds place commands before after (logs_of last) within c.commands-item.is answered rest);
     }

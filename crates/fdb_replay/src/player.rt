@@ -1,0 +1,185 @@
+//! A client of a run.
+
+ghost use Rattle.std.specs.Prelude.{◌≡◌, ◌≢◌, ◌+◌, ◌++◌, ◌∷◌, [], Err, Some, OnOk, IfOk, IfErr, drop, length};
+ghost use Rattle.fdb_history.specs.Added.{AddsCall};
+ghost use Rattle.fdb_history.specs.Log.{fresh_answers};
+ghost use Rattle.fdb_history.specs.declared.log.Input.TheVariants as input;
+ghost use Rattle.fdb_replay.specs.Rounds.{told_by, told_in};
+ghost use Rattle.fdb_script.specs.Answering.{input_of, learns};
+
+use crate::fault::RunFault;
+use crate::tale::Tale;
+use crate::world::World;
+use fdb_client::{Client, ClientError};
+use fdb_history::{ClientLog, Gate, GrvOpts};
+use fdb_live::{Live, LiveRecord, Seen};
+use fdb_script::Act;
+use std::alloc::Global;
+use std::marker::Model;
+use std::sync::Wait;
+
+/// A client of a run, and how many reads it has made.
+///
+/// Contracts see it as the calls of its log.
+#[derive(Drop)]
+pub(crate) struct Player<'a, J: Live> {
+    client: Client<'a, J>,
+    reads: u64,
+}
+
+impl<'a, J: Live> Model for Player<'a, J> {
+    ghost use Rattle.std.specs.Prelude.{◌≡◌, List};
+    ghost use Rattle.fdb_history.specs.declared.log.Call.{Call};
+
+    ghost Value = { List Call };
+
+    ghost view = { λ player. player.client.calls };
+
+    ghost invariant = { λ player. player.client.begun ≡ 0 };
+}
+
+impl<'a, J: Live> Player<'a, J> {
+    /// A client that has called nobody yet.
+    pub(crate) fn new(alloc: Global, number: u32, live: &'a LiveRecord<J>, seen: Seen<J>) -> Self
+        requires { seen ≡ record { reporter = Some number; raises = [] } }
+        ensures { result ≡ [] }
+    {
+        Player {
+            client: Client::new(alloc, number, live, seen),
+            reads: 0,
+        }
+    }
+
+    /// Its log.
+    pub(crate) fn into_log(self) -> ClientLog
+        ensures { result ≡ record { calls = self.entry } }
+    {
+        let Player { client, reads: _ } = self;
+        client.finish().0
+    }
+
+    /// Does what it is told, as the client with this number. What it tells another by that is added to the tales.
+    /// A call that is refused is done, too.
+    pub(crate) fn perform<R: Wait, G: Gate>(
+        &mut self,
+        rt: &R,
+        world: &World<'_, J, G>,
+        number: u32,
+        act: &Act,
+        tales: &mut Vec<Tale<J>>,
+    ) -> Result<(), RunFault>
+        ensures ok { OnOk result (AddsCall self.old (input_of self.old act.now) self.new) }
+        ensures told { OnOk result (tales.new.items ≡ tales.old.items ++ told_in number (drop (length self.old) self.new)) }
+        ensures err { IfErr result (λ fault. fault ≡ RunFault.Memory) }
+    {
+        match act {
+            Act::Grv(opts) => self.read(rt, world, number, opts),
+            Act::Ask { processed, at } => self.ask(rt, world, *processed, *at),
+            Act::Reask { num, processed, at } => self.reask(rt, world, *num, *processed, *at),
+            Act::Report {
+                num,
+                locked,
+                metadata,
+            } => self.report(rt, world, *num, *locked, *metadata),
+            Act::Tell { to } => self.tell(number, *to, tales),
+        }
+    }
+
+    /// Reads the read version, at the desk of its next read.
+    fn read<R: Wait, G: Gate>(
+        &mut self,
+        rt: &R,
+        world: &World<'_, J, G>,
+        number: u32,
+        opts: &GrvOpts,
+    ) -> Result<(), RunFault>
+        ensures ok { OnOk result (AddsCall self.old (input.Grv opts.now) self.new) }
+        ensures err { IfErr result (λ fault. fault ≡ RunFault.Memory) }
+    {
+        let opts = opts.clone()?;
+        let desk = world.desks.route(number, self.reads);
+        self.reads = self.reads.wrapping_add(1);
+        settled(self.client.read_version(rt, world.gate, desk, opts))
+    }
+
+    /// Asks for the next commit version.
+    fn ask<R: Wait, G: Gate>(
+        &mut self,
+        rt: &R,
+        world: &World<'_, J, G>,
+        processed: u64,
+        at: u64,
+    ) -> Result<(), RunFault>
+        ensures ok { OnOk result (AddsCall self.old (input.Ask (length (fresh_answers self.old) + 1) processed at) self.new) }
+        ensures err { IfErr result (λ fault. fault ≡ RunFault.Memory) }
+    {
+        settled(self.client.ask(rt, world.gate, world.sequencer, processed, at))
+    }
+
+    /// Asks for the commit version under a number.
+    fn reask<R: Wait, G: Gate>(
+        &mut self,
+        rt: &R,
+        world: &World<'_, J, G>,
+        num: u64,
+        processed: u64,
+        at: u64,
+    ) -> Result<(), RunFault>
+        ensures ok { OnOk result (AddsCall self.old (input.Ask num processed at) self.new) }
+        ensures err { IfErr result (λ fault. fault ≡ RunFault.Memory) }
+    {
+        settled(self.client.reask(rt, world.gate, world.sequencer, num, processed, at))
+    }
+
+    /// Reports the commit version under a number.
+    fn report<R: Wait, G: Gate>(
+        &mut self,
+        rt: &R,
+        world: &World<'_, J, G>,
+        num: u64,
+        locked: bool,
+        metadata: Option<u64>,
+    ) -> Result<(), RunFault>
+        ensures ok { OnOk result (AddsCall self.old (input.Report num locked metadata) self.new) }
+        ensures err { IfErr result (λ fault. fault ≡ RunFault.Memory) }
+    {
+        settled(self.client.report(rt, world.gate, num, locked, metadata))
+    }
+
+    /// Tells another what it has seen.
+    fn tell(&mut self, number: u32, to: u32, tales: &mut Vec<Tale<J>>) -> Result<(), RunFault>
+        ensures ok { OnOk result (AddsCall self.old (input.Tell to) self.new) }
+        ensures told { OnOk result (tales.new.items ≡ tales.old.items ++ told_in number (drop (length self.old) self.new)) }
+        ensures err { IfErr result (λ fault. fault ≡ RunFault.Memory) }
+    {
+        let Ok(seen) = self.client.tell(to) else {
+            return Err(RunFault::Memory);
+        };
+        tales.push(Tale::new(number, to, seen))?;
+        Ok(())
+    }
+
+    /// Learns what it was told.
+    pub(crate) fn learn<R: Wait>(&mut self, rt: &R, tale: Tale<J>) -> Result<(), RunFault>
+        ensures ok { OnOk result (self.new ≡ learns self.old (record { teller = tale.from; position = tale.position })) }
+        ensures err { IfErr result (λ fault. fault ≡ RunFault.Memory) }
+    {
+        let Tale { to: _, from, seen } = tale;
+        match self.client.learn(rt, from, seen) {
+            Ok(()) => Ok(()),
+            Err(_) => Err(RunFault::Memory),
+        }
+    }
+}
+
+/// What an answer leaves to be done: nothing, but where memory was refused, which is also why a proxy closes its desk
+/// while rounds are played.
+fn settled<T: Drop>(answer: Result<T, ClientError>) -> Result<(), RunFault>
+    ensures ok { OnOk result (answer ≢ Err ClientError.Memory) }
+    ensures err { IfErr result (λ fault. fault ≡ RunFault.Memory) }
+{
+    match answer {
+        Err(ClientError::Memory | ClientError::ProxyClosed) => Err(RunFault::Memory),
+        _ => Ok(()),
+    }
+}

@@ -1,0 +1,120 @@
+//! The GRV proxies of a run, which serve while its rounds are played.
+
+ghost use Rattle.std.specs.Prelude.{◌≡◌, ◌≤◌, IfOk, IfErr, OnOk, length, vec_len};
+ghost use Rattle.std.specs.List.{FoldsTo};
+ghost use Rattle.fdb_replay.specs.Rounds.{logs_of};
+ghost use Rattle.fdb_script.specs.Answering.{AnswersRound};
+ghost use Rattle.fdb_script.specs.Plan.{IsPlan};
+
+use crate::clients::Clients;
+use crate::desks::Desks;
+use crate::fault::RunFault;
+use crate::throttles::throttled_queue;
+use crate::world::World;
+use fdb_history::{ClientLog, Gate, Sequence};
+use fdb_live::{Live, LiveRecord, Seen};
+use fdb_proxy::GrvProxy;
+use fdb_script::{Command, Script};
+use std::alloc::Global;
+use std::sync::Wait;
+use std::thread;
+use std::thread::{JoinHandle, Scope, Threads};
+
+/// A GRV proxy for each desk, in order: each with a queue of its own, made with what the script says, and with a token that
+/// is split off the first one.
+///
+/// It is refused for want of memory alone.
+pub(crate) fn proxies_of<'a, J: Live>(
+    alloc: Global,
+    live: &'a LiveRecord<J>,
+    desks: &'a Desks<J>,
+    script: &Script,
+    first: &mut Seen<J>,
+) -> Result<Vec<GrvProxy<'a, J>>, RunFault>
+    requires { IsPlan script.now }
+    ensures each { IfOk result (λ proxies. vec_len proxies ≡ vec_len desks.now.desks) }
+    ensures err { IfErr result (λ fault. fault ≡ RunFault.Memory) }
+{
+    let mut proxies = Vec::new(alloc);
+    for desk in desks.as_slice() {
+        let queue = throttled_queue(alloc, script.config(), script.throttles())?;
+        let seen = live.split(first);
+        let proxy = GrvProxy::new(alloc, live, desk, queue, script.elapsed(), seen);
+        proxies.push(proxy)?;
+    }
+    Ok(proxies)
+}
+
+/// The logs of the clients, once all rounds are played. Meanwhile each proxy serves its desk in a thread of its own;
+/// however the rounds end, the desks are then closed, and the proxies joined.
+///
+/// It is refused for want of memory alone: where a proxy cannot be started, which leaves all rounds unplayed, or where a
+/// client or a proxy met it.
+pub(crate) fn served<J: Live + Send + Sync, R: Threads + Wait + Sync, G: Gate>(
+    rt: &R,
+    alloc: Global,
+    world: &World<'_, J, G>,
+    proxies: Vec<GrvProxy<'_, J>>,
+    clients: Clients<'_, J>,
+    rounds: &[Sequence<Command>],
+) -> Result<Vec<ClientLog>, RunFault>
+    requires few { length clients ≤ 64 }
+    ensures ok { IfOk result (λ logs. FoldsTo AnswersRound (logs_of clients.entry) rounds.now logs.items) }
+    ensures err { IfErr result (λ fault. fault ≡ RunFault.Memory) }
+{
+    thread::scope(
+        thread::scope_env(),
+        rt,
+        move |scope| -> Result<Vec<ClientLog>, RunFault>
+            requires { length clients ≤ 64 }
+            ensures ok { IfOk result (λ logs. FoldsTo AnswersRound (logs_of clients.entry) rounds.entry.now logs.items) }
+            ensures err { IfErr result (λ fault. fault ≡ RunFault.Memory) }
+        {
+            let mut threads = Vec::new(alloc);
+            let mut all_started = true;
+            for proxy in proxies {
+                match scope.spawn(move || proxy.run(rt).is_ok()) {
+                    Ok(thread) => all_started &= threads.push(thread).is_ok(),
+                    Err(_) => all_started = false,
+                }
+            }
+            let played = if all_started {
+                played(rt, alloc, world, clients, rounds)
+            } else {
+                Err(RunFault::Memory)
+            };
+            world.desks.close(rt);
+            let all_served = join_all(rt, threads);
+            if all_served {
+                played
+            } else {
+                Err(RunFault::Memory)
+            }
+        },
+    )
+}
+
+/// Joins all proxies, and answers whether each served until its desk was closed.
+fn join_all<R: Threads>(rt: &R, threads: Vec<JoinHandle<bool>>) -> bool {
+    let mut all_served = true;
+    for thread in threads {
+        all_served &= thread.join(rt);
+    }
+    all_served
+}
+
+/// The logs of the clients, once all rounds are played.
+fn played<J: Live + Send + Sync, R: Threads + Wait + Sync, G: Gate>(
+    rt: &R,
+    alloc: Global,
+    world: &World<'_, J, G>,
+    mut clients: Clients<'_, J>,
+    rounds: &[Sequence<Command>],
+) -> Result<Vec<ClientLog>, RunFault>
+    requires few { length clients ≤ 64 }
+    ensures ok { IfOk result (λ logs. FoldsTo AnswersRound (logs_of clients.entry) rounds.now logs.items) }
+    ensures err { IfErr result (λ fault. fault ≡ RunFault.Memory) }
+{
+    clients.play(rt, alloc, world, rounds)?;
+    Ok(clients.into_logs(alloc)?)
+}

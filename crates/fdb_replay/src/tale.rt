@@ -1,0 +1,40 @@
+//! What a client of a run told another.
+
+ghost use Rattle.std.specs.Prelude.{◌≡◌, None, length};
+
+use fdb_live::{Live, Seen};
+use std::marker::Model;
+
+/// What a client told another: what it had seen of the live record.
+///
+/// Contracts see it as who is told, who tells, and the position that the teller had come to.
+#[derive(Drop)]
+pub(crate) struct Tale<J: Live> {
+    /// Who is told.
+    pub(crate) to: u32,
+    /// Who tells.
+    pub(crate) from: u32,
+    /// What the teller had seen, as a token with no number.
+    pub(crate) seen: Seen<J>,
+}
+
+impl<J: Live> Model for Tale<J> {
+    ghost use Rattle.std.specs.Prelude.{◌≡◌, None, length};
+    ghost use Rattle.fdb_replay.specs.Rounds.{Told};
+
+    ghost Value = { Told };
+
+    ghost view = { λ tale. record { to = tale.to; from = tale.from; position = length tale.seen.raises } };
+
+    ghost invariant = { λ tale. tale.seen.reporter ≡ None };
+}
+
+impl<J: Live> Tale<J> {
+    /// One client told another what it had seen.
+    pub(crate) fn new(from: u32, to: u32, seen: Seen<J>) -> Self
+        requires { seen.reporter ≡ None }
+        ensures { result ≡ record { to = to; from = from; position = length seen.raises } }
+    {
+        Tale { to, from, seen }
+    }
+}
