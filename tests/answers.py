@@ -5,7 +5,7 @@ import random
 import drawn
 from harness import ASK, EXAMPLES, GRV, Ran, command, done, fault_of, first_output, members, read, round_of, run, script, written
 from judge import Lawful, is_determined
-from model import THREADED, expected
+from model import expected
 from reader import script_of
 
 SMALL, SPOILT, LARGE_SECONDS = 300, 300, 5
@@ -57,7 +57,7 @@ ONE_READ = replies("0 0 0 grv 100 unlocked none pos 0", events=1)
 ONE_ASK = replies("0 0 0 ask prev 0 version 100 ordinal 0 fresh", versions=1)
 ONE_REASK = replies("0 0 0 reask prev 0 version 100 ordinal 0 fresh", versions=1)
 TOP_READ = replies("0 0 0 grv 9223372036854775807 unlocked none pos 0", events=1)
-BAD_COUNT = replies("0 0 0 grv refused BadCount") if THREADED else ONE_READ
+BAD_COUNT = replies("0 0 0 grv refused BadCount")
 NOT_ISSUED = replies("0 0 0 report refused NotIssued")
 EARLY = replies("0 0 0 reask refused Early 1")
 

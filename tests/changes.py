@@ -27,7 +27,7 @@ class Text:
 
     def explained(self, replies):
         """Returns the text of these replies with the audit and the history that such replies have."""
-        run, calls, number = Run(self.script, True), Counter(), 0
+        run, calls, number = Run(self.script), Counter(), 0
         records = self.records(replies)
         for (at, _, it), said in zip(self.calls, replies):
             if at != number:
@@ -158,7 +158,7 @@ def stale_after_own(text, index, said):
 
 def crowds(text):
     """Returns the reads that are not refused for themselves: for each place among the replies, the round and the proxy."""
-    reads, found, run = Counter(), {}, Run(text.script, True)
+    reads, found, run = Counter(), {}, Run(text.script)
     for at, (number, _, it) in enumerate(text.calls):
         if it.do == "grv":
             if run.turned_away(it) is None:

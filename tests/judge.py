@@ -18,7 +18,7 @@ from collections import Counter, defaultdict, deque
 from typing import NamedTuple
 
 from harness import DONE, Ran, fault_of, refused, without_history
-from model import FULL, LAST_VERSION, THREADED, Run, in_order, line_of, printed
+from model import FULL, LAST_VERSION, Run, in_order, line_of, printed
 from reader import Refused, script_of
 
 POSITION = re.compile(r"(?:\d+ (not )?raised|refused Locked \d+|\d+ (?:un)?locked \w+) pos (\d{1,20})(?= |$)")
@@ -56,8 +56,8 @@ def stood(it, said):
 class Judge:
     """Looks for an order of the calls in which a run answers them as a text says."""
 
-    def __init__(self, script, proxies, threaded):
-        self.run, self.script, self.proxies = Run(script, threaded), script, proxies
+    def __init__(self, script, proxies):
+        self.run, self.script, self.proxies = Run(script), script, proxies
         self.reads = Counter()
 
     def judged(self, lines, history):
@@ -124,7 +124,7 @@ class Judge:
     def make(self, call):
         """Makes a call, whose answer has to be what its line says."""
         it, run = call.it, self.run
-        may_be_full = call.when == "full" and run.threaded and run.turned_away(it) is None
+        may_be_full = call.when == "full" and run.turned_away(it) is None
         due = line_of(self.number, call.place, it, run.found_full(it) if may_be_full else run.called(it))
         if call.line != due:
             raise Unlawful(f"{call.line!r} in place of {due!r}")
@@ -257,13 +257,13 @@ def too_often(script, here, full):
     return None
 
 
-def fault_of_text(script, proxies, out, history=True, threaded=THREADED):
+def fault_of_text(script, proxies, out, history=True):
     """Returns why no schedule gives this text of a script with this number of proxies, or None."""
     try:
         text = out.decode("ascii")
         if not text.endswith("\n"):
             return "it does not end with a line end"
-        Judge(script, proxies, threaded).judged(text[:-1].split("\n"), history)
+        Judge(script, proxies).judged(text[:-1].split("\n"), history)
     except UnicodeDecodeError:
         return "it is no ASCII"
     except Unlawful as why:
@@ -294,15 +294,15 @@ def is_determined(script, proxies):
 class Lawful:
     """What may be printed for a script: where it is refused or nobody races, that is one text."""
 
-    def __init__(self, given, proxies=1, threaded=THREADED):
-        self.proxies, self.threaded, self.refusal = proxies, threaded, None
+    def __init__(self, given, proxies=1):
+        self.proxies, self.refusal = proxies, None
         try:
             self.script = script_of(given)
         except Refused as why:
             self.refusal = refused(str(why))
             return
         self.is_alone = is_determined(self.script, proxies)
-        self.text = printed(self.script, True, threaded) if self.is_alone or not threaded else None
+        self.text = printed(self.script, True) if self.is_alone else None
 
     def fault_of(self, ran, history=True):
         """Returns how a run differs from what is lawful, or None."""
@@ -310,4 +310,4 @@ class Lawful:
             return fault_of(ran, self.refusal)
         wanted = self.text if history or self.text is None else without_history(self.text)
         fault = fault_of(ran, Ran(DONE, wanted, b""))
-        return fault or (None if self.is_alone else fault_of_text(self.script, self.proxies, ran.out, history, self.threaded))
+        return fault or (None if self.is_alone else fault_of_text(self.script, self.proxies, ran.out, history))

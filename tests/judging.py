@@ -33,7 +33,7 @@ def drawn_script(seed):
 def schedule_text(seed, service=Run, schedule=Schedule):
     """Returns what a schedule of these dice gives where calls come to this service."""
     script = drawn_script(seed)
-    return schedule(script, proxies_of(seed), random.Random(f"schedule {seed}"), service(script, threaded=True)).text()
+    return schedule(script, proxies_of(seed), random.Random(f"schedule {seed}"), service(script)).text()
 
 
 @lru_cache(maxsize=None)
@@ -42,13 +42,13 @@ def right_text(seed):
 
 
 def judged(seed, text):
-    return fault_of_text(drawn_script(seed), proxies_of(seed), text, threaded=True)
+    return fault_of_text(drawn_script(seed), proxies_of(seed), text)
 
 
 def lawful_texts(_program):
     """What the plainest run says is lawful, and so is what each drawn schedule gives, which is the same where nobody races."""
     for seed in range(DRAWN):
-        serial, text = printed(drawn_script(seed), True, True), right_text(seed)
+        serial, text = printed(drawn_script(seed), True), right_text(seed)
         yield f"the plainest run of seed {seed}", judged(seed, serial)
         yield f"a schedule of seed {seed}", judged(seed, text)
         if is_determined(drawn_script(seed), proxies_of(seed)):
@@ -62,7 +62,7 @@ def worked_texts(_program):
         audit = "audit ok events {} raised {} versions {}".format(*counts.split())
         calls = [(number, place, it) for number, commands in enumerate(script.rounds) for place, it in in_order(commands)]
         lines = [line_of(number, place, it, end) for (number, place, it), end in zip(calls, ends)]
-        fault = fault_of_text(script, proxies, text_of([*lines, audit]), history=False, threaded=True)
+        fault = fault_of_text(script, proxies, text_of([*lines, audit]), history=False)
         yield name, None if (fault is None) == is_lawful else fault or "it was accepted"
 
 

@@ -11,9 +11,6 @@ from reader import LAST_VERSION, Refused, script_of
 LONGEST_STEP = 5_000_000
 MOST_COUNT, IDLE_BURST = 100_000, 10
 FULL = "refused Full"
-# Whether the program serves a script with threads, so that clients race and reads wait in the queues of GRV proxies. As long as it
-# makes all calls one after the other, counts and the limits of a queue change no reply, and --proxies means nothing.
-THREADED = False
 
 
 class Record(NamedTuple):
@@ -64,9 +61,9 @@ class Log:
 class Run:
     """A run of a script. Each kind of command has a method, which returns the end of its line."""
 
-    def __init__(self, script, threaded=THREADED):
+    def __init__(self, script):
         self.epoch_end, self.recovery, self.rounds = script.epoch_end, script.recovery, script.rounds
-        self.normal, self.batch, self.threaded = script.normal, script.batch, threaded
+        self.normal, self.batch = script.normal, script.batch
         self.throttles = {(it["priority"], it["tag"]): it for it in script.throttles}
         self.chain, self.events = [], []
         self.record, self.position = Record(script.recovery, False, None), 0
@@ -82,9 +79,9 @@ class Run:
         """Returns why a read may not wait in a queue, whoever else waits there, or None."""
         is_batch = it.priority == "batch"
         most = min(MOST_COUNT, self.normal + IDLE_BURST) if is_batch else MOST_COUNT
-        if self.threaded and not 1 <= it.count <= most:
+        if not 1 <= it.count <= most:
             return "BadCount"
-        return "BatchThrottled" if self.threaded and is_batch and self.batch == 0 else None
+        return "BatchThrottled" if is_batch and self.batch == 0 else None
 
     def grv(self, it):
         why = self.turned_away(it)
@@ -200,17 +197,17 @@ def line_of(number, place, it, said):
     return f"{number} {it.client} {place} {it.do} {said}"
 
 
-def expected(given, history=False, threaded=THREADED):
+def expected(given, history=False):
     """Returns how the program is to end on these bytes where one call is made after the other."""
     try:
-        return done(printed(script_of(given), history, threaded))
+        return done(printed(script_of(given), history))
     except Refused as why:
         return refused(str(why))
 
 
-def printed(script, history=False, threaded=THREADED):
+def printed(script, history=False):
     """Returns the text of a script's plainest run."""
-    run = Run(script, threaded)
+    run = Run(script)
     return text_of([*run.played(), run.audit(), *(run.history() if history else [])])
 
 

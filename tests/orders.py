@@ -41,7 +41,7 @@ def orders(script):
 
 def text_in(script, order):
     """Returns the lines that a script prints where its calls are made in this order."""
-    run, lines = Run(script, True), {}
+    run, lines = Run(script), {}
     for number, calls in enumerate(order):
         told = []
         for place, it in calls:
@@ -68,7 +68,7 @@ def all_orders(_program):
         lawful = {text_of(text_in(script, order)) for order in orders(script)}
         texts = [Text(script, 1, text) for text in sorted(lawful)]
         tried = lawful | {crossed(dice, dice.choice(texts), dice.choice(texts)) for _ in range(CROSSED)}
-        wrong = [text for text in sorted(tried) if (fault_of_text(script, 1, text, threaded=True) is None) != (text in lawful)]
+        wrong = [text for text in sorted(tried) if (fault_of_text(script, 1, text) is None) != (text in lawful)]
         verdicts.update(text in lawful for text in tried)
         yield f"seed {seed}, of {len(lawful)} texts", f"the judge errs about {wrong[0].decode()!r}" if wrong else None
     yield "texts of both kinds", None if min(verdicts[True], verdicts[False]) > SCRIPTS else f"{verdicts}"

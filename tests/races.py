@@ -7,7 +7,7 @@ import drawn
 from answers import MOST_COMMANDS, Example, do
 from harness import command, done, fault_of, run, script, written
 from judge import Lawful
-from model import THREADED, expected
+from model import expected
 
 RANDOM, AGAIN = 400, 25
 # How long a script at its limits may take, in seconds, on a machine that is busy with other things too.
@@ -157,22 +157,9 @@ COUNTS = [
 
 
 def queue_refusals(program):
-    """What a read is refused for, whoever else waits: the model says it, and the program where reads wait in queues."""
+    """What a read is refused for, whoever else waits."""
     for priority, count, top, wanted in COUNTS:
         given = script(f"[[{command('grv', priority=json.dumps(priority), count=str(count))}]]", **top).encode()
         name = f"a {priority} read for {count} transactions with {top}"
-        yield f"{name}, by the model", fault_of(expected(given, threaded=True), done(wanted))
-        if THREADED:
-            yield name, fault_of(run([program], given), done(wanted))
-    given, wanted = whole_refusals()
-    yield "all refusals in one script, by the model", fault_of(expected(given, threaded=True), done(wanted))
-    if THREADED:
-        yield "all refusals in one script", fault_of(run([program], given), done(wanted))
-
-
-def whole_refusals():
-    """The worked script of refused calls with a read for no transactions at its end, and what it prints."""
-    it = Example("refusals")
-    read = b',\n{"do":"grv","client":0,"count":0}]]}'
-    replies, audit, counts = it.wanted.out.partition(b"audit ")
-    return it.given.replace(b"]]}", read), replies + b"0 0 9 grv refused BadCount\n" + audit + counts
+        yield f"{name}, by the model", fault_of(expected(given), done(wanted))
+        yield name, fault_of(run([program], given), done(wanted))

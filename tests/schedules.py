@@ -123,7 +123,7 @@ class Schedule:
 
     def __init__(self, script, proxies, dice, run=None):
         self.script, self.dice = script, dice
-        self.run = run or Run(script, threaded=True)
+        self.run = run or Run(script)
         self.proxies = [Proxy(script, self.run) for _ in range(proxies)]
         self.reads, self.lines = Counter(), {}
 

@@ -273,8 +273,8 @@ class FullTooEarly(Schedule):
 class CachedReads(Run):
     """A read gives the record that stood a round before its own, unless its client has seen a later one."""
 
-    def __init__(self, script, threaded):
-        super().__init__(script, threaded)
+    def __init__(self, script):
+        super().__init__(script)
         self.before = self.last = self.record, 0
 
     def grv(self, it):
