@@ -25,6 +25,14 @@ const START: Record = Record {
 /// The time between two windows of a proxy, in microseconds.
 const ELAPSED: u64 = 1_000_000;
 
+/// A live record, and the desks of two proxies that read it.
+#[derive(Drop)]
+struct Service<J: Live> {
+    live: LiveRecord<J>,
+    near: Desk<J>,
+    far: Desk<J>,
+}
+
 /// Opens a service for two clients.
 pub fn two_clients<R: Print + Threads + Wait + Sync>(rt: &R, alloc: Global) -> Result<()> {
     let opened = LiveRecord::<Brand>::open(rt, alloc, START, 2)?;
@@ -46,28 +54,32 @@ fn serve<J: Live + Send + Sync, R: Print + Threads + Wait + Sync>(
 {
     let (live, mut seen, mut tokens) = opened.parts::<J>()?;
     let sequencer = Sequencer::new(core);
-    let mut reader = client_of(alloc, &live, tokens.pop())?;
-    let mut writer = client_of(alloc, &live, tokens.pop())?;
+    let service = Service {
+        live,
+        near: Desk::new(alloc),
+        far: Desk::new(alloc),
+    };
+    let mut reader = client_of(alloc, &service, tokens.pop())?;
+    let mut writer = client_of(alloc, &service, tokens.pop())?;
     commit(rt, &sequencer, &mut writer)?;
     let told = writer.tell(reader.number())?;
     learn(rt, &mut reader, writer.number(), told)?;
-    let (near, far) = (Desk::new(alloc), Desk::new(alloc));
-    let first = proxy_of(alloc, &live, &near, &mut seen)?;
-    let second = proxy_of(alloc, &live, &far, &mut seen)?;
+    let first = proxy_of(alloc, &service, &service.near, &mut seen)?;
+    let second = proxy_of(alloc, &service, &service.far, &mut seen)?;
     let (write, read) = thread::scope(thread::scope_env(), rt, |scope| {
         let first = scope.spawn(move || first.run(rt).is_ok());
         let second = scope.spawn(move || second.run(rt).is_ok());
         if first.is_err() || second.is_err() {
-            near.close(rt);
-            far.close(rt);
+            service.near.close(rt);
+            service.far.close(rt);
         }
         let found = thread::join(
             rt,
-            || read(rt, alloc, &near, &mut writer),
-            || read(rt, alloc, &far, &mut reader),
+            || read(rt, alloc, &service.near, &mut writer),
+            || read(rt, alloc, &service.far, &mut reader),
         );
-        near.close(rt);
-        far.close(rt);
+        service.near.close(rt);
+        service.far.close(rt);
         found
     });
     for found in [write?, read?] {
@@ -82,12 +94,17 @@ fn serve<J: Live + Send + Sync, R: Print + Threads + Wait + Sync>(
 /// The client whose token it is.
 fn client_of<'a, J: Live>(
     alloc: Global,
-    live: &'a LiveRecord<J>,
+    service: &'a Service<J>,
     token: Option<Seen<J>>,
 ) -> Result<Client<'a, J>> {
     let token = token.ok_or(anyhow!("no token"))?;
     match token.reporter() {
-        Some(number) if token.position() == 0 => Ok(Client::new(alloc, number, live, token)),
+        Some(number) if token.position() == 0 => Ok(Client::new(
+            alloc,
+            number,
+            &service.live,
+            token,
+        )),
         _ => Err(anyhow!("no token of a reporter that has seen nothing")),
     }
 }
@@ -126,7 +143,7 @@ fn learn<J: Live, R: Wait>(
 /// A proxy of a desk.
 fn proxy_of<'a, J: Live>(
     alloc: Global,
-    live: &'a LiveRecord<J>,
+    service: &'a Service<J>,
     desk: &'a Desk<J>,
     seen: &mut Seen<J>,
 ) -> Result<GrvProxy<'a, J>> {
@@ -136,8 +153,8 @@ fn proxy_of<'a, J: Live>(
         room: 1_000,
     };
     let queue = GrvQueue::new(alloc, config)?;
-    let token = live.split(seen);
-    Ok(GrvProxy::new(alloc, live, desk, queue, ELAPSED, token))
+    let token = service.live.split(seen);
+    Ok(GrvProxy::new(alloc, &service.live, desk, queue, ELAPSED, token))
 }
 
 /// A read of one transaction.
