@@ -91,3 +91,10 @@ pub joined : {P V E : Type 0} (made : P → List Call) (items : V → List Told)
 joined made items first next commands a b c d (Ok these) (Ok those) is front back = both_acted made first next commands a b c d (items these) (items those) is front back
 joined made items first next commands a b c d (Ok these) (Err e) is front back = tt
 joined made items first next commands a b c d (Err e) ours is front back = tt
+
+pub one_played_at : (first : ℕ) (commands : List Command) (all : List (List Call)) (before after : List Call) (tales : List Told) → length all ≡ 1 → before ≡ get_or all 0 before
+    → FoldsTo AnswersCommand before (commands_of first commands) after → tales ≡ told_in first (drop (length before) after) → IsPlayed first commands all (set all 0 after) tales
+one_played_at first commands [] before after tales one is performed told = absurd (omega (arith, one))
+one_played_at first commands (x ∷ []) before after tales one is performed told =
+    subst (λ own. IsPlayed first commands (own ∷ []) (after ∷ []) tales) is (one_played first commands before after tales performed told)
+one_played_at first commands (x ∷ y ∷ all) before after tales one is performed told = absurd (omega (arith, one))

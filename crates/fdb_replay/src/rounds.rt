@@ -20,43 +20,6 @@ use std::thread::{Threads, join};
 /// The most clients of a run.
 const MAX_CLIENTS: usize = 64;
 
-/// One who does what it is told in a round.
-trait Acts<J: Live> {
-    ghost use Rattle.std.specs.Prelude.{List};
-    ghost use Rattle.fdb_history.specs.declared.log.Call.{Call};
-
-    // The calls that it has made.
-    ghost calls_made: { Self → List Call };
-
-    /// Does what it is told, as the client with this number. Answers what it told others.
-    fn act<R: Wait, G: Gate>(
-        &mut self,
-        rt: &R,
-        alloc: Global,
-        world: &World<'_, J, G>,
-        commands: &[Command],
-        number: u32,
-    ) -> Result<Vec<Tale<J>>, RunFault>
-        ensures ok { OnOk result (FoldsTo AnswersCommand (calls_made self.old) (commands_of number commands.now) (calls_made self.new)) }
-        ensures told { IfOk result (λ tales. tales.items ≡ told_in number (drop (length (calls_made self.old)) (calls_made self.new))) }
-        ensures err { IfErr result (λ fault. fault ≡ RunFault.Memory) };
-}
-
-impl<'a, J: Live> Acts<J> for Player<'a, J> {
-    ghost calls_made = { λ player. player };
-
-    fn act<R: Wait, G: Gate>(
-        &mut self,
-        rt: &R,
-        alloc: Global,
-        world: &World<'_, J, G>,
-        commands: &[Command],
-        number: u32,
-    ) -> Result<Vec<Tale<J>>, RunFault> {
-        play_client(rt, alloc, world, commands, number, self)
-    }
-}
-
 /// What is done in a round, and by whom.
 #[derive(Drop)]
 struct Round<'a> {
@@ -148,25 +111,25 @@ fn play_round<'a, J: Live + Send + Sync, R: Threads + Wait + Sync, G: Gate>(
 
 /// Clients that have done what they were told in a round, and what they told others by that.
 #[derive(Drop)]
-struct Part<J: Live, P: Drop> {
-    clients: Vec<P>,
+struct Part<'a, J: Live> {
+    clients: Vec<Player<'a, J>>,
     tales: Vec<Tale<J>>,
 }
 
 /// Has these clients, the first of whom has this number, do what they are told in a round, those who are told anything
 /// each in a thread of its own, the last of them in this one. Answers what they told, by client and then by command.
 #[cycle(parts)]
-#[tactic(auto, using(crate::proofs::Parts::one_acted))]
-fn play_part<J: Live + Send + Sync, P: Acts<J> + Send + Drop, R: Threads + Wait + Sync, G: Gate>(
+#[tactic(auto, using(crate::proofs::Parts::one_played_at))]
+fn play_part<'a, J: Live + Send + Sync, R: Threads + Wait + Sync, G: Gate>(
     rt: &R,
     alloc: Global,
     world: &World<'_, J, G>,
     round: &Round<'_>,
     first: u32,
-    mut clients: Vec<P>,
-) -> Result<Part<J, P>, RunFault>
+    mut clients: Vec<Player<'a, J>>,
+) -> Result<Part<'a, J>, RunFault>
     requires few { first + vec_len clients ≤ 64 }
-    ensures ok { IfOk result (λ part. IsPlayed first round.now.commands.now (map P.calls_made clients.items) (map P.calls_made part.clients.items) part.tales.items) }
+    ensures ok { IfOk result (λ part. IsPlayed first round.now.commands.now clients.entry.items part.clients.items part.tales.items) }
     ensures err { IfErr result (λ fault. fault ≡ RunFault.Memory) }
 {
     if !round.acts_among(first, clients.len()) {
@@ -176,19 +139,19 @@ fn play_part<J: Live + Send + Sync, P: Acts<J> + Send + Drop, R: Threads + Wait 
         });
     }
     if clients.len() == 1 {
-        let tales = clients[0].act(rt, alloc, world, round.commands, first)?;
+        let tales = play_client(rt, alloc, world, round.commands, first, &mut clients[0])?;
         return Ok(Part { clients, tales });
     }
     let half = clients.len() / 2;
     let next = first + half as u32;
     let others = clients.split_off(half)?;
-    let front = move || -> Result<Part<J, P>, RunFault>
-        requires { IsSync R.row × IsSync J.row × IsSend J.row × IsSync G.row × IsSend P.row × (first + vec_len clients ≤ 64) }
-        ensures { IfOk result (λ part. IsPlayed first round.entry.now.commands.now (map P.calls_made clients.items) (map P.calls_made part.clients.items) part.tales.items) × IfErr result (λ fault. fault ≡ RunFault.Memory) }
+    let front = move || -> Result<Part<'_, J>, RunFault>
+        requires { IsSync R.row × IsSync J.row × IsSend J.row × IsSync G.row × (first + vec_len clients ≤ 64) }
+        ensures { IfOk result (λ part. IsPlayed first round.entry.now.commands.now clients.entry.items part.clients.items part.tales.items) × IfErr result (λ fault. fault ≡ RunFault.Memory) }
     { play_part(rt, alloc, world, round, first, clients) };
-    let back = move || -> Result<Part<J, P>, RunFault>
-        requires { IsSync R.row × IsSync J.row × IsSend J.row × IsSync G.row × IsSend P.row × (next + vec_len others ≤ 64) }
-        ensures { IfOk result (λ part. IsPlayed next round.entry.now.commands.now (map P.calls_made others.items) (map P.calls_made part.clients.items) part.tales.items) × IfErr result (λ fault. fault ≡ RunFault.Memory) }
+    let back = move || -> Result<Part<'_, J>, RunFault>
+        requires { IsSync R.row × IsSync J.row × IsSend J.row × IsSync G.row × (next + vec_len others ≤ 64) }
+        ensures { IfOk result (λ part. IsPlayed next round.entry.now.commands.now others.entry.items part.clients.items part.tales.items) × IfErr result (λ fault. fault ≡ RunFault.Memory) }
     { play_part(rt, alloc, world, round, next, others) };
     let (theirs, ours) = join(rt, front, back);
     let mut part = theirs?;

@@ -1,17 +1,16 @@
 use Rattle.std.proofs.Common.{◌≡◌, ◌+◌, ◌/◌, ◌++◌, length, map, sym, subst, rules}
 use Rattle.std.proofs.lemmas.List.{take-append-drop}
 use Rattle.fdb_replay.specs.Rounds.{IsPlayed}
-use Rattle.fdb_replay.proofs.Parts.{both_acted, none_acted}
+use Rattle.fdb_replay.proofs.Parts.{both_played, none_played}
 use Rattle.fdb_replay.proofs.rounds.+parts.Goals as goal
 
 pub returns-then-not-acts_among-clause-ok : goal.returns-then-not-acts_among-clause-ok
 returns-then-not-acts_among-clause-ok g t c =
-    rw c.new.ensures.items (none_acted g.P.Acts.calls_made c.args.first c.args.round.now.commands.now c.args.clients.items (λ k within. c.acts_among.ensures.idle (search rules) k (search rules)))
+    rw c.new.ensures.items (none_played c.args.first c.args.round.now.commands.now c.args.clients.items (λ k within. c.acts_among.ensures.idle (search rules) k (search rules)))
 
 pub returns-clause-ok : goal.returns-clause-ok
 returns-clause-ok g t c =
     let commands = c.args.round.now.commands.now in
-    let made = g.P.Acts.calls_made in
     let first = c.args.first in
     let next = first + c.args.clients.len / 2 in
     let old = c.args.clients.items in
@@ -20,9 +19,9 @@ returns-clause-ok g t c =
     let part = c.in_ok-part.part in
     let rest = c.in_ok-rest.rest in
     let cut = c.in_ok-others.ensures in
-    let front : IsPlayed first commands (map made left) (map made part.clients.items) part.tales.items = search rules in
-    let back : IsPlayed next commands (map made right) (map made rest.clients.items) rest.tales.items = search rules in
+    let front : IsPlayed first commands left part.clients.items part.tales.items = search rules in
+    let back : IsPlayed next commands right rest.clients.items rest.tales.items = search rules in
     let cut_is : next ≡ first + length left = search rules in
     let whole : left ++ right ≡ old = rw (cut.items, cut.tail) (take-append-drop (c.len-half.result / 2) old) in
-    subst (λ all. IsPlayed first commands (map made all) (map made c.append.new.self.items) c.append-2.new.self.items) whole
-    (rw (c.in_ok-append.ensures.items, c.in_ok-append-2.ensures.items) (both_acted made first next commands left part.clients.items right rest.clients.items part.tales.items rest.tales.items cut_is front back))
+    subst (λ all. IsPlayed first commands all c.append.new.self.items c.append-2.new.self.items) whole
+    (rw (c.in_ok-append.ensures.items, c.in_ok-append-2.ensures.items) (both_played first next commands left part.clients.items right rest.clients.items part.tales.items rest.tales.items cut_is front back))

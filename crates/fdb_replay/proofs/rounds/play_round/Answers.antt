@@ -2,7 +2,7 @@ use Rattle.std.proofs.Common.{◌≡◌, fold, ap, sym, subst, ◌∙◌}
 use Rattle.fdb_replay.specs.Rounds.{IsPlayed, logs_of, teach}
 use Rattle.fdb_script.specs.Answering.{AnswersRound}
 use Rattle.fdb_replay.proofs.Learnt.{learnt}
-use Rattle.fdb_replay.proofs.Parts.{all_same}
+use Rattle.fdb_replay.proofs.Parts.{same_clients}
 use Rattle.fdb_replay.proofs.Performed.{round_answered}
 use Rattle.fdb_replay.proofs.rounds.play_round.Goals as goal
 
@@ -12,6 +12,10 @@ returns-clause-ok g c =
     let now = c.in_ok-part.part.clients.items in
     let tales = c.in_ok-part.part.tales.items in
     let commands = c.args.commands.now in
-    let played : IsPlayed 0 commands old now tales = rw (c.new-round.ensures, all_same old, all_same now) at c.in_ok-part.ensures.ok in
+    let played : IsPlayed 0 commands old now tales = rw c.new-round.ensures at c.in_ok-part.ensures.ok in
     let answered = round_answered commands old now (fold teach now tales) tales played (learnt old now tales) in
     subst (λ learnt. AnswersRound (logs_of old) commands (logs_of learnt)) (sym c.in_ok-learn_all.ensures.ok) answered
+
+pub returns-clause-few : goal.returns-clause-few
+returns-clause-few g c =
+    c.in_ok-learn_all.ensures.len ∙ same_clients 0 c.new-round.result.commands.now c.args.clients.items c.in_ok-part.part.clients.items c.in_ok-part.ensures.ok.performed

@@ -11,11 +11,11 @@ loop-commands-preserved g c =
     let commands = c.commands-item.result in
     let rounds = c.args.rounds.now in
     let before = c.loop-commands.clients.items in
-    let after = c.in_ok-play_round.clients.items in
+    let after = c.in_ok-clients.clients.items in
     let within : place < length rounds = omega (arith, c.loop-commands-test.true, c.loop-commands.auto.commands-index-end) in
     let answered : AnswersRound (logs_of before) commands (logs_of after) =
-    subst (λ own. AnswersRound (logs_of before) own (logs_of after)) c.as_slice.ensures c.in_ok-play_round.ensures.ok in
+    subst (λ own. AnswersRound (logs_of before) own (logs_of after)) c.as_slice.ensures c.in_ok-clients.ensures.ok in
     record {
-      same_clients = c.in_ok-play_round.ensures.few ∙ so_far.same_clients;
+      same_clients = c.in_ok-clients.ensures.few ∙ so_far.same_clients;
       forwards = λ last rest. so_far.forwards last (one_round_more rounds place commands before after (logs_of last) within c.commands-item.is answered rest);
     }
