@@ -59,13 +59,14 @@ fn serve<J: Live + Send + Sync, R: Print + Threads + Wait + Sync>(
         near: Desk::new(alloc),
         far: Desk::new(alloc),
     };
-    let mut reader = client_of(alloc, &service, tokens.pop())?;
-    let mut writer = client_of(alloc, &service, tokens.pop())?;
+    let service = &service;
+    let mut reader = client_of(alloc, service, tokens.pop())?;
+    let mut writer = client_of(alloc, service, tokens.pop())?;
     commit(rt, &sequencer, &mut writer)?;
     let told = writer.tell(reader.number())?;
     learn(rt, &mut reader, writer.number(), told)?;
-    let first = proxy_of(alloc, &service, &service.near, &mut seen)?;
-    let second = proxy_of(alloc, &service, &service.far, &mut seen)?;
+    let first = proxy_of(alloc, service, &service.near, &mut seen)?;
+    let second = proxy_of(alloc, service, &service.far, &mut seen)?;
     let (write, read) = thread::scope(thread::scope_env(), rt, |scope| {
         let first = scope.spawn(move || first.run(rt).is_ok());
         let second = scope.spawn(move || second.run(rt).is_ok());
