@@ -25,23 +25,23 @@ const START: Record = Record {
 /// The time between two windows of a proxy, in microseconds.
 const ELAPSED: u64 = 1_000_000;
 
-/// A live record, and the desks of two proxies that read it.
+/// What serves the clients: a sequencer, a live record, and the desks of two proxies that read it.
 #[derive(Drop)]
 struct Service<J: Live> {
+    sequencer: Sequencer<J>,
     live: LiveRecord<J>,
     near: Desk<J>,
     far: Desk<J>,
 }
 
-/// Opens a service for two clients.
+/// Opens a service for two clients, and has them work.
 pub fn two_clients<R: Print + Threads + Wait + Sync>(rt: &R, alloc: Global) -> Result<()> {
     let opened = LiveRecord::<Brand>::open(rt, alloc, START, 2)?;
     let core = ChainCore::new(alloc, 0, START.version, 2)?;
     serve::<Brand, R>(rt, alloc, opened, core)
 }
 
-/// Has one client commit and tell the other, and both read, each through a proxy of its own: neither reads less than that
-/// commit.
+/// Serves the clients under a name that stands for the service.
 fn serve<J: Live + Send + Sync, R: Print + Threads + Wait + Sync>(
     rt: &R,
     alloc: Global,
@@ -53,20 +53,32 @@ fn serve<J: Live + Send + Sync, R: Print + Threads + Wait + Sync>(
     requires recovery { core.recovery ≡ J.recovery }
 {
     let (live, mut seen, mut tokens) = opened.parts::<J>()?;
-    let sequencer = Sequencer::new(core);
     let service = Service {
+        sequencer: Sequencer::new(core),
         live,
         near: Desk::new(alloc),
         far: Desk::new(alloc),
     };
-    let service = &service;
-    let mut reader = client_of(alloc, service, tokens.pop())?;
-    let mut writer = client_of(alloc, service, tokens.pop())?;
-    commit(rt, &sequencer, &mut writer)?;
+    work(rt, alloc, &service, &mut seen, tokens.pop(), tokens.pop())
+}
+
+/// Has one client commit and tell the other, and both read, each through a proxy of its own: neither reads less than that
+/// commit.
+fn work<J: Live + Send + Sync, R: Print + Threads + Wait + Sync>(
+    rt: &R,
+    alloc: Global,
+    service: &Service<J>,
+    seen: &mut Seen<J>,
+    one: Option<Seen<J>>,
+    other: Option<Seen<J>>,
+) -> Result<()> {
+    let mut reader = client_of(alloc, service, one)?;
+    let mut writer = client_of(alloc, service, other)?;
+    commit(rt, &service.sequencer, &mut writer)?;
     let told = writer.tell(reader.number())?;
     learn(rt, &mut reader, writer.number(), told)?;
-    let first = proxy_of(alloc, service, &service.near, &mut seen)?;
-    let second = proxy_of(alloc, service, &service.far, &mut seen)?;
+    let first = proxy_of(alloc, service, &service.near, seen)?;
+    let second = proxy_of(alloc, service, &service.far, seen)?;
     let (write, read) = thread::scope(thread::scope_env(), rt, |scope| {
         let first = scope.spawn(move || first.run(rt).is_ok());
         let second = scope.spawn(move || second.run(rt).is_ok());
