@@ -19,8 +19,8 @@ pub one_set : (acts : List Bool) (commands : List Command) (place : ℕ) (comman
     → SoFar acts commands place → SoFar (set acts command.client true) commands (place + 1)
 one_set acts commands place command within is inside so_far client unset =
     let other : command.client ≢ client = λ same.
-        absurd (let set_now : get_or (set acts command.client true) command.client true ≡ true = get_or-set_same acts command.client true true inside in
-        let bad : true ≡ false = sym set_now ∙ subst (λ n. get_or (set acts command.client true) n true ≡ false) (sym same) unset in cc) in
+    absurd (let set_now : get_or (set acts command.client true) command.client true ≡ true = get_or-set_same acts command.client true true inside in
+    let bad : true ≡ false = sym set_now ∙ subst (λ n. get_or (set acts command.client true) n true ≡ false) (sym same) unset in cc) in
     let as_before : get_or acts client true ≡ false = sym (get_or-set_other acts command.client client true true (λ same. other (sym same))) ∙ unset in
     so_far client as_before ∙ ap (commands_of client) (left_is commands place command within is) ∙ not_its client command (drop (place + 1) commands) other
 
@@ -28,6 +28,6 @@ pub none_set : (acts : List Bool) (commands : List Command) (place : ℕ) (comma
     → SoFar acts commands place → SoFar acts commands (place + 1)
 none_set acts commands place command within is outside so_far client unset =
     let other : command.client ≢ client = λ same.
-        absurd (let past : get_or acts client true ≡ true = get_or_past acts client true (omega (arith, outside, same)) in
-        let bad : true ≡ false = sym past ∙ unset in cc) in
+    absurd (let past : get_or acts client true ≡ true = get_or_past acts client true (omega (arith, outside, same)) in
+    let bad : true ≡ false = sym past ∙ unset in cc) in
     so_far client unset ∙ ap (commands_of client) (left_is commands place command within is) ∙ not_its client command (drop (place + 1) commands) other

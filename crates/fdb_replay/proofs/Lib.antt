@@ -1,5 +1,4 @@
 pub mod Acts
-pub mod Calls
 pub mod Given
 pub mod Grown
 pub mod Input

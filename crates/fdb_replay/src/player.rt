@@ -113,7 +113,10 @@ impl<'a, J: Live> Player<'a, J> {
         ensures ok { OnOk result (AddsCall self.old (input.Ask (length (fresh_answers self.old) + 1) processed at) self.new) }
         ensures err { IfErr result (λ fault. fault ≡ RunFault.Memory) }
     {
-        settled(self.client.ask(rt, world.gate, world.sequencer, processed, at))
+        settled(
+            self.client
+                .ask(rt, world.gate, world.sequencer, processed, at),
+        )
     }
 
     /// Asks for the commit version under a number.
@@ -128,7 +131,10 @@ impl<'a, J: Live> Player<'a, J> {
         ensures ok { OnOk result (AddsCall self.old (input.Ask num processed at) self.new) }
         ensures err { IfErr result (λ fault. fault ≡ RunFault.Memory) }
     {
-        settled(self.client.reask(rt, world.gate, world.sequencer, num, processed, at))
+        settled(
+            self.client
+                .reask(rt, world.gate, world.sequencer, num, processed, at),
+        )
     }
 
     /// Reports the commit version under a number.

@@ -8,8 +8,8 @@ ghost use Rattle.fdb_script.specs.Answering.{AnswersCommand, AnswersRound, comma
 
 use crate::fault::RunFault;
 use crate::player::Player;
-use crate::world::World;
 use crate::tale::Tale;
+use crate::world::World;
 use fdb_history::{Gate, Sequence};
 use fdb_live::Live;
 use fdb_script::Command;
@@ -145,6 +145,7 @@ fn play_part<'a, J: Live + Send + Sync, R: Threads + Wait + Sync, G: Gate>(
     let half = clients.len() / 2;
     let next = first + half as u32;
     let others = clients.split_off(half)?;
+    let both_act = round.acts_among(first, half) && round.acts_among(next, others.len());
     let front = move || -> Result<Part<'_, J>, RunFault>
         requires { IsSync R.row × IsSync J.row × IsSend J.row × IsSync G.row × (first + vec_len clients ≤ 64) }
         ensures { IfOk result (λ part. IsPlayed first round.entry.now.commands.now clients.entry.items part.clients.items part.tales.items) × IfErr result (λ fault. fault ≡ RunFault.Memory) }
@@ -153,7 +154,11 @@ fn play_part<'a, J: Live + Send + Sync, R: Threads + Wait + Sync, G: Gate>(
         requires { IsSync R.row × IsSync J.row × IsSend J.row × IsSync G.row × (next + vec_len others ≤ 64) }
         ensures { IfOk result (λ part. IsPlayed next round.entry.now.commands.now others.entry.items part.clients.items part.tales.items) × IfErr result (λ fault. fault ≡ RunFault.Memory) }
     { play_part(rt, alloc, world, round, next, others) };
-    let (theirs, ours) = join(rt, front, back);
+    let (theirs, ours) = if both_act {
+        join(rt, front, back)
+    } else {
+        (front(), back())
+    };
     let mut part = theirs?;
     let mut rest = ours?;
     part.clients.append(&mut rest.clients)?;
