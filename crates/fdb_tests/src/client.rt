@@ -20,13 +20,20 @@ use std::sync::Wait;
 use std::test::Fail;
 use std::thread::Threads;
 
+/// What clients call.
+#[derive(Drop)]
+pub struct Service<J: Live> {
+    pub live: LiveRecord<J>,
+    pub sequencer: Sequencer<J>,
+    pub desk: Desk<J>,
+    pub other: Desk<J>,
+}
+
 /// Two clients with what they call.
 #[derive(Drop)]
 pub struct Stand<'a, J: Live> {
     pub alloc: Global,
-    pub live: &'a LiveRecord<J>,
-    pub sequencer: &'a Sequencer<J>,
-    pub desk: Desk<J>,
+    pub service: &'a Service<J>,
     /// What the server of the desk has seen.
     pub served: Seen<J>,
     pub clients: Vec<Client<'a, J>>,
@@ -68,19 +75,29 @@ fn play_named<J: Live + Send + Sync, R: Threads + Wait + Abort + Sync>(
     requires recovery { core.recovery ≡ J.recovery }
 {
     let (live, served, tokens) = opened.parts::<J>()?;
-    let sequencer = Sequencer::new(core);
-    let mut clients = Vec::new(alloc);
-    for token in tokens {
-        let client = client_of(alloc, &live, token);
-        clients.push(client.ok_or("the token of a reporter that has seen nothing")?)?;
-    }
+    let service = Service {
+        live,
+        sequencer: Sequencer::new(core),
+        desk: Desk::new(alloc),
+        other: Desk::new(alloc),
+    };
+    play_at(rt, alloc, &service, served, tokens, case)
+}
+
+/// Plays a case at a service.
+fn play_at<J: Live + Send + Sync, R: Threads + Wait + Abort + Sync>(
+    rt: &R,
+    alloc: Global,
+    service: &Service<J>,
+    served: Seen<J>,
+    tokens: Vec<Seen<J>>,
+    case: Case,
+) -> Result<(), Fail> {
     let stand = Stand {
         alloc,
-        live: &live,
-        sequencer: &sequencer,
-        desk: Desk::new(alloc),
+        service,
         served,
-        clients,
+        clients: clients_of(alloc, service, tokens)?,
         told: Vec::new(alloc),
     };
     match case {
@@ -89,14 +106,30 @@ fn play_named<J: Live + Send + Sync, R: Threads + Wait + Abort + Sync>(
     }
 }
 
-/// The client whose token it is, where it has seen nothing.
-fn client_of<'a, J: Live>(
+/// A client for each token.
+fn clients_of<J: Live>(
     alloc: Global,
-    live: &'a LiveRecord<J>,
+    service: &Service<J>,
+    tokens: Vec<Seen<J>>,
+) -> Result<Vec<Client<'_, J>>, Fail> {
+    let mut clients = Vec::new(alloc);
+    for token in tokens {
+        let client = client_of(alloc, service, token);
+        clients.push(client.ok_or("the token of a reporter that has seen nothing")?)?;
+    }
+    Ok(clients)
+}
+
+/// The client whose token it is, where it has seen nothing.
+fn client_of<J: Live>(
+    alloc: Global,
+    service: &Service<J>,
     token: Seen<J>,
-) -> Option<Client<'a, J>> {
+) -> Option<Client<'_, J>> {
     match token.reporter() {
-        Some(number) if token.position() == 0 => Some(Client::new(alloc, number, live, token)),
+        Some(number) if token.position() == 0 => {
+            Some(Client::new(alloc, number, &service.live, token))
+        }
         _ => None,
     }
 }

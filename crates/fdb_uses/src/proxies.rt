@@ -22,6 +22,9 @@ const START: Record = Record {
     metadata: None,
 };
 
+/// What a read is answered.
+type Read = std::result::Result<ReadVersion, ClientError>;
+
 /// The time between two windows of a proxy, in microseconds.
 const ELAPSED: u64 = 1_000_000;
 
@@ -62,8 +65,7 @@ fn serve<J: Live + Send + Sync, R: Print + Threads + Wait + Sync>(
     work(rt, alloc, &service, &mut seen, tokens.pop(), tokens.pop())
 }
 
-/// Has one client commit and tell the other, and both read, each through a proxy of its own: neither reads less than that
-/// commit.
+/// Has one client commit and tell the other, and both read.
 fn work<J: Live + Send + Sync, R: Print + Threads + Wait + Sync>(
     rt: &R,
     alloc: Global,
@@ -77,9 +79,36 @@ fn work<J: Live + Send + Sync, R: Print + Threads + Wait + Sync>(
     commit(rt, &service.sequencer, &mut writer)?;
     let told = writer.tell(reader.number())?;
     learn(rt, &mut reader, writer.number(), told)?;
+    read_both(rt, alloc, service, seen, &mut writer, &mut reader)
+}
+
+/// Has both clients read, each through a proxy of its own. None reads less than it has seen committed.
+fn read_both<J: Live + Send + Sync, R: Print + Threads + Wait + Sync>(
+    rt: &R,
+    alloc: Global,
+    service: &Service<J>,
+    seen: &mut Seen<J>,
+    writer: &mut Client<'_, J>,
+    reader: &mut Client<'_, J>,
+) -> Result<()> {
     let first = proxy_of(alloc, service, &service.near, seen)?;
     let second = proxy_of(alloc, service, &service.far, seen)?;
-    let (write, read) = thread::scope(thread::scope_env(), rt, |scope| {
+    let (write, read) = served(rt, alloc, service, first, second, writer, reader);
+    tell_read(rt, write)?;
+    tell_read(rt, read)
+}
+
+/// What both clients read while two proxies serve.
+fn served<J: Live + Send + Sync, R: Threads + Wait + Sync>(
+    rt: &R,
+    alloc: Global,
+    service: &Service<J>,
+    first: GrvProxy<'_, J>,
+    second: GrvProxy<'_, J>,
+    writer: &mut Client<'_, J>,
+    reader: &mut Client<'_, J>,
+) -> (Read, Read) {
+    thread::scope(thread::scope_env(), rt, |scope| {
         let first = scope.spawn(move || first.run(rt).is_ok());
         let second = scope.spawn(move || second.run(rt).is_ok());
         if first.is_err() || second.is_err() {
@@ -88,19 +117,22 @@ fn work<J: Live + Send + Sync, R: Print + Threads + Wait + Sync>(
         }
         let found = thread::join(
             rt,
-            || read(rt, alloc, &service.near, &mut writer),
-            || read(rt, alloc, &service.far, &mut reader),
+            || read(rt, alloc, &service.near, writer),
+            || read(rt, alloc, &service.far, reader),
         );
         service.near.close(rt);
         service.far.close(rt);
         found
-    });
-    for found in [write?, read?] {
-        println!(rt;
-            "read version {} at position {}",
-            found.rec.version, found.position
-        )?;
-    }
+    })
+}
+
+/// Tells what was read.
+fn tell_read(rt: &impl Print, found: Read) -> Result<()> {
+    let read = found?;
+    println!(rt;
+        "read version {} at position {}",
+        read.rec.version, read.position
+    )?;
     Ok(())
 }
 
@@ -176,7 +208,7 @@ fn read<J: Live, R: Wait>(
     alloc: Global,
     desk: &Desk<J>,
     client: &mut Client<'_, J>,
-) -> Result<ReadVersion, ClientError> {
+) -> Read {
     let opts = GrvOpts {
         priority: Priority::Default,
         count: 1,

@@ -45,13 +45,19 @@ fn called<J: Live + Send + Sync, R: Threads + Wait + Abort + Sync>(
     match call {
         "ask" => {
             let processed = line.number(rt);
-            let found = client.ask(rt, &OpenGate, stand.sequencer, processed, line.number(rt));
+            let found = client.ask(
+                rt,
+                &OpenGate,
+                &stand.service.sequencer,
+                processed,
+                line.number(rt),
+            );
             issued_text(alloc, found)
         }
         "reask" => {
             let (num, processed) = (line.number(rt), line.number(rt));
             let at = line.number(rt);
-            let found = client.reask(rt, &OpenGate, stand.sequencer, num, processed, at);
+            let found = client.reask(rt, &OpenGate, &stand.service.sequencer, num, processed, at);
             issued_text(alloc, found)
         }
         "report" => reported(rt, alloc, client, line.number(rt), false),
@@ -62,8 +68,8 @@ fn called<J: Live + Send + Sync, R: Threads + Wait + Abort + Sync>(
             let found = read_served(
                 rt,
                 alloc,
-                &stand.desk,
-                stand.live,
+                &stand.service.desk,
+                &stand.service.live,
                 &mut stand.served,
                 client,
                 opts,
@@ -178,7 +184,7 @@ fn at(alloc: Global, position: u64) -> Result<String, AllocError> {
 
 /// Closes the desk.
 fn shut<J: Live, R: Wait>(rt: &R, stand: &Stand<'_, J>) -> Result<String, AllocError> {
-    stand.desk.close(rt);
+    stand.service.desk.close(rt);
     String::from_str(stand.alloc, "ok")
 }
 
@@ -188,7 +194,7 @@ fn meet<J: Live, R: Wait>(rt: &R, stand: &mut Stand<'_, J>) -> Result<String, Al
         return String::from_str(stand.alloc, "two clients are wanted");
     };
     let ((_, mut one), (_, mut zero)) = (one.finish(), zero.finish());
-    stand.live.meet(rt, &mut one, &mut zero);
+    stand.service.live.meet(rt, &mut one, &mut zero);
     let own = (one.reporter(), zero.reporter()) == (Some(1), Some(0));
     String::from_str(stand.alloc, if own { "ok" } else { "the tokens of others" })
 }

@@ -1,11 +1,11 @@
 //! Two clients over two proxies, each in a thread of its own.
 
-use crate::client::Stand;
 use crate::client::lines::opts_of;
+use crate::client::{Service, Stand};
 use fdb_chain::Sequencer;
 use fdb_client::{Client, ClientError, ReadVersion};
 use fdb_history::OpenGate;
-use fdb_live::{Live, LiveRecord, Seen};
+use fdb_live::{Live, Seen};
 use fdb_proxy::{Desk, GrvProxy};
 use fdb_queue::{GrvQueue, QueueConfig};
 use std::alloc::Global;
@@ -22,26 +22,23 @@ pub fn over_two_proxies<J: Live + Send + Sync, R: Threads + Wait + Abort + Sync>
 ) -> Result<(), Fail> {
     let Stand {
         alloc,
-        live,
-        sequencer,
-        desk,
+        service,
         mut served,
         mut clients,
         told: _,
     } = stand;
-    let other = Desk::new(alloc);
     let one = clients.pop().ok_or("a client")?;
     let zero = clients.pop().ok_or("a client")?;
-    let first = proxy_of(alloc, live, &desk, &mut served)?;
-    let second = proxy_of(alloc, live, &other, &mut served)?;
+    let first = proxy_of(alloc, service, &service.desk, &mut served)?;
+    let second = proxy_of(alloc, service, &service.other, &mut served)?;
     let ended = thread::scope(thread::scope_env(), rt, |scope| {
         let first = scope.spawn(move || first.run(rt).is_ok());
         let second = scope.spawn(move || second.run(rt).is_ok());
         if first.is_ok() && second.is_ok() {
-            work_side_by_side(rt, alloc, live, sequencer, (&desk, zero), (&other, one));
+            work_side_by_side(rt, alloc, service, zero, one);
         }
-        desk.close(rt);
-        other.close(rt);
+        service.desk.close(rt);
+        service.other.close(rt);
         match (first, second) {
             (Ok(first), Ok(second)) => first.join(rt) && second.join(rt),
             _ => false,
@@ -54,7 +51,7 @@ pub fn over_two_proxies<J: Live + Send + Sync, R: Threads + Wait + Abort + Sync>
 /// A proxy of a desk that lets 1,000 transactions start in each window.
 fn proxy_of<'a, J: Live>(
     alloc: Global,
-    live: &'a LiveRecord<J>,
+    service: &'a Service<J>,
     desk: &'a Desk<J>,
     seen: &mut Seen<J>,
 ) -> Result<GrvProxy<'a, J>, Fail> {
@@ -64,7 +61,7 @@ fn proxy_of<'a, J: Live>(
         room: 1_000,
     };
     let queue = GrvQueue::new(alloc, config)?;
-    let token = live.split(seen);
+    let (live, token) = (&service.live, service.live.split(seen));
     Ok(GrvProxy::new(alloc, live, desk, queue, 1_000_000, token))
 }
 
@@ -72,22 +69,21 @@ fn proxy_of<'a, J: Live>(
 fn work_side_by_side<J: Live + Send + Sync, R: Threads + Wait + Abort + Sync>(
     rt: &R,
     alloc: Global,
-    live: &LiveRecord<J>,
-    sequencer: &Sequencer<J>,
-    (desk, mut zero): (&Desk<J>, Client<'_, J>),
-    (other, mut one): (&Desk<J>, Client<'_, J>),
+    service: &Service<J>,
+    mut zero: Client<'_, J>,
+    mut one: Client<'_, J>,
 ) {
     thread::join(
         rt,
-        || commit(rt, sequencer, &mut zero),
-        || commit(rt, sequencer, &mut one),
+        || commit(rt, &service.sequencer, &mut zero),
+        || commit(rt, &service.sequencer, &mut one),
     );
     let from_zero = exchange(rt, &mut zero, &mut one);
     let from_one = exchange(rt, &mut one, &mut zero);
     let (zeros, ones) = thread::join(
         rt,
-        || read(rt, alloc, desk, &mut zero),
-        || read(rt, alloc, other, &mut one),
+        || read(rt, alloc, &service.desk, &mut zero),
+        || read(rt, alloc, &service.other, &mut one),
     );
     let told = from_zero.max(from_one);
     assert!(rt;
@@ -99,7 +95,7 @@ fn work_side_by_side<J: Live + Send + Sync, R: Threads + Wait + Abort + Sync>(
         assert!(rt; position >= told, "{position} after {told} was told");
     }
     let ((_, mut zero), (_, mut one)) = (zero.finish(), one.finish());
-    live.meet(rt, &mut zero, &mut one);
+    service.live.meet(rt, &mut zero, &mut one);
     assert!(rt;
         zero.position() >= told && one.position() >= told,
         "at the end"
