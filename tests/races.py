@@ -104,7 +104,7 @@ def sure_texts(program):
     """Clients that share rounds without a race: where each read finds room, and where a read comes after all reports."""
     for name, proxies, rounds, top in SURE:
         given = written(rounds, **top)
-        wanted = expected(given, True, True)
+        wanted = expected(given, True)
         for time in range(AGAIN):
             yield f"{name}, run {time}", fault_of(run([program, "--history", "--proxies", str(proxies)], given), wanted)
     untold = Example("untold")
