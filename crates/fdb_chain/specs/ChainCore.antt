@@ -1,5 +1,5 @@
 -- The members of a chain, and what a result has to do with the definition's answer.
-use Rattle.std.specs.Prelude.{◌≡◌, ℕ, ◌<◌, ◌≤◌, List, [], All, length, Result, Ok, Err, IsOkAnd, IsTrue}
+use Rattle.std.specs.Prelude.{◌≡◌, ℕ, ◌<◌, ◌≤◌, List, [], Result, Ok, Err, IsOkAnd, IsTrue}
 use Rattle.fdb_history.specs.Answer.{Chain}
 use Rattle.fdb_history.specs.Chain.{IsChain}
 use Rattle.fdb_history.specs.declared.chain.Ask.{Ask}
@@ -10,7 +10,6 @@ use Rattle.fdb_history.specs.declared.register.TheConstants.{MAX_VERSION}
 use Rattle.fdb_chain.specs.declared.chain_core.TheConstants.{MAX_PROXIES}
 use Rattle.fdb_chain.specs.declared.error.ChainError.{ChainError}
 use Rattle.fdb_chain.specs.declared.error.ChainError.TheVariants.{BadEpoch, NoProxy, UnknownProxy, Early, Forgotten, Exhausted, Memory}
-use Rattle.fdb_history.specs.Replies.{KeptReplies, AreRepliesOfAll}
 
 -- The recovery version is a version, above the end of the epoch before.
 pub record IsEpoch (epoch_end recovery : ℕ) : Type 0 where
@@ -24,7 +23,8 @@ pub record IsProxyCount (proxies : ℕ) : Type 0 where
 
 -- A chain with no answers.
 abbrev pub new_chain : ℕ → ℕ → ℕ → Chain
-new_chain epoch_end recovery proxies = record { epoch_end = epoch_end; recovery = recovery; proxies = proxies; answers = [] }
+new_chain epoch_end recovery proxies =
+    record { epoch_end = epoch_end; recovery = recovery; proxies = proxies; answers = [] }
 
 -- A result is the definition's answer. Memory is refused only where that is a fresh one.
 abbrev pub IsAnswer : Result Issued Refusal → Result Issued ChainError → Type 0
@@ -44,7 +44,8 @@ pub record IsOf (epoch_end recovery : ℕ) (chain : Chain) : Type 0 where
   pub one_chain : IsChain epoch_end recovery chain.answers
   pub proxies : IsProxyCount chain.proxies
 
--- An answer is one to a request: to its proxy, under its number, and where it is fresh with all of its members.
+-- An answer is one to a request: to its proxy, under its number, and where it is fresh with all of
+-- its members.
 pub record IsFor (ask : Ask) (answer : Issued) : Type 0 where
   pub proxy : answer.proxy ≡ ask.proxy
   pub num : answer.num ≡ ask.num
@@ -60,12 +61,3 @@ MayRefuse ask UnknownProxy = Unit {0}
 MayRefuse ask Forgotten = Unit {0}
 MayRefuse ask Exhausted = Unit {0}
 MayRefuse ask Memory = Unit {0}
-
--- What a chain keeps to: its members are in range, its answers are one chain of answers to its own proxies,
--- and the replies of each proxy are those that the definition keeps.
-pub record IsConsistent (epoch_end recovery : ℕ) (answers : List Issued) (replies : List KeptReplies) : Type 0 where
-  pub epoch : IsEpoch epoch_end recovery
-  pub proxies : IsProxyCount (length replies)
-  pub one_chain : IsChain epoch_end recovery answers
-  pub asked : All (λ answer. answer.proxy < length replies) answers
-  pub kept : AreRepliesOfAll answers replies

@@ -2,3 +2,4 @@ pub use Rattle.fdb_history.specs.Answer
 pub use Rattle.fdb_history.specs.Chain
 pub use Rattle.fdb_history.specs.Replies
 pub mod ChainCore
+pub mod private

@@ -33,9 +33,14 @@ impl Model for ChainCore {
 
     ghost Value = { Chain };
 
-    ghost use Rattle.fdb_chain.specs.ChainCore.{IsConsistent};
+    ghost use Rattle.fdb_chain.specs.private.ChainCore.{IsConsistent};
 
-    ghost view = { λ core. record { epoch_end = core.epoch_end; recovery = core.recovery; proxies = length core.replies.items; answers = core.answers.items } };
+    ghost view = { λ core. record {
+      epoch_end = core.epoch_end;
+      recovery = core.recovery;
+      proxies = length core.replies.items;
+      answers = core.answers.items;
+    } };
 
     ghost invariant = { λ core. IsConsistent core.epoch_end core.recovery core.answers.items core.replies.items };
 }
@@ -56,8 +61,10 @@ impl ChainCore {
         ensures ok_proxies { OnOk result (IsProxyCount proxies) }
 
         ensures bad_epoch { (result ≡ Err ChainError.BadEpoch) ↔ ((recovery ≤ epoch_end) ⊎ (MAX_VERSION < recovery)) }
-        ensures no_proxy { (result ≡ Err ChainError.NoProxy) ↔ (IsEpoch epoch_end recovery × ((proxies ≡ 0) ⊎ (MAX_PROXIES < proxies))) }
-        ensures else_memory { IsEpoch epoch_end recovery → IsProxyCount proxies → IfErr result (λ cause. cause ≡ ChainError.Memory) }
+        ensures no_proxy { (result ≡ Err ChainError.NoProxy)
+            ↔ (IsEpoch epoch_end recovery × ((proxies ≡ 0) ⊎ (MAX_PROXIES < proxies))) }
+        ensures else_memory { IsEpoch epoch_end recovery → IsProxyCount proxies
+            → IfErr result (λ cause. cause ≡ ChainError.Memory) }
     {
         if recovery <= epoch_end || recovery > MAX_VERSION {
             return Err(ChainError::BadEpoch);
@@ -192,8 +199,8 @@ impl ChainCore {
             proxy: ask.proxy,
             num: ask.num,
             processed: ask.processed,
-            prev: version::prev(self.epoch_end, last),
-            version: version::version(self.recovery, last, ask.at),
+            prev: version::prev_after(self.epoch_end, last),
+            version: version::version_after(self.recovery, last, ask.at),
             at: ask.at,
             fresh: true,
         }

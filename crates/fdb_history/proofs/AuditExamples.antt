@@ -4,7 +4,7 @@ use Rattle.std.proofs.lemmas.Bool.{both_ways, false≢true, le-leb, lt-ltb}
 use Rattle.std.proofs.lemmas.Option.{none-some, same_Some}
 use Rattle.fdb_history.specs.Audit.{IsNotAbove}
 use Rattle.fdb_history.specs.Faults.{IsGap, IsOutOfOrder, IsReached, IsWrongAnswer, register_at}
-use Rattle.fdb_history.specs.Strays.{goes_with, is_borne_out, is_drawn, is_near_the_end}
+use Rattle.fdb_history.specs.Strays.{goes_with, is_justified, is_drawn, is_near_the_end}
 use Rattle.fdb_history.specs.declared.chain.Issued.{Issued}
 use Rattle.fdb_history.specs.declared.chain.TheConstants.{MAX_STEP}
 use Rattle.fdb_history.specs.declared.grv.Priority.TheVariants.{Default}
@@ -26,7 +26,7 @@ greatest_version = refl
 greatest_step : MAX_STEP ≡ 5000000
 greatest_step = refl
 
--- ---- what a call's answer is borne out by
+-- ---- what a call's answer is justified by
 
 abbrev plain : ℕ → Record
 plain version = record { version = version; locked = false; metadata = None }
@@ -47,33 +47,33 @@ reads lock_aware rec locked_out =
     called (input.Grv (record { priority = Default; count = 1; tags = []; lock_aware = lock_aware; at = 0 })) (Version rec [] locked_out)
 
 -- Of a locked database a client that is not lock-aware is turned away, and no other.
-turned_away : is_borne_out [] 0 [] (reads false (locked 100) true) ≡ true
+turned_away : is_justified [] 0 [] (reads false (locked 100) true) ≡ true
 turned_away = refl
 
-not_turned_away : is_borne_out [] 0 [] (reads false (locked 100) false) ≡ false
+not_turned_away : is_justified [] 0 [] (reads false (locked 100) false) ≡ false
 not_turned_away = refl
 
-aware_turned_away : is_borne_out [] 0 [] (reads true (locked 100) true) ≡ false
+aware_turned_away : is_justified [] 0 [] (reads true (locked 100) true) ≡ false
 aware_turned_away = refl
 
-aware_goes_on : is_borne_out [] 0 [] (reads true (locked 100) false) ≡ true
+aware_goes_on : is_justified [] 0 [] (reads true (locked 100) false) ≡ true
 aware_goes_on = refl
 
 -- Of one that is not locked nobody is.
-unlocked_turned_away : is_borne_out [] 0 [] (reads false (plain 100) true) ≡ false
+unlocked_turned_away : is_justified [] 0 [] (reads false (plain 100) true) ≡ false
 unlocked_turned_away = refl
 
-unlocked_goes_on : is_borne_out [] 0 [] (reads false (plain 100) false) ≡ true
+unlocked_goes_on : is_justified [] 0 [] (reads false (plain 100) false) ≡ true
 unlocked_goes_on = refl
 
--- Nobody may be refused a tell, and no report is refused for want of room.
-tell_done : is_borne_out [] 0 [] (called (input.Tell 1) Told) ≡ true
+-- Nobody may be refused a tell, and no report is refused because a queue is full.
+tell_done : is_justified [] 0 [] (called (input.Tell 1) Told) ≡ true
 tell_done = refl
 
-tell_refused : is_borne_out [] 0 [] (called (input.Tell 1) (Refused Full)) ≡ false
+tell_refused : is_justified [] 0 [] (called (input.Tell 1) (Refused Full)) ≡ false
 tell_refused = refl
 
-report_full : is_borne_out [] 0 [] (called (input.Report 1 false None) (Refused Full)) ≡ false
+report_full : is_justified [] 0 [] (called (input.Report 1 false None) (Refused Full)) ≡ false
 report_full = refl
 
 report_told : goes_with (input.Report 1 false None) Told ≡ false
@@ -103,68 +103,68 @@ abbrev drew_first : Call
 drew_first = asks 1 0 1000 (Answered first_entry)
 
 -- An answer is the chain's, the client's own and under the number that it asked for.
-of_chain : is_borne_out entries 0 [] drew_first ≡ true
+of_chain : is_justified entries 0 [] drew_first ≡ true
 of_chain = refl
 
-of_no_chain : is_borne_out [] 0 [] drew_first ≡ false
+of_no_chain : is_justified [] 0 [] drew_first ≡ false
 of_no_chain = refl
 
-of_another_version : is_borne_out entries 0 [] (asks 1 0 1000 (Answered (record first_entry { version = 101 }))) ≡ false
+of_another_version : is_justified entries 0 [] (asks 1 0 1000 (Answered (record first_entry { version = 101 }))) ≡ false
 of_another_version = refl
 
-of_another_prev : is_borne_out entries 0 [] (asks 1 0 1000 (Answered (record first_entry { prev = 1 }))) ≡ false
+of_another_prev : is_justified entries 0 [] (asks 1 0 1000 (Answered (record first_entry { prev = 1 }))) ≡ false
 of_another_prev = refl
 
-of_another_client : is_borne_out entries 1 [] drew_first ≡ false
+of_another_client : is_justified entries 1 [] drew_first ≡ false
 of_another_client = refl
 
-of_another_number : is_borne_out entries 0 [] (asks 1 0 3000 (Answered second_entry)) ≡ false
+of_another_number : is_justified entries 0 [] (asks 1 0 3000 (Answered second_entry)) ≡ false
 of_another_number = refl
 
 -- The next number draws a version, with the request's members.
-next_fresh : is_borne_out entries 0 (drew_first ∷ []) (asks 2 0 3000 (Answered second_entry)) ≡ true
+next_fresh : is_justified entries 0 (drew_first ∷ []) (asks 2 0 3000 (Answered second_entry)) ≡ true
 next_fresh = refl
 
-next_not_fresh : is_borne_out entries 0 (drew_first ∷ []) (asks 2 0 3000 (Answered (again second_entry))) ≡ false
+next_not_fresh : is_justified entries 0 (drew_first ∷ []) (asks 2 0 3000 (Answered (again second_entry))) ≡ false
 next_not_fresh = refl
 
-next_of_another_moment : is_borne_out entries 0 (drew_first ∷ []) (asks 2 0 3001 (Answered second_entry)) ≡ false
+next_of_another_moment : is_justified entries 0 (drew_first ∷ []) (asks 2 0 3001 (Answered second_entry)) ≡ false
 next_of_another_moment = refl
 
-next_having_processed : is_borne_out entries 0 (drew_first ∷ []) (asks 2 1 3000 (Answered second_entry)) ≡ false
+next_having_processed : is_justified entries 0 (drew_first ∷ []) (asks 2 1 3000 (Answered second_entry)) ≡ false
 next_having_processed = refl
 
-next_forgotten : is_borne_out entries 0 (drew_first ∷ []) (asks 2 0 3000 (Refused Forgotten)) ≡ false
+next_forgotten : is_justified entries 0 (drew_first ∷ []) (asks 2 0 3000 (Refused Forgotten)) ≡ false
 next_forgotten = refl
 
 -- A number ahead of it is early, and is told the next one.
-ahead_early : is_borne_out entries 0 (drew_first ∷ []) (asks 3 0 4000 (Refused (Early 2))) ≡ true
+ahead_early : is_justified entries 0 (drew_first ∷ []) (asks 3 0 4000 (Refused (Early 2))) ≡ true
 ahead_early = refl
 
-ahead_of_another : is_borne_out entries 0 (drew_first ∷ []) (asks 3 0 4000 (Refused (Early 3))) ≡ false
+ahead_of_another : is_justified entries 0 (drew_first ∷ []) (asks 3 0 4000 (Refused (Early 3))) ≡ false
 ahead_of_another = refl
 
-next_early : is_borne_out entries 0 (drew_first ∷ []) (asks 2 0 3000 (Refused (Early 2))) ≡ false
+next_early : is_justified entries 0 (drew_first ∷ []) (asks 2 0 3000 (Refused (Early 2))) ≡ false
 next_early = refl
 
 -- A number up to the latest gets its answer again, and nothing else.
-repeat_again : is_borne_out entries 0 (drew_first ∷ []) (asks 1 0 9000 (Answered (again first_entry))) ≡ true
+repeat_again : is_justified entries 0 (drew_first ∷ []) (asks 1 0 9000 (Answered (again first_entry))) ≡ true
 repeat_again = refl
 
-repeat_fresh : is_borne_out entries 0 (drew_first ∷ []) (asks 1 0 1000 (Answered first_entry)) ≡ false
+repeat_fresh : is_justified entries 0 (drew_first ∷ []) (asks 1 0 1000 (Answered first_entry)) ≡ false
 repeat_fresh = refl
 
-repeat_forgotten : is_borne_out entries 0 (drew_first ∷ []) (asks 1 0 9000 (Refused Forgotten)) ≡ false
+repeat_forgotten : is_justified entries 0 (drew_first ∷ []) (asks 1 0 9000 (Refused Forgotten)) ≡ false
 repeat_forgotten = refl
 
 -- But once it was processed, or where there is no such number, it is forgotten.
-erased_forgotten : is_borne_out (first_entry ∷ second_having 1 ∷ []) 0 (drew_first ∷ asks 2 1 3000 (Answered (second_having 1)) ∷ []) (asks 1 0 9000 (Refused Forgotten)) ≡ true
+erased_forgotten : is_justified (first_entry ∷ second_having 1 ∷ []) 0 (drew_first ∷ asks 2 1 3000 (Answered (second_having 1)) ∷ []) (asks 1 0 9000 (Refused Forgotten)) ≡ true
 erased_forgotten = refl
 
-erased_again : is_borne_out (first_entry ∷ second_having 1 ∷ []) 0 (drew_first ∷ asks 2 1 3000 (Answered (second_having 1)) ∷ []) (asks 1 0 9000 (Answered (again first_entry))) ≡ false
+erased_again : is_justified (first_entry ∷ second_having 1 ∷ []) 0 (drew_first ∷ asks 2 1 3000 (Answered (second_having 1)) ∷ []) (asks 1 0 9000 (Answered (again first_entry))) ≡ false
 erased_again = refl
 
-zero_forgotten : is_borne_out entries 0 (drew_first ∷ []) (asks 0 0 9000 (Refused Forgotten)) ≡ true
+zero_forgotten : is_justified entries 0 (drew_first ∷ []) (asks 0 0 9000 (Refused Forgotten)) ≡ true
 zero_forgotten = refl
 
 -- a chain whose last version is this
@@ -181,39 +181,39 @@ not_near_the_end = refl
 nothing_is_not_near_the_end : is_near_the_end [] ≡ false
 nothing_is_not_near_the_end = refl
 
-exhausted : is_borne_out (up_to 9223372036849775808) 0 (drew_first ∷ []) (asks 2 0 3000 (Refused Exhausted)) ≡ true
+exhausted : is_justified (up_to 9223372036849775808) 0 (drew_first ∷ []) (asks 2 0 3000 (Refused Exhausted)) ≡ true
 exhausted = refl
 
-exhausted_too_early : is_borne_out (up_to 9223372036849775807) 0 (drew_first ∷ []) (asks 2 0 3000 (Refused Exhausted)) ≡ false
+exhausted_too_early : is_justified (up_to 9223372036849775807) 0 (drew_first ∷ []) (asks 2 0 3000 (Refused Exhausted)) ≡ false
 exhausted_too_early = refl
 
-repeat_exhausted : is_borne_out (up_to 9223372036849775808) 0 (drew_first ∷ []) (asks 1 0 3000 (Refused Exhausted)) ≡ false
+repeat_exhausted : is_justified (up_to 9223372036849775808) 0 (drew_first ∷ []) (asks 1 0 3000 (Refused Exhausted)) ≡ false
 repeat_exhausted = refl
 
 -- A report is of the version that was issued under its number, with the flags that it was told.
-report_of_issued : is_borne_out entries 0 (drew_first ∷ []) (called (input.Report 1 false None) (Acked (plain 100) true)) ≡ true
+report_of_issued : is_justified entries 0 (drew_first ∷ []) (called (input.Report 1 false None) (Acked (plain 100) true)) ≡ true
 report_of_issued = refl
 
-report_of_another_version : is_borne_out entries 0 (drew_first ∷ []) (called (input.Report 1 false None) (Acked (plain 101) true)) ≡ false
+report_of_another_version : is_justified entries 0 (drew_first ∷ []) (called (input.Report 1 false None) (Acked (plain 101) true)) ≡ false
 report_of_another_version = refl
 
-report_of_another_number : is_borne_out entries 0 (drew_first ∷ []) (called (input.Report 2 false None) (Acked (plain 100) true)) ≡ false
+report_of_another_number : is_justified entries 0 (drew_first ∷ []) (called (input.Report 2 false None) (Acked (plain 100) true)) ≡ false
 report_of_another_number = refl
 
-report_of_another_lock : is_borne_out entries 0 (drew_first ∷ []) (called (input.Report 1 true None) (Acked (plain 100) true)) ≡ false
+report_of_another_lock : is_justified entries 0 (drew_first ∷ []) (called (input.Report 1 true None) (Acked (plain 100) true)) ≡ false
 report_of_another_lock = refl
 
-report_of_metadata : is_borne_out entries 0 (drew_first ∷ []) (called (input.Report 1 false (Some 7)) (Acked (with_metadata 100 7) true)) ≡ true
+report_of_metadata : is_justified entries 0 (drew_first ∷ []) (called (input.Report 1 false (Some 7)) (Acked (with_metadata 100 7) true)) ≡ true
 report_of_metadata = refl
 
-report_of_other_metadata : is_borne_out entries 0 (drew_first ∷ []) (called (input.Report 1 false (Some 7)) (Acked (with_metadata 100 8) true)) ≡ false
+report_of_other_metadata : is_justified entries 0 (drew_first ∷ []) (called (input.Report 1 false (Some 7)) (Acked (with_metadata 100 8) true)) ≡ false
 report_of_other_metadata = refl
 
 -- It is refused only where none was.
-not_issued : is_borne_out entries 0 (drew_first ∷ []) (called (input.Report 2 false None) (Refused NotIssued)) ≡ true
+not_issued : is_justified entries 0 (drew_first ∷ []) (called (input.Report 2 false None) (Refused NotIssued)) ≡ true
 not_issued = refl
 
-not_issued_untrue : is_borne_out entries 0 (drew_first ∷ []) (called (input.Report 1 false None) (Refused NotIssued)) ≡ false
+not_issued_untrue : is_justified entries 0 (drew_first ∷ []) (called (input.Report 1 false None) (Refused NotIssued)) ≡ false
 not_issued_untrue = refl
 
 -- The call drew the first entry, and neither the second nor the first at another place.

@@ -1,7 +1,7 @@
 -- What an audit answers, by what its parts found.
 use Rattle.std.proofs.Common.{◌≡◌, ℕ, List, Option, None, Result, Ok, Err, IfOk, IfErr, refl, subst, sym}
 use Rattle.fdb_history.specs.Audit.{IsAudited, IsFirstFault, Low}
-use Rattle.fdb_history.specs.Auditing.{IsFirstCall}
+use Rattle.fdb_history.specs.private.Auditing.{IsFirstCall}
 use Rattle.fdb_history.specs.Faults.{IsFaultless, OutOfOrder, WronglyAnswered, IsClash, IsGap, Nowhere, AtNoPosition}
 use Rattle.fdb_history.specs.Linear.{IsLinear}
 use Rattle.fdb_history.specs.Strays.{IsStray}
@@ -26,7 +26,7 @@ pub audited_linear : (start : Record) (chain : List Issued) (logs : List ClientL
 audited_linear start chain logs (Ok history) audited = subst (IsLinear start logs) (sym audited.3) (linear start logs audited.0)
 audited_linear start chain logs (Err fault) audited = tt
 
--- of logs that have a linear history, and where nothing is astray or low, memory alone can be refused
+-- of logs that have a linear history, and where nothing is stray or low, memory alone can be refused
 fault_of_linear : (start : Record) (chain : List Issued) (logs : List ClientLog) → IsFaultless start logs → Nowhere (IsStray chain logs) → Nowhere (Low start logs)
     → (fault : AuditFault) → IsFirstFault start chain logs fault → fault ≡ Memory
 fault_of_linear start chain logs fine no_stray none_low (Order client call) first = absurd (fine.order client call first.stands)

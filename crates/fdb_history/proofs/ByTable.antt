@@ -2,7 +2,7 @@
 use Rattle.std.proofs.Common.{◌≡◌, ℕ, ◌-◌, ◌≤◌, ◌<◌, true, false, List, Option, None, Some, slice_get, sym, subst, inl, inr, arith}
 use Rattle.std.proofs.lemmas.Bool.{cases_lt}
 use Rattle.fdb_history.specs.Audit.{IsNotAbove, Low}
-use Rattle.fdb_history.specs.Auditing.{AreRegisters, IsFirstCall, by_table}
+use Rattle.fdb_history.specs.private.Auditing.{AreRegisters, IsFirstCall, by_table}
 use Rattle.fdb_history.specs.Faults.{OutOfOrder, WronglyAnswered, StandsAt, IsReached, IsWrongBy, Nowhere, register_at}
 use Rattle.fdb_history.specs.Log.{calls_of}
 use Rattle.fdb_history.specs.declared.auditing.found.CallName.{CallName}

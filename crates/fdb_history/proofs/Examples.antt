@@ -1,6 +1,6 @@
 -- Worked examples of the definitions: each is computed by them, so that a wrong definition fails here.
 use Rattle.std.proofs.Common.{◌≡◌, ℕ, true, false, List, [], ◌∷◌, map, length, None, Ok, Err, Result, refl, ap, inl, arith}
-use Rattle.fdb_history.specs.Event.{register, IsLegal, positions_from}
+use Rattle.fdb_history.specs.Event.{register_after, IsLegal, positions_from}
 use Rattle.fdb_history.specs.Explained.{explained}
 use Rattle.fdb_history.specs.Faults.{raises_at, register_at, IsOutOfOrder, IsWrongAnswer}
 use Rattle.fdb_history.specs.Strays.{goes_with}
@@ -36,7 +36,7 @@ one_client-positions : positions_from 0 one_client ≡ 0 ∷ 0 ∷ 1 ∷ 1 ∷ [
 one_client-positions = refl
 
 -- The register has what was reported last.
-one_client-register : register (plain 100) one_client ≡ plain 2100
+one_client-register : register_after (plain 100) one_client ≡ plain 2100
 one_client-register = refl
 
 -- a sequencer for four proxies that has given no answer

@@ -9,7 +9,7 @@ use Rattle.fdb_history.specs.Explained.{placed_in}
 use Rattle.fdb_history.specs.Faults.{raise_in, raises_in, raises_at, after_raises}
 use Rattle.fdb_history.specs.Linear.{IsLinear}
 use Rattle.fdb_history.specs.Log.{placed_from}
-use Rattle.fdb_history.specs.Register.{raises, record_after}
+use Rattle.fdb_history.specs.Register.{raises, after_report}
 use Rattle.fdb_history.specs.declared.auditing.raises.Raise.{Raise}
 use Rattle.fdb_history.specs.declared.event.Event.{Event}
 use Rattle.fdb_history.specs.declared.event.Event.TheVariants.{Report, Read}
@@ -122,11 +122,11 @@ answered reg raised step before current (Report client call rec false ∷ events
 answered reg raised step before current (Report client call rec true ∷ events) same legal each =
     let event = Report client call rec true in
     let here : raised (before + 1) ≡ record { position = before + 1; rec = rec } ∷ [] = each (before + 1) (omega arith) ∙ ap raises_of (raise_stamp before event events refl) in
-    let made : reg (before + 1) ≡ record_after current rec = step before ∙ ap (after_raises (reg before)) here ∙ ap (λ r. record_after r rec) same in
+    let made : reg (before + 1) ≡ after_report current rec = step before ∙ ap (after_raises (reg before)) here ∙ ap (λ r. after_report r rec) same in
     let above = ltb-true current.version rec.version (sym legal.0) in
     let back : before + 1 - 1 ≡ before = omega arith in
     let version = ap (λ (r : Record). r.version) (ap reg back ∙ same) in (
       omega arith,
-      answered reg raised step (before + 1) (record_after current rec) events made legal.1
+      answered reg raised step (before + 1) (after_report current rec) events made legal.1
           (λ p above. each p (omega arith) ∙ ap raises_of (other_stamp before p event events refl (λ at. absurd (omega arith)))),
     )

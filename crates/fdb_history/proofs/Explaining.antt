@@ -10,10 +10,10 @@ use Rattle.std.proofs.lemmas.List.{map-append}
 use Rattle.std.proofs.lemmas.Simd.{map-map}
 use Rattle.std.proofs.lemmas.List.Elements.{filter_agree, All-from_recursion}
 use Rattle.std.proofs.lemmas.List.Sorted.{All-permutation}
-use Rattle.fdb_history.specs.Auditing.{AreByPosition, AreRaisesOf, IsWithin}
+use Rattle.fdb_history.specs.private.Auditing.{AreByPosition, AreRaisesOf, IsWithin}
 use Rattle.fdb_history.specs.Event.{Placed, is_raise}
 use Rattle.fdb_history.specs.Explained.{placed_in, explained}
-use Rattle.fdb_history.specs.Explaining.{AreEventsByPosition, placed, placed_as, raise_of_event, raises_of}
+use Rattle.fdb_history.specs.private.Explaining.{AreEventsByPosition, placed, placed_as, raise_of_event, raises_of}
 use Rattle.fdb_history.specs.Faults.{at_position}
 use Rattle.fdb_history.specs.declared.auditing.placed.PlacedEvent.{PlacedEvent}
 use Rattle.fdb_history.specs.declared.auditing.raises.Raise.{Raise}

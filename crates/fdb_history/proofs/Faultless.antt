@@ -4,7 +4,7 @@ use Rattle.std.specs.List.{AllByRecursion}
 use Rattle.std.proofs.lemmas.Bool.{cond-true, cond-false, and_parts, eqb-true, false_from_ne_true, cases_lt, cases_order, cases_Bool}
 use Rattle.std.proofs.lemmas.List.{map-append, nil_from_length}
 use Rattle.std.proofs.lemmas.List.Sums.{length-filter}
-use Rattle.fdb_history.specs.Auditing.{IsWithin}
+use Rattle.fdb_history.specs.private.Auditing.{IsWithin}
 use Rattle.fdb_history.specs.Event.{Placed, is_raise, raise_count}
 use Rattle.fdb_history.specs.Explained.{placed_in, events_at, events_up_to, explained}
 use Rattle.fdb_history.specs.Faults.{raises_at, register_at, after_raises, IsWrongAnswer, IsFaultless}

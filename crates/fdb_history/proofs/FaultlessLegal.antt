@@ -7,7 +7,7 @@ use Rattle.std.proofs.lemmas.Option.{same_Some, none-some}
 use Rattle.fdb_history.specs.Register.{raises}
 use Rattle.fdb_history.specs.Event.{Placed, IsLegal, is_raise}
 use Rattle.fdb_history.specs.Explained.{events_at, events_up_to}
-use Rattle.fdb_history.specs.Explaining.{raise_of_event}
+use Rattle.fdb_history.specs.private.Explaining.{raise_of_event}
 use Rattle.fdb_history.specs.Faults.{after_raises, register_at, IsWrongAnswer}
 use Rattle.fdb_history.specs.declared.register.Record.{Record}
 use Rattle.fdb_history.specs.declared.event.Event.{Event}

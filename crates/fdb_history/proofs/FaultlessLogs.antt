@@ -7,7 +7,7 @@ use Rattle.std.proofs.lemmas.List.Elements.{filter-append}
 use Rattle.std.proofs.lemmas.List.Concat.{flat_map-append}
 use Rattle.fdb_history.specs.Event.{Placed, is_raise}
 use Rattle.fdb_history.specs.Explained.{placed_in}
-use Rattle.fdb_history.specs.Explaining.{raise_of_event}
+use Rattle.fdb_history.specs.private.Explaining.{raise_of_event}
 use Rattle.fdb_history.specs.Faults.{raise_in, raises_in, raises_at, IsOutOfOrder, StandsAt, Nowhere}
 use Rattle.fdb_history.specs.Linear.{NeverGoesBack, client_of}
 use Rattle.fdb_history.specs.Log.{event_of_answer, placed_from, calls_of, answer_raises, position_after_calls}

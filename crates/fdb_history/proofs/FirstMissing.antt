@@ -2,7 +2,7 @@
 use Rattle.std.proofs.Common.{◌≡◌, ℕ, zero, suc, ◌+◌, ◌<◌, List, [], length, get_or, ap, arith, inl, inr}
 use Rattle.std.proofs.lemmas.Bool.{cases_lt, cases_eq}
 use Rattle.std.proofs.lemmas.List.{get_or_default}
-use Rattle.fdb_history.specs.Auditing.{AreByPosition, AreTwoAt}
+use Rattle.fdb_history.specs.private.Auditing.{AreByPosition, AreTwoAt}
 use Rattle.fdb_history.specs.Faults.{at_position, AtNoPosition}
 use Rattle.fdb_history.specs.declared.auditing.raises.Raise.{Raise}
 use Rattle.fdb_history.proofs.RaisesAt.{at-none, at-some, at-two}

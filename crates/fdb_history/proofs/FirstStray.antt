@@ -1,10 +1,10 @@
--- The first stray answer, by the first call that is not borne out and the least client with an entry that was not drawn.
+-- The first stray answer, by the first call that is not justified and the least client with an entry that was not drawn.
 use Rattle.std.proofs.Common.{◌≡◌, ℕ, ◌≤◌, Bool, List, length, Option, Some, None, refl, ap, sym, ◌∙◌, inl, inr, arith}
 use Rattle.std.proofs.lemmas.Option.{slice_get_within}
-use Rattle.fdb_history.specs.Auditing.{AreMarks, HasUnmarked, IsFirstCall, IsLeastIfAny}
+use Rattle.fdb_history.specs.private.Auditing.{AreMarks, HasUnmarked, IsFirstCall, IsLeastIfAny}
 use Rattle.fdb_history.specs.Faults.{AtNoPosition, ComesBefore, IsFirst, IsLeast}
 use Rattle.fdb_history.specs.Log.{calls_of}
-use Rattle.fdb_history.specs.Strays.{HasUndrawn, IsStray, NotBorneOut, is_drawn}
+use Rattle.fdb_history.specs.Strays.{HasUndrawn, IsStray, NotJustified, is_drawn}
 use Rattle.fdb_history.specs.declared.auditing.found.CallName.{CallName}
 use Rattle.fdb_history.specs.declared.chain.Issued.{Issued}
 use Rattle.fdb_history.specs.declared.log.ClientLog.{ClientLog}
@@ -28,7 +28,7 @@ module _ (chain : List Issued) (logs : List ClientLog) where
   -- ---- which of the two comes first
 
   -- every entry was drawn
-  pub calls_only : (astray : Option CallName) → AtNoPosition (HasUndrawn chain logs) → IsFirstCall (NotBorneOut chain logs) astray → IsFirstCall (IsStray chain logs) astray
+  pub calls_only : (unjustified : Option CallName) → AtNoPosition (HasUndrawn chain logs) → IsFirstCall (NotJustified chain logs) unjustified → IsFirstCall (IsStray chain logs) unjustified
   calls_only None none nowhere = λ client place stray. elim stray [ inl call ↦ nowhere client place call | inr at_end ↦ none client at_end.1 ]
   calls_only (Some name) none first =
       record {
@@ -37,7 +37,7 @@ module _ (chain : List Issued) (logs : List ClientLog) where
       }
 
   -- the call is of no later client than the entry
-  pub call_first : (client place least : ℕ) → client ≤ least → IsFirst (NotBorneOut chain logs) client place → IsLeast (HasUndrawn chain logs) least → IsFirst (IsStray chain logs) client place
+  pub call_first : (client place least : ℕ) → client ≤ least → IsFirst (NotJustified chain logs) client place → IsLeast (HasUndrawn chain logs) least → IsFirst (IsStray chain logs) client place
   call_first client place least no_later first entry =
       record { stands = inl first.stands; none_before = λ c p before stray. elim stray [ inl call ↦ first.none_before c p before call | inr at_end ↦ no_end c p before at_end ] }
     where
@@ -48,12 +48,12 @@ module _ (chain : List Issued) (logs : List ClientLog) where
           let one = ap (λ k. length (calls_of logs k)) same in
           absurd (omega (arith, at_end.0))
 
-  -- no call of a client up to that of the entry is not borne out
-  pub entry_first : (least : ℕ) → ((c p : ℕ) → c ≤ least → NotBorneOut chain logs c p → ⊥) → IsLeast (HasUndrawn chain logs) least → IsFirst (IsStray chain logs) least (length (calls_of logs least))
-  entry_first least borne_out entry = record { stands = inr (refl, entry.stands); none_before = none }
+  -- no call of a client up to that of the entry is not justified
+  pub entry_first : (least : ℕ) → ((c p : ℕ) → c ≤ least → NotJustified chain logs c p → ⊥) → IsLeast (HasUndrawn chain logs) least → IsFirst (IsStray chain logs) least (length (calls_of logs least))
+  entry_first least justified entry = record { stands = inr (refl, entry.stands); none_before = none }
     where
       none : (c p : ℕ) → ComesBefore c p least (length (calls_of logs least)) → IsStray chain logs c p → ⊥
-      none c p (inl below) (inl call) = borne_out c p (omega arith) call
+      none c p (inl below) (inl call) = justified c p (omega arith) call
       none c p (inl below) (inr at_end) = entry.none_below c below at_end.1
-      none c p (inr (same, earlier)) (inl call) = borne_out c p (omega arith) call
+      none c p (inr (same, earlier)) (inl call) = justified c p (omega arith) call
       none c p (inr (same, earlier)) (inr at_end) = let one = ap (λ k. length (calls_of logs k)) same in absurd (omega (arith, at_end.0))

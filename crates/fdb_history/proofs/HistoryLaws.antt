@@ -4,27 +4,27 @@ use Rattle.std.specs.List.{AllByRecursion}
 use Rattle.std.proofs.lemmas.Bool.{cond_both, cond-true, cond-false, eq-eqb, ne_eqb, eqb-false}
 use Rattle.std.proofs.lemmas.Option.{cond_some, same_Some, none-some, slice_get_within}
 use Rattle.std.proofs.lemmas.List.Sums.{sum_by-cons}
-use Rattle.fdb_history.specs.Register.{raises, record_after}
-use Rattle.fdb_history.specs.Event.{after_event, register, IsTrueOf, IsLegal, is_raise, position_after, positions_from, raise_count}
+use Rattle.fdb_history.specs.Register.{raises, after_report}
+use Rattle.fdb_history.specs.Event.{after_event, register_after, IsTrueOf, IsLegal, is_raise, position_after, positions_from, raise_count}
 use Rattle.fdb_history.specs.Laws.{seen_version, seen_at, reports_of}
 use Rattle.fdb_history.specs.declared.register.Record.{Record}
 use Rattle.fdb_history.specs.declared.event.Event.{Event}
 use Rattle.fdb_history.specs.declared.event.Event.TheVariants.{Report, Read}
 
 -- A report leaves at least the version that it found, and at least its own.
-pub record_after-at_least : (current rec : Record) → (current.version ≤ (record_after current rec).version) × (rec.version ≤ (record_after current rec).version)
-record_after-at_least current rec =
+pub after_report-at_least : (current rec : Record) → (current.version ≤ (after_report current rec).version) × (rec.version ≤ (after_report current rec).version)
+after_report-at_least current rec =
     cond_both (ltb current.version rec.version) rec current (λ r. (current.version ≤ r.version) × (rec.version ≤ r.version))
     (λ e. let l = ltb-true current.version rec.version e in (omega arith, le_refl rec.version))
     (λ e. let l = ltb-false current.version rec.version e in (le_refl current.version, l))
 
 pub after_event-at_least : (current : Record) (event : Event) → current.version ≤ (after_event current event).version
-after_event-at_least current (Report client call rec raised) = (record_after-at_least current rec).0
+after_event-at_least current (Report client call rec raised) = (after_report-at_least current rec).0
 after_event-at_least current (Read client call rec) = le_refl current.version
 
-pub register-at_least : (start : Record) (events : List Event) → start.version ≤ (register start events).version
-register-at_least start [] = le_refl start.version
-register-at_least start (event ∷ events) = le_trans (after_event-at_least start event) (register-at_least (after_event start event) events)
+pub register_after-at_least : (start : Record) (events : List Event) → start.version ≤ (register_after start events).version
+register_after-at_least start [] = le_refl start.version
+register_after-at_least start (event ∷ events) = le_trans (after_event-at_least start event) (register_after-at_least (after_event start event) events)
 
 -- What an event shows is the version of the register after it.
 pub seen_version-after : (current : Record) (event : Event) (seen : ℕ) → IsTrueOf current event → seen_version event ≡ Some seen → seen ≡ (after_event current event).version
@@ -74,12 +74,12 @@ added-below : (current : Record) (event : Event) → IsTrueOf current event → 
 added-below current (Report client call rec true) t =
     let kept = cond-true (raises current rec) rec current (sym t) in
     let more = ltb-true current.version rec.version (sym t) in
-    let is : (record_after current rec).version ≡ rec.version = ap (λ (r : Record). r.version) kept in
+    let is : (after_report current rec).version ≡ rec.version = ap (λ (r : Record). r.version) kept in
     omega arith
-added-below current (Report client call rec false) t = let least = (record_after-at_least current rec).0 in omega arith
+added-below current (Report client call rec false) t = let least = (after_report-at_least current rec).0 in omega arith
 added-below current (Read client call rec) t = omega arith
 
-pub raise_count-below : (start : Record) (events : List Event) → IsLegal start events → raise_count events + start.version ≤ (register start events).version
+pub raise_count-below : (start : Record) (events : List Event) → IsLegal start events → raise_count events + start.version ≤ (register_after start events).version
 raise_count-below start [] legal = omega arith
 raise_count-below start (event ∷ events) legal =
     let count = raise_count-cons event events in
@@ -108,19 +108,19 @@ IsLegal-take start (suc n) [] legal = tt
 IsLegal-take start (suc n) (event ∷ events) legal = (legal.0, IsLegal-take (after_event start event) n events legal.1)
 
 -- A position never exceeds the version of the register there, and is below it by at least the start's version.
-pub positions_from-below : (start : Record) (events : List Event) (place position : ℕ) → IsLegal start events → slice_get (positions_from 0 events) place ≡ Some position → position + start.version ≤ (register start (take (place + 1) events)).version
+pub positions_from-below : (start : Record) (events : List Event) (place position : ℕ) → IsLegal start events → slice_get (positions_from 0 events) place ≡ Some position → position + start.version ≤ (register_after start (take (place + 1) events)).version
 positions_from-below start events place position legal at =
     let within : place < length events = omega (arith, slice_get_within (positions_from 0 events) place position at, length-positions_from 0 events) in
     let is = same_Some position (raise_count (take (place + 1) events)) (sym at ∙ positions_from-counts events place within) in
     let below = raise_count-below start (take (place + 1) events) (IsLegal-take start (place + 1) events legal) in
     omega arith
 
-pub register-greatest : (start : Record) (events : List Event) → AllByRecursion (λ r. r.version ≤ (register start events).version) (start ∷ reports_of events)
-register-greatest start [] = (le_refl start.version, tt)
-register-greatest start (Read client call rec ∷ events) = register-greatest start events
-register-greatest start (Report client call rec raised ∷ events) =
-    let step = record_after-at_least start rec in
-    let rest = register-greatest (record_after start rec) events in
+pub register_after-greatest : (start : Record) (events : List Event) → AllByRecursion (λ r. r.version ≤ (register_after start events).version) (start ∷ reports_of events)
+register_after-greatest start [] = (le_refl start.version, tt)
+register_after-greatest start (Read client call rec ∷ events) = register_after-greatest start events
+register_after-greatest start (Report client call rec raised ∷ events) =
+    let step = after_report-at_least start rec in
+    let rest = register_after-greatest (after_report start rec) events in
     (le_trans step.0 rest.0, (le_trans step.1 rest.0, rest.1))
 
 -- The report did not raise: it has the final version only where the record before it has it too.
@@ -136,7 +136,7 @@ same-first start rec final rest false e less below found =
     ∙ sym (cond-false (eqb start.version final.version) (Some start) rest e) ∙ found
 
 -- A report, and then what is found among later ones: the earlier of two records with the final version comes first.
-report-first : (start rec final : Record) (rest : Option Record) (raised : Bool) → ltb start.version rec.version ≡ raised → (record_after start rec).version ≤ final.version → cond (eqb (record_after start rec).version final.version) (Some (record_after start rec)) rest ≡ Some final → cond (eqb start.version final.version) (Some start) (cond (eqb rec.version final.version) (Some rec) rest) ≡ Some final
+report-first : (start rec final : Record) (rest : Option Record) (raised : Bool) → ltb start.version rec.version ≡ raised → (after_report start rec).version ≤ final.version → cond (eqb (after_report start rec).version final.version) (Some (after_report start rec)) rest ≡ Some final → cond (eqb start.version final.version) (Some start) (cond (eqb rec.version final.version) (Some rec) rest) ≡ Some final
 report-first start rec final rest true e below found =
     let is = cond-true (ltb start.version rec.version) rec start e in
     let more = ltb-true start.version rec.version e in
@@ -149,10 +149,10 @@ report-first start rec final rest false e below found =
     let less = ltb-false start.version rec.version e in
     same-first start rec final rest (eqb start.version final.version) refl less (rw is at below) (rw is at found)
 
-pub register-first : (start : Record) (events : List Event) → find (λ r. eqb r.version (register start events).version) (start ∷ reports_of events) ≡ Some (register start events)
-register-first start [] = cond-true (eqb start.version start.version) (Some start) None (eq-eqb start.version start.version refl)
-register-first start (Read client call rec ∷ events) = register-first start events
-register-first start (Report client call rec raised ∷ events) =
-    let final = register (record_after start rec) events in
+pub register_after-first : (start : Record) (events : List Event) → find (λ r. eqb r.version (register_after start events).version) (start ∷ reports_of events) ≡ Some (register_after start events)
+register_after-first start [] = cond-true (eqb start.version start.version) (Some start) None (eq-eqb start.version start.version refl)
+register_after-first start (Read client call rec ∷ events) = register_after-first start events
+register_after-first start (Report client call rec raised ∷ events) =
+    let final = register_after (after_report start rec) events in
     report-first start rec final (find (λ r. eqb r.version final.version) (reports_of events)) (ltb start.version rec.version) refl
-    (register-at_least (record_after start rec) events) (register-first (record_after start rec) events)
+    (register_after-at_least (after_report start rec) events) (register_after-first (after_report start rec) events)

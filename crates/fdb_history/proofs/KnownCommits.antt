@@ -6,7 +6,7 @@ use Rattle.std.proofs.lemmas.Option.{same_Some, none-some}
 use Rattle.fdb_history.specs.Faults.{raise_in, raises_in, raises_at, after_raises, register_at, IsWrongAnswer, IsFaultless}
 use Rattle.fdb_history.specs.Linear.{IsLinear, NeverGoesBack}
 use Rattle.fdb_history.specs.Log.{calls_of, answer_raises}
-use Rattle.fdb_history.specs.Register.{record_after}
+use Rattle.fdb_history.specs.Register.{after_report}
 use Rattle.fdb_history.specs.declared.auditing.raises.Raise.{Raise}
 use Rattle.fdb_history.specs.declared.event.Event.{Event}
 use Rattle.fdb_history.specs.declared.grv.TagLimit.{TagLimit}
@@ -14,7 +14,7 @@ use Rattle.fdb_history.specs.declared.log.Call.{Call}
 use Rattle.fdb_history.specs.declared.log.CallAnswer.TheVariants.{Version, Acked}
 use Rattle.fdb_history.specs.declared.log.ClientLog.{ClientLog}
 use Rattle.fdb_history.specs.declared.register.Record.{Record}
-use Rattle.fdb_history.proofs.HistoryLaws.{record_after-at_least}
+use Rattle.fdb_history.proofs.HistoryLaws.{after_report-at_least}
 use Rattle.fdb_history.proofs.ExplainedFaultless.{all_parts, all_at, of_client, faultless}
 use Rattle.fdb_history.proofs.FaultlessBlocks.{kept, left_out}
 use Rattle.fdb_history.proofs.FaultlessLegal.{same_record}
@@ -41,13 +41,13 @@ all_passing P keep (x ∷ xs) all =
 after_raises-at_least : (current : Record) (raises : List Raise) → current.version ≤ (after_raises current raises).version
 after_raises-at_least current [] = le_refl current.version
 after_raises-at_least current (raise ∷ raises) =
-    le_trans (record_after-at_least current raise.rec).0 (after_raises-at_least (record_after current raise.rec) raises)
+    le_trans (after_report-at_least current raise.rec).0 (after_raises-at_least (after_report current raise.rec) raises)
 
 -- and at least the version of each
 each_at_most : (current : Record) (raises : List Raise) → AllByRecursion (λ raise. raise.rec.version ≤ (after_raises current raises).version) raises
 each_at_most current [] = tt
 each_at_most current (raise ∷ raises) =
-    (le_trans (record_after-at_least current raise.rec).1 (after_raises-at_least (record_after current raise.rec) raises), each_at_most (record_after current raise.rec) raises)
+    (le_trans (after_report-at_least current raise.rec).1 (after_raises-at_least (after_report current raise.rec) raises), each_at_most (after_report current raise.rec) raises)
 
 -- the register's version does not fall from a position to a later one
 register_at-in_order : (start : Record) (logs : List ClientLog) (earlier later : ℕ) → earlier ≤ later → (register_at start logs earlier).version ≤ (register_at start logs later).version

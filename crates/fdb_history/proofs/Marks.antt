@@ -9,7 +9,7 @@ use Rattle.std.proofs.lemmas.List.Folds.{list_any-append}
 use Rattle.std.proofs.lemmas.Option.{slice_get_within}
 use Rattle.std.proofs.Math.Bool.{and-false, and-true, or-false, or-true}
 use Rattle.std.proofs.Math.Seq.{take-append_seam}
-use Rattle.fdb_history.specs.Auditing.{AreMarks, HasUnmarked, IsLeastIfAny}
+use Rattle.fdb_history.specs.private.Auditing.{AreMarks, HasUnmarked, IsLeastIfAny}
 use Rattle.fdb_history.specs.Faults.{IsLeast}
 use Rattle.fdb_history.specs.Log.{answer_in, answers_in, calls_of}
 use Rattle.fdb_history.specs.Strays.{is_drawn, is_same}

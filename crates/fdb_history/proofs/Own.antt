@@ -9,11 +9,11 @@ use Rattle.std.proofs.lemmas.List.Elements.{filter-append}
 use Rattle.std.proofs.lemmas.List.Folds.{find-append}
 use Rattle.std.proofs.lemmas.Option.{none-some, slice_get_past}
 use Rattle.fdb_history.specs.Answer.{by_number, kept}
-use Rattle.fdb_history.specs.Bearing.{drawn_version, own_after}
+use Rattle.fdb_history.specs.private.Justifying.{drawn_version, own_after}
 use Rattle.fdb_history.specs.Chain.{latest}
 use Rattle.fdb_history.specs.Log.{answer_in, answers_in, fresh_answers}
 use Rattle.fdb_history.specs.Replies.{KeptReplies, no_replies, replies_after, reply}
-use Rattle.fdb_history.specs.Strays.{goes_with, is_again, is_borne_out, is_borne_out_by, is_due, is_early, is_fresh_answer, is_of_chain, is_of_issued, is_rightly_locked_out, is_same, number_of}
+use Rattle.fdb_history.specs.Strays.{goes_with, is_again, is_justified, is_justified_by, is_due, is_early, is_fresh_answer, is_of_chain, is_of_issued, is_rightly_locked_out, is_same, number_of}
 use Rattle.fdb_history.specs.declared.chain.Issued.{Issued}
 use Rattle.fdb_history.specs.declared.log.Call.{Call}
 use Rattle.fdb_history.specs.declared.log.CallAnswer.{CallAnswer}
@@ -261,13 +261,13 @@ answers_in-push : (before : List Call) (call : Call) → answers_in (before ++ c
 answers_in-push before call = flat_map-append (λ (c : Call). answer_in c.answer) before (call ∷ []) ∙ ap (λ xs. answers_in before ++ xs) (append-nil (answer_in call.answer))
 
 -- the test of a call, by what its client has drawn
-abbrev pub borne_out_of : List Issued → ℕ → KeptReplies → Call → Bool
-borne_out_of chain client own call = is_borne_out_by chain client (length own.places) (reply chain own (number_of call.input)) (drawn_version chain own (number_of call.input)) call
+abbrev pub justified_of : List Issued → ℕ → KeptReplies → Call → Bool
+justified_of chain client own call = is_justified_by chain client (length own.places) (reply chain own (number_of call.input)) (drawn_version chain own (number_of call.input)) call
 
--- after a call that is borne out
-pub OwnAfter-call : (chain : List Issued) (client : ℕ) (before : List Call) (own : KeptReplies) (call : Call) → OwnAfter chain client before own → borne_out_of chain client own call ≡ true → OwnAfter chain client (before ++ call ∷ []) (own_after own call.answer)
-OwnAfter-call chain client before own call are borne_out =
-    let of_its_kind = and_parts (goes_with call.input call.answer) _ borne_out in
+-- after a call that is justified
+pub OwnAfter-call : (chain : List Issued) (client : ℕ) (before : List Call) (own : KeptReplies) (call : Call) → OwnAfter chain client before own → justified_of chain client own call ≡ true → OwnAfter chain client (before ++ call ∷ []) (own_after own call.answer)
+OwnAfter-call chain client before own call are justified =
+    let of_its_kind = and_parts (goes_with call.input call.answer) _ justified in
     let rightly = and_parts (is_rightly_locked_out call.input call.answer) _ of_its_kind.1 in
     let of_chain = and_parts (is_of_chain chain client call.input call.answer) _ rightly.1 in
     let due = and_parts (is_due chain (length own.places) (reply chain own (number_of call.input)) call.input call.answer) _ of_chain.1 in
@@ -291,8 +291,8 @@ due-as_fresh chain latest_num found (input.Report num locked metadata) answer = 
 due-as_fresh chain latest_num found (input.Tell to) answer = refl
 due-as_fresh chain latest_num found (input.Learn from) answer = refl
 
-pub borne_out-same : (chain : List Issued) (client : ℕ) (before : List Call) (own : KeptReplies) (call : Call) → OwnAfter chain client before own → is_borne_out chain client before call ≡ borne_out_of chain client own call
-borne_out-same chain client before own call are =
+pub justified-same : (chain : List Issued) (client : ℕ) (before : List Call) (own : KeptReplies) (call : Call) → OwnAfter chain client before own → is_justified chain client before call ≡ justified_of chain client own call
+justified-same chain client before own call are =
     let asked = call.input in
     let answer = call.answer in
     let num = number_of asked in

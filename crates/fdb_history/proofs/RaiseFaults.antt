@@ -3,7 +3,7 @@ use Rattle.std.proofs.Common.{◌≡◌, ℕ, zero, suc, ◌<◌, ◌≤◌, ◌
 use Rattle.std.specs.List.{AllByRecursion}
 use Rattle.std.proofs.lemmas.Bool.{cases_order, ne_eqb}
 use Rattle.std.proofs.lemmas.List.Elements.{filter-append}
-use Rattle.fdb_history.specs.Auditing.{AreRaisesOf, AreTwoAt, StandInTurn}
+use Rattle.fdb_history.specs.private.Auditing.{AreRaisesOf, AreTwoAt, StandInTurn}
 use Rattle.fdb_history.specs.Faults.{raise_in, raises_in, raises_at, at_position, IsOutOfOrder, IsClash, IsGap, IsReached, IsLeast, StandsAt, Nowhere, AtNoPosition}
 use Rattle.fdb_history.specs.Log.{answer_raises}
 use Rattle.fdb_history.specs.declared.auditing.raises.Raise.{Raise}

@@ -2,9 +2,9 @@
 use Rattle.std.proofs.Common.{◌≡◌, ℕ, zero, suc, ◌+◌, ◌<◌, ◌≤◌, List, [], ◌∷◌, ◌++◌, length, take, get_or, refl, sym, ap, ◌∙◌, arith, inl, inr, length-append}
 use Rattle.std.proofs.lemmas.Bool.{cases_lt, cases_eq}
 use Rattle.std.proofs.lemmas.List.{take_more, get_or_append_left, get_or_push}
-use Rattle.fdb_history.specs.Auditing.{AreRaisesOf, StandInTurn, IsTable}
+use Rattle.fdb_history.specs.private.Auditing.{AreRaisesOf, StandInTurn, IsTable}
 use Rattle.fdb_history.specs.Faults.{at_position, register_at, after_raises, IsClash, AtNoPosition}
-use Rattle.fdb_history.specs.Register.{record_after}
+use Rattle.fdb_history.specs.Register.{after_report}
 use Rattle.fdb_history.specs.declared.auditing.raises.Raise.{Raise}
 use Rattle.fdb_history.specs.declared.log.ClientLog.{ClientLog}
 use Rattle.fdb_history.specs.declared.register.Record.{Record}
@@ -13,13 +13,13 @@ use Rattle.fdb_history.proofs.RaisesAt.{at-only}
 -- ---- the table
 
 -- the register after one raise more
-after-push : (start : Record) (raises : List Raise) (raise : Raise) → after_raises start (raises ++ raise ∷ []) ≡ record_after (after_raises start raises) raise.rec
+after-push : (start : Record) (raises : List Raise) (raise : Raise) → after_raises start (raises ++ raise ∷ []) ≡ after_report (after_raises start raises) raise.rec
 after-push start [] raise = refl
-after-push start (first ∷ raises) raise = after-push (record_after start first.rec) raises raise
+after-push start (first ∷ raises) raise = after-push (after_report start first.rec) raises raise
 
 -- the same, at a place
 after-more : (start : Record) (raises : List Raise) (i : ℕ) (d : Raise) → i < length raises
-    → after_raises start (take (i + 1) raises) ≡ record_after (after_raises start (take i raises)) (get_or raises i d).rec
+    → after_raises start (take (i + 1) raises) ≡ after_report (after_raises start (take i raises)) (get_or raises i d).rec
 after-more start raises i d below = ap (after_raises start) (take_more raises i d below) ∙ after-push start (take i raises) (get_or raises i d)
 
 -- the table has the register after each of so many raises, and the last is the current one
@@ -41,9 +41,9 @@ table-begins start raises = record {
 
 -- one record more
 pub table-more : {i : ℕ} {start : Record} {raises : List Raise} {table : List Record} {current : Record} → IsTableUpTo i start raises table current
-    → (d : Raise) (next : Record) → i < length raises → next ≡ record_after current (get_or raises i d).rec → IsTableUpTo (i + 1) start raises (table ++ next ∷ []) next
+    → (d : Raise) (next : Record) → i < length raises → next ≡ after_report current (get_or raises i d).rec → IsTableUpTo (i + 1) start raises (table ++ next ∷ []) next
 table-more {i} {start} {raises} {table} {current} so_far d next below is =
-    let last = is ∙ ap (λ r. record_after r (get_or raises i d).rec) so_far.last ∙ sym (after-more start raises i d below) in
+    let last = is ∙ ap (λ r. after_report r (get_or raises i d).rec) so_far.last ∙ sym (after-more start raises i d below) in
     let long = so_far.long in
     record {
       long = omega (arith, length-append table (next ∷ []));
@@ -74,7 +74,7 @@ register-after start logs raises missing same once turn (suc position) below =
     let earlier = register-after start logs raises missing same once turn position (omega arith) in
     let more = after-more start raises position d here.0 in
     let next : position + 1 ≡ suc position = omega arith in
-    ap (after_raises (register_at start logs position)) only ∙ ap (λ r. record_after r (get_or raises position d).rec) earlier
+    ap (after_raises (register_at start logs position)) only ∙ ap (λ r. after_report r (get_or raises position d).rec) earlier
     ∙ sym more ∙ ap (λ k. after_raises start (take k raises)) next
 
 -- So the table has it.

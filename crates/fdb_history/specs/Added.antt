@@ -7,15 +7,15 @@ use Rattle.fdb_history.specs.declared.log.CallAnswer.TheVariants.{Version, Acked
 use Rattle.fdb_history.specs.declared.log.Input.{Input}
 use Rattle.fdb_history.specs.declared.log.Input.TheVariants.{Grv, Report}
 
--- whether a client may have seen more after a call than before it: a read that was answered, or a report that
--- was acknowledged
+-- whether a client may have seen more after a call than before it: a read that was answered, or a
+-- report that was acknowledged
 abbrev pub may_advance : Input → CallAnswer → Bool
 may_advance (Grv opts) (Version rec limits locked_out) = true
 may_advance (Report num locked metadata) (Acked rec raised) = true
 may_advance _ _ = false
 
--- The log has one more call than before, with this input. The call begins at the position that the log had
--- come to, and ends there too unless the register answered it.
+-- The log has one more call than before, with this input. The call begins at the position that the
+-- log had come to, and ends there too unless the register answered it.
 pub record AddsCall (before : List Call) (wanted : Input) (after : List Call) : Type 0 where
   pub call : Call
   pub added : after ≡ before ++ call ∷ []

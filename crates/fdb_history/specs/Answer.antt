@@ -15,17 +15,18 @@ pub record Chain : Type 0 where
   pub proxies : ℕ
   pub answers : List Issued
 
--- A search through the answers, the newest first: the first answer of the proxy with this number is found,
--- unless an answer of the proxy that has processed the number comes before it.
+-- A search through the answers, the newest first: the first answer of the proxy with this number is
+-- found, unless an answer of the proxy that has processed the number comes before it.
 abbrev pub kept_among : ℕ → ℕ → List Issued → Option Issued
 kept_among proxy num [] = None
 kept_among proxy num (answer ∷ older) =
-    if answer.proxy == proxy && (answer.num == num)
-    then Some answer
-    else (if answer.proxy == proxy && nat_le num answer.processed then None else kept_among proxy num older)
+    if answer.proxy == proxy && (answer.num == num) then Some answer
+    else (if answer.proxy == proxy && nat_le num answer.processed then None
+    else kept_among proxy num older)
 
 -- The answer that is kept under a proxy's number.
--- (getVersion of masterserver: replies.erase up to mostRecentProcessedRequestNum, then replies[requestNum])
+-- (getVersion of masterserver: replies.erase up to mostRecentProcessedRequestNum, and then
+-- replies[requestNum])
 abbrev pub kept : ℕ → ℕ → List Issued → Option Issued
 kept proxy num answers = kept_among proxy num (reverse answers)
 
@@ -45,29 +46,39 @@ next_answer chain ask =
 
 -- A fresh request draws the next version, if there is one. (Exhausted is this product's own)
 abbrev pub fresh_answer : Chain → Ask → Result Issued Refusal
-fresh_answer chain ask = if nat_le (next_answer chain ask).version MAX_VERSION then Ok (next_answer chain ask) else Err Exhausted
+fresh_answer chain ask =
+    if nat_le (next_answer chain ask).version MAX_VERSION then Ok (next_answer chain ask)
+    else Err Exhausted
 
 -- A repeated request gets its kept answer again, all of it but `fresh`.
--- (in the source, nothing comes back for a number that is not kept; Forgotten is this product's own)
+-- (in the source, nothing comes back for a number that is not kept;
+-- Forgotten is this product's own)
 abbrev pub kept_answer : Option Issued → Result Issued Refusal
 kept_answer None = Err Forgotten
 kept_answer (Some answer) = Ok (record answer { fresh = false })
 
--- What becomes of a request is decided by its number and its proxy's latest one: it is ahead of the next number, or a
--- repeat of one up to the latest, or the next.
+-- What becomes of a request is decided by its number and its proxy's latest one: it is ahead of the
+-- next number, or a repeat of one up to the latest, or the next.
 abbrev pub by_number : {A : Type 0} → ℕ → ℕ → A → A → A → A
-by_number latest_num num ahead again next = if nat_lt (latest_num + 1) num then ahead else (if nat_le num latest_num then again else next)
+by_number latest_num num ahead again next =
+    if nat_lt (latest_num + 1) num then ahead
+    else (if nat_le num latest_num then again else next)
 
 -- The answer to a request after the answers so far.
--- (getVersion of masterserver; in the source an early request waits, and an unknown proxy gets nothing)
+-- (getVersion of masterserver;
+-- in the source an early request waits, and an unknown proxy gets nothing)
 abbrev pub answer_to : Chain → Ask → Result Issued Refusal
 answer_to chain ask =
     if not (nat_lt ask.proxy chain.proxies) then Err UnknownProxy
-    else by_number (latest ask.proxy chain.answers) ask.num (Err (Early (latest ask.proxy chain.answers + 1))) (kept_answer (kept ask.proxy ask.num chain.answers)) (fresh_answer chain ask)
+    else by_number (latest ask.proxy chain.answers) ask.num
+    (Err (Early (latest ask.proxy chain.answers + 1)))
+    (kept_answer (kept ask.proxy ask.num chain.answers))
+    (fresh_answer chain ask)
 
 -- The chain after an answer: a fresh one is appended, and any other leaves the chain as it was.
 abbrev pub with_answer : Chain → Issued → Chain
-with_answer chain answer = if answer.fresh then record chain { answers = chain.answers ++ answer ∷ [] } else chain
+with_answer chain answer =
+    if answer.fresh then record chain { answers = chain.answers ++ answer ∷ [] } else chain
 
 -- The chain after a request.
 abbrev pub chain_after : Chain → Result Issued Refusal → Chain

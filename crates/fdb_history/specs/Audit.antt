@@ -12,10 +12,11 @@ use Rattle.fdb_history.specs.declared.log.CallAnswer.TheVariants.{Version, Answe
 use Rattle.fdb_history.specs.declared.log.ClientLog.{ClientLog}
 use Rattle.fdb_history.specs.declared.register.Record.{Record}
 
--- A commit version that was drawn for its call, other than the first of the chain, is not above the register that its
--- asker had seen, given the register at each position.
+-- A commit version that was drawn for its call, other than the first of the chain, is not above the
+-- register that its asker had seen, given the register at each position.
 abbrev pub IsNotAbove : (ℕ → Record) → ℕ → CallAnswer → Type 0
-IsNotAbove register asked (Answered issued) = (issued.fresh ≡ true) × (issued.ordinal ≢ 0) × (issued.version ≤ (register asked).version)
+IsNotAbove register asked (Answered issued) =
+    (issued.fresh ≡ true) × (issued.ordinal ≢ 0) × (issued.version ≤ (register asked).version)
 IsNotAbove register asked (Version rec limits locked_out) = ⊥
 IsNotAbove register asked (Acked rec raised) = ⊥
 IsNotAbove register asked Told = ⊥
@@ -23,22 +24,29 @@ IsNotAbove register asked (Refused cause) = ⊥
 
 -- where a version is low: one that is not above stands there
 abbrev pub Low : Record → List ClientLog → ℕ → ℕ → Type 0
-Low start logs = StandsAt (λ before call. IsNotAbove (register_at start logs) call.asked call.answer) logs
+Low start logs =
+    StandsAt (λ before call. IsNotAbove (register_at start logs) call.asked call.answer) logs
 
--- The fault is the first that stands: none of an earlier kind does, and it is the first of its kind. Memory may be
--- wanting at any time.
+-- The fault is the first that stands: none of an earlier kind does, and it is the first of its
+-- kind. Memory may run out at any time.
 abbrev pub IsFirstFault : Record → List Issued → List ClientLog → AuditFault → Type 0
 IsFirstFault start chain logs (Order client call) = IsFirst (OutOfOrder logs) client call
-IsFirstFault start chain logs (Clash position) = Nowhere (OutOfOrder logs) × IsLeast (IsClash logs) position
-IsFirstFault start chain logs (Gap position) = Nowhere (OutOfOrder logs) × AtNoPosition (IsClash logs) × IsLeast (IsGap logs) position
+IsFirstFault start chain logs (Clash position) =
+    Nowhere (OutOfOrder logs) × IsLeast (IsClash logs) position
+IsFirstFault start chain logs (Gap position) =
+    Nowhere (OutOfOrder logs) × AtNoPosition (IsClash logs) × IsLeast (IsGap logs) position
 IsFirstFault start chain logs (Wrong client call) =
-    Nowhere (OutOfOrder logs) × AtNoPosition (IsClash logs) × AtNoPosition (IsGap logs) × IsFirst (WronglyAnswered start logs) client call
-IsFirstFault start chain logs (Stray client call) = IsFaultless start logs × IsFirst (IsStray chain logs) client call
-IsFirstFault start chain logs (NotAbove client call) = IsFaultless start logs × Nowhere (IsStray chain logs) × IsFirst (Low start logs) client call
+    Nowhere (OutOfOrder logs) × AtNoPosition (IsClash logs) × AtNoPosition (IsGap logs)
+    × IsFirst (WronglyAnswered start logs) client call
+IsFirstFault start chain logs (Stray client call) =
+    IsFaultless start logs × IsFirst (IsStray chain logs) client call
+IsFirstFault start chain logs (NotAbove client call) =
+    IsFaultless start logs × Nowhere (IsStray chain logs) × IsFirst (Low start logs) client call
 IsFirstFault start chain logs Memory = Unit {0}
 
 -- Where no fault stands, the answer is the history of the logs in the fixed order.
 abbrev pub IsAudited : Record → List Issued → List ClientLog → Result History AuditFault → Type 0
 IsAudited start chain logs (Ok history) =
-    IsFaultless start logs × Nowhere (IsStray chain logs) × Nowhere (Low start logs) × (history.events ≡ explained logs)
+    IsFaultless start logs × Nowhere (IsStray chain logs) × Nowhere (Low start logs)
+    × (history.events ≡ explained logs)
 IsAudited start chain logs (Err fault) = IsFirstFault start chain logs fault

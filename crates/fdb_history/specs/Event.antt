@@ -1,27 +1,29 @@
 -- Events of the register, one after another. (where no source is named, this product's own)
 use Rattle.std.specs.Prelude.{◌≡◌, ℕ, ◌+◌, Bool, false, if◌then◌else◌, List, [], ◌∷◌, map, fold, count_by}
-use Rattle.fdb_history.specs.Register.{raises, record_after}
+use Rattle.fdb_history.specs.Register.{raises, after_report}
 use Rattle.fdb_history.specs.declared.register.Record.{Record}
 use Rattle.fdb_history.specs.declared.event.Event.{Event}
 use Rattle.fdb_history.specs.declared.event.Event.TheVariants.{Report, Read}
 
--- The register after one event. A read changes nothing. (updateLiveCommittedVersion of masterserver, FoundationDB 7.1)
+-- The register after one event. A read changes nothing. (updateLiveCommittedVersion of
+-- masterserver, FoundationDB 7.1)
 abbrev pub after_event : Record → Event → Record
-after_event current (Report client call rec raised) = record_after current rec
+after_event current (Report client call rec raised) = after_report current rec
 after_event current (Read client call rec) = current
 
 -- The register after some events: a fold over them, from the start record.
 -- (liveCommittedVersion of masterserver, FoundationDB 7.1, as one register)
-abbrev pub register : Record → List Event → Record
-register start events = fold after_event start events
+abbrev pub register_after : Record → List Event → Record
+register_after start events = fold after_event start events
 
--- What an event says is so, given the register before it: a read has the register's record, and a report
--- says that it raised the register exactly where it did.
+-- What an event says is so, given the register before it: a read has the register's record, and a
+-- report says that it raised the register exactly where it did.
 abbrev pub IsTrueOf : Record → Event → Type 0
 IsTrueOf current (Report client call rec raised) = raised ≡ raises current rec
 IsTrueOf current (Read client call rec) = rec ≡ current
 
--- A list of events is legal from a start record where each of them is true of the register before it.
+-- A list of events is legal from a start record where each of them is true of the register before
+-- it.
 -- (the sequential specification of Herlihy and Wing, Linearizability, 1990, at this register)
 abbrev pub IsLegal : Record → List Event → Type 0
 IsLegal start [] = Unit {0}
@@ -32,7 +34,8 @@ abbrev pub is_raise : Event → Bool
 is_raise (Report client call rec raised) = raised
 is_raise (Read client call rec) = false
 
--- The position after an event, from the position before it: positions count the raises. (this product's own)
+-- The position after an event, from the position before it: positions count the raises. (this
+-- product's own)
 abbrev pub position_after : ℕ → Event → ℕ
 position_after before event = if is_raise event then before + 1 else before
 
@@ -41,10 +44,13 @@ pub record Placed : Type 0 where
   pub event : Event
   pub position : ℕ
 
--- Each event with its position: the number of raises up to and including it, over a position before them all.
+-- Each event with its position: the number of raises up to and including it, over a position before
+-- them all.
 abbrev pub stamped : ℕ → List Event → List Placed
 stamped before [] = []
-stamped before (event ∷ events) = record { event = event; position = position_after before event } ∷ stamped (position_after before event) events
+stamped before (event ∷ events) =
+    record { event = event; position = position_after before event }
+    ∷ stamped (position_after before event) events
 
 -- the positions of the events
 abbrev pub positions_from : ℕ → List Event → List ℕ

@@ -21,6 +21,8 @@ abbrev pub events_up_to : ℕ → List Placed → List Event
 events_up_to zero all = events_at 0 all
 events_up_to (suc position) all = events_up_to position all ++ events_at (suc position) all
 
--- The history of the logs: position by position, up to the number of raises. (this product's own order)
+-- The history of the logs: position by position, up to the number of raises. (this product's own
+-- order)
 abbrev pub explained : List ClientLog → List Event
-explained logs = events_up_to (count_by (λ p. is_raise p.event) (placed_in 0 logs)) (placed_in 0 logs)
+explained logs =
+    events_up_to (count_by (λ p. is_raise p.event) (placed_in 0 logs)) (placed_in 0 logs)

@@ -1,9 +1,9 @@
--- What can be wrong with the logs of a run, and where. A call is named by its client, which is the place of its
--- log, and by its place in the log. (all of this is this product's own)
+-- What can be wrong with the logs of a run, and where. A call is named by its client, which is the
+-- place of its log, and by its place in the log. (all of this is this product's own)
 use Rattle.std.specs.Prelude.{◌≡◌, ◌≢◌, ◌⊎◌, ℕ, zero, suc, ◌-◌, ◌<◌, ◌≤◌, ◌==◌, true, false, IsTrue, List, [], ◌∷◌, length, take, filter, Some, slice_get}
 use Rattle.std.specs.List.{flat_map}
 use Rattle.fdb_history.specs.Log.{calls_of, position_after_calls, answer_raises}
-use Rattle.fdb_history.specs.Register.{record_after}
+use Rattle.fdb_history.specs.Register.{after_report}
 use Rattle.fdb_history.specs.declared.auditing.raises.Raise.{Raise}
 use Rattle.fdb_history.specs.declared.log.Call.{Call}
 use Rattle.fdb_history.specs.declared.log.CallAnswer.{CallAnswer}
@@ -23,7 +23,8 @@ raise_in position (Refused cause) = []
 
 -- the raises in the logs
 abbrev pub raises_in : List ClientLog → List Raise
-raises_in logs = flat_map (λ log. flat_map (λ call. raise_in call.position call.answer) log.calls) logs
+raises_in logs =
+    flat_map (λ log. flat_map (λ call. raise_in call.position call.answer) log.calls) logs
 
 -- those at a position
 abbrev pub at_position : ℕ → List Raise → List Raise
@@ -32,20 +33,25 @@ at_position position raises = filter (λ raise. raise.position == position) rais
 abbrev pub raises_at : List ClientLog → ℕ → List Raise
 raises_at logs position = at_position position (raises_in logs)
 
--- The register at a position: the start, and then each raise up to there in turn, as `record_after` takes them.
+-- The register at a position: the start, and then each raise up to there in turn, as `after_report`
+-- takes them.
 abbrev pub after_raises : Record → List Raise → Record
 after_raises current [] = current
-after_raises current (raise ∷ raises) = after_raises (record_after current raise.rec) raises
+after_raises current (raise ∷ raises) = after_raises (after_report current raise.rec) raises
 
 abbrev pub register_at : Record → List ClientLog → ℕ → Record
 register_at start logs zero = start
-register_at start logs (suc position) = after_raises (register_at start logs position) (raises_at logs (suc position))
+register_at start logs (suc position) =
+    after_raises (register_at start logs position) (raises_at logs (suc position))
 
 -- ---- faults of the history
 
 -- a call is answered from before what its client had seen, or a raise is not new to its client
 abbrev pub IsOutOfOrder : List Call → Call → Type 0
-IsOutOfOrder before call = (call.asked < position_after_calls 0 before) ⊎ ((call.position < call.asked) ⊎ (IsTrue (answer_raises call.answer) × (call.position ≡ call.asked)))
+IsOutOfOrder before call =
+    (call.asked < position_after_calls 0 before)
+    ⊎ ((call.position < call.asked)
+    ⊎ (IsTrue (answer_raises call.answer) × (call.position ≡ call.asked)))
 
 -- two raises have one position
 abbrev pub IsClash : List ClientLog → ℕ → Type 0
@@ -53,13 +59,16 @@ IsClash logs position = 1 < length (raises_at logs position)
 
 -- some call has seen at least so much
 abbrev pub IsReached : List ClientLog → ℕ → Type 0
-IsReached logs position = (client place : ℕ) × (call : Call) × (slice_get (calls_of logs client) place ≡ Some call) × (position ≤ call.position)
+IsReached logs position =
+    (client place : ℕ) × (call : Call)
+    × (slice_get (calls_of logs client) place ≡ Some call) × (position ≤ call.position)
 
 -- a position that some call has reached has no raise
 abbrev pub IsGap : List ClientLog → ℕ → Type 0
 IsGap logs position = (1 ≤ position) × (raises_at logs position ≡ []) × IsReached logs position
 
--- The register would not have answered so at the call's position, given the register at each position.
+-- The register would not have answered so at the call's position, given the register at each
+-- position.
 abbrev pub IsWrongBy : (ℕ → Record) → ℕ → CallAnswer → Type 0
 IsWrongBy register position (Version rec limits locked_out) = rec ≢ register position
 IsWrongBy register position (Acked rec true) = rec.version ≤ (register (position - 1)).version
@@ -75,11 +84,14 @@ IsWrongAnswer start logs = IsWrongBy (register_at start logs)
 
 -- a fault of a call: given the calls before it in its log
 abbrev pub StandsAt : (List Call → Call → Type 0) → List ClientLog → ℕ → ℕ → Type 0
-StandsAt Fault logs client place = (call : Call) × (slice_get (calls_of logs client) place ≡ Some call) × Fault (take place (calls_of logs client)) call
+StandsAt Fault logs client place =
+    (call : Call) × (slice_get (calls_of logs client) place ≡ Some call)
+    × Fault (take place (calls_of logs client)) call
 
 -- a place comes before another: by client, and then by call
 abbrev pub ComesBefore : ℕ → ℕ → ℕ → ℕ → Type 0
-ComesBefore client place other_client other_place = (client < other_client) ⊎ ((client ≡ other_client) × (place < other_place))
+ComesBefore client place other_client other_place =
+    (client < other_client) ⊎ ((client ≡ other_client) × (place < other_place))
 
 -- the first place at which something stands
 pub record IsFirst (Stands : ℕ → ℕ → Type 0) (client place : ℕ) : Type 0 where
@@ -103,7 +115,8 @@ abbrev pub OutOfOrder : List ClientLog → ℕ → ℕ → Type 0
 OutOfOrder logs = StandsAt IsOutOfOrder logs
 
 abbrev pub WronglyAnswered : Record → List ClientLog → ℕ → ℕ → Type 0
-WronglyAnswered start logs = StandsAt (λ before call. IsWrongAnswer start logs call.position call.answer) logs
+WronglyAnswered start logs =
+    StandsAt (λ before call. IsWrongAnswer start logs call.position call.answer) logs
 
 -- ---- the whole
 

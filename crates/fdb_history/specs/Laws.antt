@@ -6,7 +6,8 @@ use Rattle.fdb_history.specs.declared.register.Record.{Record}
 use Rattle.fdb_history.specs.declared.event.Event.{Event}
 use Rattle.fdb_history.specs.declared.event.Event.TheVariants.{Report, Read}
 
--- The version that an event shows its client: a read shows what was read, and a raise what it reported.
+-- The version that an event shows its client: a read shows what was read, and a raise what it
+-- reported.
 -- (this product's own)
 abbrev pub seen_version : Event → Option ℕ
 seen_version (Report client call rec raised) = if raised then Some rec.version else None

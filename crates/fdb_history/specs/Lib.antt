@@ -3,7 +3,6 @@ pub mod Event
 pub mod Log
 pub mod Linear
 pub mod Explained
-pub mod Explaining
 pub mod Added
 pub mod Chain
 pub mod Answer
@@ -12,6 +11,5 @@ pub mod Text
 pub mod Laws
 pub mod Faults
 pub mod Strays
-pub mod Bearing
 pub mod Audit
-pub mod Auditing
+pub mod private

@@ -1,5 +1,5 @@
--- A history that explains the logs of a run: the replies are those of one register that takes reports and
--- reads one at a time.
+-- A history that explains the logs of a run: the replies are those of one register that takes
+-- reports and reads one at a time.
 use Rattle.std.specs.Prelude.{◌≡◌, ℕ, ◌<◌, ◌≤◌, ◌==◌, List, [], ◌∷◌, map, filter, IsTrue}
 use Rattle.std.specs.List.{AllByRecursion}
 use Rattle.fdb_history.specs.Event.{stamped, IsLegal, raise_count}
@@ -15,25 +15,31 @@ abbrev pub client_of : Event → ℕ
 client_of (Report client call rec raised) = client
 client_of (Read client call rec) = client
 
--- No call was answered from before what its client had seen, and a raise is new to its client: from a
--- position, each call begins at least where the one before it ended, ends at least where it began, and
--- beyond that where it raised the register.
+-- No call was answered from before what its client had seen, and a raise is new to its client: from
+-- a position, each call begins at least where the one before it ended, ends at least where it
+-- began, and beyond that where it raised the register.
 abbrev pub NeverGoesBack : ℕ → List Call → Type 0
 NeverGoesBack before [] = Unit {0}
 NeverGoesBack before (call ∷ calls) =
-    (before ≤ call.asked) × (call.asked ≤ call.position) × (IsTrue (answer_raises call.answer) → call.asked < call.position) × NeverGoesBack call.position calls
+    (before ≤ call.asked) × (call.asked ≤ call.position)
+    × (IsTrue (answer_raises call.answer) → call.asked < call.position)
+    × NeverGoesBack call.position calls
 
--- The history explains the logs from the start record. (linearizability of Herlihy and Wing, 1990, with
--- 'none before what its asker had seen' in the place of real time; this product's own)
+-- The history explains the logs from the start record. (linearizability of Herlihy and Wing, 1990,
+-- with 'none before what its asker had seen' in the place of real time; this product's own)
 pub record IsLinear (start : Record) (logs : List ClientLog) (history : List Event) : Type 0 where
   -- it is legal from the start
   pub legal : IsLegal start history
-  -- each client's register calls stand in it once and in the log's order, with their places, records and
-  -- raised flags, and nothing else stands in it
-  pub complete : (client : ℕ) → filter (λ event. client_of event == client) history ≡ map (λ p. p.event) (placed_from client 0 (calls_of logs client))
+  -- each client's register calls stand in it once and in the log's order, with their places,
+  -- records and raised flags, and nothing else stands in it
+  pub complete : (client : ℕ) → filter (λ event. client_of event == client) history
+      ≡ map (λ p. p.event) (placed_from client 0 (calls_of logs client))
   -- each client's events have the positions of its calls
-  pub placed : (client : ℕ) → map (λ p. p.position) (filter (λ p. client_of p.event == client) (stamped 0 history)) ≡ map (λ p. p.position) (placed_from client 0 (calls_of logs client))
+  pub placed : (client : ℕ)
+      → map (λ p. p.position) (filter (λ p. client_of p.event == client) (stamped 0 history))
+      ≡ map (λ p. p.position) (placed_from client 0 (calls_of logs client))
   -- no client's positions go back
   pub ordered : AllByRecursion (λ log. NeverGoesBack 0 log.calls) logs
   -- no call has seen more than there is
-  pub bounded : AllByRecursion (λ log. AllByRecursion (λ call. call.position ≤ raise_count history) log.calls) logs
+  pub bounded :
+      AllByRecursion (λ log. AllByRecursion (λ call. call.position ≤ raise_count history) log.calls) logs

@@ -11,8 +11,8 @@ use Rattle.fdb_history.specs.declared.log.CallAnswer.{CallAnswer}
 use Rattle.fdb_history.specs.declared.log.CallAnswer.TheVariants.{Version, Answered, Acked, Told, Refused}
 use Rattle.fdb_history.specs.declared.log.ClientLog.{ClientLog}
 
--- A register call is one that the register answered: a read with a record, or a report with an acknowledgement.
--- This is its event, as the call at this place of this client's log.
+-- A register call is one that the register answered: a read with a record, or a report with an
+-- acknowledgement. This is its event, as the call at this place of this client's log.
 abbrev pub event_of_answer : ℕ → ℕ → CallAnswer → Option Event
 event_of_answer client place (Version rec limits locked_out) = Some (Read client place rec)
 event_of_answer client place (Acked rec raised) = Some (Report client place rec raised)
@@ -20,11 +20,13 @@ event_of_answer client place (Answered issued) = None
 event_of_answer client place Told = None
 event_of_answer client place (Refused cause) = None
 
--- the events of a client's calls from this place of its log on, in the log's order, with the positions of the calls
+-- the events of a client's calls from this place of its log on, in the log's order, with the
+-- positions of the calls
 abbrev pub placed_from : ℕ → ℕ → List Call → List Placed
 placed_from client place [] = []
 placed_from client place (call ∷ calls) =
-    map (λ event. record { event = event; position = call.position }) (option_to_list (event_of_answer client place call.answer))
+    map (λ event. record { event = event; position = call.position })
+    (option_to_list (event_of_answer client place call.answer))
     ++ placed_from client (place + 1) calls
 
 -- the calls of a client, none where there is no such log

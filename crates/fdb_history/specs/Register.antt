@@ -7,7 +7,8 @@ use Rattle.fdb_history.specs.declared.register.Record.{Record}
 abbrev pub raises : Record → Record → Bool
 raises current reported = nat_lt current.version reported.version
 
--- The register after a report: what was reported, whole, where it raises the register, and else as it was.
+-- The register after a report: what was reported, whole, where it raises the register, and else as
+-- it was.
 -- (updateLiveCommittedVersion of masterserver, FoundationDB 7.1)
-abbrev pub record_after : Record → Record → Record
-record_after current reported = if raises current reported then reported else current
+abbrev pub after_report : Record → Record → Record
+after_report current reported = if raises current reported then reported else current

@@ -1,4 +1,5 @@
--- Answers that their inputs, the chain of commit versions or their client's own log do not bear out. (this product's own)
+-- Stray answers: those that nothing justifies. An answer is justified by its call, by the chain of
+-- commit versions and by what its client's log has so far. (this product's own)
 use Rattle.std.specs.Prelude.{◌≡◌, ◌⊎◌, ℕ, ◌+◌, ◌-◌, ◌==◌, nat_eq, nat_lt, Bool, true, false, ◌&&◌, not, List, length, Option, None, Some, is_none, Result, Ok, Err, slice_get}
 use Rattle.std.specs.List.{find, list_any}
 use Rattle.std.specs.Option.{option_eq, option_map, option_map_or}
@@ -48,7 +49,8 @@ goes_with _ _ = false
 
 -- a read is turned away exactly where the record is locked and the client is not lock-aware
 abbrev pub is_rightly_locked_out : Input → CallAnswer → Bool
-is_rightly_locked_out (input.Grv opts) (Version rec limits locked_out) = beq locked_out (rec.locked && not opts.lock_aware)
+is_rightly_locked_out (input.Grv opts) (Version rec limits locked_out) =
+    beq locked_out (rec.locked && not opts.lock_aware)
 is_rightly_locked_out _ _ = true
 
 -- ---- requests for a commit version
@@ -56,17 +58,23 @@ is_rightly_locked_out _ _ = true
 -- two answers are one, member by member
 abbrev pub is_same : Issued → Issued → Bool
 is_same a b =
-    (a.ordinal == b.ordinal) && ((a.proxy == b.proxy) && ((a.num == b.num) && ((a.processed == b.processed) && ((a.prev == b.prev) && ((a.version == b.version) && ((a.at == b.at) && beq a.fresh b.fresh))))))
+    (a.ordinal == b.ordinal) && ((a.proxy == b.proxy) && ((a.num == b.num)
+    && ((a.processed == b.processed) && ((a.prev == b.prev) && ((a.version == b.version)
+    && ((a.at == b.at) && beq a.fresh b.fresh))))))
 
--- a commit version is the client's own, under the number asked for, and the chain's entry at its ordinal, in all but `fresh`
+-- a commit version is the client's own, under the number asked for, and the chain's entry at its
+-- ordinal, in all but `fresh`
 abbrev pub is_of_chain : List Issued → ℕ → Input → CallAnswer → Bool
 is_of_chain chain client (input.Ask num processed at) (Answered issued) =
-    (issued.proxy == client) && ((issued.num == num) && option_map_or (λ entry. is_same issued (record entry { fresh = issued.fresh })) (slice_get chain issued.ordinal) false)
+    (issued.proxy == client) && ((issued.num == num)
+    && option_map_or (λ entry. is_same issued (record entry { fresh = issued.fresh }))
+    (slice_get chain issued.ordinal) false)
 is_of_chain _ _ _ _ = true
 
 -- the versions are used up, or nearly so
 abbrev pub is_near_the_end : List Issued → Bool
-is_near_the_end chain = option_map_or (λ last. nat_lt (MAX_VERSION - MAX_STEP) last.version) (last_answer chain) false
+is_near_the_end chain =
+    option_map_or (λ last. nat_lt (MAX_VERSION - MAX_STEP) last.version) (last_answer chain) false
 
 -- a request is told that its number is ahead of this one, the next
 abbrev pub is_early : ℕ → CallAnswer → Bool
@@ -81,15 +89,19 @@ is_again _ _ = false
 
 -- The answer to the next request is fresh and has its members, or there is no version left.
 abbrev pub is_fresh_answer : List Issued → ℕ → ℕ → CallAnswer → Bool
-is_fresh_answer chain processed at (Answered issued) = issued.fresh && ((issued.processed == processed) && (issued.at == at))
+is_fresh_answer chain processed at (Answered issued) =
+    issued.fresh && ((issued.processed == processed) && (issued.at == at))
 is_fresh_answer chain processed at (Refused Exhausted) = is_near_the_end chain
 is_fresh_answer _ _ _ _ = false
 
--- The answer to a request is the one that is due, where this is its client's latest number, and this answer is kept
--- under the request's.
+-- The answer to a request is the one that is due, where this is its client's latest number, and
+-- this answer is kept under the request's.
 abbrev pub is_due : List Issued → ℕ → Option Issued → Input → CallAnswer → Bool
 is_due chain latest_num found (input.Ask num processed at) answer =
-    by_number latest_num num (is_early (latest_num + 1) answer) (is_again found answer) (is_fresh_answer chain processed at answer)
+    by_number latest_num num
+    (is_early (latest_num + 1) answer)
+    (is_again found answer)
+    (is_fresh_answer chain processed at answer)
 is_due _ _ _ _ _ = true
 
 -- how the answer to a request stands in a log
@@ -101,16 +113,19 @@ logged_as (Err cause) = Refused cause
 
 -- the version that was issued under a number, by the first answer of the log that has it
 abbrev pub issued_under : List Call → ℕ → Option ℕ
-issued_under before num = option_map (λ issued. issued.version) (find (λ issued. issued.num == num) (answers_in before))
+issued_under before num =
+    option_map (λ issued. issued.version) (find (λ issued. issued.num == num) (answers_in before))
 
--- a report is of the version that was issued under its number, with the flags that it was told; it is refused only where none was
+-- a report is of the version that was issued under its number, with the flags that it was told; it
+-- is refused only where none was
 abbrev pub is_of_issued : Option ℕ → Input → CallAnswer → Bool
 is_of_issued version (input.Report num locked metadata) (Acked rec raised) =
-    option_eq nat_eq version (Some rec.version) && (beq rec.locked locked && option_eq nat_eq rec.metadata metadata)
+    option_eq nat_eq version (Some rec.version)
+    && (beq rec.locked locked && option_eq nat_eq rec.metadata metadata)
 is_of_issued version (input.Report num locked metadata) (Refused NotIssued) = is_none version
 is_of_issued _ _ _ = true
 
--- ---- where an answer is astray
+-- ---- where an answer is stray
 
 -- the number that a call is about
 abbrev pub number_of : Input → ℕ
@@ -118,34 +133,48 @@ number_of (input.Ask num processed at) = num
 number_of (input.Report num locked metadata) = num
 number_of _ = 0
 
--- A call's answer is borne out by its input, by the chain, and by what its client's calls so far say of its number: the
--- client's latest one, the answer that is kept under it, and the version that was issued under it.
-abbrev pub is_borne_out_by : List Issued → ℕ → ℕ → Option Issued → Option ℕ → Call → Bool
-is_borne_out_by chain client latest_num found version call =
+-- A call's answer is justified by its input, by the chain, and by what its client's calls so far
+-- say of its number: the client's latest one, the answer that is kept under it, and the version
+-- that was issued under it.
+abbrev pub is_justified_by : List Issued → ℕ → ℕ → Option Issued → Option ℕ → Call → Bool
+is_justified_by chain client latest_num found version call =
     goes_with call.input call.answer
     && (is_rightly_locked_out call.input call.answer
     && (is_of_chain chain client call.input call.answer
     && (is_due chain latest_num found call.input call.answer
     && is_of_issued version call.input call.answer)))
 
--- A call's answer is borne out, after the calls before it in its client's log.
-abbrev pub is_borne_out : List Issued → ℕ → List Call → Call → Bool
-is_borne_out chain client before call =
-    is_borne_out_by chain client (latest client (fresh_answers before)) (kept client (number_of call.input) (fresh_answers before)) (issued_under before (number_of call.input)) call
+-- A call's answer is justified, after the calls before it in its client's log.
+abbrev pub is_justified : List Issued → ℕ → List Call → Call → Bool
+is_justified chain client before call =
+    is_justified_by chain client
+    (latest client (fresh_answers before))
+    (kept client (number_of call.input) (fresh_answers before))
+    (issued_under before (number_of call.input))
+    call
 
--- Where a call's answer is not borne out.
-abbrev pub NotBorneOut : List Issued → List ClientLog → ℕ → ℕ → Type 0
-NotBorneOut chain logs client place = StandsAt (λ before call. is_borne_out chain client before call ≡ false) logs client place
+-- Where a call's answer is not justified.
+abbrev pub NotJustified : List Issued → List ClientLog → ℕ → ℕ → Type 0
+NotJustified chain logs client place =
+    StandsAt (λ before call. is_justified chain client before call ≡ false) logs client place
 
--- the chain's entry at a place was drawn by one of some calls: with this ordinal, and fresh, it is among their answers
+-- the chain's entry at a place was drawn by one of some calls: with this ordinal, and fresh, it is
+-- among their answers
 abbrev pub is_drawn : List Call → ℕ → Issued → Bool
-is_drawn calls place entry = list_any (λ issued. is_same issued (record entry { ordinal = place; fresh = true })) (answers_in calls)
+is_drawn calls place entry =
+    list_any (λ issued. is_same issued (record entry { ordinal = place; fresh = true }))
+    (answers_in calls)
 
 -- the chain has an entry of this client that none of its calls drew
 abbrev pub HasUndrawn : List Issued → List ClientLog → ℕ → Type 0
-HasUndrawn chain logs client = (place : ℕ) × (entry : Issued) × (slice_get chain place ≡ Some entry) × (entry.proxy ≡ client) × (is_drawn (calls_of logs client) place entry ≡ false)
+HasUndrawn chain logs client =
+    (place : ℕ) × (entry : Issued) × (slice_get chain place ≡ Some entry) × (entry.proxy ≡ client)
+    × (is_drawn (calls_of logs client) place entry ≡ false)
 
--- An answer is astray at a call that is not borne out, and at the end of the calls of a client, which has none where it
--- has no log, that has an entry of the chain that none of its calls drew.
+-- An answer is stray where it is not justified. And where the chain has an entry of a client that
+-- none of its calls drew, the call is missing at the end of its log, which is at 0 where the client
+-- has no log.
 abbrev pub IsStray : List Issued → List ClientLog → ℕ → ℕ → Type 0
-IsStray chain logs client place = NotBorneOut chain logs client place ⊎ ((place ≡ length (calls_of logs client)) × HasUndrawn chain logs client)
+IsStray chain logs client place =
+    NotJustified chain logs client place
+    ⊎ ((place ≡ length (calls_of logs client)) × HasUndrawn chain logs client)

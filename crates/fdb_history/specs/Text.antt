@@ -11,7 +11,9 @@ metadata_text (Some metadata) = decimal metadata
 
 -- a record: its version, its lock and its metadata version
 abbrev pub record_text : Record → List ℕ
-record_text rec = decimal rec.version ++ (if rec.locked then codes " locked " else codes " unlocked ") ++ metadata_text rec.metadata
+record_text rec =
+    decimal rec.version ++ (if rec.locked then codes " locked " else codes " unlocked ")
+    ++ metadata_text rec.metadata
 
 -- a refusal: its name, and the number that it tells
 abbrev pub refusal_text : Refusal → List ℕ

@@ -2,8 +2,8 @@
 
 ghost use Rattle.std.specs.Prelude.{◌≡◌, ◌≤◌, ◌⊎◌, length, List, OnOk, IfOk, IfErr, Ok, Err};
 ghost use Rattle.fdb_history.specs.Audit.{IsAudited, IsFirstFault, Low};
-ghost use Rattle.fdb_history.specs.Auditing.{AreRaisesOf, AreRegisters};
-ghost use Rattle.fdb_history.specs.Explaining.{AreEventsByPosition, raises_of};
+ghost use Rattle.fdb_history.specs.private.Auditing.{AreRaisesOf, AreRegisters};
+ghost use Rattle.fdb_history.specs.private.Explaining.{AreEventsByPosition, raises_of};
 ghost use Rattle.fdb_history.specs.Faults.{IsFaultless, Nowhere, OutOfOrder};
 ghost use Rattle.fdb_history.specs.Linear.{IsLinear};
 ghost use Rattle.fdb_history.specs.Strays.{IsStray};
@@ -11,9 +11,9 @@ ghost use Rattle.fdb_history.specs.declared.chain.Issued.{Issued};
 ghost use Rattle.fdb_history.specs.declared.event.Event.{Event};
 
 mod answers;
-mod bearing;
 mod explaining;
 mod found;
+mod justifying;
 mod order;
 mod placed;
 mod raises;
@@ -46,7 +46,8 @@ pub fn audit(
     requires { length logs.now ≤ 64 }
     ensures audited { IsAudited start chain.now logs.now result }
     ensures linear { IfOk result (λ history. IsLinear start logs.now history.events) }
-    ensures complete { (history : List Event) → IsLinear start logs.now history → Nowhere (IsStray chain.now logs.now) → Nowhere (Low start logs.now)
+    ensures complete { (history : List Event) → IsLinear start logs.now history
+        → Nowhere (IsStray chain.now logs.now) → Nowhere (Low start logs.now)
         → IfErr result (λ fault. fault ≡ AuditFault.Memory) }
 {
     history_or_fault(alloc, start, chain, logs)
@@ -93,7 +94,7 @@ fn faultless_registers(
     ensures right { IfOk result (λ registers. AreRegisters start logs.now registers) }
     ensures err { IfErr result (λ fault. (chain : List Issued) → IsFirstFault start chain logs.now fault) }
 {
-    let raises = raises::raises_among(alloc, events)?;
+    let raises = raises::raises_of(alloc, events)?;
     let registers = registers::registers_of(alloc, start, &raises, logs)?;
     if let Some(CallName { client, call }) = answers::first_wrong(&registers, logs) {
         return Err(AuditFault::Wrong { client, call });

@@ -1,7 +1,7 @@
 //! The events of a history: what the register was told, and what it answered.
 
 ghost use Rattle.std.specs.Prelude.{◌≡◌};
-ghost use Rattle.fdb_history.specs.Event.{is_raise, register};
+ghost use Rattle.fdb_history.specs.Event.{is_raise, register_after};
 
 use crate::register::Record;
 use crate::sequence::Sequence;
@@ -51,7 +51,7 @@ impl Event {
 ///
 /// It takes the reports as they come, and asks nothing of the flags and the records that the events claim.
 pub fn register_after(start: Record, events: &[Event]) -> Record
-    ensures { result ≡ register start events.now }
+    ensures { result ≡ register_after start events.now }
 {
     let mut current = start;
     for event in events {

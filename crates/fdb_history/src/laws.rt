@@ -7,7 +7,7 @@ ghost use Rattle.std.specs.Prelude.{◌≡◌, ℕ, Bool, ◌+◌, ◌<◌, ◌�
 ghost use Rattle.std.specs.List.{All, AllPairs, find};
 ghost use Rattle.fdb_history.specs.Answer.{Chain, kept, answer_to, chain_after, after_asks};
 ghost use Rattle.fdb_history.specs.Chain.{IsChain};
-ghost use Rattle.fdb_history.specs.Event.{IsLegal, register, raise_count, positions_from};
+ghost use Rattle.fdb_history.specs.Event.{IsLegal, register_after, raise_count, positions_from};
 ghost use Rattle.fdb_history.specs.Explained.{explained};
 ghost use Rattle.fdb_history.specs.Faults.{IsFaultless};
 ghost use Rattle.fdb_history.specs.Laws.{seen_at, reports_of};
@@ -56,19 +56,19 @@ pub fn positions_below_versions()
     ensures counts { (events : List Event) (place : ℕ) → place < length events
         → slice_get (positions_from 0 events) place ≡ Some (raise_count (take (place + 1) events)) }
     ensures below { (start : Record) (events : List Event) → IsLegal start events
-        → raise_count events + start.version ≤ (register start events).version }
+        → raise_count events + start.version ≤ (register_after start events).version }
     ensures at_each_event { (start : Record) (events : List Event) (place position : ℕ) → IsLegal start events
         → slice_get (positions_from 0 events) place ≡ Some position
-        → position + start.version ≤ (register start (take (place + 1) events)).version }
+        → position + start.version ≤ (register_after start (take (place + 1) events)).version }
 {}
 
 /// The register is the first record with the greatest version, of the start record and all that were reported.
 pub fn register_is_greatest()
     ensures greatest { (start : Record) (events : List Event)
-        → All (λ rec. rec.version ≤ (register start events).version) (start ∷ reports_of events) }
+        → All (λ rec. rec.version ≤ (register_after start events).version) (start ∷ reports_of events) }
     ensures first { (start : Record) (events : List Event)
-        → find (λ rec. rec.version == (register start events).version) (start ∷ reports_of events)
-        ≡ Some (register start events) }
+        → find (λ rec. rec.version == (register_after start events).version) (start ∷ reports_of events)
+        ≡ Some (register_after start events) }
 {}
 
 /// In a chain the kept answer is the first answer that its proxy got under the number, and a repeated request
@@ -101,7 +101,8 @@ pub fn asks_make_a_chain()
 /// from before what its client had seen, no two raises share a position, no position that is reached lacks its raise,
 /// and each read and report is answered as the register at its position would.
 pub fn explained_logs_are_faultless()
-    ensures { (start : Record) (logs : List ClientLog) (history : List Event) → IsLinear start logs history → IsFaultless start logs }
+    ensures { (start : Record) (logs : List ClientLog) (history : List Event)
+        → IsLinear start logs history → IsFaultless start logs }
 {}
 
 /// Logs without a fault of the history are explained by their events in the fixed order.

@@ -1,7 +1,7 @@
 //! The live committed version as a register, and what it is after a list of events.
 
 ghost use Rattle.std.specs.Prelude.{◌≡◌};
-ghost use Rattle.fdb_history.specs.Register.{record_after};
+ghost use Rattle.fdb_history.specs.Register.{after_report};
 
 use std::fmt;
 
@@ -27,7 +27,7 @@ impl Record {
     /// The record after a report. A report of a greater version replaces the whole record, and any other
     /// changes nothing (`updateLiveCommittedVersion` of masterserver).
     pub fn after_report(self, reported: Record) -> Record
-        ensures { result ≡ record_after self reported }
+        ensures { result ≡ after_report self reported }
     {
         if reported.version > self.version {
             reported

@@ -39,7 +39,7 @@ impl Replies {
         }
     }
 
-    /// No replies for each of so many proxies. It is refused for want of memory alone.
+    /// No replies for each of so many proxies. It is refused only where memory runs out.
     pub fn of_each(alloc: Global, proxies: u32) -> Result<Vec<Replies>, AllocError>
         ensures count { IfOk result (λ all. length all.items ≡ proxies) }
         ensures empty { IfOk result (λ all. All (λ own. own ≡ no_replies) all.items) }
@@ -93,7 +93,8 @@ impl Replies {
     pub fn keep_among(all: &mut [Replies], answer: &Issued) -> Result<(), AllocError>
         requires { answer.now.proxy < length all.old }
         ensures ok { OnOk result (all.new ≡ all_after all.old answer.now) }
-        ensures kept { OnOk result ((epoch_end recovery : ℕ) (answers : List Issued) → IsNext epoch_end recovery answers answer.now
+        ensures kept { OnOk result ((epoch_end recovery : ℕ) (answers : List Issued)
+            → IsNext epoch_end recovery answers answer.now
             → AreRepliesOfAll answers all.old → AreRepliesOfAll (answers ++ answer.now ∷ []) all.new) }
         ensures err { OnErr result (all.new ≡ all.old) }
     {

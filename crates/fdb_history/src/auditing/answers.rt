@@ -2,7 +2,7 @@
 
 ghost use Rattle.std.specs.Prelude.{◌≤◌, length};
 ghost use Rattle.fdb_history.specs.Audit.{Low};
-ghost use Rattle.fdb_history.specs.Auditing.{AreRegisters, IsFirstCall};
+ghost use Rattle.fdb_history.specs.private.Auditing.{AreRegisters, IsFirstCall};
 ghost use Rattle.fdb_history.specs.Faults.{Nowhere, OutOfOrder, WronglyAnswered};
 
 use crate::auditing::found::{self, CallFault, CallName};
@@ -10,7 +10,7 @@ use crate::auditing::registers::Registers;
 use crate::log::{Call, CallAnswer, ClientLog};
 
 /// The first call that the register would not have answered so at its position.
-pub fn first_wrong(registers: &Registers, logs: &[ClientLog]) -> Option<CallName>
+pub(crate) fn first_wrong(registers: &Registers, logs: &[ClientLog]) -> Option<CallName>
     requires clients { length logs.now ≤ 64 }
     requires registers { AreRegisters registers.now.start logs.now registers.now }
     ensures { IsFirstCall (WronglyAnswered registers.now.start logs.now) result }
@@ -19,7 +19,7 @@ pub fn first_wrong(registers: &Registers, logs: &[ClientLog]) -> Option<CallName
 }
 
 /// The first commit version that was drawn and is not above what its asker had seen.
-pub fn first_low(registers: &Registers, logs: &[ClientLog]) -> Option<CallName>
+pub(crate) fn first_low(registers: &Registers, logs: &[ClientLog]) -> Option<CallName>
     requires clients { length logs.now ≤ 64 }
     requires order { Nowhere (OutOfOrder logs.now) }
     requires registers { AreRegisters registers.now.start logs.now registers.now }
@@ -35,7 +35,7 @@ struct Wrong<'a> {
 }
 
 impl<'a> CallFault for Wrong<'a> {
-    ghost use Rattle.fdb_history.specs.Auditing.{by_table};
+    ghost use Rattle.fdb_history.specs.private.Auditing.{by_table};
     ghost use Rattle.fdb_history.specs.Faults.{IsWrongBy};
 
     ghost Stands = { λ fault before call. IsWrongBy (by_table fault.registers.now) call.position call.answer };
@@ -63,7 +63,7 @@ struct NotAbove<'a> {
 
 impl<'a> CallFault for NotAbove<'a> {
     ghost use Rattle.fdb_history.specs.Audit.{IsNotAbove};
-    ghost use Rattle.fdb_history.specs.Auditing.{by_table};
+    ghost use Rattle.fdb_history.specs.private.Auditing.{by_table};
 
     ghost Stands = { λ fault before call. IsNotAbove (by_table fault.registers.now) call.asked call.answer };
 

@@ -1,7 +1,7 @@
 //! The first call at which something stands: by client, and then by call.
 
 ghost use Rattle.std.specs.Prelude.{◌≡◌, ◌<◌, ◌≤◌, ◌^◌, ◌↔◌, List, length, IsTrue};
-ghost use Rattle.fdb_history.specs.Auditing.{IsFirstCall, IsFirstOf};
+ghost use Rattle.fdb_history.specs.private.Auditing.{IsFirstCall, IsFirstOf};
 ghost use Rattle.fdb_history.specs.Faults.{StandsAt};
 ghost use Rattle.fdb_history.specs.declared.log.Call.{Call};
 
@@ -9,13 +9,13 @@ use crate::log::{Call, ClientLog};
 
 /// A call, by its client and its place in the client's log.
 #[derive(Clone, Copy)]
-pub struct CallName {
-    pub client: u32,
-    pub call: u64,
+pub(crate) struct CallName {
+    pub(crate) client: u32,
+    pub(crate) call: u64,
 }
 
 /// A fault that a call may have, given the calls before it in its log.
-pub trait CallFault {
+pub(crate) trait CallFault {
     ghost Stands: { Self → List Call → Call → Type 0 };
 
     /// Whether the call has the fault.
@@ -24,7 +24,7 @@ pub trait CallFault {
 }
 
 /// The first call of all logs that has the fault.
-pub fn first_call<F: CallFault>(fault: &F, logs: &[ClientLog]) -> Option<CallName>
+pub(crate) fn first_call<F: CallFault>(fault: &F, logs: &[ClientLog]) -> Option<CallName>
     requires { length logs.now ≤ 64 }
     ensures { IsFirstCall (StandsAt (F.Stands fault.now) logs.now) result }
 {

@@ -2,14 +2,14 @@
 
 ghost use Rattle.std.specs.Prelude.{◌≡◌, ◌≤◌, length};
 ghost use Rattle.fdb_history.specs.Faults.{OutOfOrder};
-ghost use Rattle.fdb_history.specs.Auditing.{IsFirstCall};
+ghost use Rattle.fdb_history.specs.private.Auditing.{IsFirstCall};
 ghost use Rattle.fdb_history.specs.Log.{answer_raises, position_after_calls};
 
 use crate::auditing::found::{self, CallFault, CallName};
 use crate::log::{Call, CallAnswer, ClientLog};
 
 /// The first call that is out of order.
-pub fn first_out_of_order(logs: &[ClientLog]) -> Option<CallName>
+pub(crate) fn first_out_of_order(logs: &[ClientLog]) -> Option<CallName>
     requires { length logs.now ≤ 64 }
     ensures { IsFirstCall (OutOfOrder logs.now) result }
 {
@@ -26,15 +26,15 @@ impl CallFault for Order {
     ghost Stands = { λ fault before call. IsOutOfOrder before call };
 
     fn stands_at(&self, before: &[Call], call: &Call) -> bool {
-        if call.asked < position_after(before) || call.position < call.asked {
+        if call.asked < position_after_calls(before) || call.position < call.asked {
             return true;
         }
-        raises(call) && call.position == call.asked
+        answer_raises(&call.answer) && call.position == call.asked
     }
 }
 
 /// The position that a client has come to after some calls.
-fn position_after(calls: &[Call]) -> u64
+fn position_after_calls(calls: &[Call]) -> u64
     ensures { result ≡ position_after_calls 0 calls.now }
 {
     match calls {
@@ -43,9 +43,9 @@ fn position_after(calls: &[Call]) -> u64
     }
 }
 
-/// Whether the call raised the register.
-fn raises(call: &Call) -> bool
-    ensures { result ≡ answer_raises call.now.answer }
+/// Whether an answer says that its call raised the register.
+fn answer_raises(answer: &CallAnswer) -> bool
+    ensures { result ≡ answer_raises answer.now }
 {
-    matches!(call.answer, CallAnswer::Acked { raised: true, .. })
+    matches!(answer, CallAnswer::Acked { raised: true, .. })
 }

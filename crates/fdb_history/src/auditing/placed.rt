@@ -1,9 +1,9 @@
 //! The register's events in the logs, in the order of the history.
 
 ghost use Rattle.std.specs.Prelude.{◌≡◌, ◌≤◌, ◌++◌, map, length, OnOk, IfOk};
-ghost use Rattle.fdb_history.specs.Auditing.{AreRaisesOf, IsWithin};
+ghost use Rattle.fdb_history.specs.private.Auditing.{AreRaisesOf, IsWithin};
 ghost use Rattle.fdb_history.specs.Explained.{explained, placed_in};
-ghost use Rattle.fdb_history.specs.Explaining.{AreEventsByPosition, placed, raises_of};
+ghost use Rattle.fdb_history.specs.private.Explaining.{AreEventsByPosition, placed, raises_of};
 ghost use Rattle.fdb_history.specs.Log.{event_of_answer, placed_from};
 
 use crate::event::Event;
@@ -12,31 +12,34 @@ use std::alloc::{AllocError, Global};
 
 /// An event and its position.
 #[derive(Clone, Copy)]
-pub struct PlacedEvent {
+pub(crate) struct PlacedEvent {
     /// The event.
-    pub event: Event,
+    pub(crate) event: Event,
     /// Its position.
-    pub position: u64,
+    pub(crate) position: u64,
 }
 
 /// The register's events in the logs: position by position, at each the raise and then the others, by client and then
 /// by call.
 ///
 /// Linear in the calls up to one sort of the events. An error only where memory is refused.
-pub fn events_by_position(alloc: Global, logs: &[ClientLog]) -> Result<Vec<PlacedEvent>, AllocError>
+pub(crate) fn events_by_position(
+    alloc: Global,
+    logs: &[ClientLog],
+) -> Result<Vec<PlacedEvent>, AllocError>
     requires { length logs.now ≤ 64 }
     ensures sorted { IfOk result (λ events. AreEventsByPosition events.items) }
     ensures raises { IfOk result (λ events. AreRaisesOf logs.now (raises_of events.items)) }
     ensures history { IfOk result (λ events. IsWithin logs.now → map (λ p. p.event) events.items ≡ explained logs.now) }
 {
-    let mut all = placed_events(alloc, logs)?;
+    let mut all = placed_in(alloc, logs)?;
     // At each position the raise comes first, and the sort is stable: the others stay by client and by call.
     all.sort_by_key(|p| (p.position, !p.event.is_raise()))?;
     Ok(all)
 }
 
 /// The register's events in the logs with their positions, by client and then by call.
-fn placed_events(alloc: Global, logs: &[ClientLog]) -> Result<Vec<PlacedEvent>, AllocError>
+fn placed_in(alloc: Global, logs: &[ClientLog]) -> Result<Vec<PlacedEvent>, AllocError>
     requires { length logs.now ≤ 64 }
     ensures { IfOk result (λ all. placed all.items ≡ placed_in 0 logs.now) }
 {
@@ -52,7 +55,7 @@ fn add_events(all: &mut Vec<PlacedEvent>, client: u32, calls: &[Call]) -> Result
     ensures { OnOk result (placed all.new.items ≡ placed all.old.items ++ placed_from client 0 calls.now) }
 {
     for (place, call) in calls.iter().enumerate() {
-        if let Some(event) = event_of(client, place as u64, &call.answer) {
+        if let Some(event) = event_of_answer(client, place as u64, &call.answer) {
             all.push(PlacedEvent {
                 event,
                 position: call.position,
@@ -63,7 +66,7 @@ fn add_events(all: &mut Vec<PlacedEvent>, client: u32, calls: &[Call]) -> Result
 }
 
 /// The event that a call was, if the register answered it.
-fn event_of(client: u32, call: u64, answer: &CallAnswer) -> Option<Event>
+fn event_of_answer(client: u32, call: u64, answer: &CallAnswer) -> Option<Event>
     ensures { result ≡ event_of_answer client call answer.now }
 {
     match answer {

@@ -1,8 +1,8 @@
 //! The raises among the events of the logs.
 
 ghost use Rattle.std.specs.Prelude.{◌≡◌, ◌≤◌, [], IfOk};
-ghost use Rattle.fdb_history.specs.Auditing.{AreByPosition, AreTwoAt, IsLeastIfAny, StandInTurn};
-ghost use Rattle.fdb_history.specs.Explaining.{raises_of};
+ghost use Rattle.fdb_history.specs.private.Auditing.{AreByPosition, AreTwoAt, IsLeastIfAny, StandInTurn};
+ghost use Rattle.fdb_history.specs.private.Explaining.{raises_of};
 ghost use Rattle.fdb_history.specs.Faults.{AtNoPosition, at_position};
 
 use crate::auditing::placed::PlacedEvent;
@@ -12,15 +12,15 @@ use std::alloc::{AllocError, Global};
 
 /// A report that raised the register, and its position.
 #[derive(Clone, Copy)]
-pub struct Raise {
+pub(crate) struct Raise {
     /// The position.
-    pub position: u64,
+    pub(crate) position: u64,
     /// What was reported.
-    pub rec: Record,
+    pub(crate) rec: Record,
 }
 
 /// The raises among some events, in their order.
-pub fn raises_among(alloc: Global, events: &[PlacedEvent]) -> Result<Vec<Raise>, AllocError>
+pub(crate) fn raises_of(alloc: Global, events: &[PlacedEvent]) -> Result<Vec<Raise>, AllocError>
     ensures { IfOk result (λ raises. raises.items ≡ raises_of events.now) }
 {
     let mut raises = Vec::new(alloc);
@@ -41,7 +41,7 @@ pub fn raises_among(alloc: Global, events: &[PlacedEvent]) -> Result<Vec<Raise>,
 }
 
 /// The least position that two raises have.
-pub fn first_clash(raises: &[Raise]) -> Option<u64>
+pub(crate) fn first_clash(raises: &[Raise]) -> Option<u64>
     requires { AreByPosition raises.now }
     ensures { IsLeastIfAny (AreTwoAt raises.now) result }
 {
@@ -54,7 +54,7 @@ pub fn first_clash(raises: &[Raise]) -> Option<u64>
 }
 
 /// The least position, from 1 on, that no raise has. The raises before it have each position in turn.
-pub fn first_missing(raises: &[Raise]) -> u64
+pub(crate) fn first_missing(raises: &[Raise]) -> u64
     requires sorted { AreByPosition raises.now }
     requires from_one { at_position 0 raises.now ≡ [] }
     requires once { AtNoPosition (AreTwoAt raises.now) }

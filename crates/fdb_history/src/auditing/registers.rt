@@ -1,7 +1,7 @@
 //! The register at each position, by the raises in the logs.
 
 ghost use Rattle.std.specs.Prelude.{◌≡◌, ◌≤◌, ℕ, slice_get, Some, IfOk, OnOk, IfErr};
-ghost use Rattle.fdb_history.specs.Auditing.{AreByPosition, AreRaisesOf, AreRegisters, IsRaiseFault, IsTable, by_table};
+ghost use Rattle.fdb_history.specs.private.Auditing.{AreByPosition, AreRaisesOf, AreRegisters, IsRaiseFault, IsTable, by_table};
 ghost use Rattle.fdb_history.specs.Faults.{OutOfOrder, IsClash, IsGap, IsReached, AtNoPosition, Nowhere};
 ghost use Rattle.fdb_history.specs.declared.log.Call.{Call};
 
@@ -13,16 +13,16 @@ use std::alloc::{AllocError, Global};
 
 /// The register at each position that a call has reached.
 #[derive(Drop)]
-pub struct Registers {
+pub(crate) struct Registers {
     /// The register before any raise.
-    pub start: Record,
+    pub(crate) start: Record,
     /// The register at each position, from 0 on.
-    pub table: Vec<Record>,
+    pub(crate) table: Vec<Record>,
 }
 
 impl Registers {
     /// The register at a position.
-    pub fn at(&self, position: u64) -> Record
+    pub(crate) fn at(&self, position: u64) -> Record
         ensures { result ≡ by_table self.now position }
     {
         match self.table.get(position as usize) {
@@ -34,7 +34,7 @@ impl Registers {
 
 /// The register at each position that a call has reached, or the first fault of the raises: two at one position, or
 /// none where one is owed. `raises` are those of the logs, by position.
-pub fn registers_of(
+pub(crate) fn registers_of(
     alloc: Global,
     start: Record,
     raises: &[Raise],
@@ -89,7 +89,8 @@ fn greatest_position(logs: &[ClientLog]) -> u64
 /// The greatest position of a log's calls, or 0 where there is none.
 fn greatest_in(calls: &[Call]) -> u64
     ensures above { (place : ℕ) (call : Call) → slice_get calls.now place ≡ Some call → call.position ≤ result }
-    ensures reached { 1 ≤ result → (place : ℕ) × (call : Call) × (slice_get calls.now place ≡ Some call) × (result ≤ call.position) }
+    ensures reached { 1 ≤ result → (place : ℕ) × (call : Call)
+        × (slice_get calls.now place ≡ Some call) × (result ≤ call.position) }
 {
     calls.iter().map(|call| call.position).max().unwrap_or(0)
 }

@@ -1,26 +1,26 @@
-//! The first answer that its input, the chain or its client's own log does not bear out.
+//! The first answer that nothing justifies.
 
 ghost use Rattle.std.specs.Prelude.{◌≡◌, ◌<◌, ◌≤◌, ◌==◌, ◌&&◌, ◌||◌, ℕ, Bool, true, false, length, slice_get, IfOk, OnOk, IsTrue};
 ghost use Rattle.std.specs.Option.{option_map_or};
-ghost use Rattle.fdb_history.specs.Auditing.{AreMarks, HasUnmarked, IsFirstCall, IsFirstOf, IsLeastIfAny};
-ghost use Rattle.fdb_history.specs.Bearing.{own_after};
+ghost use Rattle.fdb_history.specs.private.Auditing.{AreMarks, HasUnmarked, IsFirstCall, IsFirstOf, IsLeastIfAny};
+ghost use Rattle.fdb_history.specs.private.Justifying.{own_after};
 ghost use Rattle.fdb_history.specs.Log.{calls_of};
-ghost use Rattle.fdb_history.specs.Strays.{IsStray, NotBorneOut, is_borne_out, is_drawn, is_same};
+ghost use Rattle.fdb_history.specs.Strays.{IsStray, NotJustified, is_justified, is_drawn, is_same};
 ghost use Rattle.fdb_history.specs.declared.chain.Issued.{Issued};
 
-use crate::auditing::bearing::is_borne_out;
 use crate::auditing::found::CallName;
+use crate::auditing::justifying::is_justified_by;
 use crate::chain::Issued;
 use crate::log::{Call, CallAnswer, ClientLog};
 use crate::replies::Replies;
 use std::alloc::{AllocError, Global};
 
-/// The first call whose answer is astray, or the end of the calls of the first client that has an entry of the chain
+/// The first call whose answer is not justified, or the end of the calls of the first client that has an entry of the chain
 /// that none of its calls drew. A client that has no log has no calls.
 ///
 /// It takes time in proportion to the calls and the chain's entries, and memory for a mark for each entry and a number
 /// for each version that a client drew.
-pub fn first_stray(
+pub(crate) fn first_stray(
     alloc: Global,
     chain: &[Issued],
     logs: &[ClientLog],
@@ -28,12 +28,12 @@ pub fn first_stray(
     requires { length logs.now ≤ 64 }
     ensures { IfOk result (IsFirstCall (IsStray chain.now logs.now)) }
 {
-    let astray = first_not_borne_out(alloc, chain, logs)?;
+    let unjustified = first_not_justified(alloc, chain, logs)?;
     let drawn = drawn_entries(alloc, chain, logs)?;
     let Some(client) = least_undrawn(chain, drawn.as_slice()) else {
-        return Ok(astray);
+        return Ok(unjustified);
     };
-    match astray {
+    match unjustified {
         Some(name) if name.client <= client => Ok(Some(name)),
         _ => Ok(Some(CallName {
             client,
@@ -42,14 +42,14 @@ pub fn first_stray(
     }
 }
 
-/// The first call whose answer is not borne out.
-fn first_not_borne_out(
+/// The first call whose answer is not justified.
+fn first_not_justified(
     alloc: Global,
     chain: &[Issued],
     logs: &[ClientLog],
 ) -> Result<Option<CallName>, AllocError>
     requires { length logs.now ≤ 64 }
-    ensures { IfOk result (IsFirstCall (NotBorneOut chain.now logs.now)) }
+    ensures { IfOk result (IsFirstCall (NotJustified chain.now logs.now)) }
 {
     for (client, log) in logs.iter().enumerate() {
         if let Some(call) = first_of(alloc, chain, client as u32, log.calls.as_slice())? {
@@ -62,18 +62,18 @@ fn first_not_borne_out(
     Ok(None)
 }
 
-/// The place of the first of a client's calls whose answer is not borne out.
+/// The place of the first of a client's calls whose answer is not justified.
 fn first_of(
     alloc: Global,
     chain: &[Issued],
     client: u32,
     calls: &[Call],
 ) -> Result<Option<u64>, AllocError>
-    ensures { IfOk result (IsFirstOf (λ before call. is_borne_out chain.now client before call ≡ false) calls.now) }
+    ensures { IfOk result (IsFirstOf (λ before call. is_justified chain.now client before call ≡ false) calls.now) }
 {
     let mut own = Replies::new(alloc);
     for (place, call) in calls.iter().enumerate() {
-        if !is_borne_out(chain, client, &own, call) {
+        if !is_justified_by(chain, client, &own, call) {
             return Ok(Some(place as u64));
         }
         keep_drawn(&mut own, &call.answer)?;
@@ -100,7 +100,8 @@ fn drawn_entries(
     logs: &[ClientLog],
 ) -> Result<Vec<bool>, AllocError>
     requires { length logs.now ≤ 64 }
-    ensures { IfOk result (λ drawn. AreMarks chain.now drawn.items (λ place entry. is_drawn (calls_of logs.now entry.proxy) place entry)) }
+    ensures { IfOk result (λ drawn. AreMarks chain.now drawn.items
+        (λ place entry. is_drawn (calls_of logs.now entry.proxy) place entry)) }
 {
     let mut drawn = vec![in alloc; false; chain.len()]?;
     for (client, log) in logs.iter().enumerate() {
@@ -113,7 +114,8 @@ fn drawn_entries(
 fn mark_drawn(drawn: &mut [bool], chain: &[Issued], client: u32, calls: &[Call])
     requires { length drawn.old ≡ length chain.now }
     ensures { (was : ℕ → Issued → Bool) → AreMarks chain.now drawn.old was
-        → AreMarks chain.now drawn.new (λ place entry. was place entry || is_drawn calls.now place entry && (entry.proxy == client)) }
+        → AreMarks chain.now drawn.new (λ place entry. was place entry
+        || is_drawn calls.now place entry && (entry.proxy == client)) }
 {
     for call in calls {
         if let CallAnswer::Answered(issued) = &call.answer {
@@ -126,7 +128,8 @@ fn mark_drawn(drawn: &mut [bool], chain: &[Issued], client: u32, calls: &[Call])
 fn mark(drawn: &mut [bool], chain: &[Issued], client: u32, issued: &Issued)
     requires { length drawn.old ≡ length chain.now }
     ensures { (was : ℕ → Issued → Bool) → AreMarks chain.now drawn.old was
-        → AreMarks chain.now drawn.new (λ place entry. was place entry || is_same issued.now (record entry { ordinal = place; fresh = true }) && (entry.proxy == client)) }
+        → AreMarks chain.now drawn.new (λ place entry. was place entry
+        || is_same issued.now (record entry { ordinal = place; fresh = true }) && (entry.proxy == client)) }
 {
     if draws(chain, client, issued) {
         drawn[issued.ordinal as usize] = true;
@@ -135,7 +138,9 @@ fn mark(drawn: &mut [bool], chain: &[Issued], client: u32, issued: &Issued)
 
 /// Whether an answer of a client, fresh, is the chain's entry at its ordinal, and the client's own.
 fn draws(chain: &[Issued], client: u32, issued: &Issued) -> bool
-    ensures value { result ≡ option_map_or (λ entry. is_same issued.now (record entry { ordinal = issued.now.ordinal; fresh = true }) && (entry.proxy == client)) (slice_get chain.now issued.now.ordinal) false }
+    ensures value { result ≡ option_map_or (λ entry.
+        is_same issued.now (record entry { ordinal = issued.now.ordinal; fresh = true }) && (entry.proxy == client))
+        (slice_get chain.now issued.now.ordinal) false }
     ensures within { IsTrue result → issued.now.ordinal < length chain.now }
 {
     match chain.get(issued.ordinal as usize) {

@@ -164,7 +164,7 @@ const TEXTS: &[&str] = &[
 ];
 
 #[test]
-fn answers_that_are_not_borne_out(rt: HostRuntime) -> Result<(), Fail> {
+fn answers_that_are_not_justified(rt: HostRuntime) -> Result<(), Fail> {
     audits_each(&rt, rt.alloc(), TEXTS)?;
     audits(&rt, rt.alloc(), DRAWN, REPORTS)
 }

@@ -1,7 +1,7 @@
 use Rattle.std.proofs.Common.{subst, sym, ◌∙◌}
 use Rattle.fdb_history.proofs.Audited.{no_fault}
 use Rattle.fdb_history.proofs.Explaining.{raises_by_position}
-use Rattle.fdb_history.specs.Auditing.{AreByPosition}
+use Rattle.fdb_history.specs.private.Auditing.{AreByPosition}
 use Rattle.fdb_history.specs.Faults.{Nowhere, WronglyAnswered}
 use Rattle.fdb_history.specs.declared.register.Record.{Record}
 use Rattle.fdb_history.proofs.auditing.faultless_registers.Goals as goal

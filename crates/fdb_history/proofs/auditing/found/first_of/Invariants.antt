@@ -1,4 +1,4 @@
-use Rattle.fdb_history.specs.Auditing.{NoneBefore}
+use Rattle.fdb_history.specs.private.Auditing.{NoneBefore}
 use Rattle.fdb_history.proofs.auditing.found.first_of.Given as goal
 
 abbrev pub invariant-loop-place : goal.invariant-loop-place

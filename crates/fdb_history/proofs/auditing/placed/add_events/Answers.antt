@@ -1,7 +1,7 @@
 use Rattle.std.proofs.Common.{◌≡◌, ℕ, suc, ◌+◌, ◌<◌, List, [], ◌∷◌, ◌++◌, map, length, drop, get_or, option_to_list, Option, None, Some, ap, sym, ◌∙◌, append_assoc, add-one, drop-cons}
 use Rattle.std.proofs.lemmas.List.{map-append}
 use Rattle.fdb_history.specs.Event.{Placed}
-use Rattle.fdb_history.specs.Explaining.{placed}
+use Rattle.fdb_history.specs.private.Explaining.{placed}
 use Rattle.fdb_history.specs.Log.{event_of_answer, placed_from}
 use Rattle.fdb_history.specs.declared.auditing.placed.PlacedEvent.{PlacedEvent}
 use Rattle.fdb_history.specs.declared.event.Event.{Event}
@@ -37,7 +37,7 @@ loop-place-preserved c =
     let call = c.index-calls-place.result in
     let before = c.loop-place.all.items in
     let rest = placed_from client (place + 1) (drop (place + 1) calls) in
-    elim c.match-event_of.branch [
+    elim c.match-event_of_answer.branch [
       | in-Some+in_ok-push w ↦
           ap (λ v. placed v.items ++ rest) w.all-is
           ∙ pushed before w.push.new.self.items (record { event = w.in-Some.event; position = call.position }) rest w.in_ok-push.ensures.items

@@ -1,6 +1,6 @@
 use Rattle.std.proofs.Common.{◌≡◌, ◌++◌, drop}
 use Rattle.fdb_history.specs.Log.{placed_from}
-use Rattle.fdb_history.specs.Explaining.{placed}
+use Rattle.fdb_history.specs.private.Explaining.{placed}
 use Rattle.fdb_history.proofs.auditing.placed.add_events.Given as goal
 
 -- with the events of the calls to come, the list has those of all the calls

@@ -1,4 +1,4 @@
-use Rattle.fdb_history.specs.Auditing.{AreMarks}
+use Rattle.fdb_history.specs.private.Auditing.{AreMarks}
 use Rattle.fdb_history.proofs.Marks.{drawn_below}
 use Rattle.fdb_history.proofs.auditing.stray.drawn_entries.Given as goal
 

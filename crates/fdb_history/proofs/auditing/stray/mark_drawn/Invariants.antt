@@ -1,5 +1,5 @@
 use Rattle.std.proofs.Common.{ℕ, Bool, take}
-use Rattle.fdb_history.specs.Auditing.{AreMarks}
+use Rattle.fdb_history.specs.private.Auditing.{AreMarks}
 use Rattle.fdb_history.specs.declared.chain.Issued.{Issued}
 use Rattle.fdb_history.proofs.Marks.{drawn_too}
 use Rattle.fdb_history.proofs.auditing.stray.mark_drawn.Given as goal

@@ -1,6 +1,6 @@
 use Rattle.std.proofs.Common.{◌≡◌, take}
-use Rattle.fdb_history.specs.Explaining.{raises_of}
-use Rattle.fdb_history.proofs.auditing.raises.raises_among.Given as goal
+use Rattle.fdb_history.specs.private.Explaining.{raises_of}
+use Rattle.fdb_history.proofs.auditing.raises.raises_of.Given as goal
 
 -- the raises among the events so far have been added
 abbrev pub invariant-loop-placed : goal.invariant-loop-placed

@@ -21,7 +21,8 @@ AreEventsByPosition events = IsNonDecreasingBy (λ (p : PlacedEvent). p.position
 
 -- the raise of an event at a position, if it is one
 abbrev pub raise_of_event : ℕ → Event → List Raise
-raise_of_event position (Report client call rec true) = record { position = position; rec = rec } ∷ []
+raise_of_event position (Report client call rec true) =
+    record { position = position; rec = rec } ∷ []
 raise_of_event position (Report client call rec false) = []
 raise_of_event position (Read client call rec) = []
 

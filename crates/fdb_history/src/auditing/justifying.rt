@@ -1,19 +1,21 @@
-//! Whether a call's answer is borne out by its input, the chain, and what its client has drawn.
+//! Whether a call's answer is justified by its input, the chain, and what its client has drawn.
 
 ghost use Rattle.std.specs.Prelude.{◌≡◌, false, length, slice_get};
-ghost use Rattle.std.specs.Option.{option_copied, option_map_or};
-ghost use Rattle.fdb_history.specs.Bearing.{drawn_version};
+ghost use Rattle.std.specs.Option.{option_map_or};
+ghost use Rattle.fdb_history.specs.private.Justifying.{drawn_version};
 ghost use Rattle.fdb_history.specs.Replies.{reply};
-ghost use Rattle.fdb_history.specs.Strays.{goes_with, is_again, is_borne_out_by, is_due, is_early, is_fresh_answer, is_near_the_end, is_of_chain, is_of_issued, is_rightly_locked_out, is_same, may_refuse, number_of};
+ghost use Rattle.fdb_history.specs.Strays.{goes_with, is_again, is_justified_by, is_due, is_early, is_fresh_answer, is_near_the_end, is_of_chain, is_of_issued, is_rightly_locked_out, is_same, may_refuse, number_of};
 
 use crate::chain::{Issued, MAX_STEP};
 use crate::log::{Call, CallAnswer, Input, Refusal};
 use crate::register::MAX_VERSION;
 use crate::replies::Replies;
 
-/// Whether a call's answer is borne out.
-pub fn is_borne_out(chain: &[Issued], client: u32, own: &Replies, call: &Call) -> bool
-    ensures { result ≡ is_borne_out_by chain.now client (length own.now.places) (reply chain.now own.now (number_of call.now.input)) (drawn_version chain.now own.now (number_of call.now.input)) call.now }
+/// Whether a call's answer is justified.
+pub(crate) fn is_justified_by(chain: &[Issued], client: u32, own: &Replies, call: &Call) -> bool
+    ensures { result ≡ is_justified_by chain.now client (length own.now.places)
+        (reply chain.now own.now (number_of call.now.input))
+        (drawn_version chain.now own.now (number_of call.now.input)) call.now }
 {
     goes_with(&call.input, &call.answer)
         && is_rightly_locked_out(&call.input, &call.answer)
@@ -89,7 +91,8 @@ fn is_of_chain(chain: &[Issued], client: u32, input: &Input, answer: &CallAnswer
 
 /// Whether the chain's entry at an answer's ordinal is the answer, in all but `fresh`.
 fn is_in_chain(chain: &[Issued], issued: &Issued) -> bool
-    ensures { result ≡ option_map_or (λ entry. is_same issued.now (record entry { fresh = issued.now.fresh })) (slice_get chain.now issued.now.ordinal) false }
+    ensures { result ≡ option_map_or (λ entry. is_same issued.now (record entry { fresh = issued.now.fresh }))
+        (slice_get chain.now issued.now.ordinal) false }
 {
     match chain.get(issued.ordinal as usize) {
         Some(entry) => {
@@ -105,7 +108,8 @@ fn is_in_chain(chain: &[Issued], issued: &Issued) -> bool
 
 /// Whether the answer to a request is the one that is due.
 fn is_due(chain: &[Issued], own: &Replies, input: &Input, answer: &CallAnswer) -> bool
-    ensures { result ≡ is_due chain.now (length own.now.places) (reply chain.now own.now (number_of input.now)) input.now answer.now }
+    ensures { result ≡ is_due chain.now (length own.now.places)
+        (reply chain.now own.now (number_of input.now)) input.now answer.now }
 {
     let Input::Ask { num, processed, at } = input else {
         return true;
@@ -115,7 +119,7 @@ fn is_due(chain: &[Issued], own: &Replies, input: &Input, answer: &CallAnswer) -
         return is_early(latest + 1, answer);
     }
     if *num <= latest {
-        return is_again(kept(chain, own, *num), answer);
+        return is_again(own.reply(chain, *num), answer);
     }
     is_fresh_answer(chain, *processed, *at, answer)
 }
@@ -131,27 +135,20 @@ fn is_early(next: u64, answer: &CallAnswer) -> bool
 }
 
 /// Whether a repeated request gets the answer that is kept, or is told that none is.
-fn is_again(found: Option<&Issued>, answer: &CallAnswer) -> bool
-    ensures { result ≡ is_again (option_copied found.entry) answer.now }
+fn is_again(found: Option<Issued>, answer: &CallAnswer) -> bool
+    ensures { result ≡ is_again found answer.now }
 {
     match (found, answer) {
         (Some(entry), CallAnswer::Answered(issued)) => {
             *issued
                 == Issued {
                     fresh: false,
-                    ..*entry
+                    ..entry
                 }
         }
         (None, CallAnswer::Refused(Refusal::Forgotten)) => true,
         _ => false,
     }
-}
-
-/// The chain's entry that is kept under a number.
-fn kept<'a>(chain: &'a [Issued], own: &Replies, num: u64) -> Option<&'a Issued>
-    ensures { option_copied result ≡ reply chain.entry.now own.now num }
-{
-    chain.get(own.place_of(num)?)
 }
 
 /// Whether the answer to the next request is fresh and has its members, or there is no version left.

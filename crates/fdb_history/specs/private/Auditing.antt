@@ -22,12 +22,16 @@ IsFirstCall Stands (Some name) = IsFirst Stands name.client name.call
 
 -- the calls of a log before a place have no such fault
 abbrev pub NoneBefore : (List Call → Call → Type 0) → List Call → ℕ → Type 0
-NoneBefore Fault calls place = (p : ℕ) (call : Call) → p < place → slice_get calls p ≡ Some call → Fault (take p calls) call → ⊥
+NoneBefore Fault calls place =
+    (p : ℕ) (call : Call) → p < place → slice_get calls p ≡ Some call → Fault (take p calls) call → ⊥
 
 -- the first of a log's calls that has a fault, if one has
 abbrev pub IsFirstOf : (List Call → Call → Type 0) → List Call → Option ℕ → Type 0
-IsFirstOf Fault calls None = (p : ℕ) (call : Call) → slice_get calls p ≡ Some call → Fault (take p calls) call → ⊥
-IsFirstOf Fault calls (Some place) = ((call : Call) × (slice_get calls place ≡ Some call) × Fault (take place calls) call) × NoneBefore Fault calls place
+IsFirstOf Fault calls None =
+    (p : ℕ) (call : Call) → slice_get calls p ≡ Some call → Fault (take p calls) call → ⊥
+IsFirstOf Fault calls (Some place) =
+    ((call : Call) × (slice_get calls place ≡ Some call) × Fault (take place calls) call)
+    × NoneBefore Fault calls place
 
 -- the least position at which something stands, if it stands at any
 abbrev pub IsLeastIfAny : (ℕ → Type 0) → Option ℕ → Type 0
@@ -48,11 +52,15 @@ AreTwoAt raises position = 1 < length (at_position position raises)
 
 -- the raises before a position stand at 1, 2 and so on
 abbrev pub StandInTurn : ℕ → List Raise → Type 0
-StandInTurn position raises = (place : ℕ) (d : Raise) → place + 1 < position → (place < length raises) × ((slice_index_or raises place d).position ≡ place + 1)
+StandInTurn position raises =
+    (place : ℕ) (d : Raise) → place + 1 < position
+    → (place < length raises) × ((slice_index_or raises place d).position ≡ place + 1)
 
 -- the register before any raise, and then after each raise in turn
 abbrev pub IsTable : Record → List Raise → List Record → Type 0
-IsTable start raises table = (count : ℕ) (d : Record) → count ≤ length raises → slice_index_or table count d ≡ after_raises start (take count raises)
+IsTable start raises table =
+    (count : ℕ) (d : Record) → count ≤ length raises
+    → slice_index_or table count d ≡ after_raises start (take count raises)
 
 -- the register at a position, by a table
 abbrev pub by_table : Registers → ℕ → Record
@@ -60,7 +68,9 @@ by_table registers position = slice_index_or registers.table.items position regi
 
 -- the table is right at each position that a call has reached
 abbrev pub AreRegisters : Record → List ClientLog → Registers → Type 0
-AreRegisters start logs registers = (position : ℕ) → IsReached logs position → by_table registers position ≡ register_at start logs position
+AreRegisters start logs registers =
+    (position : ℕ) → IsReached logs position
+    → by_table registers position ≡ register_at start logs position
 
 -- the first fault of the raises: two at one position, and then none where one is owed
 abbrev pub IsRaiseFault : List ClientLog → AuditFault → Type 0
@@ -74,13 +84,18 @@ IsRaiseFault logs (NotAbove client call) = ⊥
 
 -- no register call has a position above the number of raises
 abbrev pub IsWithin : List ClientLog → Type 0
-IsWithin logs = AllByRecursion (λ p. p.position ≤ count_by (λ q. is_raise q.event) (placed_in 0 logs)) (placed_in 0 logs)
+IsWithin logs =
+    AllByRecursion (λ p. p.position ≤ count_by (λ q. is_raise q.event) (placed_in 0 logs))
+    (placed_in 0 logs)
 
 -- the marks of the chain's entries are the answers of this test
 pub record AreMarks (chain : List Issued) (marks : List Bool) (test : ℕ → Issued → Bool) : Type 0 where
   pub count : length marks ≡ length chain
-  pub each : (place : ℕ) (entry : Issued) → slice_get chain place ≡ Some entry → slice_index_or marks place false ≡ test place entry
+  pub each : (place : ℕ) (entry : Issued) → slice_get chain place ≡ Some entry
+      → slice_index_or marks place false ≡ test place entry
 
 -- this client has an entry with no mark
 abbrev pub HasUnmarked : List Issued → List Bool → ℕ → Type 0
-HasUnmarked chain marks client = (place : ℕ) × (entry : Issued) × (slice_get chain place ≡ Some entry) × (entry.proxy ≡ client) × (slice_index_or marks place false ≡ false)
+HasUnmarked chain marks client =
+    (place : ℕ) × (entry : Issued) × (slice_get chain place ≡ Some entry) × (entry.proxy ≡ client)
+    × (slice_index_or marks place false ≡ false)

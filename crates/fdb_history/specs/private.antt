@@ -1,0 +1,3 @@
+pub mod Explaining
+pub mod Auditing
+pub mod Justifying
