@@ -17,7 +17,7 @@ use Rattle.fdb_history.specs.declared.grv.Priority.{Priority}
 use Rattle.fdb_history.specs.declared.grv.Priority.TheVariants.{System, Default, Batch}
 use Rattle.fdb_history.specs.declared.grv.TagLimit.{TagLimit}
 use Rattle.fdb_queue.specs.declared.throttles.Limit.{Limit}
-use Rattle.fdb_queue.specs.Kinds.{kept_for}
+use Rattle.fdb_queue.specs.private.Kinds.{kept_for}
 use Rattle.fdb_queue.specs.Throttles.{Throttle, is_for, last_set}
 use Rattle.fdb_queue.specs.Waiting.{is_priority}
 use Rattle.fdb_queue.proofs.Leaving.{is_own}

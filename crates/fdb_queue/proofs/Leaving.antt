@@ -13,7 +13,7 @@ use Rattle.fdb_queue.specs.declared.waiting.Reach.{Reach}
 use Rattle.fdb_queue.specs.Budgets.{budget_after, cut}
 use Rattle.fdb_queue.specs.Kept.{IsQueue, IsAdmitted, IsBudget, AreBudgets}
 use Rattle.fdb_queue.specs.Queue.{Queue}
-use Rattle.fdb_queue.specs.Reach.{IsReach}
+use Rattle.fdb_queue.specs.private.Reach.{IsReach}
 use Rattle.fdb_queue.specs.Waiting.{Requests, row, total, is_priority, of_priority}
 use Rattle.fdb_queue.specs.Window.{window, without, budgets_after, after_window}
 

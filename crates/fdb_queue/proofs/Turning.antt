@@ -20,7 +20,8 @@ use Rattle.fdb_queue.specs.Kept.{IsQueue, IsAdmitted}
 use Rattle.fdb_queue.specs.Laws.{list_of}
 use Rattle.fdb_queue.specs.Queue.{Queue}
 use Rattle.fdb_queue.specs.Waiting.{Requests, row, total, first}
-use Rattle.fdb_queue.specs.Waits.{after_windows, StartsAfter, IsSure, limit_of, budget_of}
+use Rattle.fdb_queue.specs.Waits.{after_windows, StartsAfter, IsSure, limit_of}
+use Rattle.fdb_queue.specs.private.Rates.{budget_of}
 use Rattle.fdb_queue.specs.Window.{may_start, fits, window, budgets_after, after_window}
 use Rattle.fdb_queue.proofs.Fitting.{and-true, fits-more}
 use Rattle.fdb_queue.proofs.LongestPrefix.{find_longest}

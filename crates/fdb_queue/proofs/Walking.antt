@@ -12,8 +12,8 @@ use Rattle.fdb_queue.specs.declared.config.TheConstants.{MAX_STARTED}
 use Rattle.fdb_queue.specs.declared.request.Req.{Req}
 use Rattle.fdb_queue.specs.declared.turn.Turn.{Turn}
 use Rattle.fdb_queue.specs.Queue.{Queue}
-use Rattle.fdb_queue.specs.Reach.{IsReach}
-use Rattle.fdb_queue.specs.Turn.{turn_after, IsTurn}
+use Rattle.fdb_queue.specs.private.Reach.{IsReach}
+use Rattle.fdb_queue.specs.private.Turn.{turn_after, IsTurn}
 use Rattle.fdb_queue.specs.Waiting.{row, total}
 use Rattle.fdb_queue.specs.Window.{may_start, prefixes, fits}
 use Rattle.fdb_queue.proofs.Fitting.{total-cons, fits-more, fits-push}

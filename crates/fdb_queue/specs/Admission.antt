@@ -10,12 +10,14 @@ use Rattle.fdb_queue.specs.declared.request.Req.{Req}
 use Rattle.fdb_queue.specs.Queue.{Queue}
 use Rattle.fdb_queue.specs.Waiting.{Requests, row, first, with_last}
 
--- Whether a count may be admitted: it is in range, and a batch request's is not above what the normal rate can come to
--- while nothing else waits, so that none waits for ever while nothing else does.
+-- Whether a count may be admitted: it is in range, and a batch request's is not above what the
+-- normal rate can come to while nothing else waits, so that none waits for ever while nothing else
+-- does.
 abbrev pub is_count : QueueConfig → Priority → ℕ → Bool
 is_count config System count = nat_le 1 count && nat_le count MAX_COUNT
 is_count config Default count = nat_le 1 count && nat_le count MAX_COUNT
-is_count config Batch count = nat_le 1 count && nat_le count MAX_COUNT && nat_le count (config.normal + IDLE_BURST)
+is_count config Batch count =
+    nat_le 1 count && nat_le count MAX_COUNT && nat_le count (config.normal + IDLE_BURST)
 
 -- whether no batch request is let in
 abbrev pub is_throttled : QueueConfig → Priority → Bool
@@ -23,12 +25,12 @@ is_throttled config System = false
 is_throttled config Default = false
 is_throttled config Batch = config.batch == 0
 
--- whether as many requests wait as there is room for
+-- whether as many requests wait as the capacity allows
 abbrev pub is_full : {T : Type 0} → Queue T → Bool
 is_full queue = length (row queue.waiting) == queue.config.room
 
--- The requests that one of this priority may push out, in the order in which they go: batch requests before default
--- ones, and of each the oldest first.
+-- The requests that one of this priority may push out, in the order in which they go: batch
+-- requests before default ones, and of each the oldest first.
 abbrev pub below : {T : Type 0} → Priority → Requests T → List (Req T)
 below System waiting = waiting.batch ++ waiting.default_
 below Default waiting = waiting.batch
@@ -44,7 +46,8 @@ refusal_of queue request =
 
 -- The request that is pushed out by one that is let in, if there is one.
 abbrev pub pushed_out : {T : Type 0} → Queue T → Req T → Option (Req T)
-pushed_out queue request = if is_full queue then first (below request.priority queue.waiting) else None
+pushed_out queue request =
+    if is_full queue then first (below request.priority queue.waiting) else None
 
 -- the requests without the first of those that may be pushed out
 abbrev pub without_oldest : {T : Type 0} → Requests T → Requests T
@@ -54,11 +57,12 @@ without_oldest waiting =
 
 -- The queue with a request that is let in.
 abbrev pub admitted : {T : Type 0} → Queue T → Req T → Queue T
-admitted queue request = record queue {
-  waiting = with_last (if is_full queue then without_oldest queue.waiting else queue.waiting) request request.priority;
-}
+admitted queue request =
+    let kept = if is_full queue then without_oldest queue.waiting else queue.waiting in
+    record queue { waiting = with_last kept request request.priority }
 
--- Why an offer was refused is what the definition says. Where it lets the request in, memory was refused.
+-- Why an offer was refused is what the definition says. Where it lets the request in, memory was
+-- refused.
 abbrev pub IsCause : Option QueueError → QueueError → Type 0
 IsCause (Some due) cause = cause ≡ due
 IsCause None cause = cause ≡ Memory

@@ -3,7 +3,7 @@ use Rattle.std.specs.Prelude.{ℕ, ◌≤◌}
 use Rattle.fdb_queue.specs.declared.config.QueueConfig.{QueueConfig}
 use Rattle.fdb_queue.specs.declared.config.TheConstants.{MAX_RATE, MAX_ROOM, MAX_ELAPSED}
 
--- The rates and the room are within their limits.
+-- The rates and the capacity are within their limits.
 pub record IsConfig (config : QueueConfig) : Type 0 where
   pub normal_some : 1 ≤ config.normal
   pub normal_in_range : config.normal ≤ MAX_RATE

@@ -12,7 +12,8 @@ use Rattle.fdb_queue.specs.Queue.{Queue}
 use Rattle.fdb_queue.specs.Waiting.{row}
 
 -- a request has the priority of its list and a count that is admitted
-pub record IsAdmitted {T : Type 0} (config : QueueConfig) (priority : Priority) (request : Req T) : Type 0 where
+pub record IsAdmitted {T : Type 0} (config : QueueConfig) (priority : Priority)
+    (request : Req T) : Type 0 where
   pub own : request.priority ≡ priority
   pub count : is_count config priority request.count ≡ true
 
@@ -24,7 +25,8 @@ pub record AreBudgets (budgets : Budgets) : Type 0 where
   pub normal : IsBudget budgets.normal
   pub batch : IsBudget budgets.batch
 
--- Each list has admitted requests of its priority, no more wait than there is room for, and no budget is above its bound.
+-- Each list has admitted requests of its priority, no more wait than the capacity allows, and no
+-- budget is above its bound.
 pub record IsQueue {T : Type 0} (queue : Queue T) : Type 0 where
   pub config : IsConfig queue.config
   pub system : All (IsAdmitted queue.config System) queue.waiting.system

@@ -2,12 +2,10 @@ pub mod Config
 pub mod Budgets
 pub mod Waiting
 pub mod Throttles
-pub mod Kinds
 pub mod Queue
 pub mod Window
 pub mod Admission
 pub mod Kept
-pub mod Turn
-pub mod Reach
 pub mod Laws
 pub mod Waits
+pub mod private

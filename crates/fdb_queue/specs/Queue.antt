@@ -5,7 +5,8 @@ use Rattle.fdb_queue.specs.Waiting.{Requests, nothing}
 use Rattle.fdb_queue.specs.declared.budgets.Budgets.{Budgets}
 use Rattle.fdb_queue.specs.declared.config.QueueConfig.{QueueConfig}
 
--- A queue: what it was made with, the requests that wait, the budgets, and throttles that stand for all that were set.
+-- A queue: what it was made with, the requests that wait, the budgets, and throttles that stand for
+-- all that were set.
 pub record Queue (T : Type 0) : Type 0 where
   pub config : QueueConfig
   pub waiting : Requests T
@@ -14,4 +15,10 @@ pub record Queue (T : Type 0) : Type 0 where
 
 -- A queue in which nothing waits, with no budget and no throttle.
 abbrev pub new_queue : {T : Type 0} → QueueConfig → Queue T
-new_queue config = record { config = config; waiting = nothing; budgets = record { normal = 0; batch = 0 }; throttles = [] }
+new_queue config =
+    record {
+      config = config;
+      waiting = nothing;
+      budgets = record { normal = 0; batch = 0 };
+      throttles = [];
+    }

@@ -1,4 +1,5 @@
--- Tag throttles. (`PrioritizedTransactionTagMap` of GrvProxyServer; that one is never erased is this product's own)
+-- Tag throttles. (`PrioritizedTransactionTagMap` of GrvProxyServer; that one is never erased is
+-- this product's own)
 use Rattle.std.specs.Prelude.{◌≡◌, ℕ, Bool, ◌&&◌, nat_eq, nat_lt, if◌then◌else◌, List, [], ◌∷◌, Option, None, Some}
 use Rattle.std.specs.List.{flat_map}
 use Rattle.std.specs.Cmp.Lexicographic.{pointwise}
@@ -13,23 +14,28 @@ pub record Throttle : Type 0 where
 
 -- whether a throttle is for a priority and a tag
 abbrev pub is_for : Priority → List ℕ → Throttle → Bool
-is_for priority tag throttle = is_priority priority throttle.priority && pointwise nat_eq tag throttle.limit.tag
+is_for priority tag throttle =
+    is_priority priority throttle.priority && pointwise nat_eq tag throttle.limit.tag
 
--- What was last set for a priority and a tag: the first in the list of all that were set, the newest first.
+-- What was last set for a priority and a tag: the first in the list of all that were set, the
+-- newest first.
 abbrev pub last_set : List Throttle → Priority → List ℕ → Option TagLimit
 last_set [] priority tag = None
-last_set (throttle ∷ throttles) priority tag = if is_for priority tag throttle then Some throttle.limit else last_set throttles priority tag
+last_set (throttle ∷ throttles) priority tag =
+    if is_for priority tag throttle then Some throttle.limit else last_set throttles priority tag
 
 -- a limit, if it expires later than this moment
 abbrev pub unexpired : ℕ → Option TagLimit → List TagLimit
 unexpired at None = []
 unexpired at (Some limit) = if nat_lt at limit.expires then limit ∷ [] else []
 
--- The limits of some tags at a priority and a moment: for each tag in order, also for one that stands twice, what was
--- last set, if it has not expired.
+-- The limits of some tags at a priority and a moment: for each tag in order, also for one that
+-- stands twice, what was last set, if it has not expired.
 abbrev pub limits_of : List Throttle → Priority → ℕ → List (List ℕ) → List TagLimit
-limits_of throttles priority at tags = flat_map (λ tag. unexpired at (last_set throttles priority tag)) tags
+limits_of throttles priority at tags =
+    flat_map (λ tag. unexpired at (last_set throttles priority tag)) tags
 
 -- Two lists of throttles stand for the same.
 abbrev pub SameThrottles : List Throttle → List Throttle → Type 0
-SameThrottles these those = (priority : Priority) (tag : List ℕ) → last_set these priority tag ≡ last_set those priority tag
+SameThrottles these those =
+    (priority : Priority) (tag : List ℕ) → last_set these priority tag ≡ last_set those priority tag

@@ -10,8 +10,8 @@ pub record Requests (T : Type 0) : Type 0 where
   pub default_ : List (Req T)
   pub batch : List (Req T)
 
--- The row in which they start: system requests, then default ones, then batch ones. (`transactionStarter` of
--- GrvProxyServer takes from the first of its three queues that has one)
+-- The row in which they start: system requests, then default ones, then batch ones.
+-- (`transactionStarter` of GrvProxyServer takes from the first of its three queues that has one)
 abbrev pub row : {T : Type 0} → Requests T → List (Req T)
 row waiting = waiting.system ++ waiting.default_ ++ waiting.batch
 
@@ -49,5 +49,6 @@ with_last waiting request Batch = record waiting { batch = waiting.batch ++ requ
 abbrev pub without_first : {T : Type 0} → Requests T → Requests T
 without_first waiting =
     if length waiting.system == 0 then (
-    if length waiting.default_ == 0 then record waiting { batch = drop 1 waiting.batch } else record waiting { default_ = drop 1 waiting.default_ }
+    if length waiting.default_ == 0 then record waiting { batch = drop 1 waiting.batch }
+    else record waiting { default_ = drop 1 waiting.default_ }
     ) else record waiting { system = drop 1 waiting.system }

@@ -2,7 +2,6 @@
 use Rattle.std.specs.Prelude.{◌≡◌, ℕ, zero, suc, ◌<◌, ◌≤◌, [], length}
 use Rattle.fdb_history.specs.declared.grv.Priority.{Priority}
 use Rattle.fdb_history.specs.declared.grv.Priority.TheVariants.{System, Default, Batch}
-use Rattle.fdb_queue.specs.declared.budgets.Budgets.{Budgets}
 use Rattle.fdb_queue.specs.declared.config.QueueConfig.{QueueConfig}
 use Rattle.fdb_queue.specs.declared.config.TheConstants.{MAX_COUNT}
 use Rattle.fdb_queue.specs.Queue.{Queue}
@@ -18,8 +17,9 @@ pub record StartsAfter {T : Type 0} (elapsed : ℕ) (queue : Queue T) (count : �
   pub idle : (before : ℕ) → before < count → window (after_windows elapsed before queue) ≡ []
   pub starts : 0 < length (window (after_windows elapsed count queue))
 
--- Whether a request that is first in the row waits for its own rate alone, and so is sure to start: a default one of an
--- admitted count, and a batch one that the normal rate never holds, where its own limit is not 0.
+-- Whether a request that is first in the row waits for its own rate alone, and so is sure to start:
+-- a default one of an admitted count, and a batch one that the normal rate never holds, where its
+-- own limit is not 0.
 abbrev pub IsSure : QueueConfig → Priority → ℕ → Type 0
 IsSure config System count = ⊥
 IsSure config Default count = count ≤ MAX_COUNT
@@ -30,9 +30,3 @@ abbrev pub limit_of : QueueConfig → Priority → ℕ
 limit_of config System = 0
 limit_of config Default = config.normal
 limit_of config Batch = config.batch
-
--- and its budget
-abbrev pub budget_of : Budgets → Priority → ℕ
-budget_of budgets System = 0
-budget_of budgets Default = budgets.normal
-budget_of budgets Batch = budgets.batch

@@ -8,7 +8,8 @@ ghost use Rattle.fdb_queue.specs.declared.config.TheConstants.{MAX_RATE};
 
 use crate::config::{IDLE_BURST, MAX_BURST, RATE_WINDOW};
 
-/// The budgets of a queue's rates: what each may start beyond its limit, in transactions times `RATE_WINDOW`.
+/// The budgets of a queue's rates: what each may start beyond its limit, in transactions times
+/// `RATE_WINDOW`.
 #[derive(Clone, Copy, Debug, Default, PartialEq, Eq)]
 pub struct Budgets {
     /// Of the rate that holds default and batch requests.
@@ -27,8 +28,8 @@ pub(crate) fn can_start(limit: u64, budget: u64, transactions: u64) -> bool
     transactions * RATE_WINDOW <= (limit * RATE_WINDOW + budget).min(MAX_BURST * RATE_WINDOW)
 }
 
-/// The budget of a rate after a window that started so many transactions, and after which something waits for the rate or
-/// nothing does.
+/// The budget of a rate after a window that started so many transactions, and after which something
+/// waits for the rate or nothing does.
 pub(crate) fn after(elapsed: u64, limit: u64, started: u64, budget: u64, idle: bool) -> u64
     requires elapsed { IsElapsed elapsed }
     requires limit { limit ≤ MAX_RATE }

@@ -7,13 +7,14 @@ ghost use Rattle.fdb_queue.specs.Config.{IsConfig, IsElapsed};
 
 use fdb_history::Priority;
 
-/// The microseconds over which a rate counts. A budget counts parts of a transaction, of which `RATE_WINDOW` are one.
+/// The microseconds over which a rate counts. A budget counts parts of a transaction, of which
+/// `RATE_WINDOW` are one.
 pub const RATE_WINDOW: u64 = 2_000_000;
 
 /// The greatest limit of a rate.
 pub const MAX_RATE: u64 = 100_000;
 
-/// The greatest room of a queue.
+/// The greatest capacity of a queue.
 pub const MAX_ROOM: u64 = 100_000;
 
 /// The greatest count of a request.
@@ -34,14 +35,14 @@ pub const IDLE_BURST: u64 = 10;
 /// The most bytes of a tag.
 pub const MAX_TAG: u64 = 16;
 
-/// The rates of a queue, in transactions for each `RATE_WINDOW` of time, and the room in it.
+/// The rates of a queue, in transactions for each `RATE_WINDOW` of time, and its capacity.
 #[derive(Clone, Copy, Debug, PartialEq, Eq)]
 pub struct QueueConfig {
     /// The rate that holds default and batch requests: 1 to `MAX_RATE`.
     pub normal: u64,
     /// The rate that holds batch requests besides: 0 to `MAX_RATE`. With 0 none is let in.
     pub batch: u64,
-    /// The most requests that wait: 1 to `MAX_ROOM`.
+    /// The capacity, which is the most requests that wait: 1 to `MAX_ROOM`.
     pub room: u64,
 }
 

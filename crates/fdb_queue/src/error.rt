@@ -6,10 +6,11 @@ use thiserror::Error;
 /// Why a queue is not made, a request not let in, or a window not held.
 #[derive(Clone, Copy, Debug, PartialEq, Eq, Error)]
 pub enum QueueError {
-    /// A limit, the room or the time since the last window is out of range.
+    /// A rate, the capacity or the time since the last window is out of range.
     #[error("the configuration is out of range")]
     BadConfig,
-    /// The request's count is out of range, or above what a batch request is sure to start with once nothing else waits.
+    /// The request's count is out of range, or above what a batch request is sure to start with
+    /// once nothing else waits.
     #[error("the request's count is out of range")]
     BadCount,
     /// No batch request is let in, since the batch limit is 0.

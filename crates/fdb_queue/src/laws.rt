@@ -1,8 +1,8 @@
 //! Laws of the definitions: what a reader would ask of a window, of the budgets and of admission.
 //!
-//! Each is the contract of a function that does nothing, so that the check proves it. It holds of every queue that the
-//! definitions speak of, whatever its limits, budgets and requests, or of every one that keeps to `IsQueue`, as each
-//! `GrvQueue` does.
+//! Each is the contract of a function that does nothing, so that the check proves it. It holds of
+//! every queue that the definitions speak of, whatever its limits, budgets and requests, or of
+//! every one that keeps to `IsQueue`, as each `GrvQueue` does.
 
 ghost use Rattle.std.specs.Prelude.{◌≡◌, ℕ, ◌+◌, ◌*◌, ◌<◌, ◌≤◌, ◌⊎◌, [], ◌∷◌, ◌++◌, List, length, take, true, false, Some, None, option_to_list, IsPermutation};
 ghost use Rattle.fdb_queue.specs.Admission.{refusal_of, admitted, pushed_out};
@@ -21,18 +21,23 @@ ghost use Rattle.fdb_queue.specs.declared.config.TheConstants.{MAX_STARTED, RATE
 ghost use Rattle.fdb_queue.specs.declared.request.Req.{Req};
 ghost use Rattle.fdb_history.specs.declared.grv.Priority.TheVariants.{Default};
 
-/// A window starts a prefix of the row, and so passes over nobody. Each request of it may start, given the sum of the
-/// counts before it; no longer prefix would do; and where one is left, it is the head of what is left that may not start,
-/// unless as many have started as may.
+/// A window starts a prefix of the row, and so passes over nobody. Each request of it may start,
+/// given the sum of the counts before it; no longer prefix would do; and where one is left, it is
+/// the head of what is left that may not start, unless as many have started as may.
 pub fn windows_pass_over_nobody<T>()
-    ensures prefix { (queue : Queue T) → window queue ≡ take (length (window queue)) (row queue.waiting) }
-    ensures may_start { (queue : Queue T) (before after : List (Req T)) (request : Req T) → window queue ≡ before ++ request ∷ after
+    ensures prefix { (queue : Queue T)
+        → window queue ≡ take (length (window queue)) (row queue.waiting) }
+    ensures may_start { (queue : Queue T) (before after : List (Req T)) (request : Req T)
+        → window queue ≡ before ++ request ∷ after
         → may_start queue.config queue.budgets request.priority (total before + request.count) ≡ true }
     ensures in_range { (queue : Queue T) → length (window queue) ≤ MAX_STARTED }
-    ensures longest { (queue : Queue T) (count : ℕ) → length (window queue) < count → count ≤ length (row queue.waiting)
-        → fits queue (take count (row queue.waiting)) ≡ false }
-    ensures head { (queue : Queue T) (left : List (Req T)) (next : Req T) → row queue.waiting ≡ window queue ++ next ∷ left
-        → (length (window queue) ≡ MAX_STARTED) ⊎ (may_start queue.config queue.budgets next.priority (total (window queue) + next.count) ≡ false) }
+    ensures longest { (queue : Queue T) (count : ℕ) → length (window queue) < count
+        → count ≤ length (row queue.waiting) → fits queue (take count (row queue.waiting)) ≡ false }
+    ensures head { (queue : Queue T) (left : List (Req T)) (next : Req T)
+        → row queue.waiting ≡ window queue ++ next ∷ left
+        → (length (window queue) ≡ MAX_STARTED)
+        ⊎ (may_start queue.config queue.budgets next.priority (total (window queue) + next.count)
+        ≡ false) }
 {}
 
 /// The counts that one window starts add up to at most 1,000,000,000.
@@ -40,55 +45,75 @@ pub fn windows_are_bounded<T>()
     ensures { (queue : Queue T) → IsQueue queue → total (window queue) ≤ 1000000000 }
 {}
 
-/// After a window no budget exceeds its bound, 100,000 transactions, and one for which nothing waits no more than 10.
+/// After a window no budget exceeds its bound, 100,000 transactions, and one for which nothing
+/// waits no more than 10.
 pub fn budgets_are_bounded<T>()
-    ensures normal { (queue : Queue T) (elapsed : ℕ) → (after_window elapsed queue).budgets.normal ≤ 200000000000 }
-    ensures batch { (queue : Queue T) (elapsed : ℕ) → (after_window elapsed queue).budgets.batch ≤ 200000000000 }
-    ensures idle_normal { (queue : Queue T) (elapsed : ℕ) → (after_window elapsed queue).waiting.system ≡ [] → (after_window elapsed queue).waiting.default_ ≡ []
+    ensures normal { (queue : Queue T) (elapsed : ℕ)
+        → (after_window elapsed queue).budgets.normal ≤ 200000000000 }
+    ensures batch { (queue : Queue T) (elapsed : ℕ)
+        → (after_window elapsed queue).budgets.batch ≤ 200000000000 }
+    ensures idle_normal { (queue : Queue T) (elapsed : ℕ)
+        → (after_window elapsed queue).waiting.system ≡ []
+        → (after_window elapsed queue).waiting.default_ ≡ []
         → (after_window elapsed queue).budgets.normal ≤ 20000000 }
-    ensures idle_batch { (queue : Queue T) (elapsed : ℕ) → row (after_window elapsed queue).waiting ≡ []
+    ensures idle_batch { (queue : Queue T) (elapsed : ℕ)
+        → row (after_window elapsed queue).waiting ≡ []
         → (after_window elapsed queue).budgets.batch ≤ 20000000 }
 {}
 
-/// What a queue keeps to, it keeps to whatever is let in and started: no more requests wait than there is room for, each
-/// waits in the list of its priority, and the budgets are within their bounds.
+/// What a queue keeps to, it keeps to whatever is let in and started: no more requests wait than the
+/// capacity allows, each waits in the list of its priority, and the budgets are within their bounds.
 pub fn queues_stay_queues<T>()
-    ensures admitted { (queue : Queue T) (request : Req T) → IsQueue queue → refusal_of queue request ≡ None → IsQueue (admitted queue request) }
-    ensures window { (queue : Queue T) (elapsed : ℕ) → IsQueue queue → IsQueue (after_window elapsed queue) }
+    ensures admitted { (queue : Queue T) (request : Req T) → IsQueue queue
+        → refusal_of queue request ≡ None → IsQueue (admitted queue request) }
+    ensures window { (queue : Queue T) (elapsed : ℕ) → IsQueue queue
+        → IsQueue (after_window elapsed queue) }
 {}
 
-/// Nobody but the oldest request of a lower priority is pushed out, and a default one only where no batch one waits.
+/// Nobody but the oldest request of a lower priority is pushed out, and a default one only where no
+/// batch one waits.
 pub fn only_the_oldest_is_pushed_out<T>()
-    ensures lower { (queue : Queue T) (request out : Req T) → IsQueue queue → pushed_out queue request ≡ Some out → rank out.priority < rank request.priority }
-    ensures oldest { (queue : Queue T) (request out : Req T) → IsQueue queue → pushed_out queue request ≡ Some out
+    ensures lower { (queue : Queue T) (request out : Req T) → IsQueue queue
+        → pushed_out queue request ≡ Some out → rank out.priority < rank request.priority }
+    ensures oldest { (queue : Queue T) (request out : Req T) → IsQueue queue
+        → pushed_out queue request ≡ Some out
         → take 1 (list_of out.priority queue.waiting) ≡ out ∷ [] }
-    ensures batch_first { (queue : Queue T) (request out : Req T) → IsQueue queue → pushed_out queue request ≡ Some out → out.priority ≡ Default
+    ensures batch_first { (queue : Queue T) (request out : Req T) → IsQueue queue
+        → pushed_out queue request ≡ Some out → out.priority ≡ Default
         → queue.waiting.batch ≡ [] }
 {}
 
-/// Whoever waited and is not pushed out still waits, with the request that was let in: nobody is lost.
+/// Whoever waited and is not pushed out still waits, with the request that was let in: nobody is
+/// lost.
 pub fn nobody_is_lost<T>()
     ensures { (queue : Queue T) (request : Req T) → refusal_of queue request ≡ None
-        → IsPermutation (request ∷ row queue.waiting) (option_to_list (pushed_out queue request) ++ row (admitted queue request).waiting) }
+        → IsPermutation (request ∷ row queue.waiting)
+        (option_to_list (pushed_out queue request) ++ row (admitted queue request).waiting) }
 {}
 
-/// A request that is first in the row, in its own list, and sure to start waits no more windows of one length than its count divided by what
-/// its limit grants in one, rounded up: whatever the budgets are, more windows with no offer between them do not all
-/// start nothing.
+/// A request that is first in the row, in its own list, and sure to start waits no more windows of
+/// one length than its count divided by what its limit grants in one, rounded up: whatever the
+/// budgets are, more windows with no offer between them do not all start nothing.
 pub fn waits_are_bounded<T>()
-    ensures { (queue : Queue T) (budgets : Budgets) (first : Req T) (left : List (Req T)) (elapsed idle : ℕ)
-        → IsConfig queue.config → 1 ≤ elapsed → row queue.waiting ≡ first ∷ left → take 1 (list_of first.priority queue.waiting) ≡ first ∷ []
+    ensures { (queue : Queue T) (budgets : Budgets) (first : Req T) (left : List (Req T))
+        (elapsed idle : ℕ)
+        → IsConfig queue.config → 1 ≤ elapsed → row queue.waiting ≡ first ∷ left
+        → take 1 (list_of first.priority queue.waiting) ≡ first ∷ []
         → IsSure queue.config first.priority first.count
-        → ((before : ℕ) → before < idle → window (after_windows elapsed before (record queue { budgets = budgets })) ≡ [])
-        → idle ≤ div_ceil (first.count * RATE_WINDOW) (elapsed * limit_of queue.config first.priority) }
+        → ((before : ℕ) → before < idle
+        → window (after_windows elapsed before (record queue { budgets = budgets })) ≡ [])
+        → idle ≤ div_ceil (first.count * RATE_WINDOW)
+        (elapsed * limit_of queue.config first.priority) }
 {}
 
-/// What was set last counts. Each call that sets a throttle leaves some that stand for the new one before those there were:
-/// so those that are kept always stand for the list of all that were set, the newest first, and the limits of any tags are
-/// the same by either.
+/// What was set last counts. Each call that sets a throttle leaves some that stand for the new one
+/// before those there were: so those that are kept always stand for the list of all that were set,
+/// the newest first, and the limits of any tags are the same by either.
 pub fn what_was_set_last_counts()
-    ensures limits { (these those : List Throttle) (priority : Priority) (at : ℕ) (tags : List (List ℕ)) → SameThrottles these those
+    ensures limits { (these those : List Throttle) (priority : Priority) (at : ℕ)
+        (tags : List (List ℕ)) → SameThrottles these those
         → limits_of these priority at tags ≡ limits_of those priority at tags }
-    ensures all { (kept before all : List Throttle) (newest : Throttle) → SameThrottles kept (newest ∷ before) → SameThrottles before all
+    ensures all { (kept before all : List Throttle) (newest : Throttle)
+        → SameThrottles kept (newest ∷ before) → SameThrottles before all
         → SameThrottles kept (newest ∷ all) }
 {}

@@ -8,7 +8,8 @@ ghost use Rattle.fdb_queue.specs.Kept.{IsQueue};
 ghost use Rattle.fdb_queue.specs.Queue.{new_queue};
 ghost use Rattle.fdb_queue.specs.Throttles.{limits_of, SameThrottles};
 ghost use Rattle.fdb_queue.specs.Waiting.{first, row, total, without_first};
-ghost use Rattle.fdb_queue.specs.Waits.{budget_of, IsSure, limit_of, StartsAfter};
+ghost use Rattle.fdb_queue.specs.Waits.{IsSure, limit_of, StartsAfter};
+ghost use Rattle.fdb_queue.specs.private.Rates.{budget_of};
 ghost use Rattle.fdb_queue.specs.declared.config.TheConstants.{MAX_COUNT, MAX_ELAPSED};
 ghost use Rattle.fdb_queue.specs.Window.{window, after_window};
 
@@ -22,10 +23,11 @@ use fdb_history::{Priority, Tag, TagLimit};
 use std::alloc::Global;
 use std::marker::Model;
 
-/// The requests that wait at a GRV proxy, and the budgets by which they start (`GrvProxyServer`, FoundationDB 7.1: the
-/// three queues, the two `GrvTransactionRateInfo` and the throttled tags).
+/// The requests that wait at a GRV proxy, and the budgets by which they start (`GrvProxyServer`,
+/// FoundationDB 7.1: the three queues, the two `GrvTransactionRateInfo` and the throttled tags).
 ///
-/// Contracts see it as the record `Queue`: its configuration, a list of requests for each priority, the budgets and the throttles.
+/// Contracts see it as the record `Queue`: its configuration, a list of requests for each priority,
+/// the budgets and the throttles.
 #[derive(Drop)]
 pub struct GrvQueue<T> {
     config: QueueConfig,
@@ -41,9 +43,21 @@ impl<T> Model for GrvQueue<T> {
 
     ghost use Rattle.fdb_queue.specs.Kept.{IsQueue};
 
-    ghost view = { λ queue. record { config = queue.config; waiting = queue.waiting; budgets = queue.budgets; throttles = queue.throttles } };
+    ghost view = { λ queue.
+        record {
+          config = queue.config;
+          waiting = queue.waiting;
+          budgets = queue.budgets;
+          throttles = queue.throttles;
+        } };
 
-    ghost invariant = { λ queue. IsQueue {T = T} (record { config = queue.config; waiting = queue.waiting; budgets = queue.budgets; throttles = queue.throttles }) };
+    ghost invariant = { λ queue.
+        IsQueue {T = T} (record {
+          config = queue.config;
+          waiting = queue.waiting;
+          budgets = queue.budgets;
+          throttles = queue.throttles;
+        }) };
 }
 
 impl<T> GrvQueue<T> {
@@ -53,7 +67,8 @@ impl<T> GrvQueue<T> {
     pub fn new(alloc: Global, config: QueueConfig) -> Result<GrvQueue<T>, QueueError>
         ensures ok { IfOk result (λ queue. queue ≡ new_queue config) }
         ensures in_range { OnOk result (IsConfig config) }
-        ensures bad_config { IfErr result (λ cause. (cause ≡ QueueError.BadConfig) × ¬ IsConfig config) }
+        ensures bad_config { IfErr result
+            (λ cause. (cause ≡ QueueError.BadConfig) × ¬ IsConfig config) }
     {
         if !config.is_in_range() {
             return Err(QueueError::BadConfig);
@@ -66,11 +81,12 @@ impl<T> GrvQueue<T> {
         })
     }
 
-    /// Lets a request in, at the end of its list. Where the queue is full, the oldest request of a lower priority is pushed
-    /// out, batch requests first, and handed to the caller.
+    /// Lets a request in, at the end of its list. Where the queue is full, the oldest request of a
+    /// lower priority is pushed out, batch requests first, and handed to the caller.
     ///
-    /// It is refused as `BadCount`, `BatchThrottled` or `Full`, the first of these that stands, else for memory. It is
-    /// then handed back, and the queue is as it was. It takes constant time, the growth of the list aside.
+    /// It is refused as `BadCount`, `BatchThrottled` or `Full`, the first of these that stands,
+    /// else for memory. It is then handed back, and the queue is as it was. It takes constant time,
+    /// the growth of the list aside.
     pub fn offer(&mut self, request: Req<T>) -> Result<Option<Req<T>>, (QueueError, Req<T>)>
         // It is let in only where the definition has nothing against it.
         ensures let_in { OnOk result (refusal_of self.old request ≡ None) }
@@ -94,20 +110,23 @@ impl<T> GrvQueue<T> {
         Ok(self.waiting.pop_lowest())
     }
 
-    /// Starts the longest prefix of the row that may start, and hands it out in order; the budgets then gain for the time
-    /// since the last window and pay for what was started.
+    /// Starts the longest prefix of the row that may start, and hands it out in order; the budgets
+    /// then gain for the time since the last window and pay for what was started.
     ///
-    /// `elapsed` is that time in microseconds. It is refused as `BadConfig` where it is 0 or above `MAX_ELAPSED`, else for
-    /// memory, which a window that starts nothing does not take; nothing has changed then. The counts that one window starts
-    /// add up to at most 1,000,000,000. It takes time in proportion to what it starts.
+    /// `elapsed` is that time in microseconds. It is refused as `BadConfig` where it is 0 or above
+    /// `MAX_ELAPSED`, else for memory, which a window that starts nothing does not take; nothing
+    /// has changed then. The counts that one window starts add up to at most 1,000,000,000. It
+    /// takes time in proportion to what it starts.
     pub fn window(&mut self, elapsed: u64) -> Result<Vec<Req<T>>, QueueError>
         ensures in_range { OnOk result (IsElapsed elapsed) }
         ensures started { IfOk result (λ started. started.items ≡ window self.old) }
         ensures bounded { IfOk result (λ started. total started.items ≤ 1000000000) }
         ensures after { OnOk result (self.new ≡ after_window elapsed self.old) }
 
-        ensures bad_config { (result ≡ Err QueueError.BadConfig) ↔ ((elapsed ≡ 0) ⊎ (MAX_ELAPSED < elapsed)) }
-        ensures else_memory { IsElapsed elapsed → IfErr result (λ cause. (cause ≡ QueueError.Memory) × (0 < length (window self.old))) }
+        ensures bad_config { (result ≡ Err QueueError.BadConfig)
+            ↔ ((elapsed ≡ 0) ⊎ (MAX_ELAPSED < elapsed)) }
+        ensures else_memory { IsElapsed elapsed
+            → IfErr result (λ cause. (cause ≡ QueueError.Memory) × (0 < length (window self.old))) }
         ensures unchanged { OnErr result (self.new ≡ self.old) }
     {
         if !config::is_elapsed(elapsed) {
@@ -136,8 +155,8 @@ impl<T> GrvQueue<T> {
         Ok(started)
     }
 
-    /// Takes the first request of the row out, whatever the rates say of it, for a proxy that closes. The budgets stay.
-    /// It takes constant time and no memory.
+    /// Takes the first request of the row out, whatever the rates say of it, for a proxy that
+    /// closes. The budgets stay. It takes constant time and no memory.
     pub fn pop(&mut self) -> Option<Req<T>>
         ensures out { result ≡ first (row self.old.waiting) }
         ensures rest { self.new ≡ record self.old { waiting = without_first self.old.waiting } }
@@ -146,17 +165,25 @@ impl<T> GrvQueue<T> {
         self.waiting.pop_first()
     }
 
-    /// How many windows of `elapsed` microseconds, with no offer between them, start nothing before one starts something. It
-    /// is computed from the head of the row and takes constant time and no memory. Whatever the budgets are, it is at most the
-    /// head's count times `RATE_WINDOW`, divided by `elapsed` times the limit (the normal one for a default head, the batch one
-    /// for a batch head) and rounded up.
+    /// How many windows of `elapsed` microseconds, with no offer between them, start nothing before
+    /// one starts something. It is computed from the head of the row and takes constant time and no
+    /// memory. Whatever the budgets are, it is at most the head's count times `RATE_WINDOW`,
+    /// divided by `elapsed` times the limit (the normal one for a default head, the batch one for a
+    /// batch head) and rounded up.
     ///
-    /// It is `None` where the head does not wait for its own rate alone: in an empty row, for a system request, which any window
-    /// starts, for a batch request that the normal rate may hold or whose own limit is 0, and for a time out of range.
+    /// It is `None` where the head does not wait for its own rate alone: in an empty row, for a
+    /// system request, which any window starts, for a batch request that the normal rate may hold
+    /// or whose own limit is 0, and for a time out of range.
     pub fn waits(&self, elapsed: u64) -> Option<u64>
-        ensures covered { IsSome result ↔ (IsElapsed elapsed × IsSomeAnd (first (row self.now.waiting)) (λ head. IsSure self.now.config head.priority head.count)) }
+        ensures covered { IsSome result
+            ↔ (IsElapsed elapsed
+            × IsSomeAnd (first (row self.now.waiting))
+            (λ head. IsSure self.now.config head.priority head.count)) }
         ensures exact { IfSome result (λ count. StartsAfter elapsed self.now count) }
-        ensures bounded { IfSome result (λ count. IsSomeAnd (first (row self.now.waiting)) (λ head. count ≤ div_ceil (head.count * RATE_WINDOW) (elapsed * limit_of self.now.config head.priority))) }
+        ensures bounded { IfSome result
+            (λ count. IsSomeAnd (first (row self.now.waiting))
+            (λ head. count ≤ div_ceil (head.count * RATE_WINDOW)
+            (elapsed * limit_of self.now.config head.priority))) }
     {
         if !config::is_elapsed(elapsed) {
             return None;
@@ -168,11 +195,14 @@ impl<T> GrvQueue<T> {
         Some(missing.div_ceil(elapsed * limit))
     }
 
-    /// The limit and the budget of the rate that alone holds a request at the head of the row, if one does.
+    /// The limit and the budget of the rate that alone holds a request at the head of the row, if
+    /// one does.
     fn rate_of(&self, priority: Priority, count: u64) -> Option<(u64, u64)>
         requires { count ≤ MAX_COUNT }
         ensures sure { IsSome result ↔ IsSure self.now.config priority count }
-        ensures rate { IfSome result (λ rate. (rate.0 ≡ limit_of self.now.config priority) × (rate.1 ≡ budget_of self.now.budgets priority)) }
+        ensures rate { IfSome result
+            (λ rate. (rate.0 ≡ limit_of self.now.config priority)
+            × (rate.1 ≡ budget_of self.now.budgets priority)) }
     {
         match priority {
             Priority::Default => Some((self.config.normal, self.budgets.normal)),
@@ -183,11 +213,12 @@ impl<T> GrvQueue<T> {
         }
     }
 
-    /// Sets the throttle of a tag at a priority, in the place of an older one: a rate in transactions per second, and the
-    /// moment in microseconds from which on it holds no longer. It is never erased.
+    /// Sets the throttle of a tag at a priority, in the place of an older one: a rate in
+    /// transactions per second, and the moment in microseconds from which on it holds no longer. It
+    /// is never erased.
     ///
-    /// It is refused as `TagTooLong` where the tag has more than `MAX_TAG` bytes, else for memory; nothing has changed then.
-    /// It takes logarithmic time.
+    /// It is refused as `TagTooLong` where the tag has more than `MAX_TAG` bytes, else for memory;
+    /// nothing has changed then. It takes logarithmic time.
     pub fn set_throttle(
         &mut self,
         priority: Priority,
@@ -195,11 +226,17 @@ impl<T> GrvQueue<T> {
         rate: u64,
         expires: u64,
     ) -> Result<(), QueueError>
-        ensures set { OnOk result (SameThrottles self.new.throttles (record { priority = priority; limit = record { tag = tag; rate = rate; expires = expires } } ∷ self.old.throttles)) }
+        ensures set { OnOk result
+            (SameThrottles self.new.throttles
+            (record {
+              priority = priority;
+              limit = record { tag = tag; rate = rate; expires = expires };
+            } ∷ self.old.throttles)) }
         ensures rest { OnOk result (self.new ≡ record self.old { throttles = self.new.throttles }) }
 
         ensures too_long { (result ≡ Err QueueError.TagTooLong) ↔ (MAX_TAG < length tag) }
-        ensures else_memory { length tag ≤ MAX_TAG → IfErr result (λ cause. cause ≡ QueueError.Memory) }
+        ensures else_memory { length tag ≤ MAX_TAG
+            → IfErr result (λ cause. cause ≡ QueueError.Memory) }
         ensures unchanged { OnErr result (self.new ≡ self.old) }
     {
         if tag.len() as u64 > MAX_TAG {
@@ -210,17 +247,20 @@ impl<T> GrvQueue<T> {
         Ok(())
     }
 
-    /// The limits of some tags at a priority and a moment: for each tag in order, also for one that stands twice, the
-    /// throttle last set, if it expires later than that moment. It is refused for want of memory alone, and only where
-    /// a limit is due. It takes logarithmic time for each tag.
+    /// The limits of some tags at a priority and a moment: for each tag in order, also for one that
+    /// stands twice, the throttle last set, if it expires later than that moment. It fails only
+    /// where memory runs out, and only where a limit is due. It takes logarithmic time for each tag.
     pub fn throttles(
         &self,
         priority: Priority,
         tags: &[Tag],
         at: u64,
     ) -> Result<Vec<TagLimit>, QueueError>
-        ensures ok { IfOk result (λ limits. limits.items ≡ limits_of self.now.throttles priority at tags.now) }
-        ensures err { IfErr result (λ cause. (cause ≡ QueueError.Memory) × (0 < length (limits_of self.now.throttles priority at tags.now))) }
+        ensures ok { IfOk result
+            (λ limits. limits.items ≡ limits_of self.now.throttles priority at tags.now) }
+        ensures err { IfErr result
+            (λ cause. (cause ≡ QueueError.Memory)
+            × (0 < length (limits_of self.now.throttles priority at tags.now))) }
     {
         let alloc = self.waiting.allocator();
         let limits = self.throttles.limits(alloc, priority, tags, at)?;
@@ -243,7 +283,7 @@ impl<T> GrvQueue<T> {
         None
     }
 
-    /// Whether as many requests wait as there is room for.
+    /// Whether as many requests wait as the capacity allows.
     fn is_full(&self) -> bool
         ensures { result ≡ is_full self.now }
     {

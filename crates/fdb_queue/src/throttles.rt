@@ -29,7 +29,7 @@ impl Model for Throttles {
 
     ghost Value = { List Throttle };
 
-    ghost use Rattle.fdb_queue.specs.Kinds.{all_of};
+    ghost use Rattle.fdb_queue.specs.private.Kinds.{all_of};
 
     ghost view = { λ throttles. all_of throttles.system throttles.default_ throttles.batch };
 }
@@ -48,7 +48,8 @@ impl Throttles {
 
     /// Sets the throttle of a priority and a tag. Where memory is refused, nothing has changed.
     pub(crate) fn set(&mut self, priority: Priority, limit: TagLimit) -> Result<(), AllocError>
-        ensures ok { OnOk result (SameThrottles self.new (record { priority = priority; limit = limit } ∷ self.old)) }
+        ensures ok { OnOk result
+            (SameThrottles self.new (record { priority = priority; limit = limit } ∷ self.old)) }
         ensures err { OnErr result (self.new ≡ self.old) }
     {
         let kept = Limit {
@@ -66,7 +67,9 @@ impl Throttles {
 
     /// What was last set for a priority and a tag: the rate and the expiry.
     fn get(&self, priority: Priority, tag: &Tag) -> Option<Limit>
-        ensures { option_map (λ kept. record { tag = tag.now; rate = kept.rate; expires = kept.expires }) result ≡ last_set self.now priority tag.now }
+        ensures { option_map
+            (λ kept. record { tag = tag.now; rate = kept.rate; expires = kept.expires }) result
+            ≡ last_set self.now priority tag.now }
     {
         match priority {
             Priority::System => self.system.get(tag.as_slice()).copied(),
@@ -77,8 +80,10 @@ impl Throttles {
 
     /// The limit of a tag at a moment, if there is one. Memory is asked for only where there is.
     fn limit(&self, priority: Priority, tag: &Tag, at: u64) -> Result<Option<TagLimit>, AllocError>
-        ensures ok { IfOk result (λ limit. option_to_list limit ≡ unexpired at (last_set self.now priority tag.now)) }
-        ensures err { OnErr result (0 < length (unexpired at (last_set self.now priority tag.now))) }
+        ensures ok { IfOk result
+            (λ limit. option_to_list limit ≡ unexpired at (last_set self.now priority tag.now)) }
+        ensures err { OnErr result
+            (0 < length (unexpired at (last_set self.now priority tag.now))) }
     {
         let Some(kept) = self.get(priority, tag) else {
             return Ok(None);
@@ -101,7 +106,8 @@ impl Throttles {
         tags: &[Tag],
         at: u64,
     ) -> Result<Vec<TagLimit>, AllocError>
-        ensures ok { IfOk result (λ limits. limits.items ≡ limits_of self.now priority at tags.now) }
+        ensures ok { IfOk result
+            (λ limits. limits.items ≡ limits_of self.now priority at tags.now) }
         ensures err { OnErr result (0 < length (limits_of self.now priority at tags.now)) }
     {
         let mut limits = Vec::new(alloc);

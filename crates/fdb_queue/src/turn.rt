@@ -3,7 +3,7 @@
 ghost use Rattle.std.specs.Prelude.{◌≡◌, ◌≤◌, ◌^◌, All, fold};
 ghost use Rattle.fdb_queue.specs.Config.{IsConfig};
 ghost use Rattle.fdb_queue.specs.Kept.{AreBudgets};
-ghost use Rattle.fdb_queue.specs.Turn.{turn_after, IsTurn};
+ghost use Rattle.fdb_queue.specs.private.Turn.{turn_after, IsTurn};
 ghost use Rattle.fdb_queue.specs.Window.{may_start};
 ghost use Rattle.fdb_queue.specs.declared.config.TheConstants.{MAX_COUNT};
 

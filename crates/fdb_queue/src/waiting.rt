@@ -4,7 +4,7 @@ ghost use Rattle.std.specs.Prelude.{◌≡◌, [], ◌+◌, ◌<◌, ◌^◌, �
 ghost use Rattle.std.specs.Option.{option_copied};
 ghost use Rattle.fdb_queue.specs.Admission.{below, without_oldest};
 ghost use Rattle.fdb_queue.specs.Kept.{IsQueue};
-ghost use Rattle.fdb_queue.specs.Reach.{IsReach};
+ghost use Rattle.fdb_queue.specs.private.Reach.{IsReach};
 ghost use Rattle.fdb_queue.specs.Waiting.{nothing, row, first, with_last, without_first};
 
 use crate::budgets::Budgets;
@@ -48,12 +48,17 @@ pub(crate) struct Waiting<T> {
 
 impl<T> Model for Waiting<T> {
     ghost use Rattle.fdb_queue.specs.Kept.{IsQueue};
-    ghost use Rattle.fdb_queue.specs.Reach.{IsReach};
+    ghost use Rattle.fdb_queue.specs.private.Reach.{IsReach};
     ghost use Rattle.fdb_queue.specs.Waiting.{Requests};
 
     ghost Value = { Requests T };
 
-    ghost view = { λ waiting. record { system = waiting.system.items; default_ = waiting.default_.items; batch = waiting.batch.items } };
+    ghost view = { λ waiting.
+        record {
+          system = waiting.system.items;
+          default_ = waiting.default_.items;
+          batch = waiting.batch.items;
+        } };
 }
 
 impl<T> Waiting<T> {
@@ -158,8 +163,20 @@ impl<T> Waiting<T> {
 
     /// How far a window comes.
     pub(crate) fn reach(&self, config: &QueueConfig, budgets: &Budgets) -> Reach
-        requires { IsQueue {T = T} (record { config = config.now; waiting = self.now; budgets = budgets.now; throttles = [] }) }
-        ensures { IsReach {T = T} (record { config = config.now; waiting = self.now; budgets = budgets.now; throttles = [] }) result }
+        requires { IsQueue {T = T}
+            (record {
+              config = config.now;
+              waiting = self.now;
+              budgets = budgets.now;
+              throttles = [];
+            }) }
+        ensures { IsReach {T = T}
+            (record {
+              config = config.now;
+              waiting = self.now;
+              budgets = budgets.now;
+              throttles = [];
+            }) result }
     {
         let system = Turn::NEW.along(config, budgets, &self.system);
         let default_ = system.along(config, budgets, &self.default_);
@@ -175,15 +192,22 @@ impl<T> Waiting<T> {
         }
     }
 
-    /// Takes so many requests from the front of each list, in the order of the row. The memory for them is asked for first:
-    /// where it is refused, all is as it was.
+    /// Takes so many requests from the front of each list, in the order of the row. The memory for
+    /// them is asked for first: where it is refused, all is as it was.
     pub(crate) fn take_front(&mut self, counts: Lengths) -> Result<Vec<Req<T>>, AllocError>
         requires system { counts.system ≤ length self.old.system }
         requires default_ { counts.default_ ≤ length self.old.default_ }
         requires batch { counts.batch ≤ length self.old.batch }
         requires together { counts.system + counts.default_ + counts.batch < 2 ^ 62 }
-        ensures taken { IfOk result (λ taken. taken.items ≡ take counts.system self.old.system ++ take counts.default_ self.old.default_ ++ take counts.batch self.old.batch) }
-        ensures left { OnOk result (self.new ≡ record { system = drop counts.system self.old.system; default_ = drop counts.default_ self.old.default_; batch = drop counts.batch self.old.batch }) }
+        ensures taken { IfOk result
+            (λ taken. taken.items ≡ take counts.system self.old.system
+            ++ take counts.default_ self.old.default_ ++ take counts.batch self.old.batch) }
+        ensures left { OnOk result
+            (self.new ≡ record {
+              system = drop counts.system self.old.system;
+              default_ = drop counts.default_ self.old.default_;
+              batch = drop counts.batch self.old.batch;
+            }) }
         ensures err { OnErr result (self.new ≡ self.old) }
         ensures none { counts.system + counts.default_ + counts.batch ≡ 0 → IsOk result }
     {

@@ -1,4 +1,4 @@
--- What a script says, and its limits. (the format is this product's own)
+-- The plan of a script, and its limits. (the format is this product's own)
 use Rattle.std.specs.Prelude.{ℕ, ◌<◌, ◌≤◌, Bool, true, ◌&&◌, ◌==◌, not, nat_lt, nat_le, IsTrue, List, length, sum_by}
 use Rattle.std.specs.List.{AllByRecursion, list_all}
 use Rattle.fdb_history.specs.declared.register.TheConstants.{MAX_VERSION}
@@ -11,7 +11,8 @@ use Rattle.fdb_script.specs.declared.script.Command.{Command}
 use Rattle.fdb_script.specs.declared.script.Throttle.{Throttle}
 use Rattle.fdb_script.specs.declared.script.TheConstants.{MAX_CLIENTS, MAX_THROTTLES, MAX_ROUNDS, MAX_COMMANDS, MAX_TAGS}
 
--- where the service starts, what its GRV proxies are made with, and the rounds, each the list of its commands
+-- What contracts see of a script: where the service starts, how many clients there are, what its
+-- GRV proxies are made with, and the rounds, each the list of its commands.
 pub record Plan : Type 0 where
   pub epoch_end : ℕ
   pub recovery : ℕ
@@ -29,7 +30,8 @@ is_tag_byte byte = nat_le 33 byte && nat_le byte 126
 abbrev pub is_tag : List ℕ → Bool
 is_tag tag = nat_le 1 (length tag) && nat_le (length tag) MAX_TAG && list_all is_tag_byte tag
 
--- Whether an act is one for this client, among so many: a read has few tags, a tell goes to another of the clients.
+-- Whether an act is one for this client, among so many: a read has few tags, a tell goes to another
+-- of the clients.
 abbrev pub is_act : ℕ → ℕ → Act → Bool
 is_act clients client (Grv opts) = nat_le (length opts.tags) MAX_TAGS && list_all is_tag opts.tags
 is_act clients client (Ask processed at) = true
@@ -39,7 +41,8 @@ is_act clients client (Tell to) = nat_lt to clients && not (to == client)
 
 -- a command for one of so many clients
 abbrev pub is_command : ℕ → Command → Bool
-is_command clients command = nat_lt command.client clients && is_act clients command.client command.act
+is_command clients command =
+    nat_lt command.client clients && is_act clients command.client command.act
 
 -- The plan is within the limits.
 pub record IsPlan (plan : Plan) : Type 0 where
@@ -53,4 +56,5 @@ pub record IsPlan (plan : Plan) : Type 0 where
   pub throttles_tagged : AllByRecursion (λ throttle. IsTrue (is_tag throttle.tag)) plan.throttles
   pub rounds_in_range : length plan.rounds ≤ MAX_ROUNDS
   pub commands_in_range : sum_by length plan.rounds ≤ MAX_COMMANDS
-  pub commands_fit : AllByRecursion (AllByRecursion (λ command. IsTrue (is_command plan.clients command))) plan.rounds
+  pub commands_fit : AllByRecursion
+      (AllByRecursion (λ command. IsTrue (is_command plan.clients command))) plan.rounds

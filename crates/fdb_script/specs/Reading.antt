@@ -1,4 +1,5 @@
--- The script that a text stands for, over the JSON value that `serde_json` reads from its bytes. (this product's own)
+-- The plan that a text stands for, over the JSON value that `serde_json` reads from its bytes.
+-- (this product's own)
 use Rattle.std.specs.Prelude.{◌≡◌, ℕ, Bool, false, IsUtf8, ◌+◌, ◌==◌, ◌&&◌, not, nat_lt, nat_le, nat_eq, List, [], ◌∷◌, length, sum_by, Option, None, Some, is_some, option_and_then, Result, Ok, Err, codes, if◌then◌else◌}
 use Rattle.std.specs.Option.{option_map}
 use Rattle.std.specs.Cmp.Lexicographic.{pointwise}
@@ -32,7 +33,8 @@ whole value = option_and_then as_u64 (as_number value)
 
 -- a whole number of a range, or below a limit
 abbrev pub whole_within : ℕ → ℕ → Data → Option ℕ
-whole_within low high value = checked (λ number. nat_le low number && nat_le number high) (whole value)
+whole_within low high value =
+    checked (λ number. nat_le low number && nat_le number high) (whole value)
 
 abbrev pub whole_below : ℕ → Data → Option ℕ
 whole_below limit value = checked (λ number. nat_lt number limit) (whole value)
@@ -67,10 +69,12 @@ array_of value = option_map list_of (as_array value)
 abbrev pub array_within : ℕ → Data → Option (List Data)
 array_within most value = checked (λ items. nat_le (length items) most) (array_of value)
 
--- each of some values read in the same way, none where one of them can't be
+-- each of some values read in the same way, or nothing where one of them can't be
 abbrev pub every : {T : Type 0} → (Data → Option T) → List Data → Option (List T)
 every reading [] = Some []
-every reading (value ∷ values) = option_and_then (λ first. option_map (λ rest. first ∷ rest) (every reading values)) (reading value)
+every reading (value ∷ values) =
+    option_and_then (λ first. option_map (λ rest. first ∷ rest) (every reading values))
+    (reading value)
 
 abbrev pub tags_of : Data → Option (List (List ℕ))
 tags_of value = option_and_then (every tag_of) (array_within MAX_TAGS value)
@@ -91,13 +95,22 @@ member_or absent reading name value = or_absent absent reading (get name value)
 
 -- ---- commands
 
-abbrev pub grv_with : Option (List (List ℕ)) → Option ℕ → Option Priority → Option ℕ → Option Bool → Option Act
-grv_with (Some tags) (Some at) (Some priority) (Some count) (Some lock_aware) = Some (Grv (record { priority = priority; count = count; tags = tags; lock_aware = lock_aware; at = at }))
+abbrev pub grv_with : Option (List (List ℕ)) → Option ℕ → Option Priority → Option ℕ → Option Bool
+    → Option Act
+grv_with (Some tags) (Some at) (Some priority) (Some count) (Some lock_aware) =
+    Some (Grv (record {
+      priority = priority;
+      count = count;
+      tags = tags;
+      lock_aware = lock_aware;
+      at = at;
+    }))
 grv_with _ _ _ _ _ = None
 
 abbrev pub grv_of : Data → Option Act
 grv_of value =
-    grv_with (member_or [] tags_of (codes "tags") value) (member_or 0 whole (codes "at") value) (member_or Default priority_of (codes "priority") value)
+    grv_with (member_or [] tags_of (codes "tags") value) (member_or 0 whole (codes "at") value)
+    (member_or Default priority_of (codes "priority") value)
     (member_or 1 whole (codes "count") value) (member_or false as_bool (codes "lock_aware") value)
 
 abbrev pub ask_with : Option ℕ → Option ℕ → Option Act
@@ -105,25 +118,32 @@ ask_with (Some at) (Some processed) = Some (Ask processed at)
 ask_with _ _ = None
 
 abbrev pub ask_of : Data → Option Act
-ask_of value = ask_with (member whole (codes "at") value) (member_or 0 whole (codes "processed") value)
+ask_of value =
+    ask_with (member whole (codes "at") value) (member_or 0 whole (codes "processed") value)
 
 abbrev pub reask_with : Option ℕ → Option ℕ → Option ℕ → Option Act
 reask_with (Some num) (Some at) (Some processed) = Some (Reask num processed at)
 reask_with _ _ _ = None
 
 abbrev pub reask_of : Data → Option Act
-reask_of value = reask_with (member whole (codes "num") value) (member whole (codes "at") value) (member_or 0 whole (codes "processed") value)
+reask_of value =
+    reask_with (member whole (codes "num") value) (member whole (codes "at") value)
+    (member_or 0 whole (codes "processed") value)
 
 abbrev pub report_with : Option ℕ → Option Bool → Option (Option ℕ) → Option Act
 report_with (Some num) (Some locked) (Some metadata) = Some (Report num locked metadata)
 report_with _ _ _ = None
 
 abbrev pub report_of : Data → Option Act
-report_of value = report_with (member whole (codes "num") value) (member_or false as_bool (codes "locked") value) (member_or None whole_or_null (codes "metadata") value)
+report_of value =
+    report_with (member whole (codes "num") value) (member_or false as_bool (codes "locked") value)
+    (member_or None whole_or_null (codes "metadata") value)
 
 -- one of the clients, and another than the one that tells
 abbrev pub tell_of : ℕ → ℕ → Data → Option Act
-tell_of clients client value = option_map Tell (checked (λ to. not (to == client)) (member (whole_below clients) (codes "to") value))
+tell_of clients client value =
+    option_map Tell
+    (checked (λ to. not (to == client)) (member (whole_below clients) (codes "to") value))
 
 -- what a client is to do, by the command's `do`
 abbrev pub act_named : ℕ → ℕ → List ℕ → Data → Option Act
@@ -136,59 +156,72 @@ act_named clients client name value =
     else None))))
 
 abbrev pub act_of : ℕ → ℕ → Data → Option Act
-act_of clients client value = option_and_then (λ name. act_named clients client name value) (member as_str (codes "do") value)
+act_of clients client value =
+    option_and_then (λ name. act_named clients client name value) (member as_str (codes "do") value)
 
--- a command of a script with this many clients
+-- a command, where there are so many clients
 abbrev pub command_of : ℕ → Data → Option Command
-command_of clients value = option_and_then (λ client. option_map (λ act. record { client = client; act = act }) (act_of clients client value)) (member (whole_below clients) (codes "client") value)
+command_of clients value =
+    option_and_then (λ client.
+    option_map (λ act. record { client = client; act = act }) (act_of clients client value))
+    (member (whole_below clients) (codes "client") value)
 
-abbrev pub then_commands : ℕ → ℕ → Option Command → Result (List Command) ScriptError → Result (List Command) ScriptError
+abbrev pub then_commands : ℕ → ℕ → Option Command → Result (List Command) ScriptError
+    → Result (List Command) ScriptError
 then_commands round place None rest = Err (BadField round place)
 then_commands round place (Some command) (Ok rest) = Ok (command ∷ rest)
 then_commands round place (Some command) (Err error) = Err error
 
--- The commands of a round from this place on, or the first of them that is none.
+-- The commands of a round from this place on, or the first that is faulty.
 abbrev pub commands_from : ℕ → ℕ → ℕ → List Data → Result (List Command) ScriptError
 commands_from clients round place [] = Ok []
-commands_from clients round place (value ∷ values) = then_commands round place (command_of clients value) (commands_from clients round (place + 1) values)
+commands_from clients round place (value ∷ values) =
+    then_commands round place (command_of clients value)
+    (commands_from clients round (place + 1) values)
 
-abbrev pub then_rounds : Result (List Command) ScriptError → Result (List (List Command)) ScriptError → Result (List (List Command)) ScriptError
+abbrev pub then_rounds : Result (List Command) ScriptError
+    → Result (List (List Command)) ScriptError → Result (List (List Command)) ScriptError
 then_rounds (Err error) rest = Err error
 then_rounds (Ok commands) (Ok rest) = Ok (commands ∷ rest)
 then_rounds (Ok commands) (Err error) = Err error
 
--- The rounds from this one on, or the first command of them that is none.
+-- The rounds from this one on, or their first faulty command.
 abbrev pub rounds_from : ℕ → ℕ → List (List Data) → Result (List (List Command)) ScriptError
 rounds_from clients round [] = Ok []
-rounds_from clients round (values ∷ rest) = then_rounds (commands_from clients round 0 values) (rounds_from clients (round + 1) rest)
+rounds_from clients round (values ∷ rest) =
+    then_rounds (commands_from clients round 0 values) (rounds_from clients (round + 1) rest)
 
 -- ---- the whole
 
 abbrev pub throttle_with : Option (List ℕ) → Option Priority → Option ℕ → Option ℕ → Option Throttle
-throttle_with (Some tag) (Some priority) (Some rate) (Some expires) = Some (record { priority = priority; tag = tag; rate = rate; expires = expires })
+throttle_with (Some tag) (Some priority) (Some rate) (Some expires) =
+    Some (record { priority = priority; tag = tag; rate = rate; expires = expires })
 throttle_with _ _ _ _ = None
 
 abbrev pub throttle_of : Data → Option Throttle
 throttle_of value =
-    throttle_with (member tag_of (codes "tag") value) (member priority_of (codes "priority") value) (member whole (codes "rate") value) (member whole (codes "expires") value)
+    throttle_with (member tag_of (codes "tag") value) (member priority_of (codes "priority") value)
+    (member whole (codes "rate") value) (member whole (codes "expires") value)
 
 abbrev pub throttles_of : Data → Option (List Throttle)
 throttles_of value = option_and_then (every throttle_of) (array_within MAX_THROTTLES value)
 
 abbrev pub config_with : Option ℕ → Option ℕ → Option ℕ → Option QueueConfig
-config_with (Some normal) (Some batch) (Some room) = Some (record { normal = normal; batch = batch; room = room })
+config_with (Some normal) (Some batch) (Some room) =
+    Some (record { normal = normal; batch = batch; room = room })
 config_with _ _ _ = None
 
 abbrev pub config_of : Data → Option QueueConfig
 config_of value =
-    config_with (member_or 1000 (whole_within 1 MAX_RATE) (codes "normal") value) (member_or 500 (whole_within 0 MAX_RATE) (codes "batch") value)
+    config_with (member_or 1000 (whole_within 1 MAX_RATE) (codes "normal") value)
+    (member_or 500 (whole_within 0 MAX_RATE) (codes "batch") value)
     (member_or 1000 (whole_within 1 MAX_ROOM) (codes "room") value)
 
--- the rounds, each with values that are not looked at yet
+-- the rounds, each with its values, of which the commands are read later
 abbrev pub arrays_of : Data → Option (List (List Data))
 arrays_of value = option_and_then (every array_of) (array_within MAX_ROUNDS value)
 
--- a script whose commands are not looked at yet
+-- a plan whose commands are not read yet
 pub record Frame : Type 0 where
   pub epoch_end : ℕ
   pub recovery : ℕ
@@ -198,33 +231,54 @@ pub record Frame : Type 0 where
   pub throttles : List Throttle
   pub rounds : List (List Data)
 
-abbrev pub frame_with : Option (List Throttle) → Option (List (List Data)) → Option ℕ → Option ℕ → Option ℕ → Option QueueConfig → Option ℕ → Option Frame
-frame_with (Some throttles) (Some rounds) (Some epoch_end) (Some recovery) (Some clients) (Some config) (Some elapsed) =
-    Some (record { epoch_end = epoch_end; recovery = recovery; clients = clients; config = config; elapsed = elapsed; throttles = throttles; rounds = rounds })
+abbrev pub frame_with : Option (List Throttle) → Option (List (List Data)) → Option ℕ → Option ℕ
+    → Option ℕ → Option QueueConfig → Option ℕ → Option Frame
+frame_with (Some throttles) (Some rounds) (Some epoch_end) (Some recovery) (Some clients)
+    (Some config) (Some elapsed) =
+    Some (record {
+      epoch_end = epoch_end;
+      recovery = recovery;
+      clients = clients;
+      config = config;
+      elapsed = elapsed;
+      throttles = throttles;
+      rounds = rounds;
+    })
 frame_with _ _ _ _ _ _ _ = None
 
 -- the epoch before ends before the recovery version, and there are not too many commands
 abbrev pub is_frame : Frame → Bool
-is_frame frame = nat_lt frame.epoch_end frame.recovery && nat_le (sum_by length frame.rounds) MAX_COMMANDS
+is_frame frame =
+    nat_lt frame.epoch_end frame.recovery && nat_le (sum_by length frame.rounds) MAX_COMMANDS
 
 abbrev pub frame_of : Data → Option Frame
 frame_of value =
     checked is_frame
-    (frame_with (member_or [] throttles_of (codes "throttles") value) (member arrays_of (codes "rounds") value) (member whole (codes "epoch_end") value)
-    (member (whole_within 0 MAX_VERSION) (codes "recovery") value) (member (whole_within 1 MAX_CLIENTS) (codes "clients") value) (config_of value)
+    (frame_with (member_or [] throttles_of (codes "throttles") value)
+    (member arrays_of (codes "rounds") value) (member whole (codes "epoch_end") value)
+    (member (whole_within 0 MAX_VERSION) (codes "recovery") value)
+    (member (whole_within 1 MAX_CLIENTS) (codes "clients") value) (config_of value)
     (member_or 1000000 (whole_within 1 MAX_ELAPSED) (codes "elapsed") value))
 
 abbrev pub plan_with : Frame → Result (List (List Command)) ScriptError → Result Plan ScriptError
 plan_with frame (Ok rounds) =
-    Ok (record { epoch_end = frame.epoch_end; recovery = frame.recovery; clients = frame.clients; config = frame.config; elapsed = frame.elapsed; throttles = frame.throttles; rounds = rounds })
+    Ok (record {
+      epoch_end = frame.epoch_end;
+      recovery = frame.recovery;
+      clients = frame.clients;
+      config = frame.config;
+      elapsed = frame.elapsed;
+      throttles = frame.throttles;
+      rounds = rounds;
+    })
 plan_with frame (Err error) = Err error
 
--- The script of a JSON value: what is wrong with the whole comes before what is wrong with a command.
+-- The plan of a frame: what is wrong with the whole comes before what is wrong with a command.
 abbrev pub framed_plan : Option Frame → Result Plan ScriptError
 framed_plan None = Err BadLimit
 framed_plan (Some frame) = plan_with frame (rounds_from frame.clients 0 frame.rounds)
 
--- the script of what `serde_json` reads, if it reads anything
+-- the plan of what `serde_json` reads, if it reads anything
 abbrev pub plan_of : Option Data → Result Plan ScriptError
 plan_of None = Err NotJson
 plan_of (Some value) = framed_plan (frame_of value)
@@ -237,8 +291,8 @@ IsUnlessMemory (Err (BadField round command)) exact = exact ≡ Err (BadField ro
 IsUnlessMemory (Err BadLimit) exact = exact ≡ Err BadLimit
 IsUnlessMemory (Err Memory) exact = Unit {0}
 
--- What was read of these bytes is the script that they stand for, unless memory was refused. Bytes that are
--- no UTF-8 stand for nothing.
+-- What was read of these bytes is the plan that they stand for, unless memory was refused. Bytes
+-- that are no UTF-8 stand for nothing.
 pub record Reads (bytes : List ℕ) (result : Result Plan ScriptError) : Type 0 where
   pub text : IsUtf8 bytes → IsUnlessMemory result (plan_of (read bytes))
   pub no_text : (IsUtf8 bytes → ⊥) → IsUnlessMemory result (Err NotJson)

@@ -1,4 +1,5 @@
--- The printed text, as a function of the script, the outcome and whether the history is wanted. (this product's own)
+-- The printed text, as a function of the plan, the outcome and whether the history is wanted. (this
+-- product's own)
 use Rattle.std.specs.Prelude.{ℕ, ◌+◌, ◌==◌, Bool, true, false, List, [], ◌∷◌, ◌++◌, length, map, filter, not, count_by, drop, codes, decimal, encode_utf8, if◌then◌else◌}
 use Rattle.std.specs.List.{flat_map}
 use Rattle.fdb_history.specs.Event.{raise_count}
@@ -25,7 +26,9 @@ line text = text ++ 10 ∷ []
 
 -- a limit; of its tag each byte as the character of that number
 abbrev pub limit_text : TagLimit → List ℕ
-limit_text limit = codes " limit " ++ flat_map encode_utf8 limit.tag ++ codes " " ++ decimal limit.rate ++ codes " " ++ decimal limit.expires
+limit_text limit =
+    codes " limit " ++ flat_map encode_utf8 limit.tag ++ codes " " ++ decimal limit.rate
+    ++ codes " " ++ decimal limit.expires
 
 abbrev pub fresh_text : Bool → List ℕ
 fresh_text true = codes "fresh"
@@ -45,11 +48,15 @@ told_text (input.Report num locked metadata) position = codes "pos " ++ decimal 
 
 -- what is printed of a call's answer
 abbrev pub answer_text : Input → ℕ → CallAnswer → List ℕ
-answer_text input position (Version rec limits false) = record_text rec ++ codes " pos " ++ decimal position ++ flat_map limit_text limits
-answer_text input position (Version rec limits true) = codes "refused Locked " ++ decimal rec.version ++ codes " pos " ++ decimal position
+answer_text input position (Version rec limits false) =
+    record_text rec ++ codes " pos " ++ decimal position ++ flat_map limit_text limits
+answer_text input position (Version rec limits true) =
+    codes "refused Locked " ++ decimal rec.version ++ codes " pos " ++ decimal position
 answer_text input position (Answered issued) =
-    codes "prev " ++ decimal issued.prev ++ codes " version " ++ decimal issued.version ++ codes " ordinal " ++ decimal issued.ordinal ++ codes " " ++ fresh_text issued.fresh
-answer_text input position (Acked rec raised) = decimal rec.version ++ codes " " ++ raised_text raised ++ codes " pos " ++ decimal position
+    codes "prev " ++ decimal issued.prev ++ codes " version " ++ decimal issued.version
+    ++ codes " ordinal " ++ decimal issued.ordinal ++ codes " " ++ fresh_text issued.fresh
+answer_text input position (Acked rec raised) =
+    decimal rec.version ++ codes " " ++ raised_text raised ++ codes " pos " ++ decimal position
 answer_text input position Told = told_text input position
 answer_text input position (Refused cause) = codes "refused " ++ refusal_text cause
 
@@ -64,7 +71,8 @@ act_text (Tell to) = codes "tell"
 -- the reply to a command: its round, client, number in the round and word, and the answer
 abbrev pub reply_text : ℕ → ℕ → ℕ → Act → Call → List ℕ
 reply_text round client number act call =
-    decimal round ++ codes " " ++ decimal client ++ codes " " ++ decimal number ++ codes " " ++ act_text act ++ codes " " ++ answer_text call.input call.position call.answer
+    decimal round ++ codes " " ++ decimal client ++ codes " " ++ decimal number ++ codes " "
+    ++ act_text act ++ codes " " ++ answer_text call.input call.position call.answer
 
 -- whether a call learnt what another client had seen, which nobody commands
 abbrev pub is_learn : Input → Bool
@@ -78,51 +86,67 @@ is_learn (input.Learn from) = true
 abbrev pub replies_of : List Call → List Call
 replies_of calls = filter (λ call. not (is_learn call.input)) calls
 
--- the replies to a client's commands among those of a round, from this number on; its calls are the answers, in order
+-- the replies to a client's commands among those of a round, from this number on; its calls are the
+-- answers, in order
 abbrev pub client_lines : ℕ → ℕ → ℕ → List Command → List Call → List ℕ
 client_lines round client number [] calls = []
 client_lines round client number (command ∷ commands) [] = []
 client_lines round client number (command ∷ commands) (call ∷ calls) =
     if command.client == client
-    then line (reply_text round client number command.act call) ++ client_lines round client (number + 1) commands calls
+    then line (reply_text round client number command.act call)
+    ++ client_lines round client (number + 1) commands calls
     else client_lines round client (number + 1) commands (call ∷ calls)
 
 -- the replies of a round, by client from this one on
 abbrev pub round_lines : ℕ → ℕ → List Command → List (List Call) → List ℕ
 round_lines round client commands [] = []
-round_lines round client commands (calls ∷ others) = client_lines round client 0 commands calls ++ round_lines round (client + 1) commands others
+round_lines round client commands (calls ∷ others) =
+    client_lines round client 0 commands calls ++ round_lines round (client + 1) commands others
 
 -- the calls that are left of each client after a round
 abbrev pub calls_after : ℕ → List Command → List (List Call) → List (List Call)
 calls_after client commands [] = []
-calls_after client commands (calls ∷ others) = drop (count_by (λ command. command.client == client) commands) calls ∷ calls_after (client + 1) commands others
+calls_after client commands (calls ∷ others) =
+    drop (count_by (λ command. command.client == client) commands) calls
+    ∷ calls_after (client + 1) commands others
 
 -- the replies of the rounds from this one on
 abbrev pub reply_lines : ℕ → List (List Command) → List (List Call) → List ℕ
 reply_lines round [] logs = []
-reply_lines round (commands ∷ rounds) logs = round_lines round 0 commands logs ++ reply_lines (round + 1) rounds (calls_after 0 commands logs)
+reply_lines round (commands ∷ rounds) logs =
+    round_lines round 0 commands logs
+    ++ reply_lines (round + 1) rounds (calls_after 0 commands logs)
 
 -- ---- the audit line and the history
 
 abbrev pub counts_text : ℕ → ℕ → ℕ → List ℕ
-counts_text events raised versions = codes "audit ok events " ++ decimal events ++ codes " raised " ++ decimal raised ++ codes " versions " ++ decimal versions
+counts_text events raised versions =
+    codes "audit ok events " ++ decimal events ++ codes " raised " ++ decimal raised
+    ++ codes " versions " ++ decimal versions
 
 abbrev pub audit_text : Outcome → List ℕ
-audit_text outcome = counts_text (length outcome.history.events) (raise_count outcome.history.events) (length outcome.chain.items)
+audit_text outcome =
+    counts_text (length outcome.history.events) (raise_count outcome.history.events)
+    (length outcome.chain.items)
 
 -- an event, with its place in the history
 abbrev pub history_text : ℕ → Event → List ℕ
 history_text number (event.Read client call rec) =
-    codes "history " ++ decimal number ++ codes " client " ++ decimal client ++ codes " call " ++ decimal call ++ codes " read " ++ record_text rec
+    codes "history " ++ decimal number ++ codes " client " ++ decimal client ++ codes " call "
+    ++ decimal call ++ codes " read " ++ record_text rec
 history_text number (event.Report client call rec raised) =
-    codes "history " ++ decimal number ++ codes " client " ++ decimal client ++ codes " call " ++ decimal call ++ codes " report " ++ record_text rec ++ codes " " ++ raised_text raised
+    codes "history " ++ decimal number ++ codes " client " ++ decimal client ++ codes " call "
+    ++ decimal call ++ codes " report " ++ record_text rec ++ codes " " ++ raised_text raised
 
 abbrev pub history_lines : ℕ → List Event → List ℕ
 history_lines number [] = []
-history_lines number (event ∷ events) = line (history_text number event) ++ history_lines (number + 1) events
+history_lines number (event ∷ events) =
+    line (history_text number event) ++ history_lines (number + 1) events
 
--- The whole text: the replies by round, client and command, the audit line, and the history where it is wanted.
+-- The whole text: the replies by round, client and command, the audit line, and the history where
+-- it is wanted.
 abbrev pub text : Plan → Outcome → Bool → List ℕ
 text plan outcome with_history =
-    reply_lines 0 plan.rounds (map (λ log. replies_of log.calls) outcome.logs.items) ++ line (audit_text outcome)
+    reply_lines 0 plan.rounds (map (λ log. replies_of log.calls) outcome.logs.items)
+    ++ line (audit_text outcome)
     ++ (if with_history then history_lines 0 outcome.history.events else [])

@@ -19,8 +19,8 @@ pub enum ScriptError {
         /// The command's place in the round, counted from 0.
         command: u64,
     },
-    /// A member of the whole script, or of a throttle, is missing, of another kind or beyond its limit, or a round
-    /// is no list.
+    /// A member of the whole script, or of a throttle, is missing, of another kind or beyond its
+    /// limit, or a round is no list.
     #[error("BadLimit")]
     BadLimit,
     /// Memory was refused.

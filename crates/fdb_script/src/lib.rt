@@ -1,8 +1,9 @@
-//! Scripts in, text out: what the clients of a run are told to do, and how what came of it is printed.
+//! Scripts in, text out: what the clients of a run are to do, and how what came of it is printed.
 //!
-//! [`read_script`] makes a [`Script`] of the bytes of a JSON text, and [`text`] prints what a run of it left. In `specs/`,
-//! `Plan` has what a script says and its limits, `Reading` the plan of a JSON value, `Answering` when the logs of a run
-//! answer a script, and `Text` the printed lines.
+//! [`read_script`] makes a [`Script`] of the bytes of a JSON text, and [`text`] prints what a run
+//! of it left. In `specs/`, `Plan` has what contracts see of a script, with its limits, `Reading`
+//! the plan that a JSON value stands for, `Answering` when the logs of a run answer a plan, and
+//! `Text` the printed lines.
 #![tactic(auto)]
 
 mod error;
@@ -11,11 +12,13 @@ mod outcome;
 mod printed;
 mod reading;
 mod script;
+mod setup;
 
 pub use error::ScriptError;
 pub use outcome::Outcome;
 pub use printed::text;
 pub use reading::read_script;
 pub use script::{
-    Act, Command, MAX_CLIENTS, MAX_COMMANDS, MAX_ROUNDS, MAX_TAGS, MAX_THROTTLES, Script, Throttle,
+    Act, Command, MAX_CLIENTS, MAX_COMMANDS, MAX_ROUNDS, MAX_SCRIPT_BYTES, MAX_TAGS, MAX_THROTTLES,
+    Script, Throttle,
 };

@@ -54,7 +54,8 @@ impl fmt::Display for AnswerText<'_> {
     ghost use Rattle.std.specs.Prelude.{Some};
     ghost use Rattle.fdb_script.specs.Text.{answer_text};
 
-    ghost output = { λ call. Some (answer_text call.0.now.input call.0.now.position call.0.now.answer) };
+    ghost output = { λ call.
+        Some (answer_text call.0.now.input call.0.now.position call.0.now.answer) };
 
     fn fmt<W: fmt::Write>(&self, f: &mut fmt::Formatter<W>) -> fmt::Result {
         let position = self.0.position;
@@ -139,7 +140,7 @@ pub(crate) struct ReplyLine<'a> {
     pub(crate) client: u64,
     /// The command's place in the round.
     pub(crate) number: u64,
-    /// What the client was told to do.
+    /// What the client was to do.
     pub(crate) act: &'a Act,
     /// What it called, and was answered.
     pub(crate) call: &'a Call,
@@ -149,7 +150,8 @@ impl fmt::Display for ReplyLine<'_> {
     ghost use Rattle.std.specs.Prelude.{Some};
     ghost use Rattle.fdb_script.specs.Text.{reply_text};
 
-    ghost output = { λ line. Some (reply_text line.round line.client line.number line.act.now line.call.now) };
+    ghost output = { λ line.
+        Some (reply_text line.round line.client line.number line.act.now line.call.now) };
 
     fn fmt<W: fmt::Write>(&self, f: &mut fmt::Formatter<W>) -> fmt::Result {
         let (round, client, number) = (self.round, self.client, self.number);

@@ -2,7 +2,8 @@
 
 use fdb_history::{ClientLog, History, Issued};
 
-/// What a run leaves: the chain of commit versions, the log of each client, and a history that explains them.
+/// What a run leaves: the chain of commit versions, the log of each client, and a history that
+/// explains them.
 #[derive(Debug, Drop)]
 pub struct Outcome {
     /// The fresh commit version answers, in order.

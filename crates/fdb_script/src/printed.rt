@@ -1,4 +1,5 @@
-//! The printed text: the replies by round, client and command, the audit line, and the history where it is wanted.
+//! The printed text: the replies by round, client and command, the audit line, and the history
+//! where it is wanted.
 
 ghost use Rattle.std.specs.Prelude.{◌≡◌, ◌++◌, ◌∷◌, [], ◌==◌, MatchOption, IfOk, IfErr, OnOk, count_by, drop, map, string_bytes};
 ghost use Rattle.fdb_history.specs.Event.{is_raise, raise_count};
@@ -13,11 +14,12 @@ use fdb_history::{Call, ClientLog, Event, Input, Sequence};
 use std::alloc::{AllocError, Global};
 use std::fmt::Write;
 
-/// The text of a run: its replies by round, client and command, the audit line, and its history where it is wanted. The
-/// logs of the outcome have to answer the script. It is refused for want of memory alone.
+/// The text of a run: its replies by round, client and command, the audit line, and its history
+/// where it is wanted. The logs of the outcome have to answer the script. It fails only where
+/// memory runs out.
 ///
-/// It takes time in proportion to the text and the logs, and to the rounds and commands times the clients; and memory for
-/// the text, and a slice for each client.
+/// It takes time in proportion to the text and the logs, and to the rounds and commands times the
+/// clients; and memory for the text, and a slice for each client.
 pub fn text(
     alloc: Global,
     script: &Script,
@@ -39,7 +41,8 @@ pub(crate) fn printed_text(
     outcome: &Outcome,
     with_history: bool,
 ) -> Result<String, AllocError>
-    ensures { IfOk result (λ printed. string_bytes printed ≡ text script.now outcome.now with_history) }
+    ensures { IfOk result
+        (λ printed. string_bytes printed ≡ text script.now outcome.now with_history) }
 {
     let mut printed = String::new(alloc);
     let mut left = logged_calls(alloc, &outcome.logs)?;
@@ -53,7 +56,9 @@ pub(crate) fn printed_text(
 
 /// The calls of each log.
 fn logged_calls(alloc: Global, logs: &[ClientLog]) -> Result<Vec<&[Call]>, AllocError>
-    ensures { IfOk result (λ all. map (λ calls. replies_of calls.now) all.items ≡ map (λ log. replies_of log.calls) logs.now) }
+    ensures { IfOk result
+        (λ all. map (λ calls. replies_of calls.now) all.items
+        ≡ map (λ log. replies_of log.calls) logs.now) }
 {
     let mut all = Vec::new(alloc);
     for log in logs {
@@ -62,13 +67,17 @@ fn logged_calls(alloc: Global, logs: &[ClientLog]) -> Result<Vec<&[Call]>, Alloc
     Ok(all)
 }
 
-/// Appends the replies of all rounds. Of the calls of each client those are left that answer no command.
+/// Appends the replies of all rounds. Of the calls of each client those are left that answer no
+/// command.
 fn push_replies(
     printed: &mut String,
     rounds: &[Sequence<Command>],
     left: &mut [&[Call]],
 ) -> Result<(), AllocError>
-    ensures { OnOk result (string_bytes printed.new ≡ string_bytes printed.old ++ reply_lines 0 rounds.now (map (λ calls. replies_of calls.now) left.old)) }
+    ensures { OnOk result
+        (string_bytes printed.new
+        ≡ string_bytes printed.old
+        ++ reply_lines 0 rounds.now (map (λ calls. replies_of calls.now) left.old)) }
 {
     for (round, commands) in rounds.iter().enumerate() {
         push_round(printed, round as u64, commands.as_slice(), left)?;
@@ -76,15 +85,21 @@ fn push_replies(
     Ok(())
 }
 
-/// Appends the replies of a round, client by client, and leaves each client's calls after the round.
+/// Appends the replies of a round, client by client, and leaves each client's calls after the
+/// round.
 fn push_round(
     printed: &mut String,
     round: u64,
     commands: &[Command],
     left: &mut [&[Call]],
 ) -> Result<(), AllocError>
-    ensures lines { OnOk result (string_bytes printed.new ≡ string_bytes printed.old ++ round_lines round 0 commands.now (map (λ calls. replies_of calls.now) left.old)) }
-    ensures left { OnOk result (map (λ calls. replies_of calls.now) left.new ≡ calls_after 0 commands.now (map (λ calls. replies_of calls.now) left.old)) }
+    ensures lines { OnOk result
+        (string_bytes printed.new
+        ≡ string_bytes printed.old
+        ++ round_lines round 0 commands.now (map (λ calls. replies_of calls.now) left.old)) }
+    ensures left { OnOk result
+        (map (λ calls. replies_of calls.now) left.new
+        ≡ calls_after 0 commands.now (map (λ calls. replies_of calls.now) left.old)) }
 {
     for client in 0..left.len() {
         left[client] = push_client(printed, round, client as u64, commands, left[client])?;
@@ -100,8 +115,14 @@ fn push_client<'a>(
     commands: &[Command],
     calls: &'a [Call],
 ) -> Result<&'a [Call], AllocError>
-    ensures lines { OnOk result (string_bytes printed.new ≡ string_bytes printed.old ++ client_lines round client 0 commands.now (replies_of calls.now)) }
-    ensures left { IfOk result (λ left. replies_of left.now ≡ drop (count_by (λ command. command.client == client) commands.now) (replies_of calls.now)) }
+    ensures lines { OnOk result
+        (string_bytes printed.new
+        ≡ string_bytes printed.old
+        ++ client_lines round client 0 commands.now (replies_of calls.now)) }
+    ensures left { IfOk result
+        (λ left. replies_of left.now
+        ≡ drop (count_by (λ command. command.client == client) commands.now)
+        (replies_of calls.now)) }
 {
     let mut left = calls;
     for (number, command) in commands.iter().enumerate() {
@@ -127,7 +148,8 @@ fn push_client<'a>(
 
 /// The next call that answers a command, and the calls after it.
 fn next_reply(calls: &[Call]) -> Option<(&Call, &[Call])>
-    ensures { MatchOption result (replies_of calls.now ≡ []) (λ found. replies_of calls.now ≡ found.0.now ∷ replies_of found.1.now) }
+    ensures { MatchOption result (replies_of calls.now ≡ [])
+        (λ found. replies_of calls.now ≡ found.0.now ∷ replies_of found.1.now) }
 {
     let mut left = calls;
     while let Some((call, others)) = left.split_first() {
@@ -148,7 +170,8 @@ fn is_learn(input: &Input) -> bool
 
 /// Appends the audit line.
 fn push_audit(printed: &mut String, outcome: &Outcome) -> Result<(), AllocError>
-    ensures { OnOk result (string_bytes printed.new ≡ string_bytes printed.old ++ line (audit_text outcome.now)) }
+    ensures { OnOk result
+        (string_bytes printed.new ≡ string_bytes printed.old ++ line (audit_text outcome.now)) }
 {
     let events = outcome.history.events.as_slice();
     let line = AuditLine {
@@ -178,7 +201,8 @@ fn is_raise(event: &Event) -> bool
 
 /// Appends the history, a line for each event.
 fn push_history(printed: &mut String, events: &[Event]) -> Result<(), AllocError>
-    ensures { OnOk result (string_bytes printed.new ≡ string_bytes printed.old ++ history_lines 0 events.now) }
+    ensures { OnOk result
+        (string_bytes printed.new ≡ string_bytes printed.old ++ history_lines 0 events.now) }
 {
     for (number, event) in events.iter().enumerate() {
         let line = HistoryLine {

@@ -14,13 +14,14 @@ use crate::script::Script;
 use command::rounds_of;
 use serde_json::Value;
 use std::alloc::Global;
-use whole::outline_of;
+use whole::frame_of;
 
 /// The script that the bytes stand for.
 ///
-/// It is refused as `NotJson` where the bytes are no JSON text, then as `BadLimit` for a fault in the whole, then as
-/// `BadField` with the first command that has a fault, and as `Memory` wherever memory is refused. It takes time in
-/// proportion to the bytes: one pass over the JSON value, in which the members of an object are looked up by name.
+/// It is refused as `NotJson` where the bytes are no JSON text, then as `BadLimit` for a fault in
+/// the whole, then as `BadField` with the first command that has a fault, and as `Memory` wherever
+/// memory is refused. It takes time in proportion to the bytes: one pass over the JSON value, in
+/// which the members of an object are looked up by name.
 pub fn read_script(alloc: Global, bytes: &[u8]) -> Result<Script, ScriptError>
     ensures { Reads bytes.now result }
 {
@@ -35,17 +36,9 @@ pub fn read_script(alloc: Global, bytes: &[u8]) -> Result<Script, ScriptError>
 fn script_of(alloc: Global, value: &Value) -> Result<Script, ScriptError>
     ensures { IsUnlessMemory result (framed_plan (frame_of (view value.now))) }
 {
-    let Some(outline) = outline_of(alloc, value)? else {
+    let Some(frame) = frame_of(alloc, value)? else {
         return Err(ScriptError::BadLimit);
     };
-    let rounds = rounds_of(alloc, &outline.rounds, outline.clients)?;
-    Ok(Script::new(
-        outline.epoch_end,
-        outline.recovery,
-        outline.clients,
-        outline.config,
-        outline.elapsed,
-        outline.throttles,
-        rounds,
-    ))
+    let rounds = rounds_of(alloc, &frame.rounds, frame.setup.clients)?;
+    Ok(Script::new(frame.setup, rounds))
 }

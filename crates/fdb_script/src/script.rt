@@ -1,10 +1,14 @@
-//! What a script says.
+//! Scripts, their commands and their limits.
 
 ghost use Rattle.std.specs.Prelude.{◌≡◌};
 
+use crate::setup::Setup;
 use fdb_history::{GrvOpts, Priority, Sequence, Tag};
 use fdb_queue::QueueConfig;
 use std::marker::Model;
+
+/// The most bytes of a script.
+pub const MAX_SCRIPT_BYTES: usize = 16_777_216;
 
 /// The most clients of a script.
 pub const MAX_CLIENTS: u64 = 64;
@@ -21,10 +25,11 @@ pub const MAX_COMMANDS: usize = 10_000;
 /// The most tags of a read in a script.
 pub const MAX_TAGS: usize = 5;
 
-/// A throttle that every GRV proxy is given. Of two with one priority and one tag, the one further down counts.
+/// A throttle that every GRV proxy is given. Of two with one priority and one tag, the one further
+/// down counts.
 #[derive(Debug, Drop, PartialEq, Eq)]
 pub struct Throttle {
-    /// The priority of the requests that are told of it.
+    /// The priority of the requests that it is for.
     pub priority: Priority,
     /// The tag.
     pub tag: Tag,
@@ -34,7 +39,7 @@ pub struct Throttle {
     pub expires: u64,
 }
 
-/// What a client is told to do.
+/// What a client is to do.
 #[derive(Debug, Drop, PartialEq, Eq)]
 pub enum Act {
     /// Read the read version.
@@ -80,55 +85,38 @@ pub struct Command {
     pub act: Act,
 }
 
-/// A script: from where the service starts, what its GRV proxies are made with, and what its clients do in each round.
+/// A script: from where the service starts, what its GRV proxies are made with, and what its
+/// clients do in each round.
 ///
-/// Contracts see the record of these seven parts, and that they are within the limits.
+/// Contracts see its plan, which is the record of these parts, and know that it is within the
+/// limits (`IsPlan`).
 #[derive(Debug, Drop)]
 pub struct Script {
-    epoch_end: u64,
-    recovery: u64,
-    clients: u32,
-    config: QueueConfig,
-    elapsed: u64,
-    throttles: Sequence<Throttle>,
+    setup: Setup,
     rounds: Sequence<Sequence<Command>>,
 }
 
 impl Model for Script {
     ghost use Rattle.fdb_script.specs.Plan.{Plan, IsPlan};
+    ghost use Rattle.fdb_script.specs.private.Setup.{with_rounds};
 
     ghost Value = { Plan };
 
-    ghost view = { λ s. record { epoch_end = s.epoch_end; recovery = s.recovery; clients = s.clients; config = s.config; elapsed = s.elapsed; throttles = s.throttles; rounds = s.rounds } };
+    ghost view = { λ script. with_rounds script.setup script.rounds };
 
-    ghost invariant = { λ s. IsPlan (record { epoch_end = s.epoch_end; recovery = s.recovery; clients = s.clients; config = s.config; elapsed = s.elapsed; throttles = s.throttles; rounds = s.rounds }) };
+    ghost invariant = { λ script. IsPlan (with_rounds script.setup script.rounds) };
 }
 
 impl Script {
-    ghost use Rattle.fdb_script.specs.Plan.{Plan, IsPlan};
+    ghost use Rattle.fdb_script.specs.Plan.{IsPlan};
+    ghost use Rattle.fdb_script.specs.private.Setup.{with_rounds};
 
-    /// A script of these parts.
-    pub(crate) fn new(
-        epoch_end: u64,
-        recovery: u64,
-        clients: u32,
-        config: QueueConfig,
-        elapsed: u64,
-        throttles: Sequence<Throttle>,
-        rounds: Sequence<Sequence<Command>>,
-    ) -> Script
-        requires { IsPlan (record { epoch_end = epoch_end; recovery = recovery; clients = clients; config = config; elapsed = elapsed; throttles = throttles; rounds = rounds }) }
-        ensures { result ≡ record { epoch_end = epoch_end; recovery = recovery; clients = clients; config = config; elapsed = elapsed; throttles = throttles; rounds = rounds } }
+    /// The script of these parts.
+    pub(crate) fn new(setup: Setup, rounds: Sequence<Sequence<Command>>) -> Script
+        requires { IsPlan (with_rounds setup rounds) }
+        ensures { result ≡ with_rounds setup rounds }
     {
-        Script {
-            epoch_end,
-            recovery,
-            clients,
-            config,
-            elapsed,
-            throttles,
-            rounds,
-        }
+        Script { setup, rounds }
     }
 
     /// The end of the epoch before: the version before the first commit version.
@@ -136,42 +124,42 @@ impl Script {
         ensures value { result ≡ self.now.epoch_end }
         ensures plan { IsPlan self.now }
     {
-        self.epoch_end
+        self.setup.epoch_end
     }
 
     /// The version at which the service starts.
     pub fn recovery(&self) -> u64
         ensures { result ≡ self.now.recovery }
     {
-        self.recovery
+        self.setup.recovery
     }
 
     /// How many clients there are.
     pub fn clients(&self) -> u32
         ensures { result ≡ self.now.clients }
     {
-        self.clients
+        self.setup.clients
     }
 
     /// What the queue of each GRV proxy is made with.
     pub fn config(&self) -> QueueConfig
         ensures { result ≡ self.now.config }
     {
-        self.config
+        self.setup.config
     }
 
     /// The time between two windows of a GRV proxy, in microseconds.
     pub fn elapsed(&self) -> u64
         ensures { result ≡ self.now.elapsed }
     {
-        self.elapsed
+        self.setup.elapsed
     }
 
     /// The throttles that each GRV proxy is given, in order.
     pub fn throttles(&self) -> &[Throttle]
         ensures { result.now ≡ self.now.throttles }
     {
-        self.throttles.as_slice()
+        self.setup.throttles.as_slice()
     }
 
     /// The rounds, each a list of commands.

@@ -29,8 +29,10 @@ fn priority_or_default(value: &Value) -> Option<Priority>
 
 /// A read with these tags.
 fn grv_with(value: &Value, tags: Sequence<Tag>) -> Option<Act>
-    ensures { result ≡ grv_with (Some tags) (member_or 0 whole (codes "at") (view value.now)) (member_or Default priority_of (codes "priority") (view value.now))
-        (member_or 1 whole (codes "count") (view value.now)) (member_or false as_bool (codes "lock_aware") (view value.now)) }
+    ensures { result ≡ grv_with (Some tags) (member_or 0 whole (codes "at") (view value.now))
+        (member_or Default priority_of (codes "priority") (view value.now))
+        (member_or 1 whole (codes "count") (view value.now))
+        (member_or false as_bool (codes "lock_aware") (view value.now)) }
 {
     let at = whole_or(value, "at", 0)?;
     let priority = priority_or_default(value)?;
@@ -134,7 +136,7 @@ fn command_of(alloc: Global, value: &Value, clients: u32) -> Result<Option<Comma
     Ok(Some(Command { client, act }))
 }
 
-/// The commands of a round, or the first of them that is none.
+/// The commands of a round, or the first that is faulty.
 fn commands_of(
     alloc: Global,
     values: &[Value],
@@ -156,13 +158,14 @@ fn commands_of(
     Ok(commands)
 }
 
-/// The commands of each round, or the first command that is none.
+/// The commands of each round, or the first that is faulty.
 pub(crate) fn rounds_of(
     alloc: Global,
     rounds: &[&[Value]],
     clients: u32,
 ) -> Result<Sequence<Sequence<Command>>, ScriptError>
-    ensures { IsUnlessMemory result (rounds_from clients 0 (map (λ round. map view round.now) rounds.now)) }
+    ensures { IsUnlessMemory result
+        (rounds_from clients 0 (map (λ round. map view round.now) rounds.now)) }
 {
     let mut all = Sequence::new(alloc);
     for (number, round) in rounds.iter().enumerate() {

@@ -63,7 +63,8 @@ pub(crate) fn member_within(value: &Value, name: &str, low: u64, high: u64) -> O
     whole_within(value.get(name)?, low, high)
 }
 
-/// A member that is a whole number from one number to another, or a number of these where there is no such member.
+/// A member that is a whole number from one number to another, or a number of these where there is
+/// no such member.
 pub(crate) fn within_or(value: &Value, name: &str, absent: u64, low: u64, high: u64) -> Option<u64>
     requires some { low ≤ absent }
     requires in_range { absent ≤ high }

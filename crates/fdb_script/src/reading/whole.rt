@@ -1,38 +1,31 @@
 //! A script as a whole: its numbers, its throttles, and its rounds as lists of values.
 
-ghost use Rattle.std.specs.Prelude.{◌≡◌, ◌<◌, ◌≤◌, [], codes, length, map, nat_le, nat_lt, ◌&&◌, sum_by, IfOk, IfSome};
+ghost use Rattle.std.specs.Prelude.{◌≡◌, [], codes, length, map, nat_le, nat_lt, ◌&&◌, sum_by, IfOk, IfSome};
 ghost use Rattle.std.specs.Option.{option_map};
 ghost use Rattle.serde_json.specs.View.{view};
 ghost use Rattle.fdb_history.specs.declared.register.TheConstants.{MAX_VERSION};
 ghost use Rattle.fdb_queue.specs.Config.{IsConfig, IsElapsed};
 ghost use Rattle.fdb_queue.specs.declared.config.TheConstants.{MAX_ELAPSED};
 ghost use Rattle.fdb_script.specs.Reading.{arrays_of, checked, config_of, frame_of, frame_with, is_frame, member, member_or, priority_of, throttle_of, throttle_with, throttles_of, whole, whole_within};
+ghost use Rattle.fdb_script.specs.private.Setup.{with_values};
 ghost use Rattle.fdb_script.specs.declared.script.TheConstants.{MAX_CLIENTS, MAX_COMMANDS};
 
 use crate::reading::members::{items, items_within, member_within, whole_member, within_or};
 use crate::reading::tags::{priority_of, tag_of};
 use crate::script::{MAX_CLIENTS, MAX_COMMANDS, MAX_ROUNDS, MAX_THROTTLES, Throttle};
+use crate::setup::Setup;
 use fdb_history::{MAX_VERSION, Sequence, Tag};
 use fdb_queue::{MAX_ELAPSED, MAX_RATE, MAX_ROOM, QueueConfig};
 use serde_json::Value;
 use std::alloc::{AllocError, Global};
 
-/// A script whose commands are not looked at yet.
+/// A script whose commands are not read yet.
 #[derive(Drop)]
-pub(crate) struct Outline<'a> {
-    pub(crate) epoch_end: u64,
-    pub(crate) recovery: u64,
-    pub(crate) clients: u32,
-    pub(crate) config: QueueConfig,
-    pub(crate) elapsed: u64,
-    pub(crate) throttles: Sequence<Throttle>,
+pub(crate) struct Frame<'a> {
+    /// What it says besides its rounds.
+    pub(crate) setup: Setup,
+    /// The values of each round.
     pub(crate) rounds: Vec<&'a [Value]>,
-    ghost epoch_ends_before: { epoch_end < recovery },
-    ghost recovery_in_range: { recovery ≤ MAX_VERSION },
-    ghost some_client: { 1 ≤ clients },
-    ghost clients_in_range: { clients ≤ MAX_CLIENTS },
-    ghost config_in_range: { IsConfig config },
-    ghost elapsed_in_range: { IsElapsed elapsed },
 }
 
 /// What the queues are made with.
@@ -52,7 +45,8 @@ fn config_of(value: &Value) -> Option<QueueConfig>
 
 /// The time between two windows.
 fn elapsed_of(value: &Value) -> Option<u64>
-    ensures value { result ≡ member_or 1000000 (whole_within 1 MAX_ELAPSED) (codes "elapsed") (view value.now) }
+    ensures value { result
+        ≡ member_or 1000000 (whole_within 1 MAX_ELAPSED) (codes "elapsed") (view value.now) }
     ensures in_range { IfSome result IsElapsed }
 {
     within_or(value, "elapsed", 1_000_000, 1, MAX_ELAPSED)
@@ -60,7 +54,9 @@ fn elapsed_of(value: &Value) -> Option<u64>
 
 /// A throttle of this tag.
 fn throttle_with(value: &Value, tag: Tag) -> Option<Throttle>
-    ensures { result ≡ throttle_with (Some tag) (member priority_of (codes "priority") (view value.now)) (member whole (codes "rate") (view value.now))
+    ensures { result ≡ throttle_with (Some tag)
+        (member priority_of (codes "priority") (view value.now))
+        (member whole (codes "rate") (view value.now))
         (member whole (codes "expires") (view value.now)) }
 {
     let priority = priority_of(value.get("priority")?)?;
@@ -104,9 +100,10 @@ fn throttles_of(alloc: Global, value: &Value) -> Result<Option<Sequence<Throttle
     Ok(Some(throttles))
 }
 
-/// The throttles of a script, none where it has no such member.
+/// The throttles of a script, which are none where it has no such member.
 fn throttles_or_none(alloc: Global, value: &Value) -> Result<Option<Sequence<Throttle>>, AllocError>
-    ensures { IfOk result (λ throttles. throttles ≡ member_or [] throttles_of (codes "throttles") (view value.now)) }
+    ensures { IfOk result
+        (λ throttles. throttles ≡ member_or [] throttles_of (codes "throttles") (view value.now)) }
 {
     match value.get("throttles") {
         None => Ok(Some(Sequence::new(alloc))),
@@ -116,7 +113,9 @@ fn throttles_or_none(alloc: Global, value: &Value) -> Result<Option<Sequence<Thr
 
 /// The items of each of a list of arrays.
 fn arrays_of(alloc: Global, value: &Value) -> Result<Option<Vec<&[Value]>>, AllocError>
-    ensures { IfOk result (λ found. option_map (λ arrays. map (λ array. map view array.now) arrays.items) found ≡ arrays_of (view value.now)) }
+    ensures { IfOk result
+        (λ found. option_map (λ arrays. map (λ array. map view array.now) arrays.items) found
+        ≡ arrays_of (view value.now)) }
 {
     let Some(values) = items_within(value, MAX_ROUNDS) else {
         return Ok(None);
@@ -147,28 +146,30 @@ fn has_few_commands(rounds: &[&[Value]]) -> bool
 
 /// Whether the epoch before ends before the recovery version, and there are not too many commands.
 fn is_frame(epoch_end: u64, recovery: u64, rounds: &[&[Value]]) -> bool
-    ensures { result ≡ (nat_lt epoch_end recovery && nat_le (sum_by length (map (λ round. map view round.now) rounds.now)) MAX_COMMANDS) }
+    ensures { result ≡
+        (nat_lt epoch_end recovery
+        && nat_le (sum_by length (map (λ round. map view round.now) rounds.now)) MAX_COMMANDS) }
 {
     epoch_end < recovery && has_few_commands(rounds)
 }
 
 /// A script of these throttles and rounds.
-fn outline_with<'a>(
+fn frame_with<'a>(
     value: &Value,
     throttles: Sequence<Throttle>,
     rounds: Vec<&'a [Value]>,
-) -> Option<Outline<'a>>
-    ensures { option_map (λ outline. record {
-      epoch_end = outline.epoch_end;
-      recovery = outline.recovery;
-      clients = outline.clients;
-      config = outline.config;
-      elapsed = outline.elapsed;
-      throttles = outline.throttles;
-      rounds = map (λ round. map view round.now) outline.rounds.items;
-    }) result ≡ checked is_frame (frame_with (Some throttles) (Some (map (λ round. map view round.now) rounds.entry.items)) (member whole (codes "epoch_end") (view value.now))
-        (member (whole_within 0 MAX_VERSION) (codes "recovery") (view value.now)) (member (whole_within 1 MAX_CLIENTS) (codes "clients") (view value.now))
-        (config_of (view value.now)) (member_or 1000000 (whole_within 1 MAX_ELAPSED) (codes "elapsed") (view value.now))) }
+) -> Option<Frame<'a>>
+    ensures { option_map
+        (λ frame. with_values frame.setup
+        (map (λ round. map view round.now) frame.rounds.items)) result
+        ≡ checked is_frame
+        (frame_with (Some throttles)
+        (Some (map (λ round. map view round.now) rounds.entry.items))
+        (member whole (codes "epoch_end") (view value.now))
+        (member (whole_within 0 MAX_VERSION) (codes "recovery") (view value.now))
+        (member (whole_within 1 MAX_CLIENTS) (codes "clients") (view value.now))
+        (config_of (view value.now))
+        (member_or 1000000 (whole_within 1 MAX_ELAPSED) (codes "elapsed") (view value.now))) }
 {
     let epoch_end = whole_member(value, "epoch_end")?;
     let recovery = member_within(value, "recovery", 0, MAX_VERSION)?;
@@ -178,28 +179,24 @@ fn outline_with<'a>(
     if !is_frame(epoch_end, recovery, &rounds) {
         return None;
     }
-    Some(Outline {
+    let setup = Setup {
         epoch_end,
         recovery,
         clients,
         config,
         elapsed,
         throttles,
-        rounds,
-    })
+    };
+    Some(Frame { setup, rounds })
 }
 
 /// What a JSON value says as a whole.
-pub(crate) fn outline_of(alloc: Global, value: &Value) -> Result<Option<Outline<'_>>, AllocError>
-    ensures { IfOk result (λ found. option_map (λ outline. record {
-      epoch_end = outline.epoch_end;
-      recovery = outline.recovery;
-      clients = outline.clients;
-      config = outline.config;
-      elapsed = outline.elapsed;
-      throttles = outline.throttles;
-      rounds = map (λ round. map view round.now) outline.rounds.items;
-    }) found ≡ frame_of (view value.now)) }
+pub(crate) fn frame_of(alloc: Global, value: &Value) -> Result<Option<Frame<'_>>, AllocError>
+    ensures { IfOk result
+        (λ found. option_map
+        (λ frame. with_values frame.setup
+        (map (λ round. map view round.now) frame.rounds.items)) found
+        ≡ frame_of (view value.now)) }
 {
     let Some(throttles) = throttles_or_none(alloc, value)? else {
         return Ok(None);
@@ -210,5 +207,5 @@ pub(crate) fn outline_of(alloc: Global, value: &Value) -> Result<Option<Outline<
     let Some(rounds) = arrays_of(alloc, rounds)? else {
         return Ok(None);
     };
-    Ok(outline_with(value, throttles, rounds))
+    Ok(frame_with(value, throttles, rounds))
 }

@@ -2,7 +2,7 @@ use Rattle.std.proofs.Common.{◌≤◌, sym, ◌∙◌}
 use Rattle.std.proofs.lemmas.List.Elements.{All-rest}
 use Rattle.std.proofs.lemmas.List.Folds.{fold_stays}
 use Rattle.std.specs.VecDeque.Iter.{deque_iter_rest}
-use Rattle.fdb_queue.specs.Turn.{turn_after}
+use Rattle.fdb_queue.specs.private.Turn.{turn_after}
 use Rattle.fdb_queue.specs.declared.config.TheConstants.{MAX_COUNT}
 use Rattle.fdb_queue.proofs.Walking.{ended_stays}
 use Rattle.fdb_queue.proofs.turn.Turn.along.Goals as goal

@@ -1,6 +1,6 @@
 use Rattle.std.proofs.Common.{◌≡◌, ◌≤◌, All, fold}
 use Rattle.std.specs.VecDeque.Iter.{deque_iter_rest}
-use Rattle.fdb_queue.specs.Turn.{turn_after, IsTurn}
+use Rattle.fdb_queue.specs.private.Turn.{turn_after, IsTurn}
 use Rattle.fdb_queue.specs.declared.config.TheConstants.{MAX_COUNT}
 use Rattle.fdb_queue.proofs.turn.Turn.along.Given as goal
 

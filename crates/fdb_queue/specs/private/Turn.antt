@@ -1,4 +1,4 @@
--- How far a window has come in the row. (private to the crate)
+-- How far a window has come in the row.
 use Rattle.std.specs.Prelude.{◌+◌, ◌*◌, ◌≤◌, ◌&&◌, true, false, nat_lt, if◌then◌else◌}
 use Rattle.fdb_queue.specs.Window.{may_start}
 use Rattle.fdb_queue.specs.declared.budgets.Budgets.{Budgets}
@@ -11,8 +11,13 @@ use Rattle.fdb_queue.specs.declared.turn.Turn.{Turn}
 abbrev pub turn_after : {T : Type 0} → QueueConfig → Budgets → Turn → Req T → Turn
 turn_after config budgets turn request =
     if turn.ended then turn
-    else if nat_lt turn.requests MAX_STARTED && may_start config budgets request.priority (turn.transactions + request.count)
-    then record { requests = turn.requests + 1; transactions = turn.transactions + request.count; ended = false }
+    else if nat_lt turn.requests MAX_STARTED
+    && may_start config budgets request.priority (turn.transactions + request.count)
+    then record {
+      requests = turn.requests + 1;
+      transactions = turn.transactions + request.count;
+      ended = false;
+    }
     else record turn { ended = true }
 
 -- what a turn has started is within the limits

@@ -1,0 +1,4 @@
+pub mod Kinds
+pub mod Rates
+pub mod Reach
+pub mod Turn
