@@ -37,7 +37,8 @@ pub record IsLog (start : Record) (reporters : ℕ) (log : List Raise) : Type 0 
 abbrev pub raised_by : ℕ → ℕ → List Raise → List ℕ
 raised_by number at [] = []
 raised_by number at (r ∷ rs) =
-    if r.reporter == number then (at ∷ raised_by number (at + 1) rs) else raised_by number (at + 1) rs
+    if r.reporter == number then (at ∷ raised_by number (at + 1) rs)
+    else raised_by number (at + 1) rs
 
 -- The positions of the raises that its own reporter made; none, where it is nobody's.
 abbrev pub own_among : Option ℕ → List Raise → List ℕ

@@ -68,8 +68,9 @@ pub(crate) fn add<R: Wait>(rt: &R, cell: &Cell, pass: &mut Pass, raised: Fetched
     requires right { (cell_view pass.old).replaces ≡ true }
     requires numbered { (cell_view pass.old).low < (cell_view pass.old).high }
     requires next { raised.position ≡ length (cell_view pass.old).seen + 1 }
-    requires raises { raises (last_record (cell_view pass.old).start (cell_view pass.old).seen) raised.rec
-        ≡ true }
+    requires raises { raises
+        (last_record (cell_view pass.old).start (cell_view pass.old).seen)
+        raised.rec ≡ true }
     requires in_range { raised.rec.version ≤ MAX_VERSION }
     ensures cell { IsSamePass pass.old pass.new }
     ensures adds { Adds (cell_view pass.old) raised raised (cell_view pass.new) }

@@ -20,7 +20,8 @@ pub record IsRegister (start : Record) (fetched : Fetched) (log : List Raise) : 
 -- What the rule says of one pass. One with the right to replace sits at the seat, and has seen the
 -- whole log. What any has seen begins the log, and the lists of a join begin what it has seen. All
 -- raises with a number that a pass holds stand in its own list, and each number has one holder.
-pub record Fits (start : Record) (reporters : ℕ) (log : List Raise) (seat : ℕ) (holder : ℕ → ℕ) (pass : ℕ) (v : View) : Type 0 where
+pub record Fits (start : Record) (reporters : ℕ) (log : List Raise) (seat : ℕ) (holder : ℕ → ℕ)
+    (pass : ℕ) (v : View) : Type 0 where
   pub opened : 0 < v.reporters → (v.start ≡ start) × (v.reporters ≡ reporters)
   pub right : v.replaces ≡ true → (pass ≡ seat) × (v.reporters ≡ reporters) × (v.seen ≡ log)
   pub seen : IsPrefix v.seen log

@@ -35,7 +35,8 @@ pub record IsRight (start : Record) (reporters : ℕ) (v : View) : Type 0 where
 
 -- A report by the pass with the right: which log it found, and whether and how it raised the
 -- record.
-pub record IsReported (v : View) (rec : Record) (raised : Bool) (position : ℕ) (w : View) : Type 0 where
+pub record IsReported (v : View) (rec : Record) (raised : Bool) (position : ℕ)
+    (w : View) : Type 0 where
   pub found : List Raise
   pub tells : Tells v found
   pub numbers : v.high ≤ v.reporters
