@@ -4,8 +4,8 @@ use Rattle.crossbeam_utils.specs.Register.{Turns, Forks, Merges}
 use Rattle.fdb_live.specs.declared.fetched.Fetched.{Fetched}
 use Rattle.fdb_live.specs.declared.held.Held.{Held}
 use Rattle.fdb_live.specs.declared.view.View.{View}
-use Rattle.fdb_live.specs.Rule.{Kept, Keeps, InWords}
-use Rattle.fdb_live.specs.Words.{fetched_of}
+use Rattle.fdb_live.specs.private.Rule.{Kept, Keeps, InWords}
+use Rattle.fdb_live.specs.private.Words.{fetched_of}
 
 pub loads : {pass : ℕ} {v : View} (then : View → Fetched → Fetched → View → Type 0) → Turns Kept pass v (λ x. x) then → Turns Keeps pass v (λ x. x) (InWords then)
 loads then t x = t (fetched_of x)

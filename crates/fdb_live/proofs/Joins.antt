@@ -8,7 +8,7 @@ use Rattle.crossbeam_utils.specs.Register.{Merges}
 use Rattle.fdb_live.specs.declared.raise.Raise.{Raise}
 use Rattle.fdb_live.specs.declared.view.View.{View}
 use Rattle.fdb_live.specs.Seen.{longer}
-use Rattle.fdb_live.specs.Rule.{Fits, Kept, spent, joined, taken}
+use Rattle.fdb_live.specs.private.Rule.{Fits, Kept, spent, joined, taken}
 use Rattle.fdb_live.proofs.Prefixes.{prefix_trans, prefix_whole, prefix_length, prefix_longer}
 use Rattle.fdb_live.proofs.Fitting.{moved, moved_here, moved_else, fits_merge}
 

@@ -7,8 +7,8 @@ use Rattle.fdb_history.proofs.Lists.{slice_get-append_left, slice_get-append_sea
 use Rattle.fdb_history.specs.declared.register.Record.{Record}
 use Rattle.fdb_history.specs.declared.register.TheConstants.{MAX_VERSION}
 use Rattle.fdb_live.specs.Seen.{Sight}
-use Rattle.fdb_live.specs.Rule.{view, lowest_of}
-use Rattle.fdb_live.specs.Token.{IsHolder}
+use Rattle.fdb_live.specs.private.Rule.{view, lowest_of}
+use Rattle.fdb_live.specs.private.Token.{IsHolder}
 use Rattle.fdb_live.specs.declared.view.View.{View}
 
 abbrev pub token_of : ℕ → Sight

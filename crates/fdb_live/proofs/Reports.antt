@@ -11,8 +11,8 @@ use Rattle.fdb_live.specs.declared.fetched.Fetched.{Fetched}
 use Rattle.fdb_live.specs.declared.raise.Raise.{Raise}
 use Rattle.fdb_live.specs.declared.view.View.{View}
 use Rattle.fdb_live.specs.Seen.{Sight, last_record, rises, IsLog, raised_by, IsRaisedBy, IsNotRaisedBy}
-use Rattle.fdb_live.specs.Rule.{having_seen, taken, lowest_of, without_lowest, Looks, Adds}
-use Rattle.fdb_live.specs.Token.{IsHolder, IsRight, IsReported}
+use Rattle.fdb_live.specs.private.Rule.{having_seen, taken, lowest_of, without_lowest, Looks, Adds}
+use Rattle.fdb_live.specs.private.Token.{IsHolder, IsRight, IsReported}
 use Rattle.fdb_live.proofs.Logs.{rises-push, position_below_version, above_start, above_all, raised_by-push_own}
 use Rattle.fdb_live.proofs.Prefixes.{prefix_trans}
 

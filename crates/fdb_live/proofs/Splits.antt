@@ -7,7 +7,7 @@ use lib.ListN.{get_elem?}
 use Rattle.crossbeam_utils.specs.Register.{Forks}
 use Rattle.fdb_live.specs.declared.fetched.Fetched.{Fetched}
 use Rattle.fdb_live.specs.declared.view.View.{View}
-use Rattle.fdb_live.specs.Rule.{Fits, Kept, no_record, first, spent, copy_of, lowest_of, without_lowest}
+use Rattle.fdb_live.specs.private.Rule.{Fits, Kept, no_record, first, spent, copy_of, lowest_of, without_lowest}
 use Rattle.fdb_live.proofs.Prefixes.{prefix_same}
 use Rattle.fdb_live.proofs.Fitting.{off, prefix_nil, moved, moved_here, moved_else, fits_fork, fits_spent}
 

@@ -8,8 +8,8 @@ use Rattle.fdb_live.specs.declared.fetched.Fetched.{Fetched}
 use Rattle.fdb_live.specs.declared.raise.Raise.{Raise}
 use Rattle.fdb_live.specs.declared.view.View.{View}
 use Rattle.fdb_live.specs.Seen.{IsLog, own_among, longer}
-use Rattle.fdb_live.specs.Rule.{having_seen, joined, copy_of, Tells, Looks, Settles, IsRegister}
-use Rattle.fdb_live.specs.Token.{HasNumber, IsHolder}
+use Rattle.fdb_live.specs.private.Rule.{having_seen, joined, copy_of, Tells, Looks, Settles, IsRegister}
+use Rattle.fdb_live.specs.private.Token.{HasNumber, IsHolder}
 use Rattle.fdb_live.proofs.Logs.{position_below_version, last_in_range}
 use Rattle.fdb_live.proofs.Prefixes.{prefix_either}
 

@@ -13,7 +13,7 @@ use Rattle.fdb_live.specs.declared.fetched.Fetched.{Fetched}
 use Rattle.fdb_live.specs.declared.raise.Raise.{Raise}
 use Rattle.fdb_live.specs.declared.view.View.{View}
 use Rattle.fdb_live.specs.Seen.{last_record, rises, IsLog, raised_by}
-use Rattle.fdb_live.specs.Rule.{IsRegister, Fits, Kept, first, opened, having_seen, Tells, Looks, Settles, Adds, Opens}
+use Rattle.fdb_live.specs.private.Rule.{IsRegister, Fits, Kept, first, opened, having_seen, Tells, Looks, Settles, Adds, Opens}
 use Rattle.fdb_live.proofs.Prefixes.{prefix_same, prefix_trans}
 use Rattle.fdb_live.proofs.Logs.{rises-push, last_record-push, raised_by-push_other, raised_by-between}
 use Rattle.fdb_live.proofs.Fitting.{prefix_nil, fits_set}

@@ -1,4 +1,2 @@
 pub mod Seen
-pub mod Words
-pub mod Rule
-pub mod Token
+pub mod private

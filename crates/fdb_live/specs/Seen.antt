@@ -13,7 +13,8 @@ pub record Sight : Type 0 where
   pub reporter : Option ℕ
   pub raises : List Raise
 
--- The live record after these raises. (updateLiveCommittedVersion of masterserver, FoundationDB 7.1)
+-- The live record after these raises. (updateLiveCommittedVersion of masterserver, FoundationDB
+-- 7.1)
 abbrev pub last_record : Record → List Raise → Record
 last_record start [] = start
 last_record start (r ∷ rs) = last_record r.rec rs
@@ -23,18 +24,21 @@ abbrev pub rises : Record → List Raise → Bool
 rises start [] = true
 rises start (r ∷ rs) = raises start r.rec && rises r.rec rs
 
--- The raises of a service: each did raise the record, and was reported by one of its reporters. No version is above the
--- greatest one.
+-- The raises of a service: each did raise the record, and was reported by one of its reporters. No
+-- version is above the greatest one.
 pub record IsLog (start : Record) (reporters : ℕ) (log : List Raise) : Type 0 where
   pub rises : rises start log ≡ true
   pub numbered : All (λ r. r.reporter < reporters) log
   pub in_range : All (λ r. r.rec.version ≤ MAX_VERSION) log
   pub start_in_range : start.version ≤ MAX_VERSION
 
--- The positions of the raises that carry this number. The position of a raise is its place, the first being `at`.
+-- The positions of the raises that carry this number. The position of a raise is its place, the
+-- first being `at`.
 abbrev pub raised_by : ℕ → ℕ → List Raise → List ℕ
 raised_by number at [] = []
-raised_by number at (r ∷ rs) = if r.reporter == number then (at ∷ raised_by number (at + 1) rs) else raised_by number (at + 1) rs
+raised_by number at (r ∷ rs) =
+    if r.reporter == number then (at ∷ raised_by number (at + 1) rs)
+    else raised_by number (at + 1) rs
 
 -- The positions of the raises that its own reporter made; none, where it is nobody's.
 abbrev pub own_among : Option ℕ → List Raise → List ℕ
@@ -48,8 +52,8 @@ own_positions sight = own_among sight.reporter sight.raises
 abbrev pub longer : List Raise → List Raise → List Raise
 longer these those = if nat_lt (length these) (length those) then those else these
 
--- The holder of a token reported a record, and raised with it: this raise is the last that it has now seen, it is
--- above all before it, and it is the one position that became its own.
+-- The holder of a token reported a record, and raised with it: this raise is the last that it has
+-- now seen, it is above all before it, and it is the one position that became its own.
 pub record IsRaisedBy (start rec : Record) (old new : Sight) : Type 0 where
   pub number : ℕ
   pub before : List Raise
@@ -61,7 +65,8 @@ pub record IsRaisedBy (start rec : Record) (old new : Sight) : Type 0 where
   pub above_all : All (λ r. r.rec.version < rec.version) before
   pub own : own_positions new ≡ own_positions old ++ length new.raises ∷ []
 
--- The holder of a token reported a record that is not above the last that it has now seen, and raised nothing.
+-- The holder of a token reported a record that is not above the last that it has now seen, and
+-- raised nothing.
 pub record IsNotRaisedBy (start rec : Record) (old new : Sight) : Type 0 where
   pub raises : raises (last_record start new.raises) rec ≡ false
   pub not_above : rec.version ≤ (last_record start new.raises).version

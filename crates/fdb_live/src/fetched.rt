@@ -3,7 +3,8 @@
 use fdb_history::Record;
 
 /// The live committed version, and the number of reports that had raised it by then
-/// (`GetRawCommittedVersionReply` of masterserver, FoundationDB 7.1; the position is this product's own).
+/// (`GetRawCommittedVersionReply` of masterserver, FoundationDB 7.1; the position is this product's
+/// own).
 #[derive(Clone, Copy, Debug, PartialEq, Eq)]
 pub struct Fetched {
     /// The record.

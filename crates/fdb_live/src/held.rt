@@ -1,7 +1,7 @@
 //! How the cell keeps the record and its position.
 
 ghost use Rattle.std.specs.Prelude.{◌≡◌};
-ghost use Rattle.fdb_live.specs.Words.{fetched_of, held_of};
+ghost use Rattle.fdb_live.specs.private.Words.{fetched_of, held_of};
 
 use crate::fetched::Fetched;
 use crossbeam_utils::atomic::Words;
@@ -13,24 +13,24 @@ const LOCKED: u64 = 1;
 /// The flag of a record with a metadata version.
 const HAS_METADATA: u64 = 2;
 
-/// The record and its position in four words. They have no gaps, which a copy of a [`Fetched`] would move as well, a few
-/// bytes at a time.
+/// The record and its position in four words. They have no gaps, which a copy of a [`Fetched`]
+/// would move as well, a few bytes at a time.
 #[derive(Clone, Copy)]
-pub struct Held {
+pub(crate) struct Held {
     /// The number of raises.
-    pub position: u64,
+    pub(crate) position: u64,
     /// The live committed version.
-    pub version: u64,
+    pub(crate) version: u64,
     /// Whether the database is locked, and whether there is a metadata version.
-    pub flags: u64,
+    pub(crate) flags: u64,
     /// The metadata version, and 0 where there is none.
-    pub metadata: u64,
+    pub(crate) metadata: u64,
 }
 
 impl Held {
     /// What the cell keeps of this.
     #[inline]
-    pub fn of(fetched: Fetched) -> Held
+    pub(crate) fn of(fetched: Fetched) -> Held
         ensures words { result ≡ held_of fetched }
         ensures back { fetched_of result ≡ fetched }
     {
@@ -49,7 +49,7 @@ impl Held {
 
     /// What these words say.
     #[inline]
-    pub fn fetched(self) -> Fetched
+    pub(crate) fn fetched(self) -> Fetched
         ensures { result ≡ fetched_of self }
     {
         let metadata = if self.flags & HAS_METADATA != 0 {
@@ -69,7 +69,7 @@ impl Held {
 }
 
 impl Words<4> for Held {
-    ghost use Rattle.fdb_live.specs.Words.{words_of};
+    ghost use Rattle.fdb_live.specs.private.Words.{words_of};
 
     ghost words = { words_of };
 

@@ -1,5 +1,5 @@
-//! The live committed version in a cell that threads read without a lock, and tokens that prove what their holders
-//! have seen of it.
+//! The live committed version in a cell that threads read without a lock, and tokens that prove
+//! what their holders have seen of it.
 #![tactic(auto)]
 
 mod ack;
@@ -7,6 +7,7 @@ mod error;
 mod fetched;
 mod held;
 mod live;
+mod named;
 mod opened;
 mod passes;
 mod raise;
@@ -19,6 +20,7 @@ pub use ack::Ack;
 pub use error::LiveError;
 pub use fetched::Fetched;
 pub use live::Live;
+pub use named::UnderName;
 pub use opened::{MAX_REPORTERS, Opened};
 pub use raise::Raise;
 pub use record::LiveRecord;

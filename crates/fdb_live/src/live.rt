@@ -13,7 +13,7 @@ pub trait Live: Service {
 
 /// The name that a call may pick the cell of.
 impl Live for Brand {
-    ghost use Rattle.fdb_live.specs.Token.{no_table};
+    ghost use Rattle.fdb_live.specs.private.Token.{no_table};
 
     ghost table = { no_table };
 }

@@ -2,7 +2,7 @@
 
 ghost use Rattle.std.specs.Prelude.{◌≡◌, ◌+◌, ◌<◌, ◌≤◌, ◌↔◌, ℕ, [], true, Some, None, IfOk, IfErr, vec_len, slice_get};
 ghost use Rattle.crossbeam_utils.specs.Seq.{cell_view};
-ghost use Rattle.fdb_live.specs.Rule.{opened, view};
+ghost use Rattle.fdb_live.specs.private.Rule.{opened, view};
 
 use crate::error::LiveError;
 use crate::fetched::Fetched;
@@ -22,8 +22,9 @@ use std::sync::{Mutex, Wait};
 /// The most reporters that a live record may have.
 pub const MAX_REPORTERS: u32 = 64;
 
-/// A live record that was opened. Contracts see it as what it was opened with, and the table of its cell; a name is
-/// picked that stands for these, and [`Opened::parts`] gives the record and its tokens under that name.
+/// A live record that was opened. Contracts see it as what it was opened with, and the table of its
+/// cell; a name is picked that stands for these, and [`Opened::parts`] gives the record and its
+/// tokens under that name.
 #[derive(Drop)]
 pub struct Opened {
     cell: Cell,
@@ -36,14 +37,21 @@ impl Model for Opened {
     ghost use Rattle.std.specs.Prelude.{◌≡◌, ◌<◌, ◌≤◌};
     ghost use Rattle.crossbeam_utils.specs.Seq.{cell_view};
     ghost use Rattle.fdb_history.specs.declared.register.TheConstants.{MAX_VERSION};
-    ghost use Rattle.fdb_live.specs.Rule.{opened};
+    ghost use Rattle.fdb_live.specs.private.Rule.{opened};
     ghost use Rattle.fdb_live.specs.Seen.{Origin};
 
     ghost Value = { Origin };
 
-    ghost view = { λ o. record { table = o.cell.table.shared.table_id; start = (cell_view o.pass).start; reporters = o.reporters } };
+    ghost view = { λ o. record {
+      table = o.cell.table.shared.table_id;
+      start = (cell_view o.pass).start;
+      reporters = o.reporters;
+    } };
 
-    ghost invariant = { λ o. (o.pass.table_id ≡ o.cell.table.shared.table_id) × (0 < o.reporters) × ((cell_view o.pass).start.version ≤ MAX_VERSION) × (cell_view o.pass ≡ opened (cell_view o.pass).start o.reporters) };
+    ghost invariant = { λ o. (o.pass.table_id ≡ o.cell.table.shared.table_id)
+        × (0 < o.reporters)
+        × ((cell_view o.pass).start.version ≤ MAX_VERSION)
+        × (cell_view o.pass ≡ opened (cell_view o.pass).start o.reporters) };
 }
 
 impl LiveRecord<Brand> {
@@ -80,16 +88,17 @@ impl LiveRecord<Brand> {
 }
 
 impl Opened {
-    /// The live record under a name that stands for it, a token with no number, and one for each reporter, in order.
-    /// None of them has seen a raise.
+    /// The live record under a name that stands for it, a token with no number, and one for each
+    /// reporter, in order. None of them has seen a raise.
     ///
-    /// It is refused for want of memory alone; the service is then given up.
+    /// It is refused where memory runs out, and for nothing else; the service is then given up.
     pub fn parts<J: Live>(self) -> Result<(LiveRecord<J>, Seen<J>, Vec<Seen<J>>), LiveError>
         requires { self ≡ record { table = J.table; start = J.start; reporters = J.reporters } }
         ensures memory { IfErr result (λ cause. cause ≡ LiveError.Memory) }
         ensures first { IfOk result (λ parts. parts.1 ≡ record { reporter = None; raises = [] }) }
         ensures count { IfOk result (λ parts. vec_len parts.2 ≡ J.reporters) }
-        ensures tokens { IfOk result (λ parts. (k : ℕ) → k < J.reporters → slice_get parts.2.items k ≡ Some (record { reporter = Some k; raises = [] })) }
+        ensures tokens { IfOk result (λ parts. (k : ℕ) → k < J.reporters →
+            slice_get parts.2.items k ≡ Some (record { reporter = Some k; raises = [] })) }
     {
         let Opened {
             cell,
@@ -129,9 +138,11 @@ fn numbered<J: Live>(
     requires opened { cell_view pass.old ≡ opened J.start reporters }
     requires in_range { J.start.version ≤ MAX_VERSION }
     ensures cell { pass.new.table_id ≡ J.table }
-    ensures left { IfOk result (λ _. cell_view pass.new ≡ view J.start reporters reporters reporters true [] [] []) }
+    ensures left { IfOk result (λ _.
+        cell_view pass.new ≡ view J.start reporters reporters reporters true [] [] []) }
     ensures count { IfOk result (λ tokens. vec_len tokens ≡ reporters) }
-    ensures tokens { IfOk result (λ tokens. (k : ℕ) → k < reporters → slice_get tokens.items k ≡ Some (record { reporter = Some k; raises = [] })) }
+    ensures tokens { IfOk result (λ tokens. (k : ℕ) → k < reporters →
+        slice_get tokens.items k ≡ Some (record { reporter = Some k; raises = [] })) }
 {
     let mut tokens = Vec::with_capacity(alloc, reporters as usize)?;
     for number in 0..reporters {
@@ -148,7 +159,8 @@ fn token<J: Live>(cell: &Cell, pass: &mut Pass, number: u32) -> Seen<J>
     requires in_range { J.start.version ≤ MAX_VERSION }
     requires left { cell_view pass.old ≡ view J.start J.reporters number J.reporters true [] [] [] }
     ensures cell { pass.new.table_id ≡ J.table }
-    ensures left { cell_view pass.new ≡ view J.start J.reporters (number + 1) J.reporters true [] [] [] }
+    ensures left { cell_view pass.new
+        ≡ view J.start J.reporters (number + 1) J.reporters true [] [] [] }
     ensures token { result ≡ record { reporter = Some number; raises = [] } }
 {
     Seen {

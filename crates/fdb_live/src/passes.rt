@@ -4,8 +4,8 @@ ghost use Rattle.std.specs.Prelude.{◌≡◌, ◌+◌, ◌<◌, ◌≤◌, [], 
 ghost use Rattle.crossbeam_utils.specs.Seq.{IsSamePass, cell_view};
 ghost use Rattle.fdb_history.specs.Register.{raises};
 ghost use Rattle.fdb_live.specs.Seen.{last_record};
-ghost use Rattle.fdb_live.specs.Token.{IsReported};
-ghost use Rattle.fdb_live.specs.Rule.{Adds, Looks, Settles, copy_of, first, joined, lowest_of, opened, spent, taken, without_lowest};
+ghost use Rattle.fdb_live.specs.private.Token.{IsReported};
+ghost use Rattle.fdb_live.specs.private.Rule.{Adds, Looks, Settles, copy_of, first, joined, lowest_of, opened, spent, taken, without_lowest};
 
 use crate::ack::Ack;
 use crate::fetched::Fetched;
@@ -68,7 +68,9 @@ pub(crate) fn add<R: Wait>(rt: &R, cell: &Cell, pass: &mut Pass, raised: Fetched
     requires right { (cell_view pass.old).replaces ≡ true }
     requires numbered { (cell_view pass.old).low < (cell_view pass.old).high }
     requires next { raised.position ≡ length (cell_view pass.old).seen + 1 }
-    requires raises { raises (last_record (cell_view pass.old).start (cell_view pass.old).seen) raised.rec ≡ true }
+    requires raises { raises
+        (last_record (cell_view pass.old).start (cell_view pass.old).seen)
+        raised.rec ≡ true }
     requires in_range { raised.rec.version ≤ MAX_VERSION }
     ensures cell { IsSamePass pass.old pass.new }
     ensures adds { Adds (cell_view pass.old) raised raised (cell_view pass.new) }
@@ -80,7 +82,9 @@ pub(crate) fn add<R: Wait>(rt: &R, cell: &Cell, pass: &mut Pass, raised: Fetched
 pub(crate) fn copy(cell: &Cell, pass: &mut Pass) -> Pass
     requires { pass.old.table_id ≡ cell.now.table.shared.table_id }
     ensures kept { IsSamePass pass.old pass.new × (cell_view pass.new ≡ cell_view pass.old) }
-    ensures given { (result.table_id ≡ pass.old.table_id) × (cell_view result ≡ copy_of (cell_view pass.old)) × (result.me.1 ≡ []) }
+    ensures given { (result.table_id ≡ pass.old.table_id)
+        × (cell_view result ≡ copy_of (cell_view pass.old))
+        × (result.me.1 ≡ []) }
 {
     cell.split_pass::<view::Copied>(pass)
 }
@@ -89,8 +93,11 @@ pub(crate) fn copy(cell: &Cell, pass: &mut Pass) -> Pass
 pub(crate) fn give_lowest(cell: &Cell, pass: &mut Pass) -> Pass
     requires cell { pass.old.table_id ≡ cell.now.table.shared.table_id }
     requires numbered { (cell_view pass.old).low < (cell_view pass.old).high }
-    ensures kept { IsSamePass pass.old pass.new × (cell_view pass.new ≡ without_lowest (cell_view pass.old)) }
-    ensures given { (result.table_id ≡ pass.old.table_id) × (cell_view result ≡ lowest_of (cell_view pass.old)) × (result.me.1 ≡ []) }
+    ensures kept { IsSamePass pass.old pass.new
+        × (cell_view pass.new ≡ without_lowest (cell_view pass.old)) }
+    ensures given { (result.table_id ≡ pass.old.table_id)
+        × (cell_view result ≡ lowest_of (cell_view pass.old))
+        × (result.me.1 ≡ []) }
 {
     cell.split_pass::<view::Lowest>(pass)
 }
@@ -99,7 +106,9 @@ pub(crate) fn give_lowest(cell: &Cell, pass: &mut Pass) -> Pass
 pub(crate) fn give_all(cell: &Cell, pass: &mut Pass) -> Pass
     requires { pass.old.table_id ≡ cell.now.table.shared.table_id }
     ensures kept { IsSamePass pass.old pass.new × (cell_view pass.new ≡ spent) }
-    ensures given { (result.table_id ≡ pass.old.table_id) × (cell_view result ≡ cell_view pass.old) × (result.me.1 ≡ []) }
+    ensures given { (result.table_id ≡ pass.old.table_id)
+        × (cell_view result ≡ cell_view pass.old)
+        × (result.me.1 ≡ []) }
 {
     cell.split_pass::<view::Whole>(pass)
 }
@@ -108,7 +117,8 @@ pub(crate) fn give_all(cell: &Cell, pass: &mut Pass) -> Pass
 pub(crate) fn join(cell: &Cell, pass: &mut Pass, other: Pass)
     requires cell { pass.old.table_id ≡ cell.now.table.shared.table_id }
     requires other { (other.table_id ≡ pass.old.table_id) × (other.me.1 ≡ []) }
-    ensures { IsSamePass pass.old pass.new × (cell_view pass.new ≡ joined (cell_view pass.old) (cell_view other)) }
+    ensures { IsSamePass pass.old pass.new
+        × (cell_view pass.new ≡ joined (cell_view pass.old) (cell_view other)) }
 {
     cell.join_pass::<view::Told>(pass, other);
 }
@@ -118,7 +128,8 @@ pub(crate) fn take(cell: &Cell, pass: &mut Pass, other: Pass)
     requires cell { pass.old.table_id ≡ cell.now.table.shared.table_id }
     requires other { (other.table_id ≡ pass.old.table_id) × (other.me.1 ≡ []) }
     requires right { (cell_view pass.old).replaces ≡ true }
-    ensures { IsSamePass pass.old pass.new × (cell_view pass.new ≡ taken (cell_view pass.old) (cell_view other)) }
+    ensures { IsSamePass pass.old pass.new
+        × (cell_view pass.new ≡ taken (cell_view pass.old) (cell_view other)) }
 {
     cell.join_pass::<view::Numbered>(pass, other);
 }
@@ -132,7 +143,8 @@ pub(crate) fn report<R: Wait>(rt: &R, cell: &Cell, pass: &mut Pass, rec: Record)
     requires numbered { (cell_view pass.old).low < (cell_view pass.old).high }
     requires in_range { rec.version ≤ MAX_VERSION }
     ensures cell { IsSamePass pass.old pass.new }
-    ensures reported { IsReported (cell_view pass.old) rec result.raised result.position (cell_view pass.new) }
+    ensures reported { IsReported (cell_view pass.old) rec result.raised result.position
+        (cell_view pass.new) }
 {
     let found = look(rt, cell, pass);
     if rec.version <= found.rec.version {

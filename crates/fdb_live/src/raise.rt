@@ -2,7 +2,8 @@
 
 use fdb_history::Record;
 
-/// A report that raised the record, as the model of a token has it. Running code keeps no list of them.
+/// A report that raised the record, as the model of a token has it. Running code keeps no list of
+/// them.
 #[derive(Clone, Copy, Debug, PartialEq, Eq)]
 pub struct Raise {
     /// The number of the reporter that made it.

@@ -19,9 +19,9 @@ use std::sync::{Mutex, Wait};
 /// The live committed version of the service `J`, in one register that threads share
 /// (`liveCommittedVersion` and its companions in masterserver, FoundationDB 7.1).
 ///
-/// Reports take turns under a lock that only they take. A read does not take it: it loads the four words of a
-/// sequence cell, and only where a replacement came between does it take the cell's own lock for a moment. No call on
-/// it takes memory, and each takes constant time, waiting aside.
+/// Reports take turns under a lock that only they take. A read does not take it: it loads the four
+/// words of a sequence cell, and only where a replacement came between does it take the cell's own
+/// lock for a moment. No call on it takes memory, and each takes constant time, waiting aside.
 #[derive(Drop)]
 pub struct LiveRecord<J: Live> {
     pub(crate) cell: Cell,
@@ -30,11 +30,11 @@ pub struct LiveRecord<J: Live> {
 }
 
 impl<J: Live> LiveRecord<J> {
-    /// The record and its position (`getLiveCommittedVersion` of masterserver). The holder of the token has then seen
-    /// each raise up to that position.
+    /// The record and its position (`getLiveCommittedVersion` of masterserver). The holder of the
+    /// token has then seen each raise up to that position.
     ///
-    /// It waits for a replacement that is under way, and not for the lock of the reports. That it sees a report of
-    /// which its caller had seen nothing, no clause says.
+    /// It waits for a replacement that is under way, and not for the lock of the reports. That it
+    /// sees a report of which its caller had seen nothing, no clause says.
     #[inline]
     pub fn read<R: Wait>(&self, rt: &R, seen: &mut Seen<J>) -> Fetched
         ensures reporter { seen.new.reporter ≡ seen.old.reporter }
@@ -51,11 +51,13 @@ impl<J: Live> LiveRecord<J> {
         fetched
     }
 
-    /// Reports a committed version (`reportLiveCommittedVersion` of masterserver) for the reporter whose token it is.
-    /// It replaces the record where its version is greater, and else leaves it; it is acknowledged in either case.
+    /// Reports a committed version (`reportLiveCommittedVersion` of masterserver) for the reporter
+    /// whose token it is. It replaces the record where its version is greater, and else leaves it;
+    /// it is acknowledged in either case.
     ///
-    /// It is refused as `TooLarge` where the version is above the greatest one, and for nothing else. It waits for
-    /// the other reports. While it holds their lock it passes the gate as `who`, before it looks at the record.
+    /// It is refused as `TooLarge` where the version is above the greatest one, and for nothing
+    /// else. It waits for the other reports. While it holds their lock it passes the gate as `who`,
+    /// before it looks at the record.
     #[inline]
     pub fn report<R: Wait, G: Gate>(
         &self,
@@ -73,8 +75,10 @@ impl<J: Live> LiveRecord<J> {
         ensures extends { IsPrefix seen.old.raises seen.new.raises }
         ensures position { IfOk result (λ ack. ack.position ≡ length seen.new.raises) }
         ensures log { OnOk result (IsLog J.start J.reporters seen.new.raises) }
-        ensures raised { IfOk result (λ ack. ack.raised ≡ true → IsRaisedBy J.start rec seen.old seen.new) }
-        ensures not_raised { IfOk result (λ ack. ack.raised ≡ false → IsNotRaisedBy J.start rec seen.old seen.new) }
+        ensures raised { IfOk result (λ ack. ack.raised ≡ true →
+            IsRaisedBy J.start rec seen.old seen.new) }
+        ensures not_raised { IfOk result (λ ack. ack.raised ≡ false →
+            IsNotRaisedBy J.start rec seen.old seen.new) }
     {
         if rec.version > MAX_VERSION {
             return Err(LiveError::TooLarge);
@@ -124,13 +128,16 @@ impl<J: Live> LiveRecord<J> {
         }
     }
 
-    /// Of what the holders of two tokens have seen, one begins the other. Both tokens stay as they are.
+    /// Of what the holders of two tokens have seen, one begins the other. Both tokens stay as they
+    /// are.
     #[inline]
     pub fn meet<R: Wait>(&self, rt: &R, first: &mut Seen<J>, second: &mut Seen<J>)
         ensures first { first.new ≡ first.old }
         ensures second { second.new ≡ second.old }
-        ensures one { (IsPrefix first.old.raises second.old.raises) ⊎ (IsPrefix second.old.raises first.old.raises) }
-        ensures log { IsLog J.start J.reporters first.new.raises × IsLog J.start J.reporters second.new.raises }
+        ensures one { IsPrefix first.old.raises second.old.raises
+            ⊎ IsPrefix second.old.raises first.old.raises }
+        ensures log { IsLog J.start J.reporters first.new.raises
+            × IsLog J.start J.reporters second.new.raises }
     {
         let mut mine = passes::copy(&self.cell, &mut first.pass);
         let theirs = passes::copy(&self.cell, &mut second.pass);

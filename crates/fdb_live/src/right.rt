@@ -14,7 +14,8 @@ use fdb_history::{MAX_VERSION, Record};
 use std::marker::{Model, PhantomData};
 use std::sync::Wait;
 
-/// The one pass that may replace the record of the service `J`. It lies behind the lock of the reports.
+/// The one pass that may replace the record of the service `J`. It lies behind the lock of the
+/// reports.
 #[derive(Drop)]
 pub(crate) struct Right<J: Live> {
     pub(crate) pass: Pass,
@@ -24,17 +25,19 @@ pub(crate) struct Right<J: Live> {
 impl<J: Live> Model for Right<J> {
     ghost use Rattle.std.specs.Prelude.{◌≡◌};
     ghost use Rattle.crossbeam_utils.specs.Seq.{cell_view};
-    ghost use Rattle.fdb_live.specs.Token.{IsRight};
+    ghost use Rattle.fdb_live.specs.private.Token.{IsRight};
 
     ghost Value = { Unit {0} };
 
     ghost view = { λ _. tt };
 
-    ghost invariant = { λ r. (r.pass.table_id ≡ J.table) × IsRight J.start J.reporters (cell_view r.pass) };
+    ghost invariant = { λ r. (r.pass.table_id ≡ J.table)
+        × IsRight J.start J.reporters (cell_view r.pass) };
 }
 
 impl<J: Live> Right<J> {
-    /// Reports a record for the holder of a token. For that, the token's pass is taken in, and its number is split off again.
+    /// Reports a record for the holder of a token. For that, the token's pass is taken in, and its
+    /// number is split off again.
     #[inline]
     pub(crate) fn report<R: Wait>(
         &mut self,

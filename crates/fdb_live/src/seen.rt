@@ -6,12 +6,13 @@ use crate::live::Live;
 use crate::passes::Pass;
 use std::marker::{Model, PhantomData};
 
-/// A token of what its holder has seen of the live record of the service `J`. Whoever has it proves by it that these
-/// reports have raised the record, one after another. At run time it is a position and a number.
+/// A token of what its holder has seen of the live record of the service `J`. Whoever has it proves
+/// by it that these reports have raised the record, one after another. At run time it is a position
+/// and a number.
 ///
-/// Contracts see it as the number of the reporter whose token it is, if it is one's, and the raises that were seen.
-/// It is not cloned: [`LiveRecord::split`](crate::LiveRecord::split) makes another that has seen the same. It may be
-/// dropped.
+/// Contracts see it as the number of the reporter whose token it is, if it is one's, and the raises
+/// that were seen. It is not cloned: [`LiveRecord::split`](crate::LiveRecord::split) makes another
+/// that has seen the same. It may be dropped.
 #[derive(Drop)]
 pub struct Seen<J: Live> {
     pub(crate) number: Option<u32>,
@@ -24,13 +25,15 @@ impl<J: Live> Model for Seen<J> {
     ghost use Rattle.std.specs.Prelude.{◌≡◌, length};
     ghost use Rattle.crossbeam_utils.specs.Seq.{cell_view};
     ghost use Rattle.fdb_live.specs.Seen.{Sight};
-    ghost use Rattle.fdb_live.specs.Token.{IsHolder};
+    ghost use Rattle.fdb_live.specs.private.Token.{IsHolder};
 
     ghost Value = { Sight };
 
     ghost view = { λ s. record { reporter = s.number; raises = (cell_view s.pass).seen } };
 
-    ghost invariant = { λ s. (s.pass.table_id ≡ J.table) × (s.position ≡ length (cell_view s.pass).seen) × IsHolder J.start J.reporters s.number (cell_view s.pass) };
+    ghost invariant = { λ s. (s.pass.table_id ≡ J.table)
+        × (s.position ≡ length (cell_view s.pass).seen)
+        × IsHolder J.start J.reporters s.number (cell_view s.pass) };
 }
 
 impl<J: Live> Seen<J> {

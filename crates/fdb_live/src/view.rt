@@ -10,30 +10,30 @@ use std::collections::LinkedList;
 use std::marker::PhantomData;
 
 /// What a pass knows.
-pub struct View {
+pub(crate) struct View {
     /// The record before any report.
-    pub start: Record,
+    pub(crate) start: Record,
     /// How many reporters there are, once the service is opened.
-    pub reporters: u32,
+    pub(crate) reporters: u32,
     /// It holds the reporters' numbers from here on.
-    pub low: u32,
+    pub(crate) low: u32,
     /// And those below this one.
-    pub high: u32,
+    pub(crate) high: u32,
     /// Whether it has the right to replace the record.
-    pub replaces: bool,
+    pub(crate) replaces: bool,
     /// The raises that it has seen.
-    pub seen: LinkedList<Raise>,
+    pub(crate) seen: LinkedList<Raise>,
     /// Those that it had itself seen before a join, until it looks.
-    pub mine: LinkedList<Raise>,
+    pub(crate) mine: LinkedList<Raise>,
     /// Those that the other pass of that join had seen.
-    pub theirs: LinkedList<Raise>,
+    pub(crate) theirs: LinkedList<Raise>,
 }
 
 /// The rule of the cell.
-pub struct Law;
+pub(crate) struct Law;
 
 impl Protocol<Held, View> for Law {
-    ghost use Rattle.fdb_live.specs.Rule.{Keeps, first};
+    ghost use Rattle.fdb_live.specs.private.Rule.{Keeps, first};
 
     ghost holds = { Keeps };
 
@@ -41,51 +41,51 @@ impl Protocol<Held, View> for Law {
 }
 
 /// The cell: one record and its position, in four words.
-pub type Cell = RuledSeqCell<Held, View, Law, 4>;
+pub(crate) type Cell = RuledSeqCell<Held, View, Law, 4>;
 
 /// A step that opens the service of a name.
-pub struct Opens<S: Service> {
+pub(crate) struct Opens<S: Service> {
     service: PhantomData<S>,
 }
 
 impl<S: Service> Outcome<Held, View> for Opens<S> {
-    ghost use Rattle.fdb_live.specs.Rule.{InWords, Opens as HasOpened};
+    ghost use Rattle.fdb_live.specs.private.Rule.{InWords, Opens as HasOpened};
 
     ghost then = { InWords (HasOpened S.reporters) };
 }
 
 /// A look at the record.
-pub struct Looks;
+pub(crate) struct Looks;
 
 impl Outcome<Held, View> for Looks {
-    ghost use Rattle.fdb_live.specs.Rule.{InWords, Looks as HasLooked};
+    ghost use Rattle.fdb_live.specs.private.Rule.{InWords, Looks as HasLooked};
 
     ghost then = { InWords HasLooked };
 }
 
 /// A look that ends a join.
-pub struct Settles;
+pub(crate) struct Settles;
 
 impl Outcome<Held, View> for Settles {
-    ghost use Rattle.fdb_live.specs.Rule.{InWords, Settles as HasSettled};
+    ghost use Rattle.fdb_live.specs.private.Rule.{InWords, Settles as HasSettled};
 
     ghost then = { InWords HasSettled };
 }
 
 /// A raise.
-pub struct Adds;
+pub(crate) struct Adds;
 
 impl Outcome<Held, View> for Adds {
-    ghost use Rattle.fdb_live.specs.Rule.{Adds as HasAdded, InWords};
+    ghost use Rattle.fdb_live.specs.private.Rule.{Adds as HasAdded, InWords};
 
     ghost then = { InWords HasAdded };
 }
 
 /// A copy of what was seen is split off.
-pub struct Copied;
+pub(crate) struct Copied;
 
 impl Split<View> for Copied {
-    ghost use Rattle.fdb_live.specs.Rule.{copy_of};
+    ghost use Rattle.fdb_live.specs.private.Rule.{copy_of};
 
     ghost left = { λ v. v };
 
@@ -93,10 +93,10 @@ impl Split<View> for Copied {
 }
 
 /// The lowest number is split off.
-pub struct Lowest;
+pub(crate) struct Lowest;
 
 impl Split<View> for Lowest {
-    ghost use Rattle.fdb_live.specs.Rule.{lowest_of, without_lowest};
+    ghost use Rattle.fdb_live.specs.private.Rule.{lowest_of, without_lowest};
 
     ghost left = { without_lowest };
 
@@ -104,10 +104,10 @@ impl Split<View> for Lowest {
 }
 
 /// All is split off, since only a pass that is new can be joined.
-pub struct Whole;
+pub(crate) struct Whole;
 
 impl Split<View> for Whole {
-    ghost use Rattle.fdb_live.specs.Rule.{spent};
+    ghost use Rattle.fdb_live.specs.private.Rule.{spent};
 
     ghost left = { λ _. spent };
 
@@ -115,10 +115,10 @@ impl Split<View> for Whole {
 }
 
 /// What the other pass has seen is taken in.
-pub struct Told;
+pub(crate) struct Told;
 
 impl Join<View> for Told {
-    ghost use Rattle.fdb_live.specs.Rule.{joined, spent};
+    ghost use Rattle.fdb_live.specs.private.Rule.{joined, spent};
 
     ghost both = { joined };
 
@@ -126,10 +126,10 @@ impl Join<View> for Told {
 }
 
 /// The other pass is taken in with its number.
-pub struct Numbered;
+pub(crate) struct Numbered;
 
 impl Join<View> for Numbered {
-    ghost use Rattle.fdb_live.specs.Rule.{spent, taken};
+    ghost use Rattle.fdb_live.specs.private.Rule.{spent, taken};
 
     ghost both = { taken };
 

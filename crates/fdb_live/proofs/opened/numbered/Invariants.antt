@@ -1,6 +1,6 @@
 use Rattle.std.proofs.Common.{◌≡◌, ◌≤◌, [], true, vec_len, vec_capacity}
 use Rattle.crossbeam_utils.specs.Seq.{cell_view}
-use Rattle.fdb_live.specs.Rule.{view}
+use Rattle.fdb_live.specs.private.Rule.{view}
 use Rattle.fdb_live.proofs.Opening.{AreTokens}
 use Rattle.fdb_live.proofs.opened.numbered.Given as goal
 

@@ -1,5 +1,5 @@
 use Rattle.std.proofs.Common.{rules}
-use Rattle.fdb_live.specs.Rule.{Adds}
+use Rattle.fdb_live.specs.private.Rule.{Adds}
 use Rattle.fdb_live.proofs.Turning.{adds}
 use Rattle.fdb_live.proofs.InWords.{writes}
 use Rattle.fdb_live.proofs.passes.add.Goals as goal

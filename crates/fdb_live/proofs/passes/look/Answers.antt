@@ -1,5 +1,5 @@
 use Rattle.std.proofs.Common.{rules}
-use Rattle.fdb_live.specs.Rule.{Looks}
+use Rattle.fdb_live.specs.private.Rule.{Looks}
 use Rattle.fdb_live.proofs.Turning.{looks}
 use Rattle.fdb_live.proofs.InWords.{loads}
 use Rattle.fdb_live.proofs.passes.look.Goals as goal

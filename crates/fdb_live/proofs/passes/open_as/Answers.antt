@@ -1,5 +1,5 @@
 use Rattle.std.proofs.Common.{rules, refl}
-use Rattle.fdb_live.specs.Rule.{Opens}
+use Rattle.fdb_live.specs.private.Rule.{Opens}
 use Rattle.fdb_live.proofs.Turning.{opens}
 use Rattle.fdb_live.proofs.InWords.{writes}
 use Rattle.fdb_live.proofs.passes.open_as.Goals as goal

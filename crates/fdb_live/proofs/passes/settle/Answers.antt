@@ -1,5 +1,5 @@
 use Rattle.std.proofs.Common.{rules}
-use Rattle.fdb_live.specs.Rule.{Settles}
+use Rattle.fdb_live.specs.private.Rule.{Settles}
 use Rattle.fdb_live.proofs.Turning.{settles}
 use Rattle.fdb_live.proofs.InWords.{loads}
 use Rattle.fdb_live.proofs.passes.settle.Goals as goal

@@ -18,14 +18,26 @@ metadata_of None = 0
 metadata_of (Some metadata) = metadata
 
 abbrev pub held_of : Fetched → Held
-held_of fetched = record { position = fetched.position; version = fetched.rec.version; flags = flags_of fetched.rec; metadata = metadata_of fetched.rec.metadata }
+held_of fetched = record {
+  position = fetched.position;
+  version = fetched.rec.version;
+  flags = flags_of fetched.rec;
+  metadata = metadata_of fetched.rec.metadata;
+}
 
 -- And what they say.
 abbrev pub is_set : ℕ → ℕ → Bool
 is_set flag flags = not (bit_and flags flag == 0)
 
 abbrev pub fetched_of : Held → Fetched
-fetched_of held = record { rec = record { version = held.version; locked = is_set 1 held.flags; metadata = if is_set 2 held.flags then Some held.metadata else None }; position = held.position }
+fetched_of held = record {
+  rec = record {
+    version = held.version;
+    locked = is_set 1 held.flags;
+    metadata = if is_set 2 held.flags then Some held.metadata else None;
+  };
+  position = held.position;
+}
 
 -- Four words: the position, the version, the flags and the metadata version.
 abbrev pub words_of : Held → List ℕ

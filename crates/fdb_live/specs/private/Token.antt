@@ -1,16 +1,17 @@
--- What a token, and what lies behind the lock of the reports, keep of their passes. (private to this crate)
+-- What a token, and what lies behind the lock of the reports, keep of their passes.
 use Rattle.std.specs.Prelude.{◌≡◌, ℕ, ◌+◌, ◌<◌, ◌≤◌, Bool, true, Option, None, Some, List, [], ◌∷◌, ◌++◌, length, MatchBool}
 use Rattle.atomic_table.specs.Seated.{TableId}
 use Rattle.fdb_history.specs.declared.register.Record.{Record}
 use Rattle.fdb_history.specs.Register.{raises}
 use Rattle.fdb_live.specs.Seen.{last_record, IsLog}
-use Rattle.fdb_live.specs.Rule.{having_seen, Tells}
+use Rattle.fdb_live.specs.private.Rule.{having_seen, Tells}
 use Rattle.fdb_live.specs.declared.raise.Raise.{Raise}
 use Rattle.fdb_live.specs.declared.view.View.{View}
 
 -- The table of no cell.
 abbrev pub no_table : TableId
-no_table = record { words = 0; slots = 0; views_name = 0; atom = 0; block = 0; offset = 0; slot_names = [] }
+no_table =
+    record { words = 0; slots = 0; views_name = 0; atom = 0; block = 0; offset = 0; slot_names = [] }
 
 -- The numbers of a token: its own alone, or none.
 abbrev pub HasNumber : Option ℕ → View → Type 0
@@ -32,13 +33,17 @@ pub record IsRight (start : Record) (reporters : ℕ) (v : View) : Type 0 where
   pub reporters_is : v.reporters ≡ reporters
   pub replaces : v.replaces ≡ true
 
--- A report by the pass with the right: which log it found, and whether and how it raised the record.
-pub record IsReported (v : View) (rec : Record) (raised : Bool) (position : ℕ) (w : View) : Type 0 where
+-- A report by the pass with the right: which log it found, and whether and how it raised the
+-- record.
+pub record IsReported (v : View) (rec : Record) (raised : Bool) (position : ℕ)
+    (w : View) : Type 0 where
   pub found : List Raise
   pub tells : Tells v found
   pub numbers : v.high ≤ v.reporters
   pub legal : IsLog v.start v.reporters found
   pub is : w ≡ having_seen v w.seen
   pub raised_is : raised ≡ raises (last_record v.start found) rec
-  pub seen : MatchBool raised (w.seen ≡ found ++ record { reporter = v.low; rec = rec } ∷ []) (w.seen ≡ found)
+  pub seen : MatchBool raised
+      (w.seen ≡ found ++ record { reporter = v.low; rec = rec } ∷ [])
+      (w.seen ≡ found)
   pub position_is : position ≡ length w.seen

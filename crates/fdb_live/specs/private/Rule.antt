@@ -1,11 +1,12 @@
--- The rule of the cell: what its words and the views of all passes have to do with one another. (this product's own)
+-- The rule of the cell: what its words and the views of all passes have to do with one another.
+-- (this product's own)
 use Rattle.std.specs.Prelude.{◌≡◌, ℕ, ◌+◌, ◌<◌, ◌≤◌, Bool, true, false, None, List, [], ◌∷◌, ◌++◌, length}
 use mathlib.Core.List.{IsPrefix}
 use mathlib.Core.Option.{some}
 use lib.ListN.{get_elem?}
 use Rattle.fdb_history.specs.declared.register.Record.{Record}
 use Rattle.fdb_live.specs.Seen.{last_record, IsLog, raised_by, longer}
-use Rattle.fdb_live.specs.Words.{fetched_of}
+use Rattle.fdb_live.specs.private.Words.{fetched_of}
 use Rattle.fdb_live.specs.declared.fetched.Fetched.{Fetched}
 use Rattle.fdb_live.specs.declared.held.Held.{Held}
 use Rattle.fdb_live.specs.declared.raise.Raise.{Raise}
@@ -16,10 +17,11 @@ pub record IsRegister (start : Record) (fetched : Fetched) (log : List Raise) : 
   pub position : fetched.position ≡ length log
   pub rec : fetched.rec ≡ last_record start log
 
--- What the rule says of one pass. One with the right to replace sits at the seat, and has seen the whole log. What
--- any has seen begins the log, and the lists of a join begin what it has seen. All raises with a number that a pass
--- holds stand in its own list, and each number has one holder.
-pub record Fits (start : Record) (reporters : ℕ) (log : List Raise) (seat : ℕ) (holder : ℕ → ℕ) (pass : ℕ) (v : View) : Type 0 where
+-- What the rule says of one pass. One with the right to replace sits at the seat, and has seen the
+-- whole log. What any has seen begins the log, and the lists of a join begin what it has seen. All
+-- raises with a number that a pass holds stand in its own list, and each number has one holder.
+pub record Fits (start : Record) (reporters : ℕ) (log : List Raise) (seat : ℕ) (holder : ℕ → ℕ)
+    (pass : ℕ) (v : View) : Type 0 where
   pub opened : 0 < v.reporters → (v.start ≡ start) × (v.reporters ≡ reporters)
   pub right : v.replaces ≡ true → (pass ≡ seat) × (v.reporters ≡ reporters) × (v.seen ≡ log)
   pub seen : IsPrefix v.seen log
@@ -29,7 +31,8 @@ pub record Fits (start : Record) (reporters : ℕ) (log : List Raise) (seat : �
   pub numbers : v.high ≤ v.reporters
   pub held : (n : ℕ) → v.low ≤ n → n < v.high → pass ≡ holder n
 
--- The rule. There is one log, whose last record the words are once the service is opened, and each pass fits it.
+-- The rule. There is one log, whose last record the words are once the service is opened, and each
+-- pass fits it.
 pub record Kept (fetched : Fetched) (views : List View) : Type 0 where
   pub start : Record
   pub reporters : ℕ
@@ -38,11 +41,21 @@ pub record Kept (fetched : Fetched) (views : List View) : Type 0 where
   pub holder : ℕ → ℕ
   pub register : 0 < reporters → IsRegister start fetched log
   pub legal : IsLog start reporters log
-  pub each : (pass : ℕ) (v : View) → get_elem? views pass ≡ some v → Fits start reporters log seat holder pass v
+  pub each : (pass : ℕ) (v : View) → get_elem? views pass ≡ some v →
+      Fits start reporters log seat holder pass v
 
 abbrev pub view : Record → ℕ → ℕ → ℕ → Bool → List Raise → List Raise → List Raise → View
 view start reporters low high replaces seen mine theirs =
-    record { start = start; reporters = reporters; low = low; high = high; replaces = replaces; seen = seen; mine = mine; theirs = theirs }
+    record {
+      start = start;
+      reporters = reporters;
+      low = low;
+      high = high;
+      replaces = replaces;
+      seen = seen;
+      mine = mine;
+      theirs = theirs;
+    }
 
 -- The start of a service that is not opened yet.
 abbrev pub no_record : Record
@@ -105,7 +118,8 @@ pub record Settles (v : View) (before after : Fetched) (w : View) : Type 0 where
 
 -- A raise by the pass with the right, under its lowest number.
 abbrev pub Adds : View → Fetched → Fetched → View → Type 0
-Adds v before after w = w ≡ having_seen v (v.seen ++ record { reporter = v.low; rec = after.rec } ∷ [])
+Adds v before after w =
+    w ≡ having_seen v (v.seen ++ record { reporter = v.low; rec = after.rec } ∷ [])
 
 -- The service is opened with what is then written, and with this many reporters.
 abbrev pub Opens : ℕ → View → Fetched → Fetched → View → Type 0
