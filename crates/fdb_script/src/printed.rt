@@ -2,7 +2,7 @@
 //! where it is wanted.
 
 ghost use Rattle.std.specs.Prelude.{◌≡◌, ◌++◌, ◌∷◌, [], ◌==◌, MatchOption, IfOk, IfErr, OnOk, count_by, drop, map, string_bytes};
-ghost use Rattle.fdb_history.specs.Event.{is_raise, raise_count};
+ghost use Rattle.fdb_history.specs.Event.{raise_count};
 ghost use Rattle.fdb_script.specs.Answering.{Answers};
 ghost use Rattle.fdb_script.specs.Text.{audit_text, calls_after, client_lines, is_learn, replies_of, history_lines, line, reply_lines, round_lines, text};
 
@@ -186,17 +186,10 @@ fn push_audit(printed: &mut String, outcome: &Outcome) -> Result<(), AllocError>
 fn raised_count(events: &[Event]) -> usize
     ensures { result ≡ raise_count events.now }
 {
-    events.iter().filter(|event| is_raise(event)).count()
-}
-
-/// Whether an event is a report that raised the live committed version.
-fn is_raise(event: &Event) -> bool
-    ensures { result ≡ is_raise event.now }
-{
-    match event {
-        Event::Report { raised, .. } => *raised,
-        Event::Read { .. } => false,
-    }
+    events
+        .iter()
+        .filter(|event| matches!(event, Event::Report { raised: true, .. }))
+        .count()
 }
 
 /// Appends the history, a line for each event.
