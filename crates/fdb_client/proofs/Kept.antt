@@ -3,7 +3,7 @@ use Rattle.std.proofs.Common.{◌≡◌, ℕ, ◌==◌, Bool, true, false, cond,
 use Rattle.std.specs.List.{find}
 use Rattle.std.specs.Option.{option_map, option_or}
 use Rattle.std.proofs.lemmas.List.Folds.{find-append}
-use Rattle.fdb_client.specs.Versions.{version_among, version_in_turn, version_of, version_under}
+use Rattle.fdb_client.specs.private.Versions.{version_among, version_in_turn, version_of, version_under}
 use Rattle.fdb_history.specs.declared.chain.Issued.{Issued}
 
 map_of_or : {X Y : Type 0} (f : X → Y) (one other : Option X) → option_map f (option_or one other) ≡ option_or (option_map f one) (option_map f other)

@@ -3,3 +3,4 @@ pub mod Calls
 pub mod Longer
 pub mod Own
 pub mod Reading
+pub mod InRange

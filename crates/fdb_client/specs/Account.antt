@@ -10,7 +10,8 @@ use Rattle.fdb_history.specs.declared.log.Input.TheVariants.{Learn}
 use Rattle.fdb_live.specs.Seen.{Sight, own_positions}
 use Rattle.fdb_live.specs.declared.raise.Raise.{Raise}
 
--- A client: its number, the position that it began with, its calls in order, and the raises that it has seen.
+-- A client: its number, the position that it began with, its calls in order, and the raises that it
+-- has seen.
 pub record Account : Type 0 where
   pub number : ℕ
   pub begun : ℕ
@@ -23,22 +24,33 @@ sight account = record { reporter = Some account.number; raises = account.raises
 
 -- a client that has called nobody yet
 abbrev pub new_account : ℕ → List Raise → Account
-new_account number raises = record { number = number; begun = length raises; calls = []; raises = raises }
+new_account number raises =
+    record { number = number; begun = length raises; calls = []; raises = raises }
 
--- whether a client may have seen more after a call than before it: where the register answered, and after a learn
+-- whether a client may have seen more after a call than before it: where the register answered, and
+-- after a learn
 abbrev pub may_see_more : Input → CallAnswer → Bool
 may_see_more (Learn from) answer = true
 may_see_more input answer = may_advance input answer
 
--- A call with this input was logged, with this answer: as the last of the client's calls, from the position that it had
--- seen before to the one that it has seen since, which are those of its token. It has seen more only where it may have, and
--- forgets nothing. A position became its own exactly where the answer says that the call raised the register.
-pub record Logs (before : Account) (input : Input) (answer : CallAnswer) (after : Account) : Type 0 where
+-- A call with this input was logged, with this answer: as the last of the client's calls, from the
+-- position that it had seen before to the one that it has seen since, which are those of its token.
+-- It has seen more only where it may have, and forgets nothing. A position became its own exactly
+-- where the answer says that the call raised the register.
+pub record Logs (before : Account) (input : Input) (answer : CallAnswer) (after : Account)
+    : Type 0 where
   pub number : after.number ≡ before.number
   pub begun : after.begun ≡ before.begun
-  pub calls : after.calls ≡ before.calls ++ record { input = input; asked = length before.raises; position = length after.raises; answer = answer } ∷ []
+  pub calls : after.calls ≡ before.calls ++ record {
+    input = input;
+    asked = length before.raises;
+    position = length after.raises;
+    answer = answer;
+  } ∷ []
   pub come_to : position_after_calls before.begun before.calls ≡ length before.raises
   pub extends : IsPrefix before.raises after.raises
   pub stays : may_see_more input answer ≡ false → after.raises ≡ before.raises
-  pub own : answer_raises answer ≡ false → own_positions (sight after) ≡ own_positions (sight before)
-  pub raised : answer_raises answer ≡ true → own_positions (sight after) ≡ own_positions (sight before) ++ length after.raises ∷ []
+  pub own : answer_raises answer ≡ false
+      → own_positions (sight after) ≡ own_positions (sight before)
+  pub raised : answer_raises answer ≡ true
+      → own_positions (sight after) ≡ own_positions (sight before) ++ length after.raises ∷ []

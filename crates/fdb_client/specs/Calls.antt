@@ -1,5 +1,5 @@
 -- What a client's calls may log. (all of this is this product's own)
-use Rattle.std.specs.Prelude.{◌≡◌, ℕ, ◌+◌, ◌<◌, ◌≤◌, Bool, true, ◌&&◌, not, List, length, Option, None, Some, Result}
+use Rattle.std.specs.Prelude.{◌≡◌, ℕ, ◌+◌, ◌≤◌, Bool, true, ◌&&◌, not, List, length, Option, None, Some, Result}
 use Rattle.std.specs.Bool.{MatchBool}
 use mathlib.Core.List.{IsPrefix}
 use Rattle.fdb_chain.specs.ChainCore.{IsOf}
@@ -25,15 +25,17 @@ use Rattle.fdb_client.specs.declared.read.ReadVersion.{ReadVersion}
 
 -- ---- reads
 
--- A read gets the last record that the client has then seen, and is turned away exactly where that is locked and the read
--- is not lock-aware. Else it was refused as a read may be.
+-- A read gets the last record that the client has then seen, and is turned away exactly where that
+-- is locked and the read is not lock-aware. Else it was refused as a read may be.
 abbrev pub IsReadAnswer : Record → GrvOpts → Account → CallAnswer → Type 0
-IsReadAnswer start opts after (Version rec limits locked_out) = (rec ≡ last_record start after.raises) × (locked_out ≡ (rec.locked && not opts.lock_aware))
+IsReadAnswer start opts after (Version rec limits locked_out) =
+    (rec ≡ last_record start after.raises) × (locked_out ≡ (rec.locked && not opts.lock_aware))
 IsReadAnswer start opts after (Refused cause) = may_refuse (input.Grv opts) cause ≡ true
 IsReadAnswer start opts after _ = ⊥
 
 -- A read was logged, and returned what it logged.
-pub record Reads (start : Record) (opts : GrvOpts) (before after : Account) (result : Result ReadVersion ClientError) : Type 0 where
+pub record Reads (start : Record) (opts : GrvOpts) (before after : Account)
+    (result : Result ReadVersion ClientError) : Type 0 where
   pub answer : CallAnswer
   pub logged : Logs before (input.Grv opts) answer after
   pub answered : IsReadAnswer start opts after answer
@@ -47,11 +49,13 @@ next_number account = 1 + length (fresh_answers account.calls)
 
 -- a client's request for a commit version: its number is that of the commit proxy
 abbrev pub request_of : Account → ℕ → ℕ → ℕ → Ask
-request_of account num processed at = record { proxy = account.number; num = num; processed = processed; at = at }
+request_of account num processed at =
+    record { proxy = account.number; num = num; processed = processed; at = at }
 
--- A request for a commit version was logged, and returned what it logged: the definition's answer after some chain of the
--- service.
-pub record Asks (epoch_end recovery num processed at : ℕ) (before after : Account) (result : Result Issued ClientError) : Type 0 where
+-- A request for a commit version was logged, and returned what it logged: the definition's answer
+-- after some chain of the service.
+pub record Asks (epoch_end recovery num processed at : ℕ) (before after : Account)
+    (result : Result Issued ClientError) : Type 0 where
   pub answer : CallAnswer
   pub logged : Logs before (input.Ask num processed at) answer after
   pub chain : definition.Chain
@@ -61,22 +65,27 @@ pub record Asks (epoch_end recovery num processed at : ℕ) (before after : Acco
 
 -- ---- reports
 
--- A report is of the version that the client's calls have under its number, with the flags that it was given. It raises the
--- record as the client, or finds one that is not below it. It is refused as `NotIssued` only where there is no such version,
--- and as `TooLarge` only where that is above the greatest one.
-abbrev pub IsReportAnswer : Record → Option ℕ → Bool → Option ℕ → Account → Account → CallAnswer → Type 0
+-- A report is of the version that the client's calls have under its number, with the flags that it
+-- was given. It raises the record as the client, or finds one that is not below it. It is refused
+-- as `NotIssued` alone, where there is no such version.
+abbrev pub IsReportAnswer : Record → Option ℕ → Bool → Option ℕ → Account → Account → CallAnswer
+    → Type 0
 IsReportAnswer start version locked metadata before after (Acked rec raised) =
-    (version ≡ Some rec.version) × (rec.locked ≡ locked) × (rec.metadata ≡ metadata) × (rec.version ≤ MAX_VERSION)
-    × MatchBool raised (IsRaisedBy start rec (sight before) (sight after)) (IsNotRaisedBy start rec (sight before) (sight after))
-IsReportAnswer start version locked metadata before after (Refused refusal.NotIssued) = version ≡ None
-IsReportAnswer start (Some version) locked metadata before after (Refused refusal.TooLarge) = MAX_VERSION < version
+    (version ≡ Some rec.version) × (rec.locked ≡ locked) × (rec.metadata ≡ metadata)
+    × (rec.version ≤ MAX_VERSION)
+    × MatchBool raised (IsRaisedBy start rec (sight before) (sight after))
+    (IsNotRaisedBy start rec (sight before) (sight after))
+IsReportAnswer start version locked metadata before after (Refused refusal.NotIssued) =
+    version ≡ None
 IsReportAnswer start version locked metadata before after _ = ⊥
 
 -- A report was logged, and returned what it logged.
-pub record Reports (start : Record) (num : ℕ) (locked : Bool) (metadata : Option ℕ) (before after : Account) (result : Result Ack ClientError) : Type 0 where
+pub record Reports (start : Record) (num : ℕ) (locked : Bool) (metadata : Option ℕ)
+    (before after : Account) (result : Result Ack ClientError) : Type 0 where
   pub answer : CallAnswer
   pub logged : Logs before (input.Report num locked metadata) answer after
-  pub answered : IsReportAnswer start (issued_under before.calls num) locked metadata before after answer
+  pub answered : IsReportAnswer start (issued_under before.calls num) locked metadata before after
+      answer
   pub returned : ReportReturns (length after.raises) answer result
 
 -- ---- tells and learns
@@ -85,7 +94,8 @@ pub record Reports (start : Record) (num : ℕ) (locked : Bool) (metadata : Opti
 abbrev pub Tells : ℕ → Account → Account → Type 0
 Tells to before after = Logs before (input.Tell to) Told after
 
--- A learn was logged, and the client has then seen the longer of its own list and the one that it was told.
+-- A learn was logged, and the client has then seen the longer of its own list and the one that it
+-- was told.
 pub record Learns (from : ℕ) (told : List Raise) (before after : Account) : Type 0 where
   pub logged : Logs before (input.Learn from) Told after
   pub seen : after.raises ≡ longer before.raises told

@@ -1,5 +1,4 @@
 pub mod Account
 pub mod Returned
 pub mod Calls
-pub mod Versions
-pub mod Exchange
+pub mod private

@@ -1,16 +1,19 @@
--- Which value a call of a client returns for the answer that it logged. (all of this is this product's own)
+-- Which value a call of a client returns for the answer that it logged. (all of this is this
+-- product's own)
 use Rattle.std.specs.Prelude.{◌≡◌, ℕ, true, false, Result, Ok, Err}
 use Rattle.fdb_chain.specs.declared.error.ChainError.TheVariants as chain
 use Rattle.fdb_history.specs.declared.chain.Issued.{Issued}
 use Rattle.fdb_history.specs.declared.log.CallAnswer.{CallAnswer}
-use Rattle.fdb_history.specs.declared.log.CallAnswer.TheVariants.{Version, Answered, Acked, Told, Refused}
+use Rattle.fdb_history.specs.declared.log.CallAnswer.TheVariants.{Version, Answered, Acked, Told}
+use Rattle.fdb_history.specs.declared.log.CallAnswer.TheVariants.{Refused}
 use Rattle.fdb_history.specs.declared.log.Refusal.{Refusal}
 use Rattle.fdb_history.specs.declared.log.Refusal.TheVariants as refusal
 use Rattle.fdb_live.specs.declared.ack.Ack.{Ack}
 use Rattle.fdb_live.specs.declared.error.LiveError.TheVariants as live
 use Rattle.fdb_queue.specs.declared.error.QueueError.TheVariants as queue
 use Rattle.fdb_client.specs.declared.error.ClientError.{ClientError}
-use Rattle.fdb_client.specs.declared.error.ClientError.TheVariants.{Locked, Stranger, ProxyClosed, Chain, Queue, NotIssued, Live}
+use Rattle.fdb_client.specs.declared.error.ClientError.TheVariants.{Locked, Stranger, ProxyClosed}
+use Rattle.fdb_client.specs.declared.error.ClientError.TheVariants.{Chain, Queue, NotIssued, Live}
 use Rattle.fdb_client.specs.declared.read.ReadVersion.{ReadVersion}
 
 -- the error for a refusal that was logged
@@ -27,9 +30,11 @@ error_of refusal.NotIssued = NotIssued
 error_of refusal.Stranger = Stranger
 error_of refusal.TooLarge = Live live.TooLarge
 
--- A read returns what was read, at the position after it; the version alone, where it is turned away by the lock.
+-- A read returns what was read, at the position after it; the version alone, where it is turned
+-- away by the lock.
 abbrev pub ReadReturns : ℕ → CallAnswer → Result ReadVersion ClientError → Type 0
-ReadReturns position (Version rec limits false) result = result ≡ Ok (record { rec = rec; position = position; limits = limits })
+ReadReturns position (Version rec limits false) result =
+    result ≡ Ok (record { rec = rec; position = position; limits = limits })
 ReadReturns position (Version rec limits true) result = result ≡ Err (Locked rec.version)
 ReadReturns position (Refused cause) result = result ≡ Err (error_of cause)
 ReadReturns position (Answered issued) result = ⊥
@@ -46,7 +51,8 @@ AskReturns Told result = ⊥
 
 -- A report returns whether it raised the record, and the position after it.
 abbrev pub ReportReturns : ℕ → CallAnswer → Result Ack ClientError → Type 0
-ReportReturns position (Acked rec raised) result = result ≡ Ok (record { raised = raised; position = position })
+ReportReturns position (Acked rec raised) result =
+    result ≡ Ok (record { raised = raised; position = position })
 ReportReturns position (Refused cause) result = result ≡ Err (error_of cause)
 ReportReturns position (Version rec limits locked_out) result = ⊥
 ReportReturns position (Answered issued) result = ⊥

@@ -1,8 +1,10 @@
 //! A client of the service.
 
-ghost use Rattle.std.specs.Prelude.{◌≡◌, ◌≢◌, ℕ, ◌+◌, ◌<◌, ◌≤◌, vec_len, vec_capacity, [], length, IfOk, IfErr, IfNone, IfSome, OnOk, OnErr, Result, None, Some};
+ghost use Rattle.std.specs.Prelude.{◌≡◌, ◌≢◌, ℕ, ◌+◌, ◌<◌, ◌≤◌, vec_len, vec_capacity, [], length};
+ghost use Rattle.std.specs.Prelude.{IfOk, IfErr, IfNone, IfSome, OnOk, OnErr, Result, None, Some};
 ghost use Rattle.fdb_client.specs.Account.{Account, new_account, sight};
-ghost use Rattle.fdb_client.specs.Calls.{Asks, Learns, Reads, Reports, Tells, next_number, request_of};
+ghost use Rattle.fdb_client.specs.Calls.{Asks, Learns, Reads, Reports, Tells};
+ghost use Rattle.fdb_client.specs.Calls.{next_number, request_of};
 ghost use Rattle.fdb_client.specs.Returned.{ReadReturns};
 ghost use Rattle.fdb_chain.specs.ChainCore.{IsAnswer, IsFor};
 ghost use Rattle.fdb_history.specs.declared.log.Refusal.{Refusal};
@@ -26,11 +28,13 @@ use std::alloc::{AllocError, Global};
 use std::marker::Model;
 use std::sync::Wait;
 
-/// A client of the service `J`, with the log of its calls. It plays the commit proxy of its own number.
+/// A client of the service `J`, with the log of its calls. It plays the commit proxy of its own
+/// number.
 ///
-/// Contracts see it as its number, the position that it began with, its calls, and the raises that it has seen. Each call
-/// below adds one entry to the log, and returns what `specs/Returned.antt` says for the answer that it logged. A call that is
-/// refused for memory is not logged, and leaves the client as it was; a refused call changes nothing but the log.
+/// Contracts see it as its number, the position that it began with, its calls, and the raises that
+/// it has seen. Each call below adds one entry to the log, and returns what `specs/Returned.antt`
+/// says for the answer that it logged. A call that is refused for memory is not logged, and leaves
+/// the client as it was; a refused call changes nothing but the log.
 #[derive(Drop)]
 pub struct Client<'a, J: Live> {
     alloc: Global,
@@ -49,13 +53,20 @@ impl<'a, J: Live> Model for Client<'a, J> {
 
     ghost Value = { Account };
 
-    ghost view = { λ client. record { number = client.id; begun = client.begun; calls = client.journal.calls.items; raises = client.seen.raises } };
+    ghost view = { λ client. record {
+      number = client.id;
+      begun = client.begun;
+      calls = client.journal.calls.items;
+      raises = client.seen.raises;
+    } };
 
-    ghost invariant = { λ client. (client.seen.reporter ≡ Some client.id) × (position_after_calls client.begun client.journal.calls.items ≡ length client.seen.raises) };
+    ghost invariant = { λ client. (client.seen.reporter ≡ Some client.id)
+        × (position_after_calls client.begun client.journal.calls.items ≡ length client.seen.raises) };
 }
 
 impl<'a, J: Live> Client<'a, J> {
-    /// A client that has called nobody yet, with the token of the reporter of its number. Takes no memory.
+    /// A client that has called nobody yet, with the token of the reporter of its number. Takes no
+    /// memory.
     pub fn new(alloc: Global, id: u32, live: &'a LiveRecord<J>, seen: Seen<J>) -> Self
         requires number { seen.reporter ≡ Some id }
         requires owns_none { own_positions seen ≡ [] }
@@ -101,15 +112,17 @@ impl<'a, J: Live> Client<'a, J> {
         self.journal.calls.as_slice()
     }
 
-    /// Reads the read version, through the proxy of a desk (`getReadVersion` of FoundationDB's client, 7.1). The request
-    /// carries a token of what the client has seen, and the length of the log as its number. Once an answer has come, the
-    /// gate's `ReadAnswered` is passed with the client's number.
+    /// Reads the read version, through the proxy of a desk (`getReadVersion` of FoundationDB's
+    /// client, 7.1). The request carries a token of what the client has seen, and the length of the
+    /// log as its number. Once an answer has come, the gate's `ReadAnswered` is passed with the
+    /// client's number.
     ///
-    /// Where the record is locked and the read is not lock-aware, the client has seen it all the same, and the call is refused
-    /// as `Locked`. An answer to another client, number or position is refused as `Stranger`, before anything else of it is
-    /// looked at. A desk that is closed, an answer that says so and an answer that never comes are `ProxyClosed`; what the
-    /// proxy's queue refuses is `Queue` with `BadCount`, `BatchThrottled` or `Full`. Of a refused answer the client keeps
-    /// nothing. It waits for the answer.
+    /// Where the record is locked and the read is not lock-aware, the client has seen it all the
+    /// same, and the call is refused as `Locked`. An answer to another client, number or position
+    /// is refused as `Stranger`, before anything else of it is looked at. A desk that is closed, an
+    /// answer that says so and an answer that never comes are `ProxyClosed`; what the proxy's queue
+    /// refuses is `Queue` with `BadCount`, `BatchThrottled` or `Full`. Of a refused answer the
+    /// client keeps nothing. It waits for the answer.
     pub fn read_version<R: Wait, G: Gate>(
         &mut self,
         rt: &R,
@@ -117,7 +130,8 @@ impl<'a, J: Live> Client<'a, J> {
         desk: &Desk<J>,
         opts: GrvOpts,
     ) -> Result<ReadVersion, ClientError>
-        ensures logged { result ≢ Err ClientError.Memory → Reads J.start opts self.old self.new result }
+        ensures logged { result ≢ Err ClientError.Memory
+            → Reads J.start opts self.old self.new result }
         ensures memory { result ≡ Err ClientError.Memory → self.new ≡ self.old }
     {
         self.journal.reserve()?;
@@ -150,8 +164,9 @@ impl<'a, J: Live> Client<'a, J> {
 
     /// Asks the sequencer for the next commit version, with the next request number.
     ///
-    /// It is refused as `Chain`, for what the sequencer says; the moments are microseconds. It waits for its turn at the
-    /// sequencer, and takes constant time, the growth of the log aside.
+    /// It is refused as `Chain`, for what the sequencer says: as `UnknownProxy` where that has no
+    /// commit proxy of the client's number. The moments are microseconds. It waits for its turn at
+    /// the sequencer, and takes constant time, the growth of the log aside.
     pub fn ask<R: Wait, G: Gate>(
         &mut self,
         rt: &R,
@@ -160,15 +175,18 @@ impl<'a, J: Live> Client<'a, J> {
         processed: u64,
         at: u64,
     ) -> Result<Issued, ClientError>
-        ensures logged { result ≢ Err ClientError.Memory → Asks J.epoch_end J.recovery (next_number self.old) processed at self.old self.new result }
-        ensures request { IfOk result (IsFor (request_of self.old (next_number self.old) processed at)) }
+        ensures logged { result ≢ Err ClientError.Memory
+            → Asks J.epoch_end J.recovery (next_number self.old) processed at self.old self.new result }
+        ensures request { IfOk result
+            (IsFor (request_of self.old (next_number self.old) processed at)) }
         ensures memory { result ≡ Err ClientError.Memory → self.new ≡ self.old }
     {
         let num = self.journal.next_number();
         self.reask(rt, gate, sequencer, num, processed, at)
     }
 
-    /// Asks the sequencer for the commit version under any request number, as one does who has missed the answer.
+    /// Asks the sequencer for the commit version under any request number, as one does who has
+    /// missed the answer.
     ///
     /// It is refused and waits as `ask` does.
     pub fn reask<R: Wait, G: Gate>(
@@ -180,7 +198,8 @@ impl<'a, J: Live> Client<'a, J> {
         processed: u64,
         at: u64,
     ) -> Result<Issued, ClientError>
-        ensures logged { result ≢ Err ClientError.Memory → Asks J.epoch_end J.recovery num processed at self.old self.new result }
+        ensures logged { result ≢ Err ClientError.Memory
+            → Asks J.epoch_end J.recovery num processed at self.old self.new result }
         ensures request { IfOk result (IsFor (request_of self.old num processed at)) }
         ensures memory { result ≡ Err ClientError.Memory → self.new ≡ self.old }
     {
@@ -205,11 +224,11 @@ impl<'a, J: Live> Client<'a, J> {
         }
     }
 
-    /// Reports the commit version that its log has under a request number, with these flags: the first, where there are
-    /// several.
+    /// Reports the commit version that its log has under a request number, with these flags: the
+    /// first, where there are several.
     ///
-    /// It is refused as `NotIssued` where the log has none, and as `Live` where the version is above the greatest one. It
-    /// waits for the other reports, and takes constant time, the growth of the log aside.
+    /// It is refused as `NotIssued` where the log has none, else for memory alone. It waits for the
+    /// other reports, and takes constant time, the growth of the log aside.
     pub fn report<R: Wait, G: Gate>(
         &mut self,
         rt: &R,
@@ -218,7 +237,8 @@ impl<'a, J: Live> Client<'a, J> {
         locked: bool,
         metadata: Option<u64>,
     ) -> Result<Ack, ClientError>
-        ensures logged { result ≢ Err ClientError.Memory → Reports J.start num locked metadata self.old self.new result }
+        ensures logged { result ≢ Err ClientError.Memory
+            → Reports J.start num locked metadata self.old self.new result }
         ensures memory { result ≡ Err ClientError.Memory → self.new ≡ self.old }
     {
         self.journal.reserve()?;
@@ -236,8 +256,9 @@ impl<'a, J: Live> Client<'a, J> {
             locked,
             metadata,
         };
+        // the chain has no version that is too large
         let Ok(ack) = self.live.report(rt, gate, self.id, &mut self.seen, rec) else {
-            return Err(self.journal.add_refused(input, asked, Refusal::TooLarge));
+            unreachable!()
         };
         self.journal.add(Call {
             input,
@@ -256,7 +277,8 @@ impl<'a, J: Live> Client<'a, J> {
     /// It is refused for memory alone, and waits for nobody.
     pub fn tell(&mut self, to: u32) -> Result<Seen<J>, ClientError>
         ensures logged { OnOk result (Tells to self.old self.new) }
-        ensures given { IfOk result (λ told. told ≡ record { reporter = None; raises = self.old.raises }) }
+        ensures given { IfOk result (λ told.
+            told ≡ record { reporter = None; raises = self.old.raises }) }
         ensures memory { IfErr result (λ cause. cause ≡ ClientError.Memory) }
         ensures unchanged { OnErr result (self.new ≡ self.old) }
     {
@@ -305,7 +327,8 @@ impl<'a, J: Live> Client<'a, J> {
     pub fn finish(self) -> (ClientLog, Seen<J>)
         ensures log { result.0 ≡ record { calls = self.entry.calls } }
         ensures seen { result.1 ≡ sight self.entry }
-        ensures come_to { position_after_calls self.entry.begun self.entry.calls ≡ length self.entry.raises }
+        ensures come_to { position_after_calls self.entry.begun self.entry.calls
+            ≡ length self.entry.raises }
     {
         let Client {
             alloc: _,
@@ -327,7 +350,8 @@ fn copy_of(opts: &GrvOpts) -> Result<GrvOpts, AllocError>
     opts.clone()
 }
 
-/// Takes in the reply to a read, logs it, and gives what the read returns. Where memory is refused, nothing has changed.
+/// Takes in the reply to a read, logs it, and gives what the read returns. Where memory is refused,
+/// nothing has changed.
 fn take_reply<J: Live, R: Wait>(
     rt: &R,
     live: &LiveRecord<J>,
@@ -338,12 +362,19 @@ fn take_reply<J: Live, R: Wait>(
 ) -> Result<ReadVersion, ClientError>
     requires room { vec_len journal.old.calls < vec_capacity journal.old.calls }
     requires asked { reply.asked ≡ length seen.old.raises }
-    ensures logged { result ≢ Err ClientError.Memory → (number begun : ℕ) → seen.old.reporter ≡ Some number → position_after_calls begun journal.old.calls.items ≡ length seen.old.raises
-        → Reads J.start opts (record { number = number; begun = begun; calls = journal.old.calls.items; raises = seen.old.raises }) (record { number = number; begun = begun; calls = journal.new.calls.items; raises = seen.new.raises }) result }
-    ensures come_to { result ≢ Err ClientError.Memory → (begun : ℕ) → position_after_calls begun journal.new.calls.items ≡ length seen.new.raises }
+    ensures logged { result ≢ Err ClientError.Memory → (number begun : ℕ)
+        → seen.old.reporter ≡ Some number
+        → position_after_calls begun journal.old.calls.items ≡ length seen.old.raises
+        → Reads J.start opts
+        (record { number = number; begun = begun; calls = journal.old.calls.items; raises = seen.old.raises })
+        (record { number = number; begun = begun; calls = journal.new.calls.items; raises = seen.new.raises })
+        result }
+    ensures come_to { result ≢ Err ClientError.Memory
+        → (begun : ℕ) → position_after_calls begun journal.new.calls.items ≡ length seen.new.raises }
     ensures reporter { seen.new.reporter ≡ seen.old.reporter }
     ensures seen { result ≡ Err ClientError.Memory → seen.new ≡ seen.old }
-    ensures calls { result ≡ Err ClientError.Memory → journal.new.calls.items ≡ journal.old.calls.items }
+    ensures calls { result ≡ Err ClientError.Memory
+        → journal.new.calls.items ≡ journal.old.calls.items }
 {
     let locked_out = reply.rec.locked && !opts.lock_aware;
     let value = value_of(&reply, locked_out)?;
@@ -388,7 +419,8 @@ fn value_of<J: Live>(
     reply: &Reply<J>,
     locked_out: bool,
 ) -> Result<Result<ReadVersion, ClientError>, AllocError>
-    ensures value { IfOk result (ReadReturns reply.now.position (CallAnswer.Version reply.now.rec reply.now.limits locked_out)) }
+    ensures value { IfOk result (ReadReturns reply.now.position
+        (CallAnswer.Version reply.now.rec reply.now.limits locked_out)) }
     ensures not_memory { IfOk result (λ value. value ≢ Err ClientError.Memory) }
 {
     if locked_out {
@@ -406,7 +438,8 @@ fn value_of<J: Live>(
 /// How a refusal of the sequencer is logged: not at all, where it is for memory.
 fn refusal_of(cause: ChainError) -> Option<Refusal>
     requires { (answer : Result Issued Refusal) × IsAnswer answer (Err cause) }
-    ensures some { (answer : Result Issued Refusal) → IsAnswer answer (Err cause) → IfSome result (λ refusal. answer ≡ Err refusal) }
+    ensures some { (answer : Result Issued Refusal) → IsAnswer answer (Err cause)
+        → IfSome result (λ refusal. answer ≡ Err refusal) }
     ensures none { IfNone result (cause ≡ ChainError.Memory) }
 {
     match cause {

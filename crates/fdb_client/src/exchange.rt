@@ -1,7 +1,7 @@
 //! A request at a proxy's desk, and its answer.
 
 ghost use Rattle.std.specs.Prelude.{◌≡◌, ◌==◌, IfErr, IfOk, true};
-ghost use Rattle.fdb_client.specs.Exchange.{IsOfRead, is_same, judged, mark_of, no_reply_for};
+ghost use Rattle.fdb_client.specs.private.Exchange.{IsOfRead, is_same, judged, mark_of, no_reply_for};
 ghost use Rattle.fdb_proxy.specs.Cause.{is_due};
 
 use crossbeam_channel::Receiver;
@@ -31,7 +31,8 @@ pub(crate) enum NoReply {
     Refused(Refusal),
 }
 
-/// Leaves a request at a desk and waits for its answer. Once one has come, the gate's `ReadAnswered` is passed.
+/// Leaves a request at a desk and waits for its answer. Once one has come, the gate's
+/// `ReadAnswered` is passed.
 pub(crate) fn reply_to<J: Live, R: Wait, G: Gate>(
     rt: &R,
     gate: &G,

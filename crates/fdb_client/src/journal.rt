@@ -1,17 +1,20 @@
 //! The log of a client, and what makes it quick to look into.
 
-ghost use Rattle.std.specs.Prelude.{◌≡◌, ℕ, ◌+◌, ◌<◌, ◌≤◌, ◌++◌, ◌∷◌, [], OnOk, filter, length, vec_len, vec_capacity};
+ghost use Rattle.std.specs.Prelude.{◌≡◌, ℕ, ◌+◌, ◌<◌, ◌≤◌, ◌++◌, ◌∷◌, [], IfSome, OnOk, Some};
+ghost use Rattle.std.specs.Prelude.{filter, length, vec_len, vec_capacity};
 ghost use Rattle.fdb_client.specs.Returned.{error_of};
-ghost use Rattle.fdb_client.specs.Versions.{HasRoomUnder, version_under};
+ghost use Rattle.fdb_client.specs.private.Versions.{HasCapacityUnder, version_under};
 ghost use Rattle.fdb_history.specs.Log.{answer_in, fresh_answers, position_after_calls};
 ghost use Rattle.fdb_history.specs.Strays.{issued_under};
+ghost use Rattle.fdb_history.specs.declared.register.TheConstants.{MAX_VERSION};
 
 use crate::error::ClientError;
 use crate::versions::Versions;
 use fdb_history::{Call, CallAnswer, Input, Issued, Refusal};
 use std::alloc::{AllocError, Global};
 
-/// The calls of a client, how many commit versions it drew, and the version under each request number.
+/// The calls of a client, how many commit versions it drew, and the version under each request
+/// number.
 #[derive(Drop)]
 pub(crate) struct Journal {
     /// The calls, in order.
@@ -22,7 +25,11 @@ pub(crate) struct Journal {
     pub(crate) versions: Versions,
     pub(crate) ghost few: { drawn ≤ vec_len calls },
     pub(crate) ghost counted: { drawn ≡ length (fresh_answers calls.items) },
-    pub(crate) ghost found: { (num : ℕ) → version_under versions.in_turn.items versions.others.items num ≡ issued_under calls.items num },
+    pub(crate) ghost found: { (num : ℕ)
+        → version_under versions.in_turn.items versions.others.items num
+        ≡ issued_under calls.items num },
+    pub(crate) ghost in_range: { (num version : ℕ)
+        → issued_under calls.items num ≡ Some version → version ≤ MAX_VERSION },
 }
 
 impl Journal {
@@ -53,12 +60,13 @@ impl Journal {
 
     /// The version under a request number, if there is one.
     pub(crate) fn version_under(&self, num: u64) -> Option<u64>
-        ensures { result ≡ issued_under self.now.calls.items num }
+        ensures first { result ≡ issued_under self.now.calls.items num }
+        ensures in_range { IfSome result (λ version. version ≤ MAX_VERSION) }
     {
         self.versions.under(num)
     }
 
-    /// Takes the room for a call that gets no commit version.
+    /// Reserves capacity for a call that gets no commit version.
     pub(crate) fn reserve(&mut self) -> Result<(), AllocError>
         ensures calls { self.new.calls.items ≡ self.old.calls.items }
         ensures room { OnOk result (vec_len self.new.calls < vec_capacity self.new.calls) }
@@ -66,11 +74,11 @@ impl Journal {
         self.calls.reserve(1)
     }
 
-    /// Takes the room for a request under a number.
+    /// Reserves capacity for a request under a number.
     pub(crate) fn reserve_under(&mut self, num: u64) -> Result<(), AllocError>
         ensures calls { self.new.calls.items ≡ self.old.calls.items }
         ensures room { OnOk result (vec_len self.new.calls < vec_capacity self.new.calls) }
-        ensures under { OnOk result (HasRoomUnder num self.new.versions) }
+        ensures under { OnOk result (HasCapacityUnder num self.new.versions) }
     {
         self.calls.reserve(1)?;
         self.versions.reserve(num)
@@ -90,7 +98,12 @@ impl Journal {
     /// Adds a call that was refused, and says so.
     pub(crate) fn add_refused(&mut self, input: Input, position: u64, cause: Refusal) -> ClientError
         requires { vec_len self.old.calls < vec_capacity self.old.calls }
-        ensures calls { self.new.calls.items ≡ self.old.calls.items ++ record { input = input; asked = position; position = position; answer = CallAnswer.Refused cause } ∷ [] }
+        ensures calls { self.new.calls.items ≡ self.old.calls.items ++ record {
+          input = input;
+          asked = position;
+          position = position;
+          answer = CallAnswer.Refused cause;
+        } ∷ [] }
         ensures come_to { (begun : ℕ) → position_after_calls begun self.new.calls.items ≡ position }
         ensures error { result ≡ error_of cause }
     {
@@ -107,8 +120,14 @@ impl Journal {
     #[tactic(auto, using(crate::proofs::Calls::position_of_added))]
     pub(crate) fn add_answer(&mut self, input: Input, position: u64, issued: Issued)
         requires room { vec_len self.old.calls < vec_capacity self.old.calls }
-        requires under { HasRoomUnder issued.num self.old.versions }
-        ensures calls { self.new.calls.items ≡ self.old.calls.items ++ record { input = input; asked = position; position = position; answer = CallAnswer.Answered issued } ∷ [] }
+        requires under { HasCapacityUnder issued.num self.old.versions }
+        requires in_range { issued.version ≤ MAX_VERSION }
+        ensures calls { self.new.calls.items ≡ self.old.calls.items ++ record {
+          input = input;
+          asked = position;
+          position = position;
+          answer = CallAnswer.Answered issued;
+        } ∷ [] }
         ensures come_to { (begun : ℕ) → position_after_calls begun self.new.calls.items ≡ position }
     {
         self.drawn += drawn_by(issued);

@@ -2,15 +2,16 @@
 
 ghost use Rattle.std.specs.Prelude.{◌≡◌, ℕ, ◌+◌, ◌<◌, ◌==◌, None, OnOk, [], vec_len, vec_capacity};
 ghost use Rattle.std.specs.Option.{option_or};
-ghost use Rattle.fdb_client.specs.Versions.{HasRoomUnder, version_among, version_in_turn, version_of, version_under};
+ghost use Rattle.fdb_client.specs.private.Versions.{HasCapacityUnder, version_among};
+ghost use Rattle.fdb_client.specs.private.Versions.{version_in_turn, version_of, version_under};
 
 use fdb_history::Issued;
 use std::alloc::{AllocError, Global};
 
 /// The version that was issued under each request number, by the first answer that has it.
 ///
-/// A client that alone asks under its number gets its answers in turn, so that a version is found under its number. Those
-/// that come out of turn are searched, one by one.
+/// A client that alone asks under its number gets its answers in turn, so that a version is found
+/// under its number. Those that come out of turn are searched, one by one.
 #[derive(Drop)]
 pub(crate) struct Versions {
     /// The version under number `m` stands at `m - 1`.
@@ -56,11 +57,11 @@ impl Versions {
         Some(found.version)
     }
 
-    /// Takes the room for one more answer.
+    /// Reserves capacity for one more answer.
     pub(crate) fn reserve(&mut self, num: u64) -> Result<(), AllocError>
         ensures in_turn { self.new.in_turn.items ≡ self.old.in_turn.items }
         ensures others { self.new.others.items ≡ self.old.others.items }
-        ensures room { OnOk result (HasRoomUnder num self.new) }
+        ensures room { OnOk result (HasCapacityUnder num self.new) }
     {
         if num == self.in_turn.len() as u64 + 1 {
             return self.in_turn.reserve(1);
@@ -74,9 +75,10 @@ impl Versions {
     /// Keeps the version of an answer, unless there is one under its number.
     #[tactic(auto, using(crate::proofs::Kept::others_more))]
     pub(crate) fn keep(&mut self, issued: Issued)
-        requires { HasRoomUnder issued.num self.old }
+        requires { HasCapacityUnder issued.num self.old }
         ensures { (num : ℕ) → version_under self.new.in_turn.items self.new.others.items num
-            ≡ option_or (version_under self.old.in_turn.items self.old.others.items num) (version_of issued num) }
+            ≡ option_or (version_under self.old.in_turn.items self.old.others.items num)
+            (version_of issued num) }
     {
         if self.under(issued.num).is_some() {
             return;

@@ -18,10 +18,11 @@ module _ {J : Type 0} {live : LiveGhosts J} {service : ServiceGhosts J} where
   abbrev pub own_limits : List Throttle → Req (Request J live service) → List TagLimit
   own_limits throttles request = limits_of throttles request.payload.opts.priority request.payload.opts.at request.payload.opts.tags
 
-  -- A reply answers a request, where these throttles stand, and where a read saw these raises. It has the request's
-  -- client, serial number and asked position, and the limits of its tags. Its record is the last of the raises and its
-  -- position their number; it proves them to the asker, who had seen the first of them.
-  -- (`sendGrvReplies` of GrvProxyServer; what it proves is this product's own)
+  -- A reply answers a request, where these throttles stand, and where a read saw these raises. It
+  -- has the request's client, serial number and asked position, and the limits of its tags. Its
+  -- record is the last of the raises and its position their number; it proves them to the asker,
+  -- who had seen the first of them. (`sendGrvReplies` of GrvProxyServer; what it proves is this
+  -- product's own)
   pub record IsReplyTo (throttles : List Throttle) (raises : List Raise) (request : Req (Request J live service)) (reply : Reply J live service) : Type 0 where
     pub client : reply.client ≡ request.payload.client
     pub serial : reply.serial ≡ request.payload.serial

@@ -5,7 +5,8 @@ use Rattle.fdb_proxy.specs.declared.cause.Cause.TheVariants.{Queue, Closed}
 use Rattle.fdb_queue.specs.declared.error.QueueError.{QueueError}
 use Rattle.fdb_queue.specs.declared.error.QueueError.TheVariants.{BadConfig, BadCount, BatchThrottled, Full, TagTooLong, Memory}
 
--- Whether an offer to a queue may be refused for this, or a request pushed out. (this product's own)
+-- Whether an offer to a queue may be refused for this, or a request pushed out. (this product's
+-- own)
 abbrev pub is_of_an_offer : QueueError → Bool
 is_of_an_offer BadConfig = false
 is_of_an_offer BadCount = true
@@ -14,8 +15,8 @@ is_of_an_offer Full = true
 is_of_an_offer TagTooLong = false
 is_of_an_offer Memory = true
 
--- Whether a request may be refused for this: for what an offer is refused for, or since the desk was closed.
--- (this product's own)
+-- Whether a request may be refused for this: for what an offer is refused for, or since the desk
+-- was closed. (this product's own)
 abbrev pub is_due : Cause → Bool
 is_due (Queue cause) = is_of_an_offer cause
 is_due Closed = true

@@ -1,4 +1,4 @@
 pub mod Cause
 pub mod Options
 pub mod Batch
-pub mod Turn
+pub mod private

@@ -17,8 +17,8 @@ pub enum Answer<J: Live> {
     Refused(Refused<J>),
 }
 
-/// A read version, and whose request it answers (`GetReadVersionReply` of GrvProxyServer, FoundationDB 7.1; the
-/// request's own numbers, the token and the position are this product's own).
+/// A read version, and whose request it answers (`GetReadVersionReply` of GrvProxyServer,
+/// FoundationDB 7.1; the request's own numbers, the token and the position are this product's own).
 #[derive(Drop)]
 pub struct Reply<J: Live> {
     /// The client that asked.
@@ -27,7 +27,8 @@ pub struct Reply<J: Live> {
     pub serial: u64,
     /// The position that it had seen when it asked.
     pub asked: u64,
-    /// What it has seen with this reply: all that it had seen when it asked, and the record that it got.
+    /// What it has seen with this reply: all that it had seen when it asked, and the record that it
+    /// got.
     pub seen: Seen<J>,
     /// The record.
     pub rec: Record,

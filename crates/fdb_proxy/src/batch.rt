@@ -1,6 +1,7 @@
 //! The requests that start together, and the one read that serves them.
 
-ghost use Rattle.std.specs.Prelude.{◌≡◌, ◌≤◌, [], All, List, IfOk, IfErr, OnErr, length, map, vec_len, vec_capacity};
+ghost use Rattle.std.specs.Prelude.{◌≡◌, ◌+◌, ◌<◌, ◌≤◌, [], ◌∷◌, ◌++◌, All, List, IfOk, IfErr, OnErr};
+ghost use Rattle.std.specs.Prelude.{length, map, vec_len, vec_capacity};
 ghost use Rattle.std.specs.List.{AllZip};
 ghost use mathlib.Core.List.{IsPrefix};
 ghost use Rattle.fdb_live.specs.Seen.{last_record, own_positions};
@@ -17,13 +18,14 @@ use std::alloc::{AllocError, Global};
 use std::collections::VecDeque;
 use std::sync::Wait;
 
-/// Serves the requests of one window: learns what each asker had seen, makes one read of the live record, and answers
-/// all with it, in order, each with a token of its own (`transactionStarter`, `getLiveCommittedVersion` and
-/// `sendGrvReplies` of GrvProxyServer, FoundationDB 7.1). The throttles are those of the queue. An empty batch makes no
-/// read.
+/// Serves the requests of one window: learns what each asker had seen, makes one read of the live
+/// record, and answers all with it, in order, each with a token of its own (`transactionStarter`,
+/// `getLiveCommittedVersion` and `sendGrvReplies` of GrvProxyServer, FoundationDB 7.1). The
+/// throttles are those of the queue. An empty batch makes no read.
 ///
-/// It is refused as `Memory` alone, before anything has happened; the requests are then handed back. It waits as a read
-/// does, and takes constant time for each request, the limits of its tags aside.
+/// It is refused as `Memory` alone, before anything has happened; the requests are then handed
+/// back. It waits as a read does, and takes constant time for each request, the limits of its tags
+/// aside.
 pub fn serve_batch<J: Live, R: Wait>(
     rt: &R,
     alloc: Global,
@@ -32,7 +34,8 @@ pub fn serve_batch<J: Live, R: Wait>(
     queue: &GrvQueue<Request<J>>,
     mut requests: Vec<Req<Request<J>>>,
 ) -> Result<Vec<Answer<J>>, (ProxyError, Vec<Req<Request<J>>>)>
-    ensures replies { IfOk result (λ answers. AllZip (Replies queue.now.throttles seen.new.raises) requests.items answers.items) }
+    ensures replies { IfOk result (λ answers.
+        AllZip (Replies queue.now.throttles seen.new.raises) requests.items answers.items) }
     ensures reporter { seen.new.reporter ≡ seen.old.reporter }
     ensures extends { IsPrefix seen.old.raises seen.new.raises }
     ensures own { own_positions seen.new ≡ own_positions seen.old }
@@ -67,7 +70,8 @@ fn room_for<J: Live>(
     queue: &GrvQueue<Request<J>>,
     requests: &[Req<Request<J>>],
 ) -> Result<Room<J>, QueueError>
-    ensures limits { IfOk result (λ room. room.limits.items ≡ map (own_limits queue.now.throttles) requests.now) }
+    ensures limits { IfOk result (λ room.
+        room.limits.items ≡ map (own_limits queue.now.throttles) requests.now) }
     ensures answers { IfOk result (λ room. room.answers.items ≡ []) }
     ensures none { IfOk result (λ room. vec_len room.answers ≡ 0) }
     ensures len { IfOk result (λ room. vec_len room.limits ≡ length requests.now) }
@@ -133,7 +137,9 @@ fn answer_all<J: Live>(
     requires answers { room.answers.items ≡ [] }
     requires len { vec_len room.answers ≡ 0 }
     requires capacity { vec_len requests ≤ vec_capacity room.answers }
-    ensures replies { (throttles : List Throttle) → room.limits.items ≡ map (own_limits throttles) requests.items → AllZip (Replies throttles seen.new.raises) requests.items result.items }
+    ensures replies { (throttles : List Throttle)
+        → room.limits.items ≡ map (own_limits throttles) requests.items
+        → AllZip (Replies throttles seen.new.raises) requests.items result.items }
     ensures same { seen.new ≡ seen.old }
 {
     let Room {
@@ -147,9 +153,19 @@ fn answer_all<J: Live>(
             unreachable!()
         };
         let reply = answer(live, seen, fetched, request.payload, own);
-        answers.push_reserved(Answer::Reply(reply));
+        add(&mut answers, reply);
     }
     answers
+}
+
+/// Adds a reply behind the others.
+fn add<J: Live>(answers: &mut Vec<Answer<J>>, reply: Reply<J>)
+    requires { vec_len answers.old < vec_capacity answers.old }
+    ensures last { answers.new.items ≡ answers.old.items ++ Answer.Reply reply ∷ [] }
+    ensures len { vec_len answers.new ≡ vec_len answers.old + 1 }
+    ensures capacity { vec_capacity answers.new ≡ vec_capacity answers.old }
+{
+    answers.push_reserved(Answer::Reply(reply));
 }
 
 /// Answers a request with what a read saw.

@@ -1,6 +1,6 @@
 //! The desk at which requests wait for a proxy.
 
-ghost use Rattle.std.specs.Prelude.{◌≡◌, ◌≢◌, ◌<◌, ◌↔◌, [], ◌∷◌, ◌++◌, IfErr, OnErr, OnOk, true, false, vec_len};
+ghost use Rattle.std.specs.Prelude.{◌≡◌, ◌<◌, [], ◌∷◌, ◌++◌, IfErr, OnErr, OnOk, true, false, vec_len};
 ghost use Rattle.std.specs.List.{list_all};
 ghost use Rattle.fdb_proxy.specs.Options.{has_own_options};
 
@@ -12,8 +12,8 @@ use std::alloc::Global;
 use std::mem;
 use std::sync::{Condvar, Mutex, Wait};
 
-/// Where clients leave their requests for one proxy, from any thread (`GrvProxyInterface::getConsistentReadVersion`,
-/// FoundationDB 7.1).
+/// Where clients leave their requests for one proxy, from any thread
+/// (`GrvProxyInterface::getConsistentReadVersion`, FoundationDB 7.1).
 ///
 /// Each request on it has in the queue the priority and the count of its own options.
 #[derive(Drop)]
@@ -43,8 +43,9 @@ impl<J: Live> Desk<J> {
 
     /// Leaves a request on the desk, behind those that wait there.
     ///
-    /// It is refused as `Closed` where the desk is closed, else for memory; the request is then handed back. It waits
-    /// for its turn at the desk, and takes constant time, the growth of the list aside.
+    /// It is refused as `Closed` where the desk is closed, else for memory; the request is then
+    /// handed back. It waits for its turn at the desk, and takes constant time, the growth of the
+    /// list aside.
     pub fn submit<R: Wait>(
         &self,
         rt: &R,
@@ -59,8 +60,8 @@ impl<J: Live> Desk<J> {
         Ok(())
     }
 
-    /// Takes all requests that wait on the desk, in the order in which they were submitted. Where it is told to wait, it
-    /// waits until there is one or the desk is closed. Takes no memory.
+    /// Takes all requests that wait on the desk, in the order in which they were submitted. Where
+    /// it is told to wait, it waits until there is one or the desk is closed. Takes no memory.
     pub fn take<R: Wait>(&self, rt: &R, wait: bool) -> Taken<J>
         ensures { wait ≡ true → result.closed ≡ false → 0 < vec_len result.requests }
     {
@@ -70,7 +71,8 @@ impl<J: Live> Desk<J> {
         tray.take()
     }
 
-    /// Closes the desk: from then on it refuses every request. Those that wait there stay. Takes no memory.
+    /// Closes the desk: from then on it refuses every request. Those that wait there stay. Takes no
+    /// memory.
     pub fn close<R: Wait>(&self, rt: &R) {
         self.tray.lock(rt).close();
         self.came.notify_all();
@@ -102,10 +104,13 @@ impl<J: Live> Tray<J> {
     /// Adds a request at the end.
     fn add(&mut self, request: Req<Request<J>>) -> Result<(), (ProxyError, Req<Request<J>>)>
         requires { has_own_options request ≡ true }
-        ensures added { OnOk result (self.new.waiting.items ≡ self.old.waiting.items ++ request ∷ []) }
+        ensures added { OnOk result
+            (self.new.waiting.items ≡ self.old.waiting.items ++ request ∷ []) }
         ensures open { OnOk result (self.old.closed ≡ false) }
-        ensures closed { self.old.closed ≡ true → IfErr result (λ refused. refused.0 ≡ ProxyError.Closed) }
-        ensures memory { self.old.closed ≡ false → IfErr result (λ refused. refused.0 ≡ ProxyError.Memory) }
+        ensures closed { self.old.closed ≡ true
+            → IfErr result (λ refused. refused.0 ≡ ProxyError.Closed) }
+        ensures memory { self.old.closed ≡ false
+            → IfErr result (λ refused. refused.0 ≡ ProxyError.Memory) }
         ensures handed_back { IfErr result (λ refused. refused.1 ≡ request) }
         ensures unchanged { OnErr result (self.new.waiting.items ≡ self.old.waiting.items) }
         ensures stays { self.new.closed ≡ self.old.closed }

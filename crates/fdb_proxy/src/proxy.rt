@@ -3,7 +3,7 @@
 ghost use Rattle.std.specs.Prelude.{◌≡◌, [], All, IfOk, IfErr, OnOk, length, true, vec_len};
 ghost use mathlib.Core.List.{IsPrefix};
 ghost use Rattle.fdb_proxy.specs.Cause.{is_due, is_of_an_offer};
-ghost use Rattle.fdb_proxy.specs.Turn.{HasTurn};
+ghost use Rattle.fdb_proxy.specs.private.Turn.{HasTurn};
 ghost use Rattle.fdb_queue.specs.Config.{IsElapsed};
 ghost use Rattle.fdb_queue.specs.Waiting.{row};
 
@@ -22,8 +22,9 @@ use std::collections::VecDeque;
 use std::marker::Model;
 use std::sync::Wait;
 
-/// A GRV proxy: it takes requests from its desk, lets them wait in its queue until their window, and answers those that
-/// start together with one read of the live record (`grvProxyServer` and `transactionStarter`, FoundationDB 7.1).
+/// A GRV proxy: it takes requests from its desk, lets them wait in its queue until their window,
+/// and answers those that start together with one read of the live record (`grvProxyServer` and
+/// `transactionStarter`, FoundationDB 7.1).
 ///
 /// Contracts see it as what it has seen.
 #[derive(Drop)]
@@ -44,8 +45,8 @@ impl<'a, J: Live> Model for GrvProxy<'a, J> {
 }
 
 impl<'a, J: Live> GrvProxy<'a, J> {
-    /// A proxy between a desk and the live record, with its queue, the time between two of its windows in microseconds,
-    /// and a token. Takes no memory.
+    /// A proxy between a desk and the live record, with its queue, the time between two of its
+    /// windows in microseconds, and a token. Takes no memory.
     pub fn new(
         alloc: Global,
         live: &'a LiveRecord<J>,
@@ -68,13 +69,15 @@ impl<'a, J: Live> GrvProxy<'a, J> {
 
     /// Serves the desk until it is closed, and gives back the token.
     ///
-    /// In each turn it takes what waits at the desk, and waits there only where its queue is empty; it offers each
-    /// request to the queue, holds one window, and serves what started as one batch. A request that was refused or
-    /// pushed out is answered so. Once the desk is closed it has one more turn, and then answers all that is left
-    /// `Closed`. An answer whose receiver is gone is dropped.
+    /// In each turn it takes what waits at the desk, and waits there only where its queue is empty;
+    /// it offers each request to the queue, holds one window, and serves what started as one batch.
+    /// A request that was refused or pushed out is answered so. Once the desk is closed it has one
+    /// more turn, and then answers all that is left `Closed`. An answer whose receiver is gone is
+    /// dropped.
     ///
-    /// Where memory is refused to itself, or to the sending of an answer, it closes the desk, drops what it holds and what
-    /// waits there, and ends with `Memory`. In an offer it is the request that is refused so, and the proxy goes on.
+    /// Where memory is refused to itself, or to the sending of an answer, it closes the desk, drops
+    /// what it holds and what waits there, and ends with `Memory`. In an offer it is the request
+    /// that is refused so, and the proxy goes on.
     pub fn run<R: Wait>(self, rt: &R) -> Result<Seen<J>, (ProxyError, Seen<J>)>
         ensures reporter { IfOk result (λ seen. seen.reporter ≡ self.entry.reporter) }
         ensures extends { IfOk result (λ seen. IsPrefix self.entry.raises seen.raises) }
@@ -126,8 +129,8 @@ fn serve_desk<J: Live, R: Wait>(
     unreachable!()
 }
 
-/// Has one turn with what was taken from a desk. Where the desk is closed the turn is the last one, as is answered, and
-/// all that are left are answered too.
+/// Has one turn with what was taken from a desk. Where the desk is closed the turn is the last one,
+/// as is answered, and all that are left are answered too.
 fn serve_taken<J: Live, R: Wait>(
     rt: &R,
     alloc: Global,

@@ -9,7 +9,8 @@ use crossbeam_channel::Sender;
 use fdb_history::GrvOpts;
 use fdb_live::{Live, Seen};
 
-/// A request for a read version (`GetReadVersionRequest` of FoundationDB 7.1; all but the options is this product's own).
+/// A request for a read version (`GetReadVersionRequest` of FoundationDB 7.1; all but the options
+/// is this product's own).
 #[derive(Drop)]
 pub struct Request<J: Live> {
     /// The client that asks.

@@ -1,8 +1,9 @@
 //! The queue of a proxy and its turns.
 
-ghost use Rattle.std.specs.Prelude.{◌≡◌, ◌==◌, ◌+◌, ◌<◌, ◌≤◌, ◌++◌, All, IfOk, IfErr, length, option_to_list, true, vec_len, vec_capacity};
+ghost use Rattle.std.specs.Prelude.{◌≡◌, ◌==◌, ◌+◌, ◌<◌, ◌≤◌, ◌++◌, All, IfOk, IfErr, length, true};
+ghost use Rattle.std.specs.Prelude.{option_to_list, vec_len, vec_capacity};
 ghost use Rattle.fdb_proxy.specs.Cause.{is_of_an_offer};
-ghost use Rattle.fdb_proxy.specs.Turn.{IsTurn, Offers};
+ghost use Rattle.fdb_proxy.specs.private.Turn.{IsTurn, Offers};
 ghost use Rattle.fdb_queue.specs.Config.{IsElapsed};
 ghost use Rattle.fdb_queue.specs.Waiting.{first, row};
 ghost use Rattle.fdb_queue.specs.Window.{window, after_window};
@@ -41,15 +42,19 @@ pub(crate) struct Line<T> {
 impl<T: Drop> Line<T> {
     /// Offers each of some requests to the queue, in order, and then holds one window.
     ///
-    /// It is refused for want of memory alone: of the list of those that are turned away, before any offer, or of those
-    /// that start. A growth of the queue that is refused turns away the one that was offered, as `Memory`.
+    /// It is refused as `Memory` alone: for the list of those that are turned away, before any
+    /// offer, or for that of those that start. A growth of the queue that is refused turns away the
+    /// one that was offered, as `Memory`.
     pub(crate) fn turn(
         &mut self,
         alloc: Global,
         offered: Vec<Req<T>>,
     ) -> Result<Turn<T>, ProxyError>
-        ensures turn { IfOk result (λ turn. IsTurn self.old.elapsed self.old.queue offered.items turn.started.items turn.turned_away.items self.new.queue) }
-        ensures due { IfOk result (λ turn. All (λ gone. is_of_an_offer gone.cause ≡ true) turn.turned_away.items) }
+        ensures turn { IfOk result (λ turn.
+            IsTurn self.old.elapsed self.old.queue offered.items turn.started.items
+            turn.turned_away.items self.new.queue) }
+        ensures due { IfOk result (λ turn.
+            All (λ gone. is_of_an_offer gone.cause ≡ true) turn.turned_away.items) }
         ensures elapsed { self.new.elapsed ≡ self.old.elapsed }
         ensures memory { IfErr result (λ cause. cause ≡ ProxyError.Memory) }
     {
@@ -68,8 +73,11 @@ impl<T: Drop> Line<T> {
     /// Offers a request to the queue. Whoever is turned away is added to the list.
     fn offer(&mut self, request: Req<T>, turned_away: &mut Vec<TurnedAway<T>>)
         requires { vec_len turned_away.old < vec_capacity turned_away.old }
-        ensures offers { Offers (record { queue = self.old.queue; turned_away = turned_away.old.items }) request (record { queue = self.new.queue; turned_away = turned_away.new.items }) }
-        ensures due { All (λ gone. is_of_an_offer gone.cause ≡ true) turned_away.old.items → All (λ gone. is_of_an_offer gone.cause ≡ true) turned_away.new.items }
+        ensures offers { Offers
+            (record { queue = self.old.queue; turned_away = turned_away.old.items }) request
+            (record { queue = self.new.queue; turned_away = turned_away.new.items }) }
+        ensures due { All (λ gone. is_of_an_offer gone.cause ≡ true) turned_away.old.items
+            → All (λ gone. is_of_an_offer gone.cause ≡ true) turned_away.new.items }
         ensures elapsed { self.new.elapsed ≡ self.old.elapsed }
         ensures len { vec_len turned_away.new ≤ vec_len turned_away.old + 1 }
         ensures capacity { vec_capacity turned_away.new ≡ vec_capacity turned_away.old }

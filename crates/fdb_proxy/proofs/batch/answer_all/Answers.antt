@@ -49,9 +49,9 @@ loop-request-preserved g c =
             extends = All-head (λ asker. IsPrefix asker.payload.seen.raises c.args.seen.now.raises) request rest told;
           } in
           let all = inv.forwards throttles e (Reply c.answer-reply.result ∷ last) (rw items (here, h)) in
-          rw (c.push_reserved.ensures.items, append_assoc) all;
+          rw (c.add.ensures.last, append_assoc) all;
       pairs = omega (arith, c.in-Some.ensures.len, c.in-Some-pop_front.ensures.len, inv.pairs);
-      room = omega (arith, c.push_reserved.ensures.len, c.push_reserved.ensures.capacity, c.in-Some.ensures.len, inv.room);
+      room = omega (arith, c.add.ensures.len, c.add.ensures.capacity, c.in-Some.ensures.len, inv.room);
     }
 
 pub returns-clause-replies : goal.returns-clause-replies

@@ -1,7 +1,7 @@
 use Rattle.std.proofs.Common.{rules, ◌≡◌}
 use Rattle.fdb_client.specs.Account.{Account}
 use Rattle.fdb_client.proofs.Reading.{reads_alike}
-use Rattle.fdb_client.specs.Exchange.{IsOfRead}
+use Rattle.fdb_client.specs.private.Exchange.{IsOfRead}
 use Rattle.fdb_client.specs.declared.exchange.NoReply.TheVariants as no_reply
 use Rattle.fdb_history.specs.declared.log.CallAnswer.TheVariants.{Refused}
 use Rattle.fdb_client.proofs.client.Client.read_version.Goals as goal

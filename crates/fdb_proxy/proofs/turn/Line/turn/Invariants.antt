@@ -2,7 +2,7 @@ use Rattle.std.proofs.Common.{◌≡◌, ◌+◌, ◌≤◌, [], All, true, vec_
 use Rattle.std.specs.List.{FoldsTo}
 use Rattle.std.specs.VecDeque.{deque_len}
 use Rattle.fdb_proxy.specs.Cause.{is_of_an_offer}
-use Rattle.fdb_proxy.specs.Turn.{Offering, Offers}
+use Rattle.fdb_proxy.specs.private.Turn.{Offering, Offers}
 use Rattle.fdb_proxy.proofs.turn.Line.turn.Given as goal
 
 -- whatever the offers that are left come to from here, all offers come to

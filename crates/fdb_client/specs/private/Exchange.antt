@@ -1,4 +1,4 @@
--- Whether an answer is to a request, and what it comes to. (private to this crate)
+-- Whether an answer is to a request, and what it comes to.
 use Rattle.std.specs.Prelude.{◌≡◌, Bool, true, ◌&&◌, ◌==◌, if◌then◌else◌, Result, Ok, Err}
 use Rattle.fdb_history.specs.Strays.{may_refuse}
 use Rattle.fdb_history.specs.declared.grv.GrvOpts.{GrvOpts}
@@ -33,13 +33,17 @@ IsOfRead (Refused cause) = (opts : GrvOpts) → may_refuse (input.Grv opts) caus
 
 -- two marks are one
 abbrev pub is_same : Mark → Mark → Bool
-is_same these those = (these.client == those.client) && ((these.serial == those.serial) && (these.asked == those.asked))
+is_same these those =
+    (these.client == those.client)
+    && ((these.serial == those.serial) && (these.asked == those.asked))
 
 module _ {J : Type 0} {live : LiveGhosts J} {service : ServiceGhosts J} where
   -- the mark of the request that an answer is to
   abbrev pub mark_of : Answer J live service → Mark
-  mark_of (answer.Reply reply) = record { client = reply.client; serial = reply.serial; asked = reply.asked }
-  mark_of (answer.Refused refused) = record { client = refused.client; serial = refused.serial; asked = refused.asked }
+  mark_of (answer.Reply reply) =
+      record { client = reply.client; serial = reply.serial; asked = reply.asked }
+  mark_of (answer.Refused refused) =
+      record { client = refused.client; serial = refused.serial; asked = refused.asked }
 
   -- what an answer says that is one's own
   abbrev pub said : Answer J live service → Result (Reply J live service) NoReply
@@ -48,4 +52,5 @@ module _ {J : Type 0} {live : LiveGhosts J} {service : ServiceGhosts J} where
 
   -- What an answer comes to: another's is that before all else.
   abbrev pub judged : Mark → Answer J live service → Result (Reply J live service) NoReply
-  judged own answer = if is_same (mark_of answer) own then said answer else Err (Refused refusal.Stranger)
+  judged own answer =
+      if is_same (mark_of answer) own then said answer else Err (Refused refusal.Stranger)

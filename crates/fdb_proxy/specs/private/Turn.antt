@@ -25,8 +25,8 @@ admitting before request = record {
   turned_away = before.turned_away ++ map (λ out. record { cause = Full; request = out }) (option_to_list (pushed_out before.queue request));
 }
 
--- What an offer may come to: the request is refused for what the queue has against it. Where it has nothing, the request
--- is let in, or memory was refused.
+-- What an offer may come to: the request is refused for what the queue has against it. Where it has
+-- nothing, the request is let in, or memory was refused.
 abbrev pub IsOutcome : {T : Type 0} → Option QueueError → Offering T → Req T → Offering T → Type 0
 IsOutcome (Some due) before request after = after ≡ refusing before due request
 IsOutcome None before request after = (after ≡ admitting before request) ⊎ (after ≡ refusing before Memory request)
@@ -34,9 +34,10 @@ IsOutcome None before request after = (after ≡ admitting before request) ⊎ (
 abbrev pub Offers : {T : Type 0} → Offering T → Req T → Offering T → Type 0
 Offers before request after = IsOutcome (refusal_of before.queue request) before request after
 
--- A turn of a proxy: each of some requests is offered to its queue, in order, and then one window is held. It gives what
--- the window starts, and whom the offers turned away. (`transactionStarter` and `queueGetReadVersionRequests` of
--- GrvProxyServer; that one turn follows the other with this time between them is this product's own)
+-- A turn of a proxy: each of some requests is offered to its queue, in order, and then one window
+-- is held. It gives what the window starts, and whom the offers turned away. (`transactionStarter`
+-- and `queueGetReadVersionRequests` of GrvProxyServer; that one turn follows the other with this
+-- time between them is this product's own)
 pub record IsTurn {T : Type 0} (elapsed : ℕ) (before : Queue T) (offered started : List (Req T)) (turned_away : List (TurnedAway T)) (after : Queue T) : Type 0 where
   pub filled : Queue T
   pub offers : FoldsTo Offers (record { queue = before; turned_away = [] }) offered (record { queue = filled; turned_away = turned_away })
