@@ -1,4 +1,5 @@
 pub mod Cause
 pub mod Options
 pub mod Batch
+pub mod Proxy
 pub mod private

@@ -3,11 +3,11 @@
 ghost use Rattle.std.specs.Prelude.{◌≡◌, [], All, IfOk, IfErr, OnOk, length, true, vec_len};
 ghost use mathlib.Core.List.{IsPrefix};
 ghost use Rattle.fdb_proxy.specs.Cause.{is_due, is_of_an_offer};
-ghost use Rattle.fdb_proxy.specs.private.Turn.{HasTurn};
+ghost use Rattle.fdb_proxy.specs.private.Turn.{HasTurn, HasTurnOrLast};
 ghost use Rattle.fdb_queue.specs.Config.{IsElapsed};
 ghost use Rattle.fdb_queue.specs.Waiting.{row};
 
-use crate::answer::Answer;
+use crate::answer::{Answer, Refused};
 use crate::batch;
 use crate::cause::Cause;
 use crate::desk::{Desk, Taken};
@@ -26,7 +26,8 @@ use std::sync::Wait;
 /// and answers those that start together with one read of the live record (`grvProxyServer` and
 /// `transactionStarter`, FoundationDB 7.1).
 ///
-/// Contracts see it as what it has seen.
+/// Contracts see it as what it has seen, what its queue was made with, the throttles that were set
+/// there, and the time between two of its windows.
 #[derive(Drop)]
 pub struct GrvProxy<'a, J: Live> {
     alloc: Global,
@@ -37,11 +38,17 @@ pub struct GrvProxy<'a, J: Live> {
 }
 
 impl<'a, J: Live> Model for GrvProxy<'a, J> {
-    ghost use Rattle.fdb_live.specs.Seen.{Sight};
+    ghost use Rattle.fdb_proxy.specs.Proxy.{Proxy};
 
-    ghost Value = { Sight };
+    ghost Value = { Proxy };
 
-    ghost view = { λ proxy. proxy.seen };
+    ghost view = { λ proxy.
+        record {
+          seen = proxy.seen;
+          config = proxy.line.queue.config;
+          throttles = proxy.line.queue.throttles;
+          elapsed = proxy.line.elapsed;
+        } };
 }
 
 impl<'a, J: Live> GrvProxy<'a, J> {
@@ -56,7 +63,8 @@ impl<'a, J: Live> GrvProxy<'a, J> {
         seen: Seen<J>,
     ) -> Self
         requires { IsElapsed elapsed }
-        ensures { result ≡ seen }
+        ensures { result ≡ record {
+            seen = seen; config = queue.config; throttles = queue.throttles; elapsed = elapsed } }
     {
         GrvProxy {
             alloc,
@@ -79,11 +87,11 @@ impl<'a, J: Live> GrvProxy<'a, J> {
     /// what it holds and what waits there, and ends with `Memory`. In an offer it is the request
     /// that is refused so, and the proxy goes on.
     pub fn run<R: Wait>(self, rt: &R) -> Result<Seen<J>, (ProxyError, Seen<J>)>
-        ensures reporter { IfOk result (λ seen. seen.reporter ≡ self.entry.reporter) }
-        ensures extends { IfOk result (λ seen. IsPrefix self.entry.raises seen.raises) }
+        ensures reporter { IfOk result (λ seen. seen.reporter ≡ self.entry.seen.reporter) }
+        ensures extends { IfOk result (λ seen. IsPrefix self.entry.seen.raises seen.raises) }
         ensures memory { IfErr result (λ ended. ended.0 ≡ ProxyError.Memory) }
-        ensures reporter_back { IfErr result (λ ended. ended.1.reporter ≡ self.entry.reporter) }
-        ensures extends_back { IfErr result (λ ended. IsPrefix self.entry.raises ended.1.raises) }
+        ensures reporter_back { IfErr result (λ ended. ended.1.reporter ≡ self.entry.seen.reporter) }
+        ensures extends_back { IfErr result (λ ended. IsPrefix self.entry.seen.raises ended.1.raises) }
     {
         let GrvProxy {
             alloc,
@@ -115,6 +123,7 @@ fn serve_desk<J: Live, R: Wait>(
     seen: &mut Seen<J>,
 ) -> Result<(), ProxyError>
     ensures left { OnOk result (row line.new.queue.waiting ≡ []) }
+    ensures elapsed { OnOk result (line.new.elapsed ≡ line.old.elapsed) }
     ensures reporter { seen.new.reporter ≡ seen.old.reporter }
     ensures extends { IsPrefix seen.old.raises seen.new.raises }
     ensures memory { IfErr result (λ cause. cause ≡ ProxyError.Memory) }
@@ -140,6 +149,9 @@ fn serve_taken<J: Live, R: Wait>(
     taken: Taken<J>,
 ) -> Result<bool, ProxyError>
     ensures last { IfOk result (λ last. last ≡ taken.closed) }
+    ensures turn { OnOk result
+        (HasTurnOrLast taken.closed line.old.elapsed line.old.queue taken.requests.items line.new.queue) }
+    ensures elapsed { OnOk result (line.new.elapsed ≡ line.old.elapsed) }
     ensures left { taken.closed ≡ true → OnOk result (row line.new.queue.waiting ≡ []) }
     ensures reporter { seen.new.reporter ≡ seen.old.reporter }
     ensures extends { IsPrefix seen.old.raises seen.new.raises }
@@ -190,14 +202,27 @@ fn turn_away<J: Live, R: Wait>(
 {
     let mut turned_away = VecDeque::from(turned_away);
     while let Some(gone) = turned_away.pop_front() {
-        refuse(rt, gone.request.payload, Cause::Queue(gone.cause))?;
+        let (reply, refused) = refusal_of(gone);
+        send(rt, &reply, Answer::Refused(refused))?;
     }
     Ok(())
+}
+
+/// What one that was turned away is answered, and where that goes.
+fn refusal_of<J: Live>(gone: TurnedAway<Request<J>>) -> (Sender<Answer<J>>, Refused<J>)
+    requires { is_of_an_offer gone.cause ≡ true }
+    ensures cause { result.1.cause ≡ Cause.Queue gone.cause }
+    ensures client { result.1.client ≡ gone.request.payload.client }
+    ensures serial { result.1.serial ≡ gone.request.payload.serial }
+    ensures asked { result.1.asked ≡ gone.request.payload.asked }
+{
+    gone.request.payload.refused(Cause::Queue(gone.cause))
 }
 
 /// Answers all requests that are left.
 fn close<J: Live, R: Wait>(rt: &R, line: &mut Line<Request<J>>) -> Result<(), ProxyError>
     ensures left { OnOk result (row line.new.queue.waiting ≡ []) }
+    ensures elapsed { line.new.elapsed ≡ line.old.elapsed }
     ensures memory { IfErr result (λ cause. cause ≡ ProxyError.Memory) }
 {
     while let Some(request) = line.leave() {

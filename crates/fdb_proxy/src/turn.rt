@@ -118,6 +118,7 @@ impl<T: Drop> Line<T> {
     pub(crate) fn leave(&mut self) -> Option<Req<T>>
         ensures out { result ≡ first (row self.old.queue.waiting) }
         ensures row { row self.old.queue.waiting ≡ option_to_list result ++ row self.new.queue.waiting }
+        ensures elapsed { self.new.elapsed ≡ self.old.elapsed }
     {
         self.queue.pop()
     }

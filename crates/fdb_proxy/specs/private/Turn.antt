@@ -1,5 +1,5 @@
 -- A turn of a proxy, by the definitions of its queue.
-use Rattle.std.specs.Prelude.{◌≡◌, ◌⊎◌, ℕ, List, [], ◌∷◌, ◌++◌, Option, None, Some, map, option_to_list}
+use Rattle.std.specs.Prelude.{◌≡◌, ◌⊎◌, ℕ, Bool, true, false, List, [], ◌∷◌, ◌++◌, Option, None, Some, map, option_to_list}
 use Rattle.std.specs.List.{FoldsTo}
 use Rattle.fdb_proxy.specs.declared.turn.TurnedAway.{TurnedAway}
 use Rattle.fdb_queue.specs.declared.error.QueueError.{QueueError}
@@ -7,6 +7,7 @@ use Rattle.fdb_queue.specs.declared.error.QueueError.TheVariants.{Full, Memory}
 use Rattle.fdb_queue.specs.declared.request.Req.{Req}
 use Rattle.fdb_queue.specs.Admission.{refusal_of, admitted, pushed_out}
 use Rattle.fdb_queue.specs.Queue.{Queue}
+use Rattle.fdb_queue.specs.Waiting.{row}
 use Rattle.fdb_queue.specs.Window.{window, after_window}
 
 -- A queue while requests are offered to it, and those that it turned away so far, in order.
@@ -47,3 +48,10 @@ pub record IsTurn {T : Type 0} (elapsed : ℕ) (before : Queue T) (offered start
 -- One turn with some requests leads from one queue to another.
 abbrev pub HasTurn : {T : Type 0} → ℕ → Queue T → List (Req T) → Queue T → Type 0
 HasTurn {T} elapsed before offered after = (started : List (Req T)) × (turned_away : List (TurnedAway T)) × IsTurn elapsed before offered started turned_away after
+
+-- One turn with some requests leads from one queue to another; after the last one, all that are left
+-- leave the queue.
+abbrev pub HasTurnOrLast : {T : Type 0} → Bool → ℕ → Queue T → List (Req T) → Queue T → Type 0
+HasTurnOrLast false elapsed before offered after = HasTurn elapsed before offered after
+HasTurnOrLast {T} true elapsed before offered after =
+    (turned : Queue T) × HasTurn elapsed before offered turned × (row after.waiting ≡ [])

@@ -1,6 +1,9 @@
-use Rattle.std.proofs.Common.{length}
+use Rattle.std.proofs.Common.{◌≡◌, length}
 use Rattle.fdb_queue.specs.Waiting.{row}
 use Rattle.fdb_proxy.proofs.proxy.close.Given as goal
 
 abbrev pub decreases-loop-request : goal.decreases-loop-request
 decreases-loop-request g l = length (row l.line.queue.waiting)
+
+abbrev pub invariant-loop-request : goal.invariant-loop-request
+invariant-loop-request g l = l.line.elapsed ≡ l.fn.line.elapsed

@@ -7,5 +7,6 @@ invariant-loop g l = record {
   can_next : (goal.iterator-loop g).can_next l.iterator';
   is_finite : (goal.iterator-loop g).is_finite l.iterator';
   reporter : l.seen.reporter ≡ l.fn.seen.reporter;
+  elapsed : l.line.elapsed ≡ l.fn.line.elapsed;
   extends : IsPrefix l.fn.seen.raises l.seen.raises;
 }
