@@ -3,7 +3,8 @@ use Rattle.std.proofs.Common.{◌≡◌, ℕ, zero, suc, ◌+◌, ◌<◌, ◌�
 use Rattle.std.specs.List.{AllByRecursion}
 use Rattle.std.proofs.lemmas.Bool.{cases_Bool}
 use Rattle.std.proofs.lemmas.Option.{same_Some, none-some}
-use Rattle.fdb_history.specs.Event.{Placed, stamped, raise_count}
+use Rattle.fdb_history.specs.Event.{stamped, raise_count}
+use Rattle.fdb_history.specs.declared.event.Placed.{Placed}
 use Rattle.fdb_history.specs.Faults.{raises_at, register_at, IsOutOfOrder, IsWrongAnswer, IsFaultless}
 use Rattle.fdb_history.specs.Linear.{IsLinear, NeverGoesBack, client_of}
 use Rattle.fdb_history.specs.Log.{placed_from, calls_of, position_after_calls, answer_raises}

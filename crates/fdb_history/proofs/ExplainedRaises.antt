@@ -4,7 +4,8 @@ use Rattle.std.specs.List.{AllByRecursion, flat_map}
 use Rattle.std.proofs.lemmas.Bool.{cond-false}
 use Rattle.std.proofs.lemmas.List.{map-append}
 use Rattle.std.proofs.lemmas.List.Elements.{filter-append}
-use Rattle.fdb_history.specs.Event.{Placed, stamped, is_raise, IsLegal, after_event}
+use Rattle.fdb_history.specs.Event.{stamped, is_raise, IsLegal, after_event}
+use Rattle.fdb_history.specs.declared.event.Placed.{Placed}
 use Rattle.fdb_history.specs.Explained.{placed_in}
 use Rattle.fdb_history.specs.Faults.{raise_in, raises_in, raises_at, after_raises}
 use Rattle.fdb_history.specs.Linear.{IsLinear}

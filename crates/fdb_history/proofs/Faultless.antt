@@ -5,7 +5,8 @@ use Rattle.std.proofs.lemmas.Bool.{cond-true, cond-false, and_parts, eqb-true, f
 use Rattle.std.proofs.lemmas.List.{map-append, nil_from_length}
 use Rattle.std.proofs.lemmas.List.Sums.{length-filter}
 use Rattle.fdb_history.specs.private.Auditing.{IsWithin}
-use Rattle.fdb_history.specs.Event.{Placed, is_raise, raise_count}
+use Rattle.fdb_history.specs.Event.{is_raise, raise_count}
+use Rattle.fdb_history.specs.declared.event.Placed.{Placed}
 use Rattle.fdb_history.specs.Explained.{placed_in, events_at, events_up_to, explained}
 use Rattle.fdb_history.specs.Faults.{raises_at, register_at, after_raises, IsWrongAnswer, IsFaultless}
 use Rattle.fdb_history.specs.Linear.{IsLinear, NeverGoesBack, client_of}

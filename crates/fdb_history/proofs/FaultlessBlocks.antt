@@ -4,7 +4,8 @@ use Rattle.std.proofs.Common.{◌≡◌, ℕ, zero, suc, ◌<◌, ◌≤◌, ◌
 use Rattle.std.specs.List.{AllByRecursion}
 use Rattle.std.proofs.lemmas.Bool.{cond-true, cond-false, and_parts, and_left, and_right, and_from, not_from_true, not_from_false, false_from_ne_true, eqb-true, eq-eqb, ne_eqb, le-leb, lt-leb, cases_eq, cases_order, cases_Bool}
 use Rattle.std.proofs.lemmas.List.Elements.{filter-append}
-use Rattle.fdb_history.specs.Event.{Placed, is_raise}
+use Rattle.fdb_history.specs.Event.{is_raise}
+use Rattle.fdb_history.specs.declared.event.Placed.{Placed}
 
 -- ---- the words
 

@@ -5,7 +5,8 @@ use Rattle.std.specs.List.{AllByRecursion}
 use Rattle.std.proofs.lemmas.Bool.{cond-true, cond-false, and_parts, and_left, and_right, and_from, not-true, eqb-true, eq-eqb, ne_eqb, le-leb, lt-leb, cases_eq, cases_order, cases_lt, cases_Bool}
 use Rattle.std.proofs.lemmas.List.{nil_from_length}
 use Rattle.std.proofs.lemmas.List.Sums.{sum_by-append}
-use Rattle.fdb_history.specs.Event.{Placed, stamped, position_after, is_raise, raise_count}
+use Rattle.fdb_history.specs.Event.{stamped, position_after, is_raise, raise_count}
+use Rattle.fdb_history.specs.declared.event.Placed.{Placed}
 use Rattle.fdb_history.specs.Explained.{events_at, events_up_to}
 use Rattle.fdb_history.specs.declared.event.Event.{Event}
 use Rattle.fdb_history.proofs.HistoryLaws.{added, raise_count-cons}
