@@ -1,12 +1,12 @@
 -- The events of the logs, sorted by position and each raise before the others there, are the blocks of the positions,
 -- and the raises among them stand by position.
-use Rattle.std.proofs.Common.{◌≡◌, ℕ, zero, suc, ◌+◌, ◌<◌, ◌≤◌, ◌==◌, ◌&&◌, not, Bool, true, false, ltb, leb, List, [], ◌∷◌, ◌++◌, filter, flat_map, map, slice_index_or, count_by, None, Ordering, Less, Equal, Greater, is_lt, nat_cmp, refl, ap, sym, subst, ◌∙◌, append_assoc, inl, inr, arith, le_trans}
+use Rattle.std.proofs.Common.{◌≡◌, ℕ, zero, suc, ◌+◌, ◌<◌, ◌≤◌, not, Bool, true, false, ltb, List, [], ◌∷◌, ◌++◌, filter, flat_map, map, slice_index_or, count_by, None, Ordering, Less, Equal, Greater, is_lt, nat_cmp, refl, ap, sym, subst, ◌∙◌, arith, le_trans}
 use Rattle.std.specs.Cmp.{ranked}
-use Rattle.std.specs.List.{AllByRecursion, All}
+use Rattle.std.specs.List.{AllByRecursion}
 use Rattle.std.specs.List.Sorted.{IsSortedByKey, IsStableByKey, IsPermutation}
 use Rattle.std.specs.Ordering.{MatchOrdering, bool_cmp, ordering_then}
-use Rattle.std.proofs.lemmas.Bool.{lt-ltb, le-ltb, le-leb, lt-leb, eq-eqb, ne_eqb, and_from, and_left, and_right, cases_eq}
-use Rattle.std.proofs.lemmas.List.Elements.{filter_agree, All-from_recursion}
+use Rattle.std.proofs.lemmas.Bool.{lt-ltb, le-ltb}
+use Rattle.std.proofs.lemmas.List.Elements.{All-from_recursion, recursion_from_All}
 use Rattle.std.proofs.lemmas.List.Sorted.{All-permutation}
 use Rattle.fdb_history.specs.private.Auditing.{AreByPosition, AreRaisesOf, IsWithin}
 use Rattle.fdb_history.specs.Event.{is_raise}
@@ -19,25 +19,13 @@ use Rattle.fdb_history.specs.declared.event.Event.TheVariants.{Report, Read}
 use Rattle.fdb_history.specs.declared.log.ClientLog.{ClientLog}
 use Rattle.fdb_history.specs.declared.register.Record.{Record}
 use Rattle.fdb_history.proofs.Faultless.{events-blocks}
-use Rattle.fdb_history.proofs.FaultlessBlocks.{is_raise_at, is_other_at, block, blocks_up_to, kept}
+use Rattle.fdb_history.proofs.FaultlessBlocks.{is_raise_at, block, blocks_up_to}
 use Rattle.fdb_history.proofs.FaultlessLogs.{raise_of, filter-raises, raises-at}
 use Rattle.fdb_history.proofs.FaultlessRaises.{events_of}
-use Rattle.fdb_history.proofs.Grouped.{Rising, rising_from, from_rising, in_order, one_more_group, same_group}
+use Rattle.fdb_history.proofs.Grouped.{Rising, rising_from, from_rising, in_order, same_group}
+use Rattle.fdb_history.proofs.Ranks.{rank, rank-least, rank-most, rank_of, of_rank, raises-rank, block-rank, RisesByRank, back_in_order}
 
 -- ---- the sort, by ranks
-
--- a number for each position and kind, in the order of the sort
-abbrev rank : ℕ → Bool → ℕ
-rank position true = position + position
-rank position false = position + position + 1
-
-rank-least : (position : ℕ) (raised : Bool) → position + position ≤ rank position raised
-rank-least position true = omega arith
-rank-least position false = omega arith
-
-rank-most : (position : ℕ) (raised : Bool) → rank position raised ≤ position + position + 1
-rank-most position true = omega arith
-rank-most position false = omega arith
 
 -- the order of the sort, of a position and of whether it is no raise
 abbrev pub pair_order : ℕ × Bool → ℕ × Bool → Ordering
@@ -63,10 +51,6 @@ less Equal m n true false same = sym (lt-ltb (rank m true) (rank n false) (omega
 less Equal m n false true same = sym (le-ltb (rank m false) (rank n true) (omega arith))
 less Equal m n false false same = sym (le-ltb (rank m false) (rank n false) (omega arith))
 
--- the rank of an event
-abbrev rank_of : Placed → ℕ
-rank_of p = rank p.position (is_raise p.event)
-
 -- whether the sort puts one before another
 abbrev is_before : Placed → Placed → Bool
 is_before x y = is_lt (pair_order (sort_key x) (sort_key y))
@@ -75,80 +59,15 @@ is_before x y = is_lt (pair_order (sort_key x) (sort_key y))
 by_rank : (x y : Placed) → is_before x y ≡ ltb (rank_of x) (rank_of y)
 by_rank x y = less (nat_cmp x.position y.position) x.position y.position (is_raise x.event) (is_raise y.event) (ranked x.position y.position (nat_cmp x.position y.position) refl)
 
--- ---- the blocks, by ranks
-
--- the raises at a position have a rank of their own
-raise_rank : (m position : ℕ) (raised : Bool) → (m == position && raised) ≡ (rank m raised == position + position)
-raise_rank m position true =
-    elim (cases_eq m position) [
-      | inl same ↦ and_from (m == position) true (eq-eqb m position same) refl ∙ sym (eq-eqb (rank m true) (position + position) (omega arith))
-      | inr apart ↦ and_left (m == position) true (ne_eqb m position apart) ∙ sym (ne_eqb (rank m true) (position + position) (λ same. absurd (omega arith)))
-    ]
-raise_rank m position false = and_right (m == position) false refl ∙ sym (ne_eqb (rank m false) (position + position) (λ same. absurd (omega arith)))
-
--- and so have the others
-other_rank : (m position : ℕ) (raised : Bool) → (m == position && not raised) ≡ (rank m raised == position + position + 1)
-other_rank m position false =
-    elim (cases_eq m position) [
-      | inl same ↦ and_from (m == position) true (eq-eqb m position same) refl ∙ sym (eq-eqb (rank m false) (position + position + 1) (omega arith))
-      | inr apart ↦ and_left (m == position) true (ne_eqb m position apart) ∙ sym (ne_eqb (rank m false) (position + position + 1) (λ same. absurd (omega arith)))
-    ]
-other_rank m position true = and_right (m == position) false refl ∙ sym (ne_eqb (rank m true) (position + position + 1) (λ same. absurd (omega arith)))
-
--- the events of a rank, and those of a rank and below
-abbrev of_rank : ℕ → List Placed → List Placed
-of_rank k all = filter (λ p. rank_of p == k) all
-
-abbrev to_rank : ℕ → List Placed → List Placed
-to_rank k all = filter (λ p. leb (rank_of p) k) all
-
--- the raises at a position are one rank
-raises-rank : (position : ℕ) (all : List Placed) → filter (is_raise_at position) all ≡ of_rank (position + position) all
-raises-rank position all =
-    filter_agree (is_raise_at position) (λ p. rank_of p == position + position) (λ p. raise_rank p.position position (is_raise p.event)) all
-
--- a block is two ranks
-block-rank : (position : ℕ) (all : List Placed) → block position all ≡ of_rank (position + position) all ++ of_rank (position + position + 1) all
-block-rank position all =
-    let others = filter_agree (is_other_at position) (λ p. rank_of p == position + position + 1) (λ p. other_rank p.position position (is_raise p.event)) all in
-    ap (λ l. l ++ filter (is_other_at position) all) (raises-rank position all) ∙ ap (λ l. of_rank (position + position) all ++ l) others
-
 -- ---- what the sort leaves
 
 -- the list is in the order of the sort
 abbrev pub IsInOrder : List Placed → Type 0
 IsInOrder = IsSortedByKey sort_key pair_order
 
--- two more ranks
-two_more : (j k l : ℕ) (ys : List Placed) → k ≡ suc j → l ≡ suc k → IsInOrder ys → to_rank l ys ≡ to_rank j ys ++ (of_rank k ys ++ of_rank l ys)
-two_more j k l ys next after sorted =
-    one_more_group rank_of is_before by_rank k l ys after sorted
-    ∙ ap (λ front. front ++ of_rank l ys) (one_more_group rank_of is_before by_rank j k ys next sorted)
-    ∙ append_assoc (to_rank j ys) (of_rank k ys) (of_rank l ys)
-
--- one more block is two more ranks
-one_more : (j position : ℕ) (ys : List Placed) → position + position ≡ suc j → IsInOrder ys → to_rank (position + position + 1) ys ≡ to_rank j ys ++ block position ys
-one_more j position ys next sorted =
-    two_more j (position + position) (position + position + 1) ys next (omega arith) sorted ∙ ap (λ l. to_rank j ys ++ l) (sym (block-rank position ys))
-
--- ranks 0 and 1 are the first block
-first_two : (ys : List Placed) → IsInOrder ys → to_rank 1 ys ≡ block 0 ys
-first_two ys sorted =
-    one_more_group rank_of is_before by_rank 0 1 ys refl sorted
-    ∙ ap (λ l. l ++ of_rank 1 ys) (filter_agree (λ p. leb (rank_of p) 0) (λ p. rank_of p == 0) (λ p. at_zero (rank_of p)) ys)
-    ∙ sym (block-rank 0 ys)
-  where
-    at_zero : (k : ℕ) → leb k 0 ≡ (k == 0)
-    at_zero k = elim (cases_eq k 0) [
-      | inl same ↦ le-leb k 0 (omega arith) ∙ sym (eq-eqb k 0 same)
-      | inr apart ↦ lt-leb k 0 (omega arith) ∙ sym (ne_eqb k 0 apart)
-    ]
-
--- a list in order is the blocks of its own, as far as they go
-in_blocks : (count : ℕ) (ys : List Placed) → IsInOrder ys → to_rank (count + count + 1) ys ≡ blocks_up_to count ys
-in_blocks zero ys sorted = first_two ys sorted
-in_blocks (suc count) ys sorted =
-    one_more (count + count + 1) (suc count) ys (omega arith) sorted ∙ ap (λ l. l ++ block (suc count) ys) (in_blocks count ys sorted)
+-- so it rises by rank
+rises : (ys : List Placed) → IsInOrder ys → RisesByRank ys
+rises ys sorted = rising_from rank_of 0 ys (λ d some. omega arith) (in_order rank_of is_before by_rank ys sorted)
 
 -- ---- what a stable sort leaves as it was
 
@@ -229,22 +148,12 @@ sorted_raises logs all ys is stable position =
 
 -- ---- the whole
 
--- where no position is above a number, no rank is above its two
-all_to_rank : (count : ℕ) (ys : List Placed) → All (λ p. p.position ≤ count) ys → to_rank (count + count + 1) ys ≡ ys
-all_to_rank count [] within = refl
-all_to_rank count (p ∷ ys) within =
-    let most = rank-most p.position (is_raise p.event) in
-    let here : p.position ≤ count = within 0 p (omega arith) in
-    kept (λ q. leb (rank_of q) (count + count + 1)) p ys (le-leb (rank_of p) (count + count + 1) (omega arith))
-    ∙ ap (λ l. p ∷ l) (all_to_rank count ys (λ k d below. within (suc k) d (omega arith)))
-
 -- the sorted events are the blocks of the unsorted
 sorted_blocks : (count : ℕ) (all ys : List Placed) → IsPermutation all ys → IsInOrder ys → IsFrom all ys → AllByRecursion (λ p. p.position ≤ count) all
     → ys ≡ blocks_up_to count all
 sorted_blocks count all ys moved sorted stable within =
-    let bounded = All-from_recursion (λ p. p.position ≤ count) all within in
-    sym (all_to_rank count ys (All-permutation (λ p. p.position ≤ count) all ys moved bounded))
-    ∙ in_blocks count ys sorted ∙ same_blocks count all ys stable
+    let bounded = All-permutation (λ p. p.position ≤ count) all ys moved (All-from_recursion (λ p. p.position ≤ count) all within) in
+    sym (back_in_order count ys (rises ys sorted) (recursion_from_All (λ p. p.position ≤ count) ys bounded)) ∙ same_blocks count all ys stable
 
 -- their events are the history
 pub sorted_explained : (logs : List ClientLog) (all ys : List Placed) → all ≡ placed_in 0 logs → IsWithin logs → IsPermutation all ys → IsInOrder ys → IsFrom all ys

@@ -11,7 +11,7 @@ use Rattle.fdb_history.specs.declared.event.Placed.{Placed}
 use Rattle.fdb_history.specs.Explained.{events_at, events_up_to}
 use Rattle.fdb_history.specs.declared.event.Event.{Event}
 use Rattle.fdb_history.proofs.HistoryLaws.{added, raise_count-cons}
-use Rattle.fdb_history.proofs.FaultlessBlocks.{is_raise_at, is_other_at, is_up_to, block, blocks_up_to, kept, left_out}
+use Rattle.fdb_history.proofs.FaultlessBlocks.{is_raise_at, is_other_at, block, blocks_up_to, kept, left_out}
 
 -- ---- how many raises there are
 
@@ -21,7 +21,7 @@ raises_here position all = length (filter (is_raise_at position) all)
 
 -- whether an event is a raise at this position or below
 abbrev is_raise_up_to : ℕ → Placed → Bool
-is_raise_up_to position p = is_up_to position p && is_raise p.event
+is_raise_up_to position p = leb p.position position && is_raise p.event
 
 -- how many raises there are up to a position
 abbrev raises_until : ℕ → List Placed → ℕ
