@@ -2,7 +2,8 @@
 use Rattle.std.proofs.Common.{◌≡◌, ℕ, suc, ◌+◌, ◌-◌, ◌≤◌, ◌==◌, ◌&&◌, List, [], ◌∷◌, ◌++◌, map, filter, refl, ap, sym, ◌∙◌, inl, inr, arith}
 use Rattle.std.proofs.lemmas.Bool.{eq-eqb, ne_eqb, cases_Bool, cases_eq}
 use Rattle.std.proofs.lemmas.List.Elements.{filter-append}
-use Rattle.fdb_history.specs.Event.{Placed, stamped, position_after, is_raise}
+use Rattle.fdb_history.specs.Event.{stamped, position_after, is_raise}
+use Rattle.fdb_history.specs.declared.event.Placed.{Placed}
 use Rattle.fdb_history.specs.Explained.{placed_in}
 use Rattle.fdb_history.specs.Linear.{IsLinear, client_of}
 use Rattle.fdb_history.specs.Log.{placed_from, calls_of}

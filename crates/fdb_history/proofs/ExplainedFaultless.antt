@@ -3,11 +3,11 @@ use Rattle.std.proofs.Common.{◌≡◌, ℕ, zero, suc, ◌+◌, ◌<◌, ◌�
 use Rattle.std.specs.List.{AllByRecursion}
 use Rattle.std.proofs.lemmas.Bool.{cases_Bool}
 use Rattle.std.proofs.lemmas.Option.{same_Some, none-some}
-use Rattle.fdb_history.specs.Event.{Placed, stamped, raise_count}
+use Rattle.fdb_history.specs.Event.{stamped, raise_count}
+use Rattle.fdb_history.specs.declared.event.Placed.{Placed}
 use Rattle.fdb_history.specs.Faults.{raises_at, register_at, IsOutOfOrder, IsWrongAnswer, IsFaultless}
 use Rattle.fdb_history.specs.Linear.{IsLinear, NeverGoesBack, client_of}
 use Rattle.fdb_history.specs.Log.{placed_from, calls_of, position_after_calls, answer_raises}
-use Rattle.fdb_history.specs.declared.auditing.raises.Raise.{Raise}
 use Rattle.fdb_history.specs.declared.event.Event.{Event}
 use Rattle.fdb_history.specs.declared.log.Call.{Call}
 use Rattle.fdb_history.specs.declared.log.CallAnswer.{CallAnswer}
@@ -16,8 +16,8 @@ use Rattle.fdb_history.specs.declared.log.ClientLog.{ClientLog}
 use Rattle.fdb_history.specs.declared.register.Record.{Record}
 use Rattle.fdb_history.proofs.ExplainedStamps.{raises_to, AtMostOne, at_most_one, filled}
 use Rattle.fdb_history.proofs.ExplainedClients.{own_placed}
-use Rattle.fdb_history.proofs.ExplainedRaises.{raises_of, raises_at-history, IsAnsweredBy, answered}
-use Rattle.fdb_history.proofs.FaultlessLogs.{placed_call}
+use Rattle.fdb_history.proofs.ExplainedRaises.{raises_at-history, IsAnsweredBy, answered}
+use Rattle.fdb_history.proofs.FaultlessLogs.{length-raises, placed_call}
 
 -- ---- of lists
 
@@ -96,15 +96,20 @@ all_answered start logs history linear =
 
 -- ---- the whole
 
--- a list of at most one placed event has at most one raise
-not_two : (raises : List Raise) (found : List Placed) → AtMostOne found → raises ≡ raises_of found → 1 < length raises → ⊥
-not_two raises found (inl none) same two = let size = ap length (same ∙ ap raises_of none) in absurd (omega arith)
-not_two raises found (inr (p, one)) same two = let size = ap length (same ∙ ap raises_of one) in absurd (omega arith)
+-- the logs have as many raises at a position as the history
+same_count : (start : Record) (logs : List ClientLog) (history : List Event) → IsLinear start logs history → (position : ℕ)
+    → length (raises_at logs position) ≡ length (raises_to position (stamped 0 history))
+same_count start logs history linear position = ap length (raises_at-history start logs history linear position) ∙ length-raises position (stamped 0 history)
 
--- no raise, no placed event
-no_placed : (found : List Placed) → raises_of found ≡ [] → found ≡ []
-no_placed [] none = refl
-no_placed (p ∷ found) none = absurd cc
+-- at most one is not two
+not_two : (found : List Placed) → AtMostOne found → 1 < length found → ⊥
+not_two found (inl none) two = let size = ap length none in absurd (omega arith)
+not_two found (inr (p, one)) two = let size = ap length one in absurd (omega arith)
+
+-- what has no length is empty
+empty : (found : List Placed) → length found ≡ 0 → found ≡ []
+empty [] none = refl
+empty (p ∷ found) none = absurd (omega arith)
 
 -- logs that a history explains are without a fault of the history
 pub faultless : (start : Record) (logs : List ClientLog) (history : List Event) → IsLinear start logs history → IsFaultless start logs
@@ -114,12 +119,12 @@ faultless start logs history linear =
           not_out_of_order (take place (calls_of logs client)) stands.0
           (in_order 0 (calls_of logs client) place stands.0 (of_client (NeverGoesBack 0) tt logs client linear.ordered) stands.1) stands.2;
       clash = λ position clash.
-          not_two (raises_at logs position) (raises_to position (stamped 0 history)) (at_most_one 0 position history) (raises_at-history start logs history linear position) clash;
+          not_two (raises_to position (stamped 0 history)) (at_most_one 0 position history) (rw (← same_count start logs history linear position) clash);
       gap = λ position gap.
           let reached = gap.2 in
           let within = all_at (λ call. call.position ≤ raise_count history) (calls_of logs reached.0) reached.1 reached.2
           (of_client (AllByRecursion (λ call. call.position ≤ raise_count history)) tt logs reached.0 linear.bounded) reached.3 in
-          filled 0 position history (omega arith) (omega arith) (no_placed (raises_to position (stamped 0 history)) (sym (raises_at-history start logs history linear position) ∙ gap.1));
+          filled 0 position history (omega arith) (omega arith) (empty (raises_to position (stamped 0 history)) (sym (same_count start logs history linear position) ∙ ap length gap.1));
       wrong = λ client place stands.
           right_answers start logs client 0 (calls_of logs client) place stands.0
           (subst (AllByRecursion (λ p. IsAnsweredBy (register_at start logs) p.position p.event)) (own_placed start logs history linear client)

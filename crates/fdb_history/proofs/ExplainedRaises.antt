@@ -1,96 +1,27 @@
--- The raises of the logs, as those among their placed events, and the register that they make.
-use Rattle.std.proofs.Common.{◌≡◌, ℕ, ◌+◌, ◌-◌, ◌<◌, ◌≤◌, ◌==◌, ◌&&◌, Bool, true, false, cond, List, [], ◌∷◌, ◌++◌, map, filter, refl, ap, sym, ◌∙◌, arith, ltb-true, ltb-false}
-use Rattle.std.specs.List.{AllByRecursion, flat_map}
+-- The raises of the logs are those of a linear history, and the register that they make answers its events.
+use Rattle.std.proofs.Common.{◌≡◌, ℕ, ◌+◌, ◌-◌, ◌<◌, ◌≤◌, true, false, List, [], ◌∷◌, refl, ap, sym, ◌∙◌, arith, ltb-true, ltb-false}
+use Rattle.std.specs.List.{AllByRecursion}
 use Rattle.std.proofs.lemmas.Bool.{cond-false}
-use Rattle.std.proofs.lemmas.List.{map-append}
-use Rattle.std.proofs.lemmas.List.Elements.{filter-append}
-use Rattle.fdb_history.specs.Event.{Placed, stamped, is_raise, IsLegal, after_event}
-use Rattle.fdb_history.specs.Explained.{placed_in}
-use Rattle.fdb_history.specs.Faults.{raise_in, raises_in, raises_at, after_raises}
+use Rattle.fdb_history.specs.Event.{stamped, IsLegal, after_event}
+use Rattle.fdb_history.specs.Faults.{raises_at, after_raises}
 use Rattle.fdb_history.specs.Linear.{IsLinear}
-use Rattle.fdb_history.specs.Log.{placed_from}
+use Rattle.fdb_history.specs.private.Explaining.{raises_of}
 use Rattle.fdb_history.specs.Register.{raises, after_report}
 use Rattle.fdb_history.specs.declared.auditing.raises.Raise.{Raise}
 use Rattle.fdb_history.specs.declared.event.Event.{Event}
 use Rattle.fdb_history.specs.declared.event.Event.TheVariants.{Report, Read}
-use Rattle.fdb_history.specs.declared.log.Call.{Call}
-use Rattle.fdb_history.specs.declared.log.CallAnswer.{CallAnswer}
-use Rattle.fdb_history.specs.declared.log.CallAnswer.TheVariants.{Version, Answered, Acked, Told, Refused}
 use Rattle.fdb_history.specs.declared.log.ClientLog.{ClientLog}
 use Rattle.fdb_history.specs.declared.register.Record.{Record}
-use Rattle.fdb_history.proofs.ExplainedStamps.{raises_to, put_at, quiet_stamp, other_stamp, raise_stamp}
+use Rattle.fdb_history.proofs.ExplainedStamps.{raises_to, quiet_stamp, other_stamp, raise_stamp}
 use Rattle.fdb_history.proofs.ExplainedClients.{raises_in_history}
-use Rattle.fdb_history.proofs.FaultlessLogs.{placed_call}
+use Rattle.fdb_history.proofs.FaultlessLogs.{raises-at}
 
 -- ---- the raises of the logs
-
--- the record of an event
-abbrev record_of : Event → Record
-record_of (Report client call rec raised) = rec
-record_of (Read client call rec) = rec
-
--- the raise of a placed event
-abbrev raise_of : Placed → Raise
-raise_of p = record { position = p.position; rec = record_of p.event }
-
--- the raises of placed events
-abbrev pub raises_of : List Placed → List Raise
-raises_of all = map raise_of all
-
--- those at a position
-abbrev at_position : ℕ → List Raise → List Raise
-at_position position raises = filter (λ raise. raise.position == position) raises
-
--- a report that raised is the raise of its placed event, where its position is the one
-acked_raise : (client place position : ℕ) (rec : Record) (here : Bool)
-    → cond here (raise_of (put_at position (Report client place rec true)) ∷ []) [] ≡ raises_of (cond (here && true) (put_at position (Report client place rec true) ∷ []) [])
-acked_raise client place position rec true = refl
-acked_raise client place position rec false = refl
-
--- another event is none
-no_raise_of : (p : Placed) (here : Bool) → [] ≡ raises_of (cond (here && false) (p ∷ []) [])
-no_raise_of p true = refl
-no_raise_of p false = refl
-
--- a call's raises to a position
-call_raises : (client place position at : ℕ) (answer : CallAnswer) → at_position at (raise_in position answer) ≡ raises_of (raises_to at (placed_call client place position answer))
-call_raises client place position at (Version rec limits locked_out) = no_raise_of (put_at position (Read client place rec)) (position == at)
-call_raises client place position at (Acked rec true) = acked_raise client place position rec (position == at)
-call_raises client place position at (Acked rec false) = no_raise_of (put_at position (Report client place rec false)) (position == at)
-call_raises client place position at (Answered issued) = refl
-call_raises client place position at Told = refl
-call_raises client place position at (Refused cause) = refl
-
--- the raises to a position of two lists in a row, where those of each are known
-both_raises : (at : ℕ) (first rest : List Raise) (placed_first placed_rest : List Placed)
-    → at_position at first ≡ raises_of (raises_to at placed_first) → at_position at rest ≡ raises_of (raises_to at placed_rest)
-    → at_position at (first ++ rest) ≡ raises_of (raises_to at (placed_first ++ placed_rest))
-both_raises at first rest placed_first placed_rest one other =
-    filter-append (λ raise. raise.position == at) first rest
-    ∙ ap (λ front. front ++ at_position at rest) one ∙ ap (λ back. raises_of (raises_to at placed_first) ++ back) other
-    ∙ sym (map-append raise_of (raises_to at placed_first) (raises_to at placed_rest))
-    ∙ ap raises_of (sym (filter-append (λ p. p.position == at && is_raise p.event) placed_first placed_rest))
-
--- a log's raises to a position
-log_raises : (client place at : ℕ) (calls : List Call) → at_position at (flat_map (λ call. raise_in call.position call.answer) calls) ≡ raises_of (raises_to at (placed_from client place calls))
-log_raises client place at [] = refl
-log_raises client place at (call ∷ calls) =
-    both_raises at (raise_in call.position call.answer) (flat_map (λ call. raise_in call.position call.answer) calls)
-    (placed_call client place call.position call.answer) (placed_from client (place + 1) calls)
-    (call_raises client place call.position at call.answer) (log_raises client (place + 1) at calls)
-
--- the raises to a position in the logs
-logs_raises : (client at : ℕ) (logs : List ClientLog) → raises_at logs at ≡ raises_of (raises_to at (placed_in client logs))
-logs_raises client at [] = refl
-logs_raises client at (log ∷ logs) =
-    both_raises at (flat_map (λ call. raise_in call.position call.answer) log.calls) (raises_in logs)
-    (placed_from client 0 log.calls) (placed_in (client + 1) logs)
-    (log_raises client 0 at log.calls) (logs_raises (client + 1) at logs)
 
 -- the raises to a position in the logs are those in a linear history
 pub raises_at-history : (start : Record) (logs : List ClientLog) (history : List Event) → IsLinear start logs history → (position : ℕ)
     → raises_at logs position ≡ raises_of (raises_to position (stamped 0 history))
-raises_at-history start logs history linear position = logs_raises 0 position logs ∙ ap raises_of (raises_in_history start logs history linear position)
+raises_at-history start logs history linear position = raises-at logs position ∙ ap raises_of (raises_in_history start logs history linear position)
 
 -- ---- the register
 

@@ -1,53 +1,38 @@
 -- The events of the logs, sorted by position and each raise before the others there, are the blocks of the positions,
 -- and the raises among them stand by position.
-use Rattle.std.proofs.Common.{◌≡◌, ℕ, zero, suc, ◌+◌, ◌<◌, ◌≤◌, ◌==◌, ◌&&◌, not, Bool, true, false, ltb, leb, List, [], ◌∷◌, ◌++◌, filter, flat_map, map, slice_index_or, count_by, None, Ordering, Less, Equal, Greater, is_lt, nat_cmp, refl, ap, sym, subst, ◌∙◌, append_assoc, inl, inr, arith, le_trans}
+use Rattle.std.proofs.Common.{◌≡◌, ℕ, zero, suc, ◌+◌, ◌<◌, ◌≤◌, not, Bool, true, false, ltb, List, [], ◌∷◌, ◌++◌, filter, flat_map, map, slice_index_or, count_by, None, Ordering, Less, Equal, Greater, is_lt, nat_cmp, refl, ap, sym, subst, ◌∙◌, arith, le_trans}
 use Rattle.std.specs.Cmp.{ranked}
-use Rattle.std.specs.List.{AllByRecursion, All}
+use Rattle.std.specs.List.{AllByRecursion}
 use Rattle.std.specs.List.Sorted.{IsSortedByKey, IsStableByKey, IsPermutation}
 use Rattle.std.specs.Ordering.{MatchOrdering, bool_cmp, ordering_then}
-use Rattle.std.proofs.lemmas.Bool.{lt-ltb, le-ltb, le-leb, lt-leb, eq-eqb, ne_eqb, and_from, and_left, and_right, cases_eq, cases_Bool}
-use Rattle.std.proofs.lemmas.List.{map-append}
-use Rattle.std.proofs.lemmas.Simd.{map-map}
-use Rattle.std.proofs.lemmas.List.Elements.{filter_agree, All-from_recursion}
+use Rattle.std.proofs.lemmas.Bool.{lt-ltb, le-ltb}
+use Rattle.std.proofs.lemmas.List.Elements.{All-from_recursion, recursion_from_All}
 use Rattle.std.proofs.lemmas.List.Sorted.{All-permutation}
 use Rattle.fdb_history.specs.private.Auditing.{AreByPosition, AreRaisesOf, IsWithin}
-use Rattle.fdb_history.specs.Event.{Placed, is_raise}
+use Rattle.fdb_history.specs.Event.{is_raise}
+use Rattle.fdb_history.specs.declared.event.Placed.{Placed}
 use Rattle.fdb_history.specs.Explained.{placed_in, explained}
-use Rattle.fdb_history.specs.private.Explaining.{AreEventsByPosition, placed, placed_as, raise_of_event, raises_of}
-use Rattle.fdb_history.specs.Faults.{at_position}
-use Rattle.fdb_history.specs.declared.auditing.placed.PlacedEvent.{PlacedEvent}
+use Rattle.fdb_history.specs.private.Explaining.{AreEventsByPosition, raise_of_event, raises_of}
 use Rattle.fdb_history.specs.declared.auditing.raises.Raise.{Raise}
 use Rattle.fdb_history.specs.declared.event.Event.{Event}
 use Rattle.fdb_history.specs.declared.event.Event.TheVariants.{Report, Read}
 use Rattle.fdb_history.specs.declared.log.ClientLog.{ClientLog}
 use Rattle.fdb_history.specs.declared.register.Record.{Record}
 use Rattle.fdb_history.proofs.Faultless.{events-blocks}
-use Rattle.fdb_history.proofs.FaultlessBlocks.{is_raise_at, is_other_at, block, blocks_up_to, kept, left_out}
+use Rattle.fdb_history.proofs.FaultlessBlocks.{is_raise_at, block, blocks_up_to}
 use Rattle.fdb_history.proofs.FaultlessLogs.{raise_of, filter-raises, raises-at}
 use Rattle.fdb_history.proofs.FaultlessRaises.{events_of}
-use Rattle.fdb_history.proofs.Grouped.{Rising, rising_from, from_rising, in_order, one_more_group, same_group}
+use Rattle.fdb_history.proofs.Grouped.{Rising, rising_from, from_rising, in_order, same_group}
+use Rattle.fdb_history.proofs.Ranks.{rank, rank-least, rank-most, rank_of, of_rank, raises-rank, block-rank, RisesByRank, back_in_order}
 
 -- ---- the sort, by ranks
-
--- a number for each position and kind, in the order of the sort
-abbrev rank : ℕ → Bool → ℕ
-rank position true = position + position
-rank position false = position + position + 1
-
-rank-least : (position : ℕ) (raised : Bool) → position + position ≤ rank position raised
-rank-least position true = omega arith
-rank-least position false = omega arith
-
-rank-most : (position : ℕ) (raised : Bool) → rank position raised ≤ position + position + 1
-rank-most position true = omega arith
-rank-most position false = omega arith
 
 -- the order of the sort, of a position and of whether it is no raise
 abbrev pub pair_order : ℕ × Bool → ℕ × Bool → Ordering
 pair_order x y = ordering_then (nat_cmp x.0 y.0) (bool_cmp x.1 y.1)
 
 -- what the sort goes by
-abbrev pub sort_key : PlacedEvent → ℕ × Bool
+abbrev pub sort_key : Placed → ℕ × Bool
 sort_key p = (p.position, not (is_raise p.event))
 
 -- the order of the sort is that of the ranks
@@ -66,111 +51,23 @@ less Equal m n true false same = sym (lt-ltb (rank m true) (rank n false) (omega
 less Equal m n false true same = sym (le-ltb (rank m false) (rank n true) (omega arith))
 less Equal m n false false same = sym (le-ltb (rank m false) (rank n false) (omega arith))
 
--- the rank of an event
-abbrev rank_of : PlacedEvent → ℕ
-rank_of p = rank p.position (is_raise p.event)
-
 -- whether the sort puts one before another
-abbrev is_before : PlacedEvent → PlacedEvent → Bool
+abbrev is_before : Placed → Placed → Bool
 is_before x y = is_lt (pair_order (sort_key x) (sort_key y))
 
 -- it does so by the ranks
-by_rank : (x y : PlacedEvent) → is_before x y ≡ ltb (rank_of x) (rank_of y)
+by_rank : (x y : Placed) → is_before x y ≡ ltb (rank_of x) (rank_of y)
 by_rank x y = less (nat_cmp x.position y.position) x.position y.position (is_raise x.event) (is_raise y.event) (ranked x.position y.position (nat_cmp x.position y.position) refl)
-
--- ---- the blocks, by ranks
-
--- the raises at a position have a rank of their own
-raise_rank : (m position : ℕ) (raised : Bool) → (m == position && raised) ≡ (rank m raised == position + position)
-raise_rank m position true =
-    elim (cases_eq m position) [
-      | inl same ↦ and_from (m == position) true (eq-eqb m position same) refl ∙ sym (eq-eqb (rank m true) (position + position) (omega arith))
-      | inr apart ↦ and_left (m == position) true (ne_eqb m position apart) ∙ sym (ne_eqb (rank m true) (position + position) (λ same. absurd (omega arith)))
-    ]
-raise_rank m position false = and_right (m == position) false refl ∙ sym (ne_eqb (rank m false) (position + position) (λ same. absurd (omega arith)))
-
--- and so have the others
-other_rank : (m position : ℕ) (raised : Bool) → (m == position && not raised) ≡ (rank m raised == position + position + 1)
-other_rank m position false =
-    elim (cases_eq m position) [
-      | inl same ↦ and_from (m == position) true (eq-eqb m position same) refl ∙ sym (eq-eqb (rank m false) (position + position + 1) (omega arith))
-      | inr apart ↦ and_left (m == position) true (ne_eqb m position apart) ∙ sym (ne_eqb (rank m false) (position + position + 1) (λ same. absurd (omega arith)))
-    ]
-other_rank m position true = and_right (m == position) false refl ∙ sym (ne_eqb (rank m true) (position + position + 1) (λ same. absurd (omega arith)))
-
--- the events of a rank, and those of a rank and below
-abbrev of_rank : ℕ → List PlacedEvent → List PlacedEvent
-of_rank k all = filter (λ p. rank_of p == k) all
-
-abbrev to_rank : ℕ → List PlacedEvent → List PlacedEvent
-to_rank k all = filter (λ p. leb (rank_of p) k) all
-
--- a filter of the events as the definitions have them
-filter-placed : (test : Placed → Bool) (all : List PlacedEvent) → filter test (placed all) ≡ placed (filter (λ p. test (placed_as p)) all)
-filter-placed test [] = refl
-filter-placed test (p ∷ all) =
-    let rest = filter-placed test all in
-    let own = λ (q : PlacedEvent). test (placed_as q) in
-    elim (cases_Bool (test (placed_as p))) [
-      | inl passes ↦ kept test (placed_as p) (placed all) passes ∙ ap (λ l. placed_as p ∷ l) rest ∙ sym (ap placed (kept own p all passes))
-      | inr fails ↦ left_out test (placed_as p) (placed all) fails ∙ rest ∙ sym (ap placed (left_out own p all fails))
-    ]
-
--- the raises at a position are one rank
-raises-rank : (position : ℕ) (all : List PlacedEvent) → filter (is_raise_at position) (placed all) ≡ placed (of_rank (position + position) all)
-raises-rank position all =
-    filter-placed (is_raise_at position) all
-    ∙ ap placed (filter_agree (λ p. is_raise_at position (placed_as p)) (λ p. rank_of p == position + position) (λ p. raise_rank p.position position (is_raise p.event)) all)
-
--- a block is two ranks
-block-rank : (position : ℕ) (all : List PlacedEvent) → block position (placed all) ≡ placed (of_rank (position + position) all ++ of_rank (position + position + 1) all)
-block-rank position all =
-    let raises = raises-rank position all in
-    let others = filter-placed (is_other_at position) all
-    ∙ ap placed (filter_agree (λ p. is_other_at position (placed_as p)) (λ p. rank_of p == position + position + 1) (λ p. other_rank p.position position (is_raise p.event)) all) in
-    ap (λ l. l ++ filter (is_other_at position) (placed all)) raises
-    ∙ ap (λ l. placed (of_rank (position + position) all) ++ l) others
-    ∙ sym (map-append placed_as (of_rank (position + position) all) (of_rank (position + position + 1) all))
 
 -- ---- what the sort leaves
 
 -- the list is in the order of the sort
-abbrev pub IsInOrder : List PlacedEvent → Type 0
+abbrev pub IsInOrder : List Placed → Type 0
 IsInOrder = IsSortedByKey sort_key pair_order
 
--- two more ranks
-two_more : (j k l : ℕ) (ys : List PlacedEvent) → k ≡ suc j → l ≡ suc k → IsInOrder ys → to_rank l ys ≡ to_rank j ys ++ (of_rank k ys ++ of_rank l ys)
-two_more j k l ys next after sorted =
-    one_more_group rank_of is_before by_rank k l ys after sorted
-    ∙ ap (λ front. front ++ of_rank l ys) (one_more_group rank_of is_before by_rank j k ys next sorted)
-    ∙ append_assoc (to_rank j ys) (of_rank k ys) (of_rank l ys)
-
--- one more block is two more ranks
-one_more : (j position : ℕ) (ys : List PlacedEvent) → position + position ≡ suc j → IsInOrder ys → placed (to_rank (position + position + 1) ys) ≡ placed (to_rank j ys) ++ block position (placed ys)
-one_more j position ys next sorted =
-    let two = of_rank (position + position) ys ++ of_rank (position + position + 1) ys in
-    ap placed (two_more j (position + position) (position + position + 1) ys next (omega arith) sorted)
-    ∙ map-append placed_as (to_rank j ys) two
-    ∙ ap (λ l. placed (to_rank j ys) ++ l) (sym (block-rank position ys))
-
--- ranks 0 and 1 are the first block
-first_two : (ys : List PlacedEvent) → IsInOrder ys → placed (to_rank 1 ys) ≡ block 0 (placed ys)
-first_two ys sorted =
-    ap placed (one_more_group rank_of is_before by_rank 0 1 ys refl sorted
-    ∙ ap (λ l. l ++ of_rank 1 ys) (filter_agree (λ p. leb (rank_of p) 0) (λ p. rank_of p == 0) (λ p. at_zero (rank_of p)) ys))
-    ∙ sym (block-rank 0 ys)
-  where
-    at_zero : (k : ℕ) → leb k 0 ≡ (k == 0)
-    at_zero k = elim (cases_eq k 0) [
-      | inl same ↦ le-leb k 0 (omega arith) ∙ sym (eq-eqb k 0 same)
-      | inr apart ↦ lt-leb k 0 (omega arith) ∙ sym (ne_eqb k 0 apart)
-    ]
-
--- a list in order is the blocks of its own, as far as they go
-in_blocks : (count : ℕ) (ys : List PlacedEvent) → IsInOrder ys → placed (to_rank (count + count + 1) ys) ≡ blocks_up_to count (placed ys)
-in_blocks zero ys sorted = first_two ys sorted
-in_blocks (suc count) ys sorted =
-    one_more (count + count + 1) (suc count) ys (omega arith) sorted ∙ ap (λ l. l ++ block (suc count) (placed ys)) (in_blocks count ys sorted)
+-- so it rises by rank
+rises : (ys : List Placed) → IsInOrder ys → RisesByRank ys
+rises ys sorted = rising_from rank_of 0 ys (λ d some. omega arith) (in_order rank_of is_before by_rank ys sorted)
 
 -- ---- what a stable sort leaves as it was
 
@@ -179,41 +76,39 @@ abbrev blank : Record
 blank = record { version = 0; locked = false; metadata = None }
 
 -- a raise at a position, and another event there
-abbrev a_raise : ℕ → PlacedEvent
+abbrev a_raise : ℕ → Placed
 a_raise position = record { event = Report 0 0 blank true; position = position }
 
-abbrev an_other : ℕ → PlacedEvent
+abbrev an_other : ℕ → Placed
 an_other position = record { event = Read 0 0 blank; position = position }
 
 -- the list has been sorted from this one
-abbrev pub IsFrom : List PlacedEvent → List PlacedEvent → Type 0
+abbrev pub IsFrom : List Placed → List Placed → Type 0
 IsFrom all ys = IsStableByKey sort_key pair_order all ys
 
 -- the sort leaves the raises at a position as they were
-same_raises : (position : ℕ) (all ys : List PlacedEvent) → IsFrom all ys → of_rank (position + position) ys ≡ of_rank (position + position) all
+same_raises : (position : ℕ) (all ys : List Placed) → IsFrom all ys → of_rank (position + position) ys ≡ of_rank (position + position) all
 same_raises position all ys stable = same_group rank_of is_before by_rank all ys stable (a_raise position)
 
 -- the sort leaves each block as it was
-same_block : (position : ℕ) (all ys : List PlacedEvent) → IsFrom all ys → block position (placed ys) ≡ block position (placed all)
+same_block : (position : ℕ) (all ys : List Placed) → IsFrom all ys → block position ys ≡ block position all
 same_block position all ys stable =
-    let raises = same_raises position all ys stable in
     let others : of_rank (position + position + 1) ys ≡ of_rank (position + position + 1) all = same_group rank_of is_before by_rank all ys stable (an_other position) in
     block-rank position ys
-    ∙ ap (λ l. placed (l ++ of_rank (position + position + 1) ys)) raises
-    ∙ ap (λ l. placed (of_rank (position + position) all ++ l)) others
+    ∙ ap (λ l. l ++ of_rank (position + position + 1) ys) (same_raises position all ys stable)
+    ∙ ap (λ l. of_rank (position + position) all ++ l) others
     ∙ sym (block-rank position all)
 
 -- and so all blocks
-same_blocks : (count : ℕ) (all ys : List PlacedEvent) → IsFrom all ys → blocks_up_to count (placed ys) ≡ blocks_up_to count (placed all)
+same_blocks : (count : ℕ) (all ys : List Placed) → IsFrom all ys → blocks_up_to count ys ≡ blocks_up_to count all
 same_blocks zero all ys stable = same_block 0 all ys stable
 same_blocks (suc count) all ys stable =
-    ap (λ l. l ++ block (suc count) (placed ys)) (same_blocks count all ys stable)
-    ∙ ap (λ l. blocks_up_to count (placed all) ++ l) (same_block (suc count) all ys stable)
+    ap (λ l. l ++ block (suc count) ys) (same_blocks count all ys stable) ∙ ap (λ l. blocks_up_to count all ++ l) (same_block (suc count) all ys stable)
 
 -- ---- the raises
 
 -- the sorted events stand by position
-pub sorted_by_position : (ys : List PlacedEvent) → IsInOrder ys → AreEventsByPosition ys
+pub sorted_by_position : (ys : List Placed) → IsInOrder ys → AreEventsByPosition ys
 sorted_by_position ys sorted = λ i j d before below.
     let x = slice_index_or ys i d in
     let y = slice_index_or ys j d in
@@ -235,57 +130,36 @@ rises_more low position (Report client call rec false) raises least up = rises_b
 rises_more low position (Read client call rec) raises least up = rises_below low position raises least up
 
 -- the raises among events that rise do so too
-rises_among : (low : ℕ) (ys : List PlacedEvent) → Rising (λ (p : PlacedEvent). p.position) low ys → Rising (λ (raise : Raise). raise.position) low (raises_of ys)
+rises_among : (low : ℕ) (ys : List Placed) → Rising (λ (p : Placed). p.position) low ys → Rising (λ (raise : Raise). raise.position) low (raises_of ys)
 rises_among low [] up = tt
 rises_among low (p ∷ ys) up = rises_more low p.position p.event (raises_of ys) up.0 (rises_among p.position ys up.1)
 
 -- The raises among events by position stand by position.
-pub raises_by_position : (ys : List PlacedEvent) → AreEventsByPosition ys → AreByPosition (raises_of ys)
+pub raises_by_position : (ys : List Placed) → AreEventsByPosition ys → AreByPosition (raises_of ys)
 raises_by_position ys up =
-    from_rising (λ (raise : Raise). raise.position) 0 (raises_of ys) (rises_among 0 ys (rising_from (λ (p : PlacedEvent). p.position) 0 ys (λ d some. omega arith) up))
-
--- the raises among the program's events are those among the definitions'
-raises-placed : (ys : List PlacedEvent) → raises_of ys ≡ flat_map raise_of (placed ys)
-raises-placed [] = refl
-raises-placed (p ∷ ys) = ap (λ l. raise_of_event p.position p.event ++ l) (raises-placed ys)
+    from_rising (λ (raise : Raise). raise.position) 0 (raises_of ys) (rises_among 0 ys (rising_from (λ (p : Placed). p.position) 0 ys (λ d some. omega arith) up))
 
 -- The raises among the sorted events are those of the logs, at each position.
-pub sorted_raises : (logs : List ClientLog) (all ys : List PlacedEvent) → placed all ≡ placed_in 0 logs → IsFrom all ys → AreRaisesOf logs (raises_of ys)
+pub sorted_raises : (logs : List ClientLog) (all ys : List Placed) → all ≡ placed_in 0 logs → IsFrom all ys → AreRaisesOf logs (raises_of ys)
 sorted_raises logs all ys is stable position =
-    ap (at_position position) (raises-placed ys) ∙ filter-raises position (placed ys)
-    ∙ ap (flat_map raise_of) (raises-rank position ys ∙ ap placed (same_raises position all ys stable) ∙ sym (raises-rank position all) ∙ ap (filter (is_raise_at position)) is)
+    filter-raises position ys
+    ∙ ap (flat_map raise_of) (raises-rank position ys ∙ same_raises position all ys stable ∙ sym (raises-rank position all) ∙ ap (filter (is_raise_at position)) is)
     ∙ sym (raises-at logs position)
 
 -- ---- the whole
 
--- where no position is above a number, no rank is above its two
-all_to_rank : (count : ℕ) (ys : List PlacedEvent) → All (λ p. p.position ≤ count) ys → to_rank (count + count + 1) ys ≡ ys
-all_to_rank count [] within = refl
-all_to_rank count (p ∷ ys) within =
-    let most = rank-most p.position (is_raise p.event) in
-    let here : p.position ≤ count = within 0 p (omega arith) in
-    kept (λ q. leb (rank_of q) (count + count + 1)) p ys (le-leb (rank_of p) (count + count + 1) (omega arith))
-    ∙ ap (λ l. p ∷ l) (all_to_rank count ys (λ k d below. within (suc k) d (omega arith)))
-
--- the bound on the positions, of the program's events
-all_within : (count : ℕ) (all : List PlacedEvent) → AllByRecursion (λ p. p.position ≤ count) (placed all) → AllByRecursion (λ p. p.position ≤ count) all
-all_within count [] within = tt
-all_within count (p ∷ all) within = (within.0, all_within count all within.1)
-
 -- the sorted events are the blocks of the unsorted
-sorted_blocks : (count : ℕ) (all ys : List PlacedEvent) → IsPermutation all ys → IsInOrder ys → IsFrom all ys → AllByRecursion (λ p. p.position ≤ count) (placed all)
-    → placed ys ≡ blocks_up_to count (placed all)
+sorted_blocks : (count : ℕ) (all ys : List Placed) → IsPermutation all ys → IsInOrder ys → IsFrom all ys → AllByRecursion (λ p. p.position ≤ count) all
+    → ys ≡ blocks_up_to count all
 sorted_blocks count all ys moved sorted stable within =
-    let bounded = All-from_recursion (λ p. p.position ≤ count) all (all_within count all within) in
-    ap placed (sym (all_to_rank count ys (All-permutation (λ p. p.position ≤ count) all ys moved bounded)))
-    ∙ in_blocks count ys sorted ∙ same_blocks count all ys stable
+    let bounded = All-permutation (λ p. p.position ≤ count) all ys moved (All-from_recursion (λ p. p.position ≤ count) all within) in
+    sym (back_in_order count ys (rises ys sorted) (recursion_from_All (λ p. p.position ≤ count) ys bounded)) ∙ same_blocks count all ys stable
 
 -- their events are the history
-pub sorted_explained : (logs : List ClientLog) (all ys : List PlacedEvent) → placed all ≡ placed_in 0 logs → IsWithin logs → IsPermutation all ys → IsInOrder ys → IsFrom all ys
+pub sorted_explained : (logs : List ClientLog) (all ys : List Placed) → all ≡ placed_in 0 logs → IsWithin logs → IsPermutation all ys → IsInOrder ys → IsFrom all ys
     → map (λ p. p.event) ys ≡ explained logs
 sorted_explained logs all ys is within moved sorted stable =
     let count = count_by (λ p. is_raise p.event) (placed_in 0 logs) in
     let P : List Placed → Type 0 = λ l. AllByRecursion (λ p. p.position ≤ count) l in
-    sym (map-map (λ (p : Placed). p.event) placed_as ys)
-    ∙ ap events_of (sorted_blocks count all ys moved sorted stable (subst P (sym is) within) ∙ ap (blocks_up_to count) is)
+    ap events_of (sorted_blocks count all ys moved sorted stable (subst P (sym is) within) ∙ ap (blocks_up_to count) is)
     ∙ sym (events-blocks count (placed_in 0 logs))

@@ -5,7 +5,8 @@ use Rattle.std.proofs.lemmas.Bool.{cond-true, cond-false, and_parts, eqb-true, f
 use Rattle.std.proofs.lemmas.List.{map-append, nil_from_length}
 use Rattle.std.proofs.lemmas.List.Sums.{length-filter}
 use Rattle.fdb_history.specs.private.Auditing.{IsWithin}
-use Rattle.fdb_history.specs.Event.{Placed, is_raise, raise_count}
+use Rattle.fdb_history.specs.Event.{is_raise, raise_count}
+use Rattle.fdb_history.specs.declared.event.Placed.{Placed}
 use Rattle.fdb_history.specs.Explained.{placed_in, events_at, events_up_to, explained}
 use Rattle.fdb_history.specs.Faults.{raises_at, register_at, after_raises, IsWrongAnswer, IsFaultless}
 use Rattle.fdb_history.specs.Linear.{IsLinear, NeverGoesBack, client_of}
@@ -13,7 +14,8 @@ use Rattle.fdb_history.specs.Log.{placed_from, calls_of, answer_raises}
 use Rattle.fdb_history.specs.declared.log.Call.{Call}
 use Rattle.fdb_history.specs.declared.log.ClientLog.{ClientLog}
 use Rattle.fdb_history.specs.declared.register.Record.{Record}
-use Rattle.fdb_history.proofs.FaultlessBlocks.{is_raise_at, is_other_at, block, blocks_up_to, back_in_order, blocks-filter, kept, left_out}
+use Rattle.fdb_history.proofs.FaultlessBlocks.{is_raise_at, is_other_at, block, blocks_up_to, blocks-filter, kept, left_out}
+use Rattle.fdb_history.proofs.Ranks.{back_in_order, climbing_rises}
 use Rattle.fdb_history.proofs.FaultlessRaises.{raises_here, raises_among, reached_at_most, each_filled, stamped-up_to, raise_count-up_to, events_of}
 use Rattle.fdb_history.proofs.FaultlessLogs.{is_of, every_log, every_in, every_call, every_from, every_placed, passes_bound, passes_raised, own_in, client_in_order, climbing, raises-at, length-raises}
 use Rattle.fdb_history.proofs.FaultlessLegal.{IsRight, passes_right, legal_up_to}
@@ -89,7 +91,7 @@ own_blocks start logs fine client =
     let most = every_from (λ position answer. position ≤ count) (λ p. p.position ≤ count) (passes_bound count) client 0 calls
     (every_in (λ call. call.position ≤ count) calls (within start logs fine client)) in
     blocks-filter (is_of client) count (all_of logs) ∙ ap (blocks_up_to count) (own_in client 0 client logs (omega arith))
-    ∙ back_in_order count (placed_from client 0 calls) (climbing client 0 0 calls (client_in_order logs fine.order client)) most
+    ∙ back_in_order count (placed_from client 0 calls) (climbing_rises (placed_from client 0 calls) (climbing client 0 0 calls (client_in_order logs fine.order client))) most
 
 -- the events of the blocks are the history
 pub events-blocks : (n : ℕ) (all : List Placed) → events_up_to n all ≡ events_of (blocks_up_to n all)

@@ -5,7 +5,8 @@ use Rattle.std.proofs.lemmas.Bool.{cond-false, and_parts, not-true, eqb-true, le
 use Rattle.std.proofs.lemmas.List.{nil_from_length}
 use Rattle.std.proofs.lemmas.Option.{same_Some, none-some}
 use Rattle.fdb_history.specs.Register.{raises}
-use Rattle.fdb_history.specs.Event.{Placed, IsLegal, is_raise}
+use Rattle.fdb_history.specs.Event.{IsLegal, is_raise}
+use Rattle.fdb_history.specs.declared.event.Placed.{Placed}
 use Rattle.fdb_history.specs.Explained.{events_at, events_up_to}
 use Rattle.fdb_history.specs.private.Explaining.{raise_of_event}
 use Rattle.fdb_history.specs.Faults.{after_raises, register_at, IsWrongAnswer}

@@ -5,7 +5,8 @@ use Rattle.std.specs.List.{AllByRecursion}
 use Rattle.std.proofs.lemmas.Bool.{and_from, and_parts, and_left, and_right, eq-eqb, ne_eqb, cases_eq, cases_lt, cases_Bool, false≢true}
 use Rattle.std.proofs.lemmas.List.Elements.{filter-append}
 use Rattle.std.proofs.lemmas.List.Concat.{flat_map-append}
-use Rattle.fdb_history.specs.Event.{Placed, is_raise}
+use Rattle.fdb_history.specs.Event.{is_raise}
+use Rattle.fdb_history.specs.declared.event.Placed.{Placed}
 use Rattle.fdb_history.specs.Explained.{placed_in}
 use Rattle.fdb_history.specs.private.Explaining.{raise_of_event}
 use Rattle.fdb_history.specs.Faults.{raise_in, raises_in, raises_at, IsOutOfOrder, StandsAt, Nowhere}

@@ -1,15 +1,17 @@
 -- The raises of some events at their positions: where no position has two and each that is reached has one, they
 -- stand at the positions 1 up to their number, and the blocks' positions are the stamps of their events.
-use Rattle.std.proofs.Common.{◌≡◌, ℕ, zero, suc, ◌+◌, ◌≤◌, ◌==◌, ◌&&◌, not, Bool, true, false, leb, List, [], ◌∷◌, ◌++◌, map, length, filter, refl, ap, sym, ◌∙◌, append_assoc, append-nil, inl, inr, arith, le_refl, zero-le, add-one}
+use Rattle.std.proofs.Common.{◌≡◌, ℕ, zero, suc, ◌+◌, ◌≤◌, ◌==◌, ◌&&◌, not, Bool, true, false, leb, cond, List, [], ◌∷◌, ◌++◌, map, length, filter, refl, ap, sym, ◌∙◌, append_assoc, append-nil, inl, inr, arith, le_refl, zero-le, add-one}
 use Rattle.std.specs.List.{AllByRecursion}
-use Rattle.std.proofs.lemmas.Bool.{cond-true, cond-false, and_parts, and_left, and_right, and_from, not-true, eqb-true, eq-eqb, ne_eqb, le-leb, lt-leb, cases_eq, cases_order, cases_lt, cases_Bool}
+use Rattle.std.proofs.lemmas.Bool.{cond-true, cond-false, and_parts, not-true, eqb-true, le-leb, cases_eq, cases_Bool}
+use Rattle.std.proofs.lemmas.Bool.Decides.{nat_tests}
 use Rattle.std.proofs.lemmas.List.{nil_from_length}
 use Rattle.std.proofs.lemmas.List.Sums.{sum_by-append}
-use Rattle.fdb_history.specs.Event.{Placed, stamped, position_after, is_raise, raise_count}
+use Rattle.fdb_history.specs.Event.{stamped, position_after, is_raise, raise_count}
+use Rattle.fdb_history.specs.declared.event.Placed.{Placed}
 use Rattle.fdb_history.specs.Explained.{events_at, events_up_to}
 use Rattle.fdb_history.specs.declared.event.Event.{Event}
 use Rattle.fdb_history.proofs.HistoryLaws.{added, raise_count-cons}
-use Rattle.fdb_history.proofs.FaultlessBlocks.{is_raise_at, is_other_at, is_up_to, block, blocks_up_to, kept, left_out}
+use Rattle.fdb_history.proofs.FaultlessBlocks.{is_raise_at, is_other_at, block, blocks_up_to, kept, left_out}
 
 -- ---- how many raises there are
 
@@ -19,7 +21,7 @@ raises_here position all = length (filter (is_raise_at position) all)
 
 -- whether an event is a raise at this position or below
 abbrev is_raise_up_to : ℕ → Placed → Bool
-is_raise_up_to position p = is_up_to position p && is_raise p.event
+is_raise_up_to position p = leb p.position position && is_raise p.event
 
 -- how many raises there are up to a position
 abbrev raises_until : ℕ → List Placed → ℕ
@@ -29,108 +31,57 @@ raises_until position all = length (filter (is_raise_up_to position) all)
 abbrev pub raises_among : List Placed → ℕ
 raises_among all = length (filter (λ p. is_raise p.event) all)
 
--- one more for a test that the first passes
-length-kept : (test : Placed → Bool) (p : Placed) (all : List Placed) → test p ≡ true → length (filter test (p ∷ all)) ≡ suc (length (filter test all))
-length-kept test p all e = ap length (kept test p all e)
+-- one for what passes
+abbrev one : Bool → ℕ
+one b = cond b 1 0
 
--- as many for a test that the first does not pass
-length-left_out : (test : Placed → Bool) (p : Placed) (all : List Placed) → test p ≡ false → length (filter test (p ∷ all)) ≡ length (filter test all)
-length-left_out test p all e = ap length (left_out test p all e)
+-- what the first adds to how many pass a test
+adds : (test : Placed → Bool) (p : Placed) (all : List Placed) → length (filter test (p ∷ all)) ≡ one (test p) + length (filter test all)
+adds test p all = by (test p) (filter test all)
+  where
+    by : (b : Bool) (rest : List Placed) → length (cond b (p ∷ rest) rest) ≡ one b + length rest
+    by true rest = omega arith
+    by false rest = omega arith
 
 -- up to 0 there are the raises at 0
 until-zero : (all : List Placed) → raises_until 0 all ≡ raises_here 0 all
 until-zero [] = refl
 until-zero (p ∷ all) =
-    let rest = until-zero all in
-    let raise = is_raise p.event in
-    elim (cases_Bool (is_raise p.event)) [
-      | inr down ↦ length-left_out (is_raise_up_to 0) p all (and_right (leb p.position 0) raise down) ∙ rest
-          ∙ sym (length-left_out (is_raise_at 0) p all (and_right (p.position == 0) raise down))
-      | inl up ↦ elim (cases_eq p.position 0) [
-        | inl same ↦ length-kept (is_raise_up_to 0) p all (and_from (leb p.position 0) raise (le-leb p.position 0 (omega arith)) up) ∙ ap suc rest
-            ∙ sym (length-kept (is_raise_at 0) p all (and_from (p.position == 0) raise (eq-eqb p.position 0 same) up))
-        | inr apart ↦ length-left_out (is_raise_up_to 0) p all (and_left (leb p.position 0) raise (lt-leb p.position 0 (omega arith))) ∙ rest
-            ∙ sym (length-left_out (is_raise_at 0) p all (and_left (p.position == 0) raise (ne_eqb p.position 0 apart)))
-      ]
-    ]
+    let first : one (is_raise_up_to 0 p) ≡ one (is_raise_at 0 p) = by p.position (is_raise p.event) in
+    omega (arith, adds (is_raise_up_to 0) p all, adds (is_raise_at 0) p all, until-zero all)
+  where
+    by : (m : ℕ) (raised : Bool) → one (leb m 0 && raised) ≡ one (m == 0 && raised)
+    by m true = grind (arith, nat_tests)
+    by m false = grind (arith, nat_tests)
 
 -- up to one more position there are those at it too
 until-step : (n : ℕ) (all : List Placed) → raises_until (suc n) all ≡ raises_until n all + raises_here (suc n) all
 until-step n [] = refl
 until-step n (p ∷ all) =
-    let rest = until-step n all in
-    let raise = is_raise p.event in
-    elim (cases_Bool (is_raise p.event)) [
-      | inr down ↦
-          let a = length-left_out (is_raise_up_to (suc n)) p all (and_right (leb p.position (suc n)) raise down) in
-          let b = length-left_out (is_raise_up_to n) p all (and_right (leb p.position n) raise down) in
-          let c = length-left_out (is_raise_at (suc n)) p all (and_right (p.position == suc n) raise down) in
-          added_up a b c rest
-      | inl up ↦ elim (cases_order p.position (suc n)) [
-        | inl same ↦
-            let a = length-kept (is_raise_up_to (suc n)) p all (and_from (leb p.position (suc n)) raise (le-leb p.position (suc n) (omega arith)) up) in
-            let b = length-left_out (is_raise_up_to n) p all (and_left (leb p.position n) raise (lt-leb p.position n (omega arith))) in
-            let c = length-kept (is_raise_at (suc n)) p all (and_from (p.position == suc n) raise (eq-eqb p.position (suc n) same) up) in
-            added_here a b c rest
-        | inr (inl below) ↦
-            let a = length-kept (is_raise_up_to (suc n)) p all (and_from (leb p.position (suc n)) raise (le-leb p.position (suc n) (omega arith)) up) in
-            let b = length-kept (is_raise_up_to n) p all (and_from (leb p.position n) raise (le-leb p.position n (omega arith)) up) in
-            let c = length-left_out (is_raise_at (suc n)) p all (and_left (p.position == suc n) raise (ne_eqb p.position (suc n) (λ same. absurd (omega arith)))) in
-            added_before a b c rest
-        | inr (inr above) ↦
-            let a = length-left_out (is_raise_up_to (suc n)) p all (and_left (leb p.position (suc n)) raise (lt-leb p.position (suc n) (omega arith))) in
-            let b = length-left_out (is_raise_up_to n) p all (and_left (leb p.position n) raise (lt-leb p.position n (omega arith))) in
-            let c = length-left_out (is_raise_at (suc n)) p all (and_left (p.position == suc n) raise (ne_eqb p.position (suc n) (λ same. absurd (omega arith)))) in
-            added_up a b c rest
-      ]
-    ]
+    let first : one (is_raise_up_to (suc n) p) ≡ one (is_raise_up_to n p) + one (is_raise_at (suc n) p) = by p.position (is_raise p.event) in
+    omega (arith, adds (is_raise_up_to (suc n)) p all, adds (is_raise_up_to n) p all, adds (is_raise_at (suc n)) p all, until-step n all)
   where
-    added_up : {x y z u v w : ℕ} → u ≡ x → v ≡ y → w ≡ z → x ≡ y + z → u ≡ v + w
-    added_up a b c e = omega arith
-
-    added_here : {x y z u v w : ℕ} → u ≡ suc x → v ≡ y → w ≡ suc z → x ≡ y + z → u ≡ v + w
-    added_here a b c e = omega arith
-
-    added_before : {x y z u v w : ℕ} → u ≡ suc x → v ≡ suc y → w ≡ z → x ≡ y + z → u ≡ v + w
-    added_before a b c e = omega arith
+    by : (m : ℕ) (raised : Bool) → one (leb m (suc n) && raised) ≡ one (leb m n && raised) + one (m == suc n && raised)
+    by m true = grind (arith, nat_tests)
+    by m false = grind (arith, nat_tests)
 
 -- no more raises stand up to a position than there are
 until-most : (n : ℕ) (all : List Placed) → raises_until n all ≤ raises_among all
 until-most n [] = le_refl 0
 until-most n (p ∷ all) =
-    let rest = until-most n all in
-    let raise = is_raise p.event in
-    elim (cases_Bool (is_raise p.event)) [
-      | inr down ↦
-          same_way (length-left_out (is_raise_up_to n) p all (and_right (leb p.position n) raise down)) (length-left_out (λ q. is_raise q.event) p all down) rest
-      | inl up ↦
-          let whole = length-kept (λ q. is_raise q.event) p all up in
-          elim (cases_lt n p.position) [
-            | inl above ↦ one_way (length-left_out (is_raise_up_to n) p all (and_left (leb p.position n) raise (lt-leb p.position n above))) whole rest
-            | inr below ↦ both_ways (length-kept (is_raise_up_to n) p all (and_from (leb p.position n) raise (le-leb p.position n below) up)) whole rest
-          ]
-    ]
+    let first : one (is_raise_up_to n p) ≤ one (is_raise p.event) = by p.position (is_raise p.event) in
+    omega (arith, adds (is_raise_up_to n) p all, adds (λ q. is_raise q.event) p all, until-most n all)
   where
-    same_way : {x y u v : ℕ} → u ≡ x → v ≡ y → x ≤ y → u ≤ v
-    same_way a b e = omega arith
-
-    one_way : {x y u v : ℕ} → u ≡ x → v ≡ suc y → x ≤ y → u ≤ v
-    one_way a b e = omega arith
-
-    both_ways : {x y u v : ℕ} → u ≡ suc x → v ≡ suc y → x ≤ y → u ≤ v
-    both_ways a b e = omega arith
+    by : (m : ℕ) (raised : Bool) → one (leb m n && raised) ≤ one raised
+    by m true = grind (arith, nat_tests)
+    by m false = grind (arith, nat_tests)
 
 -- where all stand up to a position, all raises do
 until-all : (n : ℕ) (all : List Placed) → AllByRecursion (λ p. p.position ≤ n) all → raises_until n all ≡ raises_among all
 until-all n [] within = refl
 until-all n (p ∷ all) within =
-    let rest = until-all n all within.1 in
-    let raise = is_raise p.event in
-    elim (cases_Bool (is_raise p.event)) [
-      | inr down ↦ length-left_out (is_raise_up_to n) p all (and_right (leb p.position n) raise down) ∙ rest ∙ sym (length-left_out (λ q. is_raise q.event) p all down)
-      | inl up ↦ length-kept (is_raise_up_to n) p all (and_from (leb p.position n) raise (le-leb p.position n within.0) up) ∙ ap suc rest
-          ∙ sym (length-kept (λ q. is_raise q.event) p all up)
-    ]
+    let first : one (is_raise_up_to n p) ≡ one (is_raise p.event) = ap (λ b. one (b && is_raise p.event)) (le-leb p.position n within.0) in
+    omega (arith, adds (is_raise_up_to n) p all, adds (λ q. is_raise q.event) p all, until-all n all within.1)
 
 -- ---- one raise at each position
 
@@ -189,14 +140,14 @@ one_raise position (p ∷ all) one =
       | inl here ↦
           let parts = and_parts (p.position == position) (is_raise p.event) here in
           let same = eqb-true p.position position parts.0 in
-          let none : raises_here position all ≡ 0 = let l = length-kept (is_raise_at position) p all here in omega arith in (
+          let none : raises_here position all ≡ 0 = let l = ap length (kept (is_raise_at position) p all here) in omega arith in (
             p.event,
             kept (is_raise_at position) p all here ∙ ap (λ l. p ∷ l) (nil_from_length (filter (is_raise_at position) all) none)
                 ∙ ap (λ at. record { event = p.event; position = at } ∷ []) same,
             parts.1,
           )
       | inr not_here ↦
-          let rest = one_raise position all (sym (length-left_out (is_raise_at position) p all not_here) ∙ one) in
+          let rest = one_raise position all (sym (ap length (left_out (is_raise_at position) p all not_here)) ∙ one) in
           (rest.0, left_out (is_raise_at position) p all not_here ∙ rest.1, rest.2)
     ]
 

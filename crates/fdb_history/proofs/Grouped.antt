@@ -2,7 +2,8 @@
 -- and the list is its groups, one number after another.
 use Rattle.std.proofs.Common.{◌≡◌, ℕ, zero, suc, ◌+◌, ◌<◌, ◌≤◌, ◌==◌, ◌&&◌, not, Bool, ltb, leb, List, [], ◌∷◌, ◌++◌, length, slice_index_or, filter, refl, ap, sym, ◌∙◌, inl, inr, arith, add-one}
 use Rattle.std.specs.List.Sorted.{IsSortedBy, IsStableBy, IsNonDecreasingBy, ties}
-use Rattle.std.proofs.lemmas.Bool.{and_left, and_right, and_from, not_from_true, not_from_false, ltb-false, lt-ltb, le-ltb, le-leb, lt-leb, eq-eqb, ne_eqb, cases_order}
+use Rattle.std.proofs.lemmas.Bool.{ltb-false, le-leb, lt-leb, eq-eqb, ne_eqb, cases_order}
+use Rattle.std.proofs.lemmas.Bool.Decides.{nat_tests}
 use Rattle.std.proofs.lemmas.List.Elements.{filter_agree}
 use Rattle.std.proofs.lemmas.List.Sorted.{IsNonDecreasingBy-from_all_adjacent}
 use Rattle.fdb_history.proofs.FaultlessBlocks.{kept, left_out}
@@ -14,13 +15,7 @@ Rising n low (x ∷ xs) = (low ≤ n x) × Rising n (n x) xs
 
 -- neither is less than the other where the numbers are one
 tie_of : (i j : ℕ) (s t : Bool) → s ≡ ltb i j → t ≡ ltb j i → (not s && not t) ≡ (j == i)
-tie_of i j s t e f =
-    elim (cases_order i j) [
-      | inl same ↦
-          and_from (not s) (not t) (not_from_false s (e ∙ le-ltb i j (omega arith))) (not_from_false t (f ∙ le-ltb j i (omega arith))) ∙ sym (eq-eqb j i (omega arith))
-      | inr (inl below) ↦ and_left (not s) (not t) (not_from_true s (e ∙ lt-ltb i j below)) ∙ sym (ne_eqb j i (λ same. absurd (omega arith)))
-      | inr (inr above) ↦ and_right (not s) (not t) (not_from_true t (f ∙ lt-ltb j i above)) ∙ sym (ne_eqb j i (λ same. absurd (omega arith)))
-    ]
+tie_of i j s t e f = rw (e, f) (grind (arith, nat_tests))
 
 module _ {X : Type 0} (n : X → ℕ) where
   -- a list in its order rises
@@ -48,7 +43,7 @@ module _ {X : Type 0} (n : X → ℕ) where
       left_out (λ y. leb (n y) j) x xs (lt-leb (n x) j next) ∙ none_below (n x) j xs next up.1
 
   -- one more number is one more group
-  more : (low j k : ℕ) (xs : List X) → k ≡ suc j → Rising n low xs
+  pub more : (low j k : ℕ) (xs : List X) → k ≡ suc j → Rising n low xs
       → filter (λ x. leb (n x) k) xs ≡ filter (λ x. leb (n x) j) xs ++ filter (λ x. n x == k) xs
   more low j k [] next up = refl
   more low j k (x ∷ xs) next up =
@@ -77,11 +72,6 @@ module _ {X : Type 0} (n : X → ℕ) where
     in_order xs sorted =
         IsNonDecreasingBy-from_all_adjacent n xs (λ k d below.
         ltb-false (n (slice_index_or xs (k + 1) d)) (n (slice_index_or xs k d)) (sym (is (slice_index_or xs (k + 1) d) (slice_index_or xs k d)) ∙ sorted k d (omega arith) below))
-
-    -- and it is its groups
-    pub one_more_group : (j k : ℕ) (xs : List X) → k ≡ suc j → IsSortedBy lt xs
-        → filter (λ x. leb (n x) k) xs ≡ filter (λ x. leb (n x) j) xs ++ filter (λ x. n x == k) xs
-    one_more_group j k xs next sorted = more 0 j k xs next (rising_from 0 xs (λ d some. omega arith) (in_order xs sorted))
 
     -- a stable sort leaves a group as it was
     pub same_group : (xs ys : List X) → IsStableBy lt xs ys → (x : X) → filter (λ y. n y == n x) ys ≡ filter (λ y. n y == n x) xs

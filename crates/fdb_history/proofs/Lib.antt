@@ -7,11 +7,12 @@ pub mod ExplainedClients
 pub mod ExplainedRaises
 pub mod ExplainedFaultless
 pub mod FaultlessBlocks
+pub mod Grouped
+pub mod Ranks
 pub mod FaultlessRaises
 pub mod FaultlessLogs
 pub mod FaultlessLegal
 pub mod Faultless
-pub mod Grouped
 pub mod Explaining
 pub mod KnownCommits
 pub mod Lists

@@ -3,6 +3,7 @@ use Rattle.std.specs.Prelude.{◌≡◌, ℕ, ◌+◌, Bool, false, if◌then◌
 use Rattle.fdb_history.specs.Register.{raises, after_report}
 use Rattle.fdb_history.specs.declared.register.Record.{Record}
 use Rattle.fdb_history.specs.declared.event.Event.{Event}
+use Rattle.fdb_history.specs.declared.event.Placed.{Placed}
 use Rattle.fdb_history.specs.declared.event.Event.TheVariants.{Report, Read}
 
 -- The register after one event. A read changes nothing. (updateLiveCommittedVersion of
@@ -38,11 +39,6 @@ is_raise (Read client call rec) = false
 -- product's own)
 abbrev pub position_after : ℕ → Event → ℕ
 position_after before event = if is_raise event then before + 1 else before
-
--- an event and a position
-pub record Placed : Type 0 where
-  pub event : Event
-  pub position : ℕ
 
 -- Each event with its position: the number of raises up to and including it, over a position before
 -- them all.

@@ -1,6 +1,7 @@
 -- The history of some logs, in a fixed order.
 use Rattle.std.specs.Prelude.{ℕ, ◌+◌, ◌==◌, ◌&&◌, not, zero, suc, List, [], ◌∷◌, ◌++◌, map, filter, count_by}
-use Rattle.fdb_history.specs.Event.{Placed, is_raise}
+use Rattle.fdb_history.specs.Event.{is_raise}
+use Rattle.fdb_history.specs.declared.event.Placed.{Placed}
 use Rattle.fdb_history.specs.Log.{placed_from}
 use Rattle.fdb_history.specs.declared.event.Event.{Event}
 use Rattle.fdb_history.specs.declared.log.ClientLog.{ClientLog}

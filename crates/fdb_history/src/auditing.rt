@@ -21,12 +21,11 @@ mod registers;
 mod stray;
 
 use crate::chain::Issued;
-use crate::event::History;
+use crate::event::{History, Placed};
 use crate::fault::AuditFault;
 use crate::log::ClientLog;
 use crate::register::Record;
 use found::CallName;
-use placed::PlacedEvent;
 use registers::Registers;
 use std::alloc::{AllocError, Global};
 
@@ -82,7 +81,7 @@ fn history_or_fault(
 fn faultless_registers(
     alloc: Global,
     start: Record,
-    events: &[PlacedEvent],
+    events: &[Placed],
     logs: &[ClientLog],
 ) -> Result<Registers, AuditFault>
     requires clients { length logs.now ≤ 64 }

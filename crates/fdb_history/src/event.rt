@@ -31,6 +31,15 @@ pub enum Event {
     },
 }
 
+/// An event and its position.
+#[derive(Clone, Copy)]
+pub(crate) struct Placed {
+    /// The event.
+    pub(crate) event: Event,
+    /// Its position.
+    pub(crate) position: u64,
+}
+
 /// Events, one after another, that explain the replies of a run.
 #[derive(Debug, Drop)]
 pub struct History {

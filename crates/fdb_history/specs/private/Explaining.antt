@@ -1,23 +1,15 @@
--- How the program's events answer the logs, their raises and their history.
-use Rattle.std.specs.Prelude.{ℕ, true, false, List, [], ◌∷◌, map}
+-- The order of the program's events, and the raises among them.
+use Rattle.std.specs.Prelude.{ℕ, true, false, List, [], ◌∷◌}
 use Rattle.std.specs.List.{flat_map}
 use Rattle.std.specs.List.Sorted.{IsNonDecreasingBy}
-use Rattle.fdb_history.specs.Event.{Placed}
-use Rattle.fdb_history.specs.declared.auditing.placed.PlacedEvent.{PlacedEvent}
+use Rattle.fdb_history.specs.declared.event.Placed.{Placed}
 use Rattle.fdb_history.specs.declared.auditing.raises.Raise.{Raise}
 use Rattle.fdb_history.specs.declared.event.Event.{Event}
 use Rattle.fdb_history.specs.declared.event.Event.TheVariants.{Report, Read}
 
--- the program's events with their positions, as the definitions have them
-abbrev pub placed_as : PlacedEvent → Placed
-placed_as p = record { event = p.event; position = p.position }
-
-abbrev pub placed : List PlacedEvent → List Placed
-placed all = map placed_as all
-
 -- the events stand in the order of their positions
-abbrev pub AreEventsByPosition : List PlacedEvent → Type 0
-AreEventsByPosition events = IsNonDecreasingBy (λ (p : PlacedEvent). p.position) events
+abbrev pub AreEventsByPosition : List Placed → Type 0
+AreEventsByPosition events = IsNonDecreasingBy (λ (p : Placed). p.position) events
 
 -- the raise of an event at a position, if it is one
 abbrev pub raise_of_event : ℕ → Event → List Raise
@@ -27,5 +19,5 @@ raise_of_event position (Report client call rec false) = []
 raise_of_event position (Read client call rec) = []
 
 -- the raises among some events
-abbrev pub raises_of : List PlacedEvent → List Raise
+abbrev pub raises_of : List Placed → List Raise
 raises_of events = flat_map (λ p. raise_of_event p.position p.event) events

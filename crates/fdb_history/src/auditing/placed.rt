@@ -3,21 +3,12 @@
 ghost use Rattle.std.specs.Prelude.{◌≡◌, ◌≤◌, ◌++◌, map, length, OnOk, IfOk};
 ghost use Rattle.fdb_history.specs.private.Auditing.{AreRaisesOf, IsWithin};
 ghost use Rattle.fdb_history.specs.Explained.{explained, placed_in};
-ghost use Rattle.fdb_history.specs.private.Explaining.{AreEventsByPosition, placed, raises_of};
+ghost use Rattle.fdb_history.specs.private.Explaining.{AreEventsByPosition, raises_of};
 ghost use Rattle.fdb_history.specs.Log.{event_of_answer, placed_from};
 
-use crate::event::Event;
+use crate::event::{Event, Placed};
 use crate::log::{Call, CallAnswer, ClientLog};
 use std::alloc::{AllocError, Global};
-
-/// An event and its position.
-#[derive(Clone, Copy)]
-pub(crate) struct PlacedEvent {
-    /// The event.
-    pub(crate) event: Event,
-    /// Its position.
-    pub(crate) position: u64,
-}
 
 /// The register's events in the logs: position by position, at each the raise and then the others, by client and then
 /// by call.
@@ -26,7 +17,7 @@ pub(crate) struct PlacedEvent {
 pub(crate) fn events_by_position(
     alloc: Global,
     logs: &[ClientLog],
-) -> Result<Vec<PlacedEvent>, AllocError>
+) -> Result<Vec<Placed>, AllocError>
     requires { length logs.now ≤ 64 }
     ensures sorted { IfOk result (λ events. AreEventsByPosition events.items) }
     ensures raises { IfOk result (λ events. AreRaisesOf logs.now (raises_of events.items)) }
@@ -39,9 +30,9 @@ pub(crate) fn events_by_position(
 }
 
 /// The register's events in the logs with their positions, by client and then by call.
-fn placed_in(alloc: Global, logs: &[ClientLog]) -> Result<Vec<PlacedEvent>, AllocError>
+fn placed_in(alloc: Global, logs: &[ClientLog]) -> Result<Vec<Placed>, AllocError>
     requires { length logs.now ≤ 64 }
-    ensures { IfOk result (λ all. placed all.items ≡ placed_in 0 logs.now) }
+    ensures { IfOk result (λ all. all.items ≡ placed_in 0 logs.now) }
 {
     let mut all = Vec::new(alloc);
     for (client, log) in logs.iter().enumerate() {
@@ -51,12 +42,12 @@ fn placed_in(alloc: Global, logs: &[ClientLog]) -> Result<Vec<PlacedEvent>, Allo
 }
 
 /// Adds the register's events in one client's calls, in their order.
-fn add_events(all: &mut Vec<PlacedEvent>, client: u32, calls: &[Call]) -> Result<(), AllocError>
-    ensures { OnOk result (placed all.new.items ≡ placed all.old.items ++ placed_from client 0 calls.now) }
+fn add_events(all: &mut Vec<Placed>, client: u32, calls: &[Call]) -> Result<(), AllocError>
+    ensures { OnOk result (all.new.items ≡ all.old.items ++ placed_from client 0 calls.now) }
 {
     for (place, call) in calls.iter().enumerate() {
         if let Some(event) = event_of_answer(client, place as u64, &call.answer) {
-            all.push(PlacedEvent {
+            all.push(Placed {
                 event,
                 position: call.position,
             })?;

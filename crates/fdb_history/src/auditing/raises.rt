@@ -5,8 +5,7 @@ ghost use Rattle.fdb_history.specs.private.Auditing.{AreByPosition, AreTwoAt, Is
 ghost use Rattle.fdb_history.specs.private.Explaining.{raises_of};
 ghost use Rattle.fdb_history.specs.Faults.{AtNoPosition, at_position};
 
-use crate::auditing::placed::PlacedEvent;
-use crate::event::Event;
+use crate::event::{Event, Placed};
 use crate::register::Record;
 use std::alloc::{AllocError, Global};
 
@@ -20,7 +19,7 @@ pub(crate) struct Raise {
 }
 
 /// The raises among some events, in their order.
-pub(crate) fn raises_of(alloc: Global, events: &[PlacedEvent]) -> Result<Vec<Raise>, AllocError>
+pub(crate) fn raises_of(alloc: Global, events: &[Placed]) -> Result<Vec<Raise>, AllocError>
     ensures { IfOk result (λ raises. raises.items ≡ raises_of events.now) }
 {
     let mut raises = Vec::new(alloc);

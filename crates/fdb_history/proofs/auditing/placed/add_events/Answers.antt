@@ -1,9 +1,6 @@
-use Rattle.std.proofs.Common.{◌≡◌, ℕ, suc, ◌+◌, ◌<◌, List, [], ◌∷◌, ◌++◌, map, length, drop, get_or, option_to_list, Option, None, Some, ap, sym, ◌∙◌, append_assoc, add-one, drop-cons}
-use Rattle.std.proofs.lemmas.List.{map-append}
-use Rattle.fdb_history.specs.Event.{Placed}
-use Rattle.fdb_history.specs.private.Explaining.{placed}
+use Rattle.std.proofs.Common.{◌≡◌, ℕ, suc, ◌+◌, ◌<◌, List, ◌∷◌, ◌++◌, map, length, drop, get_or, option_to_list, Option, None, Some, ap, sym, ◌∙◌, append_assoc, add-one, drop-cons}
+use Rattle.fdb_history.specs.declared.event.Placed.{Placed}
 use Rattle.fdb_history.specs.Log.{event_of_answer, placed_from}
-use Rattle.fdb_history.specs.declared.auditing.placed.PlacedEvent.{PlacedEvent}
 use Rattle.fdb_history.specs.declared.event.Event.{Event}
 use Rattle.fdb_history.specs.declared.log.Call.{Call}
 use Rattle.fdb_history.proofs.auditing.placed.add_events.Goals as goal
@@ -21,14 +18,6 @@ from_here client place calls call event below is answered =
     ∙ ap (λ e. own call.position e ++ placed_from client (place + 1) (drop (suc place) calls)) (sym answered)
     ∙ ap (λ n. own call.position event ++ placed_from client (place + 1) (drop n calls)) (sym (add-one place))
 
--- a pushed event is as one more in front of the rest
-pushed : (before after : List PlacedEvent) (p : PlacedEvent) (rest : List Placed) → after ≡ before ++ p ∷ []
-    → placed after ++ rest ≡ placed before ++ (own p.position (Some p.event) ++ rest)
-pushed before after p rest is =
-    ap (λ l. placed l ++ rest) is
-    ∙ ap (λ l. l ++ rest) (map-append (λ q. record { event = q.event; position = q.position }) before (p ∷ []))
-    ∙ append_assoc (placed before) (own p.position (Some p.event)) rest
-
 pub loop-place-preserved : goal.loop-place-preserved
 loop-place-preserved c =
     let client = c.args.client in
@@ -39,12 +28,13 @@ loop-place-preserved c =
     let rest = placed_from client (place + 1) (drop (place + 1) calls) in
     elim c.match-event_of_answer.branch [
       | in-Some+in_ok-push w ↦
-          ap (λ v. placed v.items ++ rest) w.all-is
-          ∙ pushed before w.push.new.self.items (record { event = w.in-Some.event; position = call.position }) rest w.in_ok-push.ensures.items
-          ∙ ap (λ l. placed before ++ l) (sym (from_here client place calls call (Some w.in-Some.event) c.loop-place-test.true c.index-calls-place.is w.in-Some.ensures))
+          ap (λ v. v.items ++ rest) w.all-is
+          ∙ ap (λ l. l ++ rest) w.in_ok-push.ensures.items
+          ∙ append_assoc before (own call.position (Some w.in-Some.event)) rest
+          ∙ ap (λ l. before ++ l) (sym (from_here client place calls call (Some w.in-Some.event) c.loop-place-test.true c.index-calls-place.is w.in-Some.ensures))
           ∙ c.loop-place.invariant
       | in_default w ↦
-          ap (λ v. placed v.items ++ rest) w.all-is
-          ∙ ap (λ l. placed before ++ l) (sym (from_here client place calls call None c.loop-place-test.true c.index-calls-place.is w.in_default.ensures))
+          ap (λ v. v.items ++ rest) w.all-is
+          ∙ ap (λ l. before ++ l) (sym (from_here client place calls call None c.loop-place-test.true c.index-calls-place.is w.in_default.ensures))
           ∙ c.loop-place.invariant
     ]
