@@ -1,38 +1,48 @@
 //! The live committed version, and tokens of what was seen of it.
 
-ghost use Rattle.std.specs.Prelude.{◌≡◌};
-
 use anyhow::{Result, anyhow};
 use fdb_history::{OpenGate, Record};
-use fdb_live::{Live, LiveRecord, Opened, Seen};
+use fdb_live::{Live, LiveRecord, Opened, Seen, UnderName};
 use std::alloc::Global;
 use std::marker::Brand;
 use std::sync::Wait;
 
-/// Opens a live record for two reporters. What it was opened with is what its name stands for, so that no token of
-/// another record fits it.
+/// Opens a live record for two reporters, and has them report under a name that stands for it, so
+/// that no token of another record fits it.
 pub fn two_reporters<R: Print + Wait>(rt: &R, alloc: Global) -> Result<()> {
     let opened = LiveRecord::<Brand>::open(rt, alloc, unlocked(100), 2)?;
-    report_both::<Brand, R>(rt, opened)
+    opened.named(rt, 0, 100, TwoReporters)
 }
 
-/// Has both reporters report, the greater version first. Then the tokens meet: what the first one has seen is a part of
-/// what the second one has.
-fn report_both<J: Live, R: Print + Wait>(rt: &R, opened: Opened) -> Result<()>
-    requires { opened ≡ record { table = J.table; start = J.start; reporters = J.reporters } }
-{
-    let (live, mut reader, mut reporters) = opened.parts::<J>()?;
-    let mut second = reporters.pop().ok_or(anyhow!("no reporter"))?;
-    let mut first = reporters.pop().ok_or(anyhow!("no reporter"))?;
-    report(rt, &live, &mut first, 300)?;
-    report(rt, &live, &mut second, 200)?;
-    live.meet(rt, &mut first, &mut second);
-    let read = live.read(rt, &mut reader);
-    println!(rt;
-        "read version {} at position {}",
-        read.rec.version, read.position
-    )?;
-    Ok(())
+/// What two reporters do.
+#[derive(Drop)]
+struct TwoReporters;
+
+impl<R: Print + Wait> UnderName<R> for TwoReporters {
+    type Output = Result<()>;
+
+    /// Has both reporters report, the greater version first. Then the tokens meet: what the first
+    /// one has seen is a part of what the second one has.
+    fn run<J: Live + Send + Sync>(
+        self,
+        rt: &R,
+        opened: Opened,
+        _epoch_end: u64,
+        _recovery: u64,
+    ) -> Result<()> {
+        let (live, mut reader, mut reporters) = opened.parts::<J>()?;
+        let mut second = reporters.pop().ok_or(anyhow!("no reporter"))?;
+        let mut first = reporters.pop().ok_or(anyhow!("no reporter"))?;
+        report(rt, &live, &mut first, 300)?;
+        report(rt, &live, &mut second, 200)?;
+        live.meet(rt, &mut first, &mut second);
+        let read = live.read(rt, &mut reader);
+        println!(rt;
+            "read version {} at position {}",
+            read.rec.version, read.position
+        )?;
+        Ok(())
+    }
 }
 
 /// Reports a version, and tells what came of it.

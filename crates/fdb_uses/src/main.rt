@@ -1,5 +1,5 @@
-//! The crates used as libraries: a chain of commit versions, a queue, a live record with its tokens, clients that read through
-//! GRV proxies, and an audit of logs that were made elsewhere.
+//! The crates used as libraries: a chain of commit versions, a queue, a live record with its
+//! tokens, clients that read through GRV proxies, and an audit of logs that were made elsewhere.
 #![tactic(auto)]
 
 mod chain;

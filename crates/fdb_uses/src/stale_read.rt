@@ -25,7 +25,8 @@ const COMMIT: Issued = Issued {
     fresh: true,
 };
 
-/// Client 0 commits at 200, and client 1 comes to know of it: it has seen position 1, the first raise. Then it reads 100.
+/// Client 0 commits at 200, and client 1 comes to know of it: it has seen position 1, the first
+/// raise. Then it reads 100.
 pub fn caught(rt: &impl Print, alloc: Global) -> Result<()> {
     let logs = vec![in alloc; writer(alloc)?, reader(alloc)?]?;
     match audit(alloc, START, &[COMMIT], &logs) {
