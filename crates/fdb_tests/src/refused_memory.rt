@@ -4,6 +4,7 @@
 
 mod audits;
 mod chains;
+mod clients;
 mod live_records;
 mod proxies;
 mod queues;
