@@ -16,7 +16,7 @@ mod rows;
 mod throttles;
 mod waits;
 
-use crate::line::Line;
+use crate::line::{Line, tag};
 use fdb_history::{Priority, Tag};
 use fdb_queue::{GrvQueue, QueueConfig, QueueError, Req};
 use std::alloc::{AllocError, Global};
@@ -94,15 +94,6 @@ fn called(
     }
 }
 
-pub fn priority(rt: &impl Abort, line: &mut Line<'_>) -> Priority {
-    match line.word(rt) {
-        "system" => Priority::System,
-        "default" => Priority::Default,
-        "batch" => Priority::Batch,
-        _ => line.fails(rt, "no priority"),
-    }
-}
-
 fn offered(
     rt: &impl Abort,
     alloc: Global,
@@ -110,7 +101,7 @@ fn offered(
     line: &mut Line<'_>,
 ) -> Result<String, AllocError> {
     let request = Req {
-        priority: priority(rt, line),
+        priority: line.priority(rt),
         count: line.number(rt),
         payload: line.who(rt),
     };
@@ -151,11 +142,6 @@ fn lengths_text(alloc: Global, queue: &GrvQueue<u32>) -> Result<String, AllocErr
     format!(in alloc; "{system} {default} {batch}")
 }
 
-/// The tag of a word's bytes.
-pub fn tag(alloc: Global, word: &str) -> Result<Tag, AllocError> {
-    Ok(Tag::from(Vec::from_slice(alloc, word.as_bytes())?))
-}
-
 /// The tags of the words in front of `=>`.
 fn tags(alloc: Global, line: &mut Line<'_>) -> Result<Vec<Tag>, AllocError> {
     let mut tags = Vec::new(alloc);
@@ -172,7 +158,7 @@ fn throttled(
     queue: &mut GrvQueue<u32>,
     line: &mut Line<'_>,
 ) -> Result<String, AllocError> {
-    let priority = priority(rt, line);
+    let priority = line.priority(rt);
     let tag = tag(alloc, line.word(rt))?;
     match queue.set_throttle(priority, tag, line.number(rt), line.number(rt)) {
         Ok(()) => String::from_str(alloc, "ok"),
@@ -186,7 +172,7 @@ fn limited(
     queue: &GrvQueue<u32>,
     line: &mut Line<'_>,
 ) -> Result<String, AllocError> {
-    let (priority, at) = (priority(rt, line), line.number(rt));
+    let (priority, at) = (line.priority(rt), line.number(rt));
     let tags = tags(alloc, line)?;
     limits_text(alloc, queue, priority, &tags, at)
 }
