@@ -1,9 +1,10 @@
 """Scripts that the program accepts, and what it prints for them."""
 import os
 import random
+import re
 
 import drawn
-from harness import ASK, EXAMPLES, GRV, Ran, command, done, fault_of, first_output, members, read, round_of, run, script, written
+from harness import ASK, EXAMPLES, GRV, ROOT, Ran, command, done, fault_of, first_output, members, read, round_of, run, script, written
 from judge import Lawful, is_determined
 from model import expected
 from reader import script_of
@@ -38,6 +39,18 @@ def examples(program):
     for it in all_examples():
         yield it.name, fault_of(run([program, *it.words], it.given), it.wanted)
         yield f"{it.name} by the model", fault_of(expected(it.given, "--history" in it.words), it.wanted)
+
+
+def worked(program):
+    """The program prints what a hand calculation gives for each script of worked.txt, and so does the model.
+
+    There, a line `# NAME` stands before a script, a line `=> WORDS` parts it from what it prints with these words.
+    """
+    for case in re.split(r"^# ", read(f"{ROOT}/tests/worked.txt").decode(), flags=re.MULTILINE)[1:]:
+        name, given, words, wanted = re.fullmatch(r"(.*)\n(.*?)^=>(.*?)\n(.*?\n)\n?", case, re.MULTILINE | re.DOTALL).groups()
+        ends, words = done(wanted.encode()), words.split()
+        yield name, fault_of(run([program, *words], given.encode()), ends)
+        yield f"{name}, by the model", fault_of(expected(given.encode(), "--history" in words), ends)
 
 
 def proxies(program):

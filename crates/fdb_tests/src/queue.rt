@@ -17,7 +17,7 @@ mod throttles;
 mod waits;
 
 use crate::line::{Line, tag};
-use fdb_history::{Priority, Tag};
+use fdb_history::{Priority, Tag, TagLimit};
 use fdb_queue::{GrvQueue, QueueConfig, QueueError, Req};
 use std::alloc::{AllocError, Global};
 use std::process::Abort;
@@ -174,25 +174,33 @@ fn limited(
 ) -> Result<String, AllocError> {
     let (priority, at) = (line.priority(rt), line.number(rt));
     let tags = tags(alloc, line)?;
-    limits_text(alloc, queue, priority, &tags, at)
+    match limits(queue, priority, &tags, at) {
+        Ok(limits) => limits_text(alloc, &limits),
+        Err(cause) => cause.to_string(alloc),
+    }
 }
 
-fn limits_text(
-    alloc: Global,
+/// The limits of some tags.
+fn limits(
     queue: &GrvQueue<u32>,
     priority: Priority,
     tags: &[Tag],
     at: u64,
-) -> Result<String, AllocError> {
-    let limits = match queue.throttles(priority, tags, at) {
-        Ok(limits) => limits,
-        Err(cause) => return cause.to_string(alloc),
-    };
-    let mut text = format!(in alloc; "{}", limits.len())?;
-    for limit in &limits {
-        let tag = from_utf8(limit.tag.as_slice()).unwrap_or("no text");
-        let (rate, expires) = (limit.rate, limit.expires);
-        text.push_str(&format!(in alloc; ", {tag} {rate} {expires}")?)?;
+) -> Result<Vec<TagLimit>, QueueError> {
+    queue.throttles(priority, tags, at)
+}
+
+fn limits_text(alloc: Global, limits: &[TagLimit]) -> Result<String, AllocError> {
+    let mut text = limits.len().to_string(alloc)?;
+    for limit in limits {
+        text.push_str(&limit_text(alloc, limit)?)?;
     }
     Ok(text)
+}
+
+/// A limit, behind a comma.
+fn limit_text(alloc: Global, limit: &TagLimit) -> Result<String, AllocError> {
+    let tag = from_utf8(limit.tag.as_slice()).unwrap_or("no text");
+    let (rate, expires) = (limit.rate, limit.expires);
+    format!(in alloc; ", {tag} {rate} {expires}")
 }

@@ -138,16 +138,28 @@ fn all_meet<J: Live, R: Wait + Abort>(
     mut workers: Vec<Worker<J>>,
 ) {
     let all = first.position();
-    for _ in 0..workers.len() {
-        let Some(mut one) = workers.pop() else {
-            break;
-        };
-        for other in &mut workers {
-            live.meet(rt, &mut one.token, &mut other.token);
-        }
-        live.meet(rt, first, &mut one.token);
-        let told = live.split(&mut one.token);
-        live.learn(rt, first, told);
+    while let Some(mut one) = workers.pop() {
+        meets(rt, live, &mut one.token, &mut workers);
+        tells(rt, live, first, &mut one.token);
         same(rt, &first.position(), &all, &"told of no more");
     }
+}
+
+/// A token meets those of some workers.
+fn meets<J: Live, R: Wait>(
+    rt: &R,
+    live: &LiveRecord<J>,
+    one: &mut Seen<J>,
+    workers: &mut Vec<Worker<J>>,
+) {
+    for other in workers {
+        live.meet(rt, one, &mut other.token);
+    }
+}
+
+/// The first token meets another, and learns what that has seen.
+fn tells<J: Live, R: Wait>(rt: &R, live: &LiveRecord<J>, first: &mut Seen<J>, one: &mut Seen<J>) {
+    live.meet(rt, first, one);
+    let told = live.split(one);
+    live.learn(rt, first, told);
 }

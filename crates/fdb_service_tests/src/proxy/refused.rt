@@ -3,8 +3,9 @@
 use crate::proxy::stand::{Ended, Queue, Stand, Waiter, opts_of, queue_of, submit};
 use fdb_history::Priority;
 use fdb_live::Live;
-use fdb_proxy::{Answer, Cause, GrvProxy, ProxyError, Request, Taken, serve_batch};
+use fdb_proxy::{Answer, Cause, GrvProxy, ProxyError, Request, serve_batch};
 use fdb_queue::{QueueError, Req};
+use fdb_tests::same::{holds, same};
 use std::alloc::AllocError;
 use std::process::Abort;
 use std::sync::Wait;
@@ -37,12 +38,9 @@ fn submit_again<J: Live, R: Wait + Abort>(
     back: Request<J>,
     serial: u64,
 ) -> Result<(), AllocError> {
-    assert_eq!(rt;
-        cause,
-        ProxyError::Memory,
-        "{serial} is left on an open desk"
-    );
-    assert_eq!(rt; (back.client, back.serial), (0, serial), "is handed back");
+    same(rt, &cause, &ProxyError::Memory, &"left on an open desk");
+    same(rt, &back.client, &0, &"is handed back");
+    same(rt, &back.serial, &serial, &"is handed back");
     match submit(rt, &stand.desk, back) {
         Ok(()) => Ok(()),
         Err(_) => Err(AllocError),
@@ -58,22 +56,43 @@ pub fn serve_refused<J: Live, R: Wait + Abort>(
     submit_all(rt, &mut stand)?;
     stand.report(rt, 2100);
     let queue = queue_of(stand.alloc, 1, 1, 1)?;
-    let Taken { requests, .. } = stand.desk.take(rt, false);
+    let requests = taken(rt, &mut stand);
     let answers = match serve(rt, &mut stand, &queue, requests) {
-        Err((cause, back)) => {
-            assert_eq!(rt; cause, ProxyError::Memory);
-            assert_eq!(rt; stand.served.position(), 0, "after a refused batch");
-            are_handed_back(rt, back.as_slice());
-            serve(rt, &mut stand, &queue, back)
-        }
-        answers => answers,
+        Err((cause, back)) => serve_again(rt, &mut stand, &queue, cause, back)?,
+        Ok(answers) => answers,
     };
-    match answers {
-        Ok(answers) => are_replies(rt, answers.as_slice()),
-        Err(_) => return Err(AllocError),
-    }
-    assert_eq!(rt; stand.served.position(), 1);
+    are_replies(rt, answers.as_slice());
+    is_at(rt, &stand, 1);
     Ok(())
+}
+
+/// What waits at the desk.
+fn taken<J: Live, R: Wait>(rt: &R, stand: &mut Stand<J>) -> Vec<Req<Request<J>>> {
+    stand.desk.take(rt, false).requests
+}
+
+/// Serves a batch once more that came back, and to which nothing had happened.
+fn serve_again<J: Live, R: Wait + Abort>(
+    rt: &R,
+    stand: &mut Stand<J>,
+    queue: &Queue<J>,
+    cause: ProxyError,
+    back: Vec<Req<Request<J>>>,
+) -> Result<Vec<Answer<J>>, AllocError> {
+    same(rt, &cause, &ProxyError::Memory, &"a batch that is refused");
+    is_at(rt, stand, 0);
+    are_handed_back(rt, back.as_slice());
+    serve(rt, stand, queue, back).map_err(|_| AllocError)
+}
+
+/// Compares the position of the proxy's token.
+fn is_at<J: Live>(rt: &impl Abort, stand: &Stand<J>, position: u64) {
+    same(
+        rt,
+        &stand.served.position(),
+        &position,
+        &"the proxy's token",
+    );
 }
 
 /// Serves a batch.
@@ -95,17 +114,22 @@ fn serve<J: Live, R: Wait>(
 
 /// Checks that all requests come back in order.
 fn are_handed_back<J: Live>(rt: &impl Abort, back: &[Req<Request<J>>]) {
-    assert_eq!(rt; back.len() as u64, REQUESTS, "are handed back");
+    same(rt, &(back.len() as u64), &REQUESTS, &"are handed back");
     for (place, request) in back.iter().enumerate() {
-        assert_eq!(rt; request.payload.serial, place as u64, "is handed back");
+        same(
+            rt,
+            &request.payload.serial,
+            &(place as u64),
+            &"is handed back",
+        );
     }
 }
 
 /// Checks that each answer is the reply to its request, in order.
 fn are_replies<J: Live>(rt: &impl Abort, answers: &[Answer<J>]) {
-    assert_eq!(rt; answers.len() as u64, REQUESTS);
+    same(rt, &(answers.len() as u64), &REQUESTS, &"answers");
     for (place, answer) in answers.iter().enumerate() {
-        assert!(rt; is_reply(answer, place as u64), "{place}");
+        holds(rt, is_reply(answer, place as u64), &place);
     }
 }
 
@@ -145,20 +169,23 @@ pub fn run_refused<J: Live + Send + Sync, R: Threads + Wait + Abort + Sync>(
     let (ended, heard) = run_and_hear(rt, &mut stand, queue, &waiters)?;
     match ended {
         Ok(()) => {
-            assert_eq!(rt; heard.dropped, 0, "are dropped");
-            assert!(rt; !used || heard.refused == 0, "there was room");
+            same(rt, &heard.dropped, &0, &"are dropped");
+            holds(rt, !used || heard.refused == 0, &"there was capacity");
             Ok(())
         }
         Err(cause) => {
-            assert_eq!(rt; cause, ProxyError::Memory);
-            let taken = stand.desk.take(rt, false);
-            assert!(rt;
-                taken.closed && taken.requests.is_empty(),
-                "the desk is left"
-            );
+            same(rt, &cause, &ProxyError::Memory, &"a proxy that ended");
+            is_left_closed(rt, &stand);
             Err(AllocError)
         }
     }
+}
+
+/// Checks that the desk is closed and empty.
+fn is_left_closed<J: Live, R: Wait + Abort>(rt: &R, stand: &Stand<J>) {
+    let taken = stand.desk.take(rt, false);
+    holds(rt, taken.closed, &"the desk is closed");
+    holds(rt, taken.requests.is_empty(), &"the desk is empty");
 }
 
 /// Lets a queue have as many requests as will come, and none after that.
