@@ -1,7 +1,6 @@
 """Scripts that the program accepts, and what it prints for them."""
 import os
 import random
-import re
 
 import drawn
 from harness import ASK, EXAMPLES, GRV, ROOT, Ran, command, done, fault_of, first_output, members, read, round_of, run, script, written
@@ -46,9 +45,11 @@ def worked(program):
 
     There, a line `# NAME` stands before a script, a line `=> WORDS` parts it from what it prints with these words.
     """
-    for case in re.split(r"^# ", read(f"{ROOT}/tests/worked.txt").decode(), flags=re.MULTILINE)[1:]:
-        name, given, words, wanted = re.fullmatch(r"(.*)\n(.*?)^=>(.*?)\n(.*?\n)\n?", case, re.MULTILINE | re.DOTALL).groups()
-        ends, words = done(wanted.encode()), words.split()
+    for case in read(f"{ROOT}/tests/worked.txt").decode().split("# ")[1:]:
+        name, _, rest = case.partition("\n")
+        given, _, rest = rest.partition("\n=>")
+        words, _, wanted = rest.partition("\n")
+        words, ends = words.split(), done(f"{wanted.rstrip()}\n".encode())
         yield name, fault_of(run([program, *words], given.encode()), ends)
         yield f"{name}, by the model", fault_of(expected(given.encode(), "--history" in words), ends)
 

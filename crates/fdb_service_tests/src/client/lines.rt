@@ -1,7 +1,7 @@
 //! The lines of a text, each a call, and behind `=>` what comes of it.
 
-use crate::client::Stand;
 use crate::client::served::{Way, read_served};
+use crate::client::{Service, Stand};
 use fdb_client::{Client, ClientError, ReadVersion};
 use fdb_history::{GrvOpts, Issued, OpenGate, Priority, Sequence};
 use fdb_live::{Ack, Live, Seen};
@@ -38,60 +38,70 @@ fn called<J: Live + Send + Sync, R: Threads + Wait + Abort + Sync>(
     call: &str,
     line: &mut Line<'_>,
 ) -> Result<String, AllocError> {
-    let alloc = stand.alloc;
+    let (alloc, service) = (stand.alloc, stand.service);
+    if call == "learn" {
+        return learnt(rt, stand, line);
+    }
     let place = line.who(rt) as usize;
-    assert!(rt; place < stand.clients.len(), "no client: {}", line.text);
-    let client = &mut stand.clients[place];
+    let Some(client) = stand.clients.get_mut(place) else {
+        line.fails(rt, "no client");
+    };
     match call {
-        "ask" => {
-            let processed = line.number(rt);
-            let found = client.ask(
-                rt,
-                &OpenGate,
-                &stand.service.sequencer,
-                processed,
-                line.number(rt),
-            );
-            issued_text(alloc, found)
-        }
-        "reask" => {
-            let (num, processed) = (line.number(rt), line.number(rt));
-            let at = line.number(rt);
-            let found = client.reask(rt, &OpenGate, &stand.service.sequencer, num, processed, at);
-            issued_text(alloc, found)
-        }
+        "ask" => asked(rt, alloc, service, client, line),
+        "reask" => reasked(rt, alloc, service, client, line),
         "report" => reported(rt, alloc, client, line.number(rt), false),
         "lock" => reported(rt, alloc, client, line.number(rt), true),
         "read" | "aware" => {
-            let opts = opts_of(alloc, call == "aware");
-            let way = way(rt, line);
-            let found = read_served(
-                rt,
-                alloc,
-                &stand.service.desk,
-                &stand.service.live,
-                &mut stand.served,
-                client,
-                opts,
-                way,
-            );
+            let (opts, way) = (opts_of(alloc, call == "aware"), way(rt, line));
+            let found = read_served(rt, alloc, service, &mut stand.served, client, opts, way);
             read_text(alloc, found)
         }
-        "tell" => {
-            let Ok(token) = client.tell(line.who(rt)) else {
-                return Err(AllocError);
-            };
-            let text = at(alloc, token.position());
-            stand.told.push(token)?;
-            text
-        }
-        "learn" => match stand.told.pop() {
-            Some(token) => learnt(rt, alloc, client, line.who(rt), token),
-            None => String::from_str(alloc, "nothing was told"),
-        },
+        "tell" => told(alloc, client, line.who(rt), &mut stand.told),
         "log" => logged(alloc, client),
         _ => line.fails(rt, "no call"),
     }
+}
+
+fn asked<J: Live, R: Wait + Abort>(
+    rt: &R,
+    alloc: Global,
+    service: &Service<J>,
+    client: &mut Client<'_, J>,
+    line: &mut Line<'_>,
+) -> Result<String, AllocError> {
+    let (processed, at) = (line.number(rt), line.number(rt));
+    issued_text(
+        alloc,
+        client.ask(rt, &OpenGate, &service.sequencer, processed, at),
+    )
+}
+
+fn reasked<J: Live, R: Wait + Abort>(
+    rt: &R,
+    alloc: Global,
+    service: &Service<J>,
+    client: &mut Client<'_, J>,
+    line: &mut Line<'_>,
+) -> Result<String, AllocError> {
+    let (num, processed, at) = (line.number(rt), line.number(rt), line.number(rt));
+    issued_text(
+        alloc,
+        client.reask(rt, &OpenGate, &service.sequencer, num, processed, at),
+    )
+}
+
+fn told<J: Live>(
+    alloc: Global,
+    client: &mut Client<'_, J>,
+    to: u32,
+    told: &mut Vec<Seen<J>>,
+) -> Result<String, AllocError> {
+    let Ok(token) = client.tell(to) else {
+        return Err(AllocError);
+    };
+    let text = at(alloc, token.position());
+    told.push(token)?;
+    text
 }
 
 /// How the server of the desk is to answer.
@@ -136,7 +146,23 @@ fn reported<J: Live, R: Wait>(
     }
 }
 
-fn learnt<J: Live, R: Wait>(
+/// A client learns what was told last.
+fn learnt<J: Live, R: Wait + Abort>(
+    rt: &R,
+    stand: &mut Stand<'_, J>,
+    line: &mut Line<'_>,
+) -> Result<String, AllocError> {
+    let (place, from) = (line.who(rt) as usize, line.who(rt));
+    let Some(client) = stand.clients.get_mut(place) else {
+        line.fails(rt, "no client");
+    };
+    match stand.told.pop() {
+        Some(token) => learns(rt, stand.alloc, client, from, token),
+        None => String::from_str(stand.alloc, "nothing was told"),
+    }
+}
+
+fn learns<J: Live, R: Wait>(
     rt: &R,
     alloc: Global,
     client: &mut Client<'_, J>,

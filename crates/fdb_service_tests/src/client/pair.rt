@@ -8,6 +8,7 @@ use fdb_history::OpenGate;
 use fdb_live::{Live, Seen};
 use fdb_proxy::{Desk, GrvProxy};
 use fdb_queue::{GrvQueue, QueueConfig};
+use fdb_tests::same::holds;
 use std::alloc::Global;
 use std::process::Abort;
 use std::sync::Wait;
@@ -44,7 +45,7 @@ pub fn over_two_proxies<J: Live + Send + Sync, R: Threads + Wait + Abort + Sync>
             _ => false,
         }
     });
-    assert!(rt; ended, "a proxy has no thread, or met want of memory");
+    holds(rt, ended, &"a proxy has a thread and memory");
     Ok(())
 }
 
@@ -86,30 +87,36 @@ fn work_side_by_side<J: Live + Send + Sync, R: Threads + Wait + Abort + Sync>(
         || read(rt, alloc, &service.other, &mut one),
     );
     let told = from_zero.max(from_one);
-    assert!(rt;
-        told == 2 || told == 1,
-        "both reported, and one raise is certain: {told}"
-    );
+    holds(rt, told == 1 || told == 2, &"one raise is certain");
     for found in [zeros, ones] {
         let position = found.map_or(0, |read| read.position);
-        assert!(rt; position >= told, "{position} after {told} was told");
+        holds(rt, position >= told, &"a read comes as far as was told");
     }
+    meet(rt, service, zero, one, told);
+}
+
+/// The clients finish, and their tokens meet, which have come as far as was told.
+fn meet<J: Live, R: Wait + Abort>(
+    rt: &R,
+    service: &Service<J>,
+    zero: Client<'_, J>,
+    one: Client<'_, J>,
+    told: u64,
+) {
     let ((_, mut zero), (_, mut one)) = (zero.finish(), one.finish());
     service.live.meet(rt, &mut zero, &mut one);
-    assert!(rt;
-        zero.position() >= told && one.position() >= told,
-        "at the end"
-    );
+    holds(rt, zero.position() >= told, &"client 0 at the end");
+    holds(rt, one.position() >= told, &"client 1 at the end");
 }
 
 /// Draws a commit version twice, and reports the second one.
 fn commit<J: Live, R: Wait + Abort>(rt: &R, sequencer: &Sequencer<J>, client: &mut Client<'_, J>) {
     for at in [1_000, 2_000] {
-        let drawn = client.ask(rt, &OpenGate, sequencer, 0, at);
-        assert!(rt; drawn.is_ok(), "a commit version at {at}");
+        let drawn = client.ask(rt, &OpenGate, sequencer, 0, at).is_ok();
+        holds(rt, drawn, &at);
     }
-    let acked = client.report(rt, &OpenGate, 2, false, None);
-    assert!(rt; acked.is_ok(), "a report");
+    let acked = client.report(rt, &OpenGate, 2, false, None).is_ok();
+    holds(rt, acked, &"a report");
 }
 
 /// One client tells another, who learns. Answers the position that was told.
@@ -118,19 +125,27 @@ fn exchange<J: Live, R: Wait + Abort>(
     teller: &mut Client<'_, J>,
     other: &mut Client<'_, J>,
 ) -> u64 {
-    let Ok(token) = teller.tell(other.number()) else {
-        panic!(rt; "a tell is refused");
-    };
+    let token = told(rt, teller, other.number());
     let position = token.position();
-    if token.reporter().is_none() {
-        let learnt = other.learn(rt, teller.number(), token);
-        assert!(rt; learnt.is_ok(), "a learn");
-    }
-    assert!(rt;
-        other.position() >= position,
-        "behind {position}, which was told"
-    );
+    learnt(rt, other, teller.number(), token);
+    holds(rt, other.position() >= position, &"as far as was told");
     position
+}
+
+/// What a client tells another.
+fn told<J: Live>(rt: &impl Abort, teller: &mut Client<'_, J>, to: u32) -> Seen<J> {
+    match teller.tell(to) {
+        Ok(token) => token,
+        Err(_) => panic!(rt; "a tell is refused"),
+    }
+}
+
+/// A client learns what it was told by another.
+fn learnt<J: Live, R: Wait + Abort>(rt: &R, client: &mut Client<'_, J>, from: u32, token: Seen<J>) {
+    if token.reporter().is_none() {
+        let learnt = client.learn(rt, from, token).is_ok();
+        holds(rt, learnt, &"a learn");
+    }
 }
 
 /// A read at a desk.

@@ -3,6 +3,7 @@
 ghost use Rattle.std.specs.Prelude.{◌≡◌, true};
 ghost use Rattle.fdb_proxy.specs.Cause.{is_due};
 
+use crate::client::Service;
 use crossbeam_channel::Sender;
 use fdb_client::{Client, ClientError, ReadVersion};
 use fdb_history::{GrvOpts, OpenGate, Sequence};
@@ -40,13 +41,13 @@ pub enum Way {
 pub fn read_served<J: Live + Send + Sync, R: Threads + Wait + Abort + Sync>(
     rt: &R,
     alloc: Global,
-    desk: &Desk<J>,
-    live: &LiveRecord<J>,
+    service: &Service<J>,
     served: &mut Seen<J>,
     client: &mut Client<'_, J>,
     opts: GrvOpts,
     way: Way,
 ) -> Result<ReadVersion, ClientError> {
+    let (desk, live) = (&service.desk, &service.live);
     thread::join(
         rt,
         || serve(rt, alloc, desk, live, served, way),

@@ -5,6 +5,7 @@ use crate::proxy::stand::{Stand, Waiter, opts_of, queue_of, request_of, submit};
 use fdb_history::{OpenGate, Priority};
 use fdb_live::{Live, LiveRecord, Seen};
 use fdb_proxy::{Answer, Desk, GrvProxy};
+use fdb_tests::same::{holds, same};
 use std::alloc::{AllocError, Global};
 use std::process::Abort;
 use std::sync::Wait;
@@ -42,8 +43,9 @@ impl<J: Live> Client<J> {
             let version = turn
                 .saturating_mul(4)
                 .saturating_add(u64::from(self.number) + 200);
-            let acked = report_at(rt, &service.live, &OpenGate, &mut self.token, version);
-            assert!(rt; acked.is_ok(), "{version} by {}", self.number);
+            let live = &service.live;
+            let acked = report_at(rt, live, &OpenGate, &mut self.token, version).is_ok();
+            holds(rt, acked, &version);
             let first = turn.saturating_mul(REQUESTS);
             let asked = self.token.position();
             let waiters = self.ask(rt, service, first)?;
@@ -165,10 +167,10 @@ pub fn ask_all<J: Live + Send + Sync, R: Threads + Wait + Abort + Sync>(
         other: Desk::new(alloc),
     };
     let served = serve_clients(rt, &service, &mut seen, clients.as_mut_slice())?;
-    assert!(rt; served, "a proxy has no thread, or met want of memory");
+    holds(rt, served, &"a proxy has a thread and memory");
+    let wanted = TURNS.saturating_mul(REQUESTS);
     for client in &clients {
-        let number = client.number;
-        assert_eq!(rt; client.answered, TURNS.saturating_mul(REQUESTS), "{number}");
+        same(rt, &client.answered, &wanted, &client.number);
     }
     Ok(())
 }
@@ -223,8 +225,8 @@ fn ask_side_by_side<J: Live + Send + Sync, R: Threads + Wait + Abort + Sync>(
         clients,
         threads,
         &|_, client| {
-            let worked = client.work(rt, service);
-            assert!(rt; worked.is_ok(), "memory for {}", client.number);
+            let worked = client.work(rt, service).is_ok();
+            holds(rt, worked, &"memory for a client");
         },
     );
 }
