@@ -3,7 +3,7 @@ import os
 import random
 
 import drawn
-from harness import ASK, EXAMPLES, GRV, Ran, command, done, fault_of, first_output, members, read, round_of, run, script, written
+from harness import ASK, EXAMPLES, GRV, ROOT, Ran, command, done, fault_of, first_output, members, read, round_of, run, script, written
 from judge import Lawful, is_determined
 from model import expected
 from reader import script_of
@@ -38,6 +38,20 @@ def examples(program):
     for it in all_examples():
         yield it.name, fault_of(run([program, *it.words], it.given), it.wanted)
         yield f"{it.name} by the model", fault_of(expected(it.given, "--history" in it.words), it.wanted)
+
+
+def worked(program):
+    """The program prints what a hand calculation gives for each script of worked.txt, and so does the model.
+
+    There, a line `# NAME` stands before a script, a line `=> WORDS` parts it from what it prints with these words.
+    """
+    for case in read(f"{ROOT}/tests/worked.txt").decode().split("# ")[1:]:
+        name, _, rest = case.partition("\n")
+        given, _, rest = rest.partition("\n=>")
+        words, _, wanted = rest.partition("\n")
+        words, ends = words.split(), done(f"{wanted.rstrip()}\n".encode())
+        yield name, fault_of(run([program, *words], given.encode()), ends)
+        yield f"{name}, by the model", fault_of(expected(given.encode(), "--history" in words), ends)
 
 
 def proxies(program):

@@ -55,6 +55,8 @@ NO_JSON = [
     ("a cut letter in a text", script(note='"?"').encode().replace(b"?", b"\xc3")),
     ("a surrogate's bytes in a text", script(note='"?"').encode().replace(b"?", b"\xed\xa0\x80")),
     ("bytes that are no UTF-8 in a name", GOOD.encode().replace(b"clients", b"client\x80")),
+    ("half a surrogate pair alone", '"\\ud800"'),
+    ("a text that is no UTF-8 alone", b'"\xff"'),
     ("bytes that are no UTF-8 behind", GOOD.encode() + b"\xff"),
     ("lists 127 deep, one not closed", "[" * 127 + "]" * 126),
     ("no JSON behind a fault of the top level", script(clients="0") + "}"),
@@ -103,7 +105,7 @@ WRONG_TOP = {
     "batch": ([*NO_NUMBERS, "100001", "18446744073709551615"], False),
     "room": ([*NO_NUMBERS, "0", "100001", "18446744073709551615"], False),
     "elapsed": ([*NO_NUMBERS, "0", "10000001", "18446744073709551615"], False),
-    "throttles": ([*NO_LISTS, "[5]", "[null]", "[[]]", '["t"]', "[true]"], False),
+    "throttles": ([*NO_LISTS, "[0]", "[5]", "[null]", "[[]]", '["t"]', "[true]"], False),
 }
 WRONG_ROUNDS = [*NO_LISTS, "[5]", "[null]", "[{}]", '["x"]', "[[],{}]", "[[],[],true]"]
 WRONG_THROTTLES = {"priority": NO_PRIORITIES, "tag": NO_TAGS, "rate": NO_NUMBERS, "expires": NO_NUMBERS}
@@ -187,7 +189,7 @@ WRONG_FIELDS = {
 def wrong_fields():
     """Each command with a member missing, of another kind or out of its range."""
     for do, wrong in WRONG_FIELDS.items():
-        for name in REQUIRED[do]:
+        for name in [*REQUIRED[do], "client"]:
             yield f"{do} without {name}", command(do, **{**REQUIRED[do], name: None})
         for name, texts in [*wrong.items(), ("client", [*NO_NUMBERS, "3", "64", "18446744073709551615"])]:
             for text in texts:

@@ -20,6 +20,15 @@ def reads(*priorities, **top):
 
 READ = "100 unlocked none pos 0"
 FULL = "refused Full"
+# The replies of those who ask first to last, of reports of the first and the second version, and of a read of the latter.
+FIRST = "prev 0 version 100 ordinal 0 fresh"
+SECOND = "prev 100 version 101 ordinal 1 fresh"
+THIRD = "prev 101 version 102 ordinal 2 fresh"
+FOURTH = "prev 102 version 103 ordinal 3 fresh"
+LATE = "100 not raised pos 1"
+NOT_ABOVE = "100 not raised pos 0"
+RAISED = "101 raised pos 1"
+READ_RAISED = "101 unlocked none pos 1"
 BOTH = [[ask(0), report(0), grv(0), ask(1), report(1), grv(1)]], {}
 SEEN = [[ask(0), ask(0), report(0, 2), grv(1), ask(1)]], {}
 AFTER = [[ask(0), ask(0), report(0, 2), ask(0), ask(1), grv(1)]], {}
@@ -33,133 +42,51 @@ LONG = [[grv(0), grv(0), grv(1, count=30)]], {"room": 1, "normal": 1}
 RACES = [
     (
         *("client 0 and then client 1", BOTH, 1, "4 1 2", True),
-        [
-            "prev 0 version 100 ordinal 0 fresh",
-            "100 not raised pos 0",
-            READ,
-            "prev 100 version 101 ordinal 1 fresh",
-            "101 raised pos 1",
-            "101 unlocked none pos 1",
-        ],
+        [FIRST, NOT_ABOVE, READ, SECOND, RAISED, READ_RAISED],
     ),
     (
         *("the first report comes behind the second one", BOTH, 1, "4 1 2", True),
-        [
-            "prev 0 version 100 ordinal 0 fresh",
-            "100 not raised pos 1",
-            "101 unlocked none pos 1",
-            "prev 100 version 101 ordinal 1 fresh",
-            "101 raised pos 1",
-            "101 unlocked none pos 1",
-        ],
+        [FIRST, LATE, READ_RAISED, SECOND, RAISED, READ_RAISED],
     ),
     (
         *("client 1 is the first to ask, and the last to report", BOTH, 1, "4 1 2", True),
-        [
-            "prev 100 version 101 ordinal 1 fresh",
-            "101 raised pos 1",
-            "101 unlocked none pos 1",
-            "prev 0 version 100 ordinal 0 fresh",
-            "100 not raised pos 1",
-            "101 unlocked none pos 1",
-        ],
+        [SECOND, RAISED, READ_RAISED, FIRST, LATE, READ_RAISED],
     ),
     (
         *("a read goes back behind its client's report", BOTH, 1, "4 1 2", False),
-        [
-            "prev 0 version 100 ordinal 0 fresh",
-            "100 not raised pos 1",
-            READ,
-            "prev 100 version 101 ordinal 1 fresh",
-            "101 raised pos 1",
-            "101 unlocked none pos 1",
-        ],
+        [FIRST, LATE, READ, SECOND, RAISED, READ_RAISED],
     ),
     (
         *("both drew the same version", BOTH, 1, "4 0 2", False),
-        [
-            "prev 0 version 100 ordinal 0 fresh",
-            "100 not raised pos 0",
-            READ,
-            "prev 0 version 100 ordinal 0 fresh",
-            "100 not raised pos 0",
-            READ,
-        ],
+        [FIRST, NOT_ABOVE, READ, FIRST, NOT_ABOVE, READ],
     ),
     (
         *("a read before the report, a request between the two others", SEEN, 1, "2 1 3", True),
-        [
-            "prev 0 version 100 ordinal 0 fresh",
-            "prev 101 version 102 ordinal 2 fresh",
-            "102 raised pos 1",
-            READ,
-            "prev 100 version 101 ordinal 1 fresh",
-        ],
+        [FIRST, THIRD, "102 raised pos 1", READ, SECOND],
     ),
     (
         *("a version that is not above the one that its client has read", SEEN, 1, "2 1 3", False),
-        [
-            "prev 0 version 100 ordinal 0 fresh",
-            "prev 101 version 102 ordinal 2 fresh",
-            "102 raised pos 1",
-            "102 unlocked none pos 1",
-            "prev 100 version 101 ordinal 1 fresh",
-        ],
+        [FIRST, THIRD, "102 raised pos 1", "102 unlocked none pos 1", SECOND],
     ),
     (
         *("a read after a request that came behind the report", AFTER, 1, "2 1 4", True),
-        [
-            "prev 0 version 100 ordinal 0 fresh",
-            "prev 100 version 101 ordinal 1 fresh",
-            "101 raised pos 1",
-            "prev 101 version 102 ordinal 2 fresh",
-            "prev 102 version 103 ordinal 3 fresh",
-            "101 unlocked none pos 1",
-        ],
+        [FIRST, SECOND, RAISED, THIRD, FOURTH, READ_RAISED],
     ),
     (
         *("a read that misses the report though a request before it came behind that", AFTER, 1, "2 1 4", False),
-        [
-            "prev 0 version 100 ordinal 0 fresh",
-            "prev 100 version 101 ordinal 1 fresh",
-            "101 raised pos 1",
-            "prev 101 version 102 ordinal 2 fresh",
-            "prev 102 version 103 ordinal 3 fresh",
-            READ,
-        ],
+        [FIRST, SECOND, RAISED, THIRD, FOURTH, READ],
     ),
     (
         *("rounds in their order", ROUNDS, 4, "3 1 3", True),
-        [
-            "prev 0 version 100 ordinal 0 fresh",
-            "prev 100 version 101 ordinal 1 fresh",
-            "101 raised pos 1",
-            "101 unlocked none pos 1",
-            "prev 101 version 102 ordinal 2 fresh",
-            "101 unlocked none pos 1",
-        ],
+        [FIRST, SECOND, RAISED, READ_RAISED, THIRD, READ_RAISED],
     ),
     (
         *("a read of a later round that misses a report, which nobody told its client of", ROUNDS, 4, "3 1 3", False),
-        [
-            "prev 0 version 100 ordinal 0 fresh",
-            "prev 100 version 101 ordinal 1 fresh",
-            "101 raised pos 1",
-            READ,
-            "prev 101 version 102 ordinal 2 fresh",
-            "101 unlocked none pos 1",
-        ],
+        [FIRST, SECOND, RAISED, READ, THIRD, READ_RAISED],
     ),
     (
         *("a request of a later round that is drawn before one of an earlier round", ROUNDS, 4, "3 1 3", False),
-        [
-            "prev 0 version 100 ordinal 0 fresh",
-            "prev 101 version 102 ordinal 2 fresh",
-            "102 raised pos 1",
-            "102 unlocked none pos 1",
-            "prev 100 version 101 ordinal 1 fresh",
-            "102 unlocked none pos 1",
-        ],
+        [FIRST, THIRD, "102 raised pos 1", "102 unlocked none pos 1", SECOND, "102 unlocked none pos 1"],
     ),
     ("two of three find a queue of one full", reads("default", "default", "default", room=1), 1, "1 0 0", True, [FULL, READ, FULL]),
     ("nobody finds room", reads("default", "default", "default", room=1), 1, "0 0 0", False, [FULL, FULL, FULL]),
@@ -174,21 +101,11 @@ RACES = [
     ("a batch read that no batch read may wait", reads("default", "batch", room=1, batch=0), 1, "1 0 0", False, [READ, FULL]),
     (
         *("a queue that a read has left", APART, 1, "1 0 2", False),
-        [
-            READ,
-            "prev 0 version 100 ordinal 0 fresh",
-            "prev 100 version 101 ordinal 1 fresh",
-            FULL,
-        ],
+        [READ, FIRST, SECOND, FULL],
     ),
     (
         *("a queue in which a read may still wait", APART, 1, "1 0 2", True),
-        [
-            READ,
-            "prev 100 version 101 ordinal 1 fresh",
-            "prev 0 version 100 ordinal 0 fresh",
-            FULL,
-        ],
+        [READ, SECOND, FIRST, FULL],
     ),
     ("full once beside one read", OFTEN, 1, "2 0 0", True, [FULL, READ, READ]),
     ("full twice beside one read that starts at once", OFTEN, 1, "1 0 0", False, [FULL, FULL, READ]),

@@ -24,6 +24,7 @@ HELPING = [
     ("--help", "--help"),
     ("--history", "none.json", "--help"),
     ("--history", "--proxies", "2", "none.json", "--help"),
+    ("--proxies", "2", "--history", "one.json", "--help"),
 ]
 
 # `+3` and `-3` as clap has them: an integer may have a plus, and a word that begins with a minus is an option's.
@@ -51,6 +52,10 @@ REFUSED = [
     ("FILE", "--proxies", "2", "--history", "FILE"),
     ("FILE", "--proxies", "2", "--history", ""),
     ("FILE", "--history", "--proxies", "2", "--none"),
+    ("--proxies", "2", "--history", "FILE", "--none"),
+    ("--proxies", "2", "--history", "FILE", "--history"),
+    ("--proxies", "2", "--history", "FILE", "--proxies"),
+    ("--history", "--proxies", "16", "--", "FILE", "FILE"),
     ("--history", "--proxies", "2", "FILE", "--history"),
     ("--history", "--", "FILE", "--proxies", "2"),
     ("--proxies", "2", "--history", "--", "FILE", "--help"),
@@ -76,6 +81,8 @@ TAKEN = [
     (("--",), NO_COMMANDS),
     (("--history",), NO_COMMANDS),
     (("--proxies", "16", "--history"), NO_COMMANDS),
+    (("--proxies=+3", "--history", "--"), NO_COMMANDS),
+    (("--history", "--proxies", "16", "--"), NO_COMMANDS),
 ]
 
 
@@ -105,6 +112,7 @@ def named(program, folder):
     """What the file that is named may be."""
     first = done(first_output())
     yield "no such file", fault_of(run([program, f"{folder}/none.json"], first_script()), READING_FAILED)
+    yield "no such file behind --", fault_of(run([program, "--history", "--proxies", "16", "--", f"{folder}/none.json"], first_script()), READING_FAILED)
     yield "the empty name", fault_of(run([program, ""], first_script()), READING_FAILED)
     yield "a hyphen is a file's name", fault_of(run([program, "-"], first_script(), cwd=folder), READING_FAILED)
     yield "a name that is too long", fault_of(run([program, "x" * 5_000], first_script()), READING_FAILED)
@@ -128,16 +136,22 @@ def named(program, folder):
     yield "standard input is closed", fault_of(under(f"{folder}/script.json <&-", program), first)
     yield "standard input is a folder", fault_of(under(f"{folder}/script.json < /", program), first)
     yield "a full standard output", fault_of(under(f"{folder}/script.json --history > /dev/full", program), WRITING_FAILED)
-    yield "what is not asked for is not read", left_unread(program, f"{folder}/script.json")
+    for given, wanted in [
+        (f"{folder}/script.json", first),
+        (f"{folder}/none.json", READING_FAILED),
+        ("--none", WORDS_REFUSED),
+        ("--help", done(HELP)),
+    ]:
+        yield f"what is not asked for is not read, with {given}", left_unread(program, given, wanted)
 
 
-def left_unread(program, file):
-    """Runs the program on a file with a pipe as standard input, and returns what it took from that or did wrong."""
+def left_unread(program, word, wanted):
+    """Runs the program on a word with a pipe as standard input, and returns what it took from that or did wrong."""
     reader, writer = os.pipe()
     os.write(writer, b"left")
     os.close(writer)
     with os.fdopen(reader, "rb") as pipe:
-        fault = fault_of(run([program, file], stdin=pipe), done(first_output()))
+        fault = fault_of(run([program, word], stdin=pipe), wanted)
         return fault or (None if pipe.read() == b"left" else "standard input was read")
 
 

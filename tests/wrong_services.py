@@ -1,8 +1,18 @@
 """Services that answer wrongly and proxies that serve wrongly, each in one way, for the judge to refuse."""
+from contextlib import contextmanager
 from types import SimpleNamespace
 
 from model import LAST_VERSION, Record, Run
 from schedules import Proxy, Schedule
+
+
+@contextmanager
+def changed(it, **said):
+    """Changes some members of a command, and puts them back."""
+    own = {name: getattr(it, name) for name in said}
+    vars(it).update(said)
+    yield
+    vars(it).update(own)
 
 
 class OpeningReads(Run):
@@ -153,40 +163,32 @@ class LimitsForAll(Run):
     """A read gets the limits of default reads."""
 
     def grv(self, it):
-        own, it.priority = it.priority, "default" if self.turned_away(it) is None else it.priority
-        said = super().grv(it)
-        it.priority = own
-        return said
+        with changed(it, priority="default" if self.turned_away(it) is None else it.priority):
+            return super().grv(it)
 
 
 class LimitsAtExpiry(Run):
     """A limit holds also at the moment at which it expires."""
 
     def grv(self, it):
-        it.at -= 1
-        said = super().grv(it)
-        it.at += 1
-        return said
+        with changed(it, at=it.at - 1):
+            return super().grv(it)
 
 
 class LocksOutAll(Run):
     """A locked record is refused to lock-aware reads too."""
 
     def grv(self, it):
-        own, it.lock_aware = it.lock_aware, False
-        said = super().grv(it)
-        it.lock_aware = own
-        return said
+        with changed(it, lock_aware=False):
+            return super().grv(it)
 
 
 class LocksOutNobody(Run):
     """A locked record is given to each read."""
 
     def grv(self, it):
-        own, it.lock_aware = it.lock_aware, True
-        said = super().grv(it)
-        it.lock_aware = own
-        return said
+        with changed(it, lock_aware=True):
+            return super().grv(it)
 
 
 class CountsFromNought(Run):
@@ -208,20 +210,16 @@ class ReportsAnything(Run):
 
     def report(self, it):
         versions = self.logs[it.client].versions
-        own, it.num = it.num, it.num if it.num in versions else max(versions, default=it.num)
-        said = super().report(it)
-        it.num = own
-        return said
+        with changed(it, num=it.num if it.num in versions else max(versions, default=it.num)):
+            return super().report(it)
 
 
 class ReportsKeptAlone(Run):
     """A report of an answer that was given up is refused as NotIssued."""
 
     def report(self, it):
-        own, it.num = it.num, it.num if self.kept(it.client, it.num) else 0
-        said = super().report(it)
-        it.num = own
-        return said
+        with changed(it, num=it.num if self.kept(it.client, it.num) else 0):
+            return super().report(it)
 
 
 class TellsTheLatest(Run):

@@ -45,6 +45,16 @@ fn opened(
     }
 }
 
+/// The members of a request.
+pub fn ask_of(rt: &impl Abort, line: &mut Line<'_>) -> Ask {
+    Ask {
+        proxy: line.who(rt),
+        num: line.number(rt),
+        processed: line.number(rt),
+        at: line.number(rt),
+    }
+}
+
 /// Asks a chain.
 fn asked(
     rt: &impl Abort,
@@ -52,27 +62,44 @@ fn asked(
     chain: &mut ChainCore,
     line: &mut Line<'_>,
 ) -> Result<String, AllocError> {
-    let ask = Ask {
-        proxy: line.who(rt),
-        num: line.number(rt),
-        processed: line.number(rt),
-        at: line.number(rt),
-    };
-    let answer = match chain.ask(ask) {
-        Ok(issued) => issued_text(alloc, issued)?,
-        Err(cause) => cause.to_string(alloc)?,
-    };
+    let ask = ask_of(rt, line);
+    let answer = answer_text(alloc, answered(chain, ask))?;
     let standing = chain.answers().len();
     format!(in alloc; "{standing}: {answer}")
 }
 
+/// What a chain answers.
+fn answered(chain: &mut ChainCore, ask: Ask) -> Result<Issued, ChainError> {
+    chain.ask(ask)
+}
+
+/// The members of an answer, or why there is none.
+pub fn answer_text(
+    alloc: Global,
+    answer: Result<Issued, ChainError>,
+) -> Result<String, AllocError> {
+    match answer {
+        Ok(issued) => issued_text(alloc, issued),
+        Err(cause) => cause.to_string(alloc),
+    }
+}
+
 /// The members of an answer.
-pub fn issued_text(alloc: Global, issued: Issued) -> Result<String, AllocError> {
-    let (ordinal, proxy, num) = (issued.ordinal, issued.proxy, issued.num);
-    let (processed, at) = (issued.processed, issued.at);
-    let (prev, version) = (issued.prev, issued.version);
-    let fresh = if issued.fresh { "fresh" } else { "kept" };
-    format!(in alloc; "{ordinal} {proxy} {num} {processed} {prev} {version} {at} {fresh}")
+fn issued_text(alloc: Global, issued: Issued) -> Result<String, AllocError> {
+    let mut text = issued.ordinal.to_string(alloc)?;
+    push_number(alloc, &mut text, u64::from(issued.proxy))?;
+    push_number(alloc, &mut text, issued.num)?;
+    push_number(alloc, &mut text, issued.processed)?;
+    push_number(alloc, &mut text, issued.prev)?;
+    push_number(alloc, &mut text, issued.version)?;
+    push_number(alloc, &mut text, issued.at)?;
+    text.push_str(if issued.fresh { " fresh" } else { " kept" })?;
+    Ok(text)
+}
+
+/// Pushes a space and a number.
+fn push_number(alloc: Global, text: &mut String, number: u64) -> Result<(), AllocError> {
+    text.push_str(&format!(in alloc; " {number}")?)
 }
 
 const VERSIONS: &str = "
@@ -138,8 +165,6 @@ new 0 0 4 => the recovery version is out of range
 new 100 100 0 => the recovery version is out of range
 new 0 9223372036854775808 4 => the recovery version is out of range
 ";
-
-/// With ample memory there is a chain for each number of proxies, and for no proxy beyond that.
 
 const TEXTS: &[&str] = &[VERSIONS, KEPT, LAST, MEMBERS];
 

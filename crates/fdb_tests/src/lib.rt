@@ -1,36 +1,23 @@
-//! The tests of all crates of this repository: what no clause says, by values from outside.
+//! The tests of the crates that run no thread of their own: `fdb_history`, `fdb_chain`, `fdb_queue` and `fdb_script`. Like
+//! those in the crates of tests above, they are of what no clause says, by values from outside.
 //!
-//! They stand in a crate of their own above the others, so that none of those is proved twice. Most are texts, one case
-//! after another, that a small reader for each subject plays when the test runs: a literal in the code would be carried
-//! through the proof of its function. Without its tests this crate is empty.
+//! Tests stand in crates of their own, so that no library is proved twice. Most are texts, one case after another, that a
+//! small reader for each subject plays when the test runs: a literal in the code would be carried through the proof of its
+//! function. Without its tests this crate is what all of them use: a line of a text, and comparisons.
 #![tactic(auto)]
 
 #[cfg(test)]
 mod audits;
 #[cfg(test)]
-mod calls;
-#[cfg(test)]
 mod chain;
-#[cfg(test)]
-mod client;
-#[cfg(test)]
-mod gated;
-#[cfg(test)]
-mod line;
-#[cfg(test)]
-mod live;
-#[cfg(test)]
-mod proxy;
+pub mod line;
 #[cfg(test)]
 mod queue;
 #[cfg(test)]
 mod refused_memory;
 #[cfg(test)]
 mod register;
-#[cfg(test)]
-mod replay;
-#[cfg(test)]
-mod same;
+pub mod same;
 #[cfg(test)]
 mod script;
 #[cfg(test)]

@@ -1,6 +1,8 @@
 //! A line of a test's text, word by word. Where it is not what it should be, the test fails and shows the line.
 
 use crate::same::same_text;
+use fdb_history::{Priority, Tag};
+use std::alloc::{AllocError, Global};
 use std::process::Abort;
 use std::str::SplitWhitespace;
 
@@ -59,6 +61,16 @@ impl<'a> Line<'a> {
         word == yes
     }
 
+    /// The next word as a priority.
+    pub fn priority(&mut self, rt: &impl Abort) -> Priority {
+        match self.word(rt) {
+            "system" => Priority::System,
+            "default" => Priority::Default,
+            "batch" => Priority::Batch,
+            _ => self.fails(rt, "no priority"),
+        }
+    }
+
     /// Compares what was found with what the line wants behind its `=>`.
     pub fn wants(&self, rt: &impl Abort, found: &str) {
         let wanted = self.text.split_once("=>").map(|parts| parts.1.trim());
@@ -69,4 +81,9 @@ impl<'a> Line<'a> {
     pub fn fails(&self, rt: &impl Abort, why: &str) -> ! {
         panic!(rt; "{why}: {}", self.text)
     }
+}
+
+/// The tag of a word's bytes.
+pub fn tag(alloc: Global, word: &str) -> Result<Tag, AllocError> {
+    Ok(Tag::from(Vec::from_slice(alloc, word.as_bytes())?))
 }

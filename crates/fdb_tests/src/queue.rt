@@ -16,8 +16,8 @@ mod rows;
 mod throttles;
 mod waits;
 
-use crate::line::Line;
-use fdb_history::{Priority, Tag};
+use crate::line::{Line, tag};
+use fdb_history::{Priority, Tag, TagLimit};
 use fdb_queue::{GrvQueue, QueueConfig, QueueError, Req};
 use std::alloc::{AllocError, Global};
 use std::process::Abort;
@@ -94,15 +94,6 @@ fn called(
     }
 }
 
-pub fn priority(rt: &impl Abort, line: &mut Line<'_>) -> Priority {
-    match line.word(rt) {
-        "system" => Priority::System,
-        "default" => Priority::Default,
-        "batch" => Priority::Batch,
-        _ => line.fails(rt, "no priority"),
-    }
-}
-
 fn offered(
     rt: &impl Abort,
     alloc: Global,
@@ -110,7 +101,7 @@ fn offered(
     line: &mut Line<'_>,
 ) -> Result<String, AllocError> {
     let request = Req {
-        priority: priority(rt, line),
+        priority: line.priority(rt),
         count: line.number(rt),
         payload: line.who(rt),
     };
@@ -151,11 +142,6 @@ fn lengths_text(alloc: Global, queue: &GrvQueue<u32>) -> Result<String, AllocErr
     format!(in alloc; "{system} {default} {batch}")
 }
 
-/// The tag of a word's bytes.
-pub fn tag(alloc: Global, word: &str) -> Result<Tag, AllocError> {
-    Ok(Tag::from(Vec::from_slice(alloc, word.as_bytes())?))
-}
-
 /// The tags of the words in front of `=>`.
 fn tags(alloc: Global, line: &mut Line<'_>) -> Result<Vec<Tag>, AllocError> {
     let mut tags = Vec::new(alloc);
@@ -172,7 +158,7 @@ fn throttled(
     queue: &mut GrvQueue<u32>,
     line: &mut Line<'_>,
 ) -> Result<String, AllocError> {
-    let priority = priority(rt, line);
+    let priority = line.priority(rt);
     let tag = tag(alloc, line.word(rt))?;
     match queue.set_throttle(priority, tag, line.number(rt), line.number(rt)) {
         Ok(()) => String::from_str(alloc, "ok"),
@@ -186,27 +172,35 @@ fn limited(
     queue: &GrvQueue<u32>,
     line: &mut Line<'_>,
 ) -> Result<String, AllocError> {
-    let (priority, at) = (priority(rt, line), line.number(rt));
+    let (priority, at) = (line.priority(rt), line.number(rt));
     let tags = tags(alloc, line)?;
-    limits_text(alloc, queue, priority, &tags, at)
+    match limits(queue, priority, &tags, at) {
+        Ok(limits) => limits_text(alloc, &limits),
+        Err(cause) => cause.to_string(alloc),
+    }
 }
 
-fn limits_text(
-    alloc: Global,
+/// The limits of some tags.
+fn limits(
     queue: &GrvQueue<u32>,
     priority: Priority,
     tags: &[Tag],
     at: u64,
-) -> Result<String, AllocError> {
-    let limits = match queue.throttles(priority, tags, at) {
-        Ok(limits) => limits,
-        Err(cause) => return cause.to_string(alloc),
-    };
-    let mut text = format!(in alloc; "{}", limits.len())?;
-    for limit in &limits {
-        let tag = from_utf8(limit.tag.as_slice()).unwrap_or("no text");
-        let (rate, expires) = (limit.rate, limit.expires);
-        text.push_str(&format!(in alloc; ", {tag} {rate} {expires}")?)?;
+) -> Result<Vec<TagLimit>, QueueError> {
+    queue.throttles(priority, tags, at)
+}
+
+fn limits_text(alloc: Global, limits: &[TagLimit]) -> Result<String, AllocError> {
+    let mut text = limits.len().to_string(alloc)?;
+    for limit in limits {
+        text.push_str(&limit_text(alloc, limit)?)?;
     }
     Ok(text)
+}
+
+/// A limit, behind a comma.
+fn limit_text(alloc: Global, limit: &TagLimit) -> Result<String, AllocError> {
+    let tag = from_utf8(limit.tag.as_slice()).unwrap_or("no text");
+    let (rate, expires) = (limit.rate, limit.expires);
+    format!(in alloc; ", {tag} {rate} {expires}")
 }

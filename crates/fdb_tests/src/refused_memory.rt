@@ -4,11 +4,8 @@
 
 mod audits;
 mod chains;
-mod clients;
-mod live_records;
-mod proxies;
 mod queues;
 mod records;
-mod replays;
+mod scripts;
 mod sequencers;
 mod throttles;

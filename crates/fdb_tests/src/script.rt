@@ -1,15 +1,20 @@
 //! Scripts, and their parts as lines.
 
-mod refused;
-
-use crate::calls::script_of;
 use crate::same::same_text;
 use fdb_history::{GrvOpts, Tag};
-use fdb_script::{Act, Command, Script, Throttle};
+use fdb_script::{Act, Command, Script, ScriptError, Throttle, read_script};
 use std::alloc::{AllocError, Global};
 use std::process::Abort;
 use std::str::from_utf8;
 use std::test::Fail;
+
+/// A script, by a second call where memory is refused to the first.
+pub fn script_of(alloc: Global, text: &str) -> Result<Script, ScriptError> {
+    match read_script(alloc, text.as_bytes()) {
+        Err(ScriptError::Memory) => read_script(alloc, text.as_bytes()),
+        result => result,
+    }
+}
 
 /// The parts of a script: its numbers, its throttles, and its rounds with their commands.
 fn script_text(alloc: Global, script: &Script) -> Result<String, AllocError> {
@@ -80,13 +85,9 @@ fn read_text(alloc: Global, opts: &GrvOpts) -> Result<String, AllocError> {
 
 /// Reads a script, and compares its parts.
 fn says(rt: &impl Abort, alloc: Global, script: &str, wanted: &str) -> Result<(), Fail> {
-    let script = script_of(alloc, script.as_bytes())?;
-    same_text(
-        rt,
-        script_text(alloc, &script)?.as_str(),
-        wanted,
-        "a script",
-    );
+    let script = script_of(alloc, script)?;
+    let found = script_text(alloc, &script)?;
+    same_text(rt, found.as_str(), wanted, "a script");
     Ok(())
 }
 

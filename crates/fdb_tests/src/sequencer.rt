@@ -1,7 +1,7 @@
 //! The sequencer. Each line of a text is a request that goes through its lock, as in the tests of chains, but that what
 //! stands is looked at once the sequencer is closed.
 
-use crate::chain::issued_text;
+use crate::chain::{answer_text, ask_of};
 use crate::line::Line;
 use crate::same::same;
 use fdb_chain::{ChainCore, ChainError, Sequencer};
@@ -101,22 +101,24 @@ fn play<S: Service, R: Wait + Abort>(
             Some("ask") => {}
             Some(_) => line.fails(rt, "no request"),
         }
-        let ask = Ask {
-            proxy: line.who(rt),
-            num: line.number(rt),
-            processed: line.number(rt),
-            at: line.number(rt),
-        };
-        let found = match sequencer.ask(rt, &gate, ask) {
-            Ok(issued) => issued_text(alloc, issued)?,
-            Err(cause) => cause.to_string(alloc)?,
-        };
+        let ask = ask_of(rt, &mut line);
+        let found = answer_text(alloc, answered(rt, &sequencer, &gate, ask))?;
         line.wants(rt, &found);
         requests = requests.saturating_add(1);
         gate.was_passed(rt, requests as u64, ask.proxy);
     }
     same(rt, &sequencer.close().answers().len(), &standing, &text);
     Ok(())
+}
+
+/// What a sequencer answers.
+fn answered<S: Service, R: Wait>(
+    rt: &R,
+    sequencer: &Sequencer<S>,
+    gate: &Noting,
+    ask: Ask,
+) -> Result<Issued, ChainError> {
+    sequencer.ask(rt, gate, ask)
 }
 
 /// A sequencer of the service that begins with version 100, for 4 proxies.

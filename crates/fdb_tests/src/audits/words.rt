@@ -62,7 +62,8 @@ fn reported(rt: &impl Abort, line: &mut Line<'_>, raised: bool) -> Call {
     }
 }
 
-fn plain(version: u64) -> Record {
+/// A record with no lock and no metadata version.
+pub fn plain(version: u64) -> Record {
     Record {
         version,
         locked: false,

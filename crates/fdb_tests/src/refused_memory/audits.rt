@@ -1,7 +1,7 @@
 //! Audits.
 
+use crate::audits::words::plain;
 use crate::audits::{Case, audited, begun};
-use crate::live::steps::unlocked;
 use crate::same::{holds, same};
 use fdb_history::{AuditFault, Event, History};
 use std::alloc::{AllocError, Global};
@@ -58,7 +58,7 @@ fn are_events(rt: &impl Abort, events: &[Event]) {
     let read = Event::Read {
         client: 1,
         call: 0,
-        rec: unlocked(200),
+        rec: plain(200),
     };
     let wanted = [raise(2, 200), read, raise(3, 300)];
     holds(rt, events == wanted.as_slice(), &"the events");
@@ -69,7 +69,7 @@ fn raise(call: u64, version: u64) -> Event {
     Event::Report {
         client: 0,
         call,
-        rec: unlocked(version),
+        rec: plain(version),
         raised: true,
     }
 }

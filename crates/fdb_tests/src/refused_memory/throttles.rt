@@ -8,15 +8,24 @@ use std::alloc::{AllocError, Global};
 use std::process::Abort;
 use std::test::Fail;
 
-/// A tag of one byte, by a second call where memory is refused to the first.
-fn tag_of(alloc: Global, byte: u8) -> Result<Tag, AllocError> {
-    match [byte].to_vec(alloc) {
-        Ok(bytes) => Ok(Tag::from(bytes)),
-        Err(_) => Ok(Tag::from([byte].to_vec(alloc)?)),
+/// Tags of one byte each.
+fn tags_of(alloc: Global, bytes: &[u8]) -> Result<Vec<Tag>, AllocError> {
+    let mut tags = Vec::new(alloc);
+    for byte in bytes {
+        tags.push(Tag::from([*byte].to_vec(alloc)?))?;
+    }
+    Ok(tags)
+}
+
+/// The same, by a second call where memory is refused to the first.
+fn tags(alloc: Global, bytes: &[u8]) -> Result<Vec<Tag>, AllocError> {
+    match tags_of(alloc, bytes) {
+        Err(_) => tags_of(alloc, bytes),
+        tags => tags,
     }
 }
 
-/// Asks for the limits of a tag, by a second call where memory is refused to the first.
+/// Asks for the limits of tags, by a second call where memory is refused to the first.
 fn limits(queue: &GrvQueue<u32>, tags: &[Tag]) -> Result<Vec<TagLimit>, QueueError> {
     match queue.throttles(Priority::Default, tags, 0) {
         Err(QueueError::Memory) => queue.throttles(Priority::Default, tags, 0),
@@ -24,27 +33,37 @@ fn limits(queue: &GrvQueue<u32>, tags: &[Tag]) -> Result<Vec<TagLimit>, QueueErr
     }
 }
 
-/// The rate of the first tag of some, and how many limits they have.
-fn rate_of(queue: &GrvQueue<u32>, tags: &[Tag]) -> Result<(Option<u64>, usize), QueueError> {
-    let told = limits(queue, tags)?;
-    Ok((told.first().map(|limit| limit.rate), told.len()))
-}
-
-/// Sets the throttle of a tag, by a second call where memory is refused to the first, which has then changed nothing.
-fn set(
+/// Compares how many limits tags of these bytes have, and the rate of the first.
+fn are_limited(
     rt: &impl Abort,
     alloc: Global,
-    queue: &mut GrvQueue<u32>,
-    byte: u8,
-) -> Result<(), QueueError> {
-    let rate = u64::from(byte);
-    let outcome = queue.set_throttle(Priority::Default, tag_of(alloc, byte)?, rate, 1);
-    if outcome == Err(QueueError::Memory) {
-        let told = rate_of(queue, &[tag_of(alloc, byte)?])?;
-        same(rt, &told, &(None, 0), &"after a refused throttle");
-        return queue.set_throttle(Priority::Default, tag_of(alloc, byte)?, rate, 1);
+    queue: &GrvQueue<u32>,
+    bytes: &[u8],
+    count: usize,
+    rate: Option<u64>,
+) -> Result<(), Fail> {
+    let limits = limits(queue, &tags(alloc, bytes)?)?;
+    same(rt, &limits.len(), &count, &"how many limits");
+    let first = limits.first().map(|limit| limit.rate);
+    same(rt, &first, &rate, &"the rate of the first");
+    Ok(())
+}
+
+/// Throttles the tag of a byte at that rate.
+fn throttle(alloc: Global, queue: &mut GrvQueue<u32>, byte: u8) -> Result<(), QueueError> {
+    match tags(alloc, &[byte])?.pop() {
+        Some(tag) => queue.set_throttle(Priority::Default, tag, u64::from(byte), 1),
+        None => Ok(()),
     }
-    outcome
+}
+
+/// The same, by a second call where memory is refused to the first, which has then changed nothing.
+fn set(rt: &impl Abort, alloc: Global, queue: &mut GrvQueue<u32>, byte: u8) -> Result<(), Fail> {
+    if throttle(alloc, queue, byte) == Err(QueueError::Memory) {
+        are_limited(rt, alloc, queue, &[byte], 0, None)?;
+        throttle(alloc, queue, byte)?;
+    }
+    Ok(())
 }
 
 /// Enough throttles that a map grows more than once, and enough limits that their list does.
@@ -54,16 +73,10 @@ fn throttles_bear_it(rt: HostRuntime) -> Result<(), Fail> {
     for byte in 0..40u8 {
         set(&rt, rt.alloc(), &mut queue, byte)?;
     }
-    let unknown = tag_of(rt.alloc(), 40)?;
-    same(&rt, &rate_of(&queue, &[unknown])?, &(None, 0), &"unknown");
+    are_limited(&rt, rt.alloc(), &queue, &[40], 0, None)?;
     for byte in 0..40u8 {
-        let tags = [
-            tag_of(rt.alloc(), byte)?,
-            tag_of(rt.alloc(), 40)?,
-            tag_of(rt.alloc(), byte)?,
-        ];
-        let told = rate_of(&queue, &tags)?;
-        same(&rt, &told, &(Some(u64::from(byte)), 2), &byte);
+        let rate = Some(u64::from(byte));
+        are_limited(&rt, rt.alloc(), &queue, &[byte, 40, byte], 2, rate)?;
     }
     Ok(())
 }

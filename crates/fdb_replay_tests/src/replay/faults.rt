@@ -1,0 +1,70 @@
+//! Faults: the line and the status that the program ends with.
+
+use fdb_history::AuditFault;
+use fdb_replay::Fault;
+use fdb_script::ScriptError;
+use fdb_tests::same::{same, says};
+use std::alloc::Global;
+use std::process::Abort;
+use std::test::Fail;
+
+/// The text of a fault, and its status.
+fn ends(rt: &impl Abort, alloc: Global, fault: Fault, text: &str, status: u8) -> Result<(), Fail> {
+    says(rt, alloc, &fault, text)?;
+    same(rt, &fault.status(), &status, &text);
+    Ok(())
+}
+
+/// Faults that an audit found, which no script brings about, with what is said of them.
+const FOUND: &[(AuditFault, &str)] = &[
+    (
+        AuditFault::Order { client: 0, call: 1 },
+        "audit fault: Order 0 1",
+    ),
+    (
+        AuditFault::Wrong { client: 5, call: 6 },
+        "audit fault: Wrong 5 6",
+    ),
+    (
+        AuditFault::Stray { client: 7, call: 8 },
+        "audit fault: Stray 7 8",
+    ),
+    (
+        AuditFault::NotAbove {
+            client: 4_294_967_295,
+            call: 18_446_744_073_709_551_615,
+        },
+        "audit fault: NotAbove 4294967295 18446744073709551615",
+    ),
+    (AuditFault::Clash { position: 3 }, "audit fault: Clash 3"),
+    (
+        AuditFault::Gap {
+            position: 18_446_744_073_709_551_615,
+        },
+        "audit fault: Gap 18446744073709551615",
+    ),
+];
+
+#[test]
+fn faults_of_an_audit(rt: HostRuntime) -> Result<(), Fail> {
+    for (found, text) in FOUND {
+        ends(&rt, rt.alloc(), Fault::Audit(*found), text, 4)?;
+    }
+    Ok(())
+}
+
+#[test]
+fn other_faults(rt: HostRuntime) -> Result<(), Fail> {
+    let alloc = rt.alloc();
+    let no_json = Fault::Script(ScriptError::NotJson);
+    ends(&rt, alloc, no_json, "script refused: NotJson", 1)?;
+    let limit = Fault::Script(ScriptError::BadLimit);
+    ends(&rt, alloc, limit, "script refused: BadLimit", 1)?;
+    let (round, command) = (10_000, 9_999);
+    let field = Fault::Script(ScriptError::BadField { round, command });
+    ends(&rt, alloc, field, "script refused: BadField 10000 9999", 1)?;
+    ends(&rt, alloc, Fault::Words, "words refused", 2)?;
+    ends(&rt, alloc, Fault::Memory, "want of memory", 3)?;
+    ends(&rt, alloc, Fault::Reading, "reading failed", 5)?;
+    ends(&rt, alloc, Fault::Writing, "writing failed", 5)
+}

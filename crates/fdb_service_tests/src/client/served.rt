@@ -1,0 +1,147 @@
+//! Reads at a desk that the test serves.
+
+ghost use Rattle.std.specs.Prelude.{◌≡◌, true};
+ghost use Rattle.fdb_proxy.specs.Cause.{is_due};
+
+use crate::client::Service;
+use crossbeam_channel::Sender;
+use fdb_client::{Client, ClientError, ReadVersion};
+use fdb_history::{GrvOpts, OpenGate, Sequence};
+use fdb_live::{Live, LiveRecord, Seen};
+use fdb_proxy::{Answer, Cause, Desk, Refused, Reply, Request};
+use fdb_queue::QueueError;
+use std::alloc::{AllocError, Global};
+use std::process::Abort;
+use std::sync::Wait;
+use std::thread;
+use std::thread::Threads;
+
+/// How a request is answered.
+#[derive(Clone, Copy)]
+pub enum Way {
+    /// As it should be.
+    Served,
+    /// As another client's.
+    OfAnotherClient,
+    /// Under a number that is one too high.
+    OfAnotherSerial,
+    /// As if it had been asked one position later.
+    FromAnotherPosition,
+    /// It is not.
+    Dropped,
+    /// The proxy is closed.
+    Closed,
+    /// Its queue is full.
+    Full,
+    /// Its queue is refused memory.
+    OutOfMemory,
+}
+
+/// A client's read, while its desk is served in another thread.
+pub fn read_served<J: Live + Send + Sync, R: Threads + Wait + Abort + Sync>(
+    rt: &R,
+    alloc: Global,
+    service: &Service<J>,
+    served: &mut Seen<J>,
+    client: &mut Client<'_, J>,
+    opts: GrvOpts,
+    way: Way,
+) -> Result<ReadVersion, ClientError> {
+    let (desk, live) = (&service.desk, &service.live);
+    thread::join(
+        rt,
+        || serve(rt, alloc, desk, live, served, way),
+        || client.read_version(rt, &OpenGate, desk, opts),
+    )
+    .1
+}
+
+/// Takes what comes to the desk first, and answers it.
+fn serve<J: Live, R: Wait + Abort>(
+    rt: &R,
+    alloc: Global,
+    desk: &Desk<J>,
+    live: &LiveRecord<J>,
+    served: &mut Seen<J>,
+    way: Way,
+) {
+    let mut taken = desk.take(rt, true);
+    if let Some(request) = taken.requests.pop() {
+        answer(rt, alloc, live, served, request.payload, way);
+    }
+}
+
+/// Answers a request.
+fn answer<J: Live, R: Wait>(
+    rt: &R,
+    alloc: Global,
+    live: &LiveRecord<J>,
+    served: &mut Seen<J>,
+    request: Request<J>,
+    way: Way,
+) {
+    let reply: Result<Sender<Answer<J>>, AllocError> = request.reply.clone();
+    let answer = match way {
+        Way::Dropped => None,
+        Way::Closed => Some(refused(request, Cause::Closed)),
+        Way::Full => Some(refused(request, Cause::Queue(QueueError::Full))),
+        Way::OutOfMemory => Some(refused(request, Cause::Queue(QueueError::Memory))),
+        _ => replied(rt, alloc, live, served, request, way),
+    };
+    if let (Ok(reply), Some(answer)) = (reply, answer) {
+        let _ = reply.send(rt, answer);
+    }
+}
+
+/// That a request does not start.
+fn refused<J: Live>(request: Request<J>, cause: Cause) -> Answer<J>
+    requires { is_due cause ≡ true }
+{
+    let Request {
+        client,
+        serial,
+        asked,
+        seen,
+        opts: _,
+        reply: _,
+    } = request;
+    Answer::Refused(Refused {
+        client,
+        serial,
+        asked,
+        seen,
+        cause,
+    })
+}
+
+/// What a read gives, as the answer to this request or to another one.
+fn replied<J: Live, R: Wait>(
+    rt: &R,
+    alloc: Global,
+    live: &LiveRecord<J>,
+    served: &mut Seen<J>,
+    request: Request<J>,
+    way: Way,
+) -> Option<Answer<J>> {
+    live.learn(rt, served, request.seen);
+    let fetched = live.read(rt, served);
+    let (mut client, mut serial, mut asked) = (request.client, request.serial, request.asked);
+    match way {
+        Way::OfAnotherClient => client = 1 - client.min(1),
+        Way::OfAnotherSerial => serial = serial.saturating_add(1),
+        Way::FromAnotherPosition => asked = asked.saturating_add(1),
+        _ => (),
+    }
+    if fetched.position < asked {
+        return None;
+    }
+    Some(Answer::Reply(Reply {
+        client,
+        serial,
+        asked,
+        seen: live.split(served),
+        rec: fetched.rec,
+        position: fetched.position,
+        limits: Sequence::new(alloc),
+    }))
+}

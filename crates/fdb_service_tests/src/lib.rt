@@ -1,0 +1,11 @@
+//! The tests of `fdb_live`, `fdb_proxy` and `fdb_client`, whose calls meet in threads. Without its tests this crate is empty.
+#![tactic(auto)]
+
+#[cfg(test)]
+mod client;
+#[cfg(test)]
+mod live;
+#[cfg(test)]
+mod proxy;
+#[cfg(test)]
+mod refused_memory;

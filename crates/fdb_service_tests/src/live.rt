@@ -1,0 +1,118 @@
+//! The live record and its tokens. Each case is played on a record that was opened with version 100.
+
+ghost use Rattle.std.specs.Prelude.{◌≡◌};
+
+mod held;
+pub mod steps;
+mod threads;
+
+use crate::live::held::read_beside_report;
+use crate::live::steps::{learn_crosswise, unlocked, work_through};
+use crate::live::threads::run_all;
+use fdb_live::{Live, LiveError, LiveRecord, Opened, Seen};
+use fdb_tests::same::{same, says};
+use std::alloc::Global;
+use std::marker::Brand;
+use std::process::Abort;
+use std::sync::Wait;
+use std::test::Fail;
+use std::thread::Threads;
+
+/// What a test does with a live record and its tokens.
+#[derive(Clone, Copy)]
+pub enum Case {
+    /// Reads and reports of one thread.
+    Worked,
+    /// Two tokens learn of one another.
+    Crosswise,
+    /// A reader reads while a reporter holds the lock of the reports.
+    ReadBesideReport,
+    /// All reporters report and so many readers read, each in a thread of its own.
+    Threads { readers: u32 },
+}
+
+/// The live record of a service, with its tokens.
+#[derive(Drop)]
+pub struct Parts<J: Live> {
+    live: LiveRecord<J>,
+    /// The token with no number.
+    first: Seen<J>,
+    /// Those of the reporters.
+    tokens: Vec<Seen<J>>,
+}
+
+impl<J: Live> Parts<J> {
+    /// The token of the last reporter that is left.
+    fn last(&mut self, rt: &impl Abort) -> Seen<J> {
+        self.tokens.pop().expect(rt, "a token is left")
+    }
+}
+
+/// Plays a case. It fails where memory is refused, and passes else.
+pub fn play<R: Threads + Wait + Abort + Sync>(
+    rt: &R,
+    alloc: Global,
+    reporters: u32,
+    case: Case,
+) -> Result<(), LiveError> {
+    assert!(rt; reporters > 0 && reporters <= 64, "reporters in range");
+    let opened = LiveRecord::<Brand>::open(rt, alloc, unlocked(100), reporters)?;
+    play_named::<Brand, R>(rt, alloc, opened, case)
+}
+
+/// Plays a case under the name of the service.
+fn play_named<J: Live + Send + Sync, R: Threads + Wait + Abort + Sync>(
+    rt: &R,
+    alloc: Global,
+    opened: Opened,
+    case: Case,
+) -> Result<(), LiveError>
+    requires { opened ≡ record { table = J.table; start = J.start; reporters = J.reporters } }
+{
+    let (live, first, tokens) = opened.parts::<J>()?;
+    let parts = Parts {
+        live,
+        first,
+        tokens,
+    };
+    match case {
+        Case::Worked => work_through(rt, parts),
+        Case::Crosswise => learn_crosswise(rt, parts),
+        Case::ReadBesideReport => read_beside_report(rt, parts),
+        Case::Threads { readers } => run_all(rt, alloc, parts, readers)?,
+    }
+    Ok(())
+}
+
+/// Why a live record is not opened with a version, if it is not.
+fn refusal_of<R: Wait>(rt: &R, alloc: Global, version: u64) -> Option<LiveError> {
+    LiveRecord::<Brand>::open(rt, alloc, unlocked(version), 2).err()
+}
+
+/// Reads and reports of one thread, tokens that learn crosswise, and a read beside a report.
+#[test]
+fn reads_and_reports(rt: HostRuntime) -> Result<(), Fail> {
+    play(&rt, rt.alloc(), 2, Case::Worked)?;
+    play(&rt, rt.alloc(), 2, Case::Crosswise)?;
+    play(&rt, rt.alloc(), 2, Case::ReadBesideReport)?;
+    Ok(())
+}
+
+#[test]
+fn reporters_and_readers_in_threads(rt: HostRuntime) -> Result<(), Fail> {
+    play(&rt, rt.alloc(), 2, Case::Threads { readers: 1 })?;
+    play(&rt, rt.alloc(), 8, Case::Threads { readers: 4 })?;
+    Ok(())
+}
+
+#[test]
+fn versions_in_and_out_of_range(rt: HostRuntime) -> Result<(), Fail> {
+    same(&rt, &refusal_of(&rt, rt.alloc(), 0), &None, &0);
+    let greatest = refusal_of(&rt, rt.alloc(), 9_223_372_036_854_775_807);
+    same(&rt, &greatest, &None, &"the greatest");
+    let above = refusal_of(&rt, rt.alloc(), 9_223_372_036_854_775_808);
+    same(&rt, &above, &Some(LiveError::TooLarge), &"above");
+    says(&rt, rt.alloc(), &LiveError::Memory, "want of memory")?;
+    let text = "the version is out of range";
+    says(&rt, rt.alloc(), &LiveError::TooLarge, text)
+}

@@ -1,0 +1,137 @@
+//! What one thread does with a live record.
+
+use crate::live::Parts;
+use fdb_history::{Gate, OpenGate, Record};
+use fdb_live::{Ack, Fetched, Live, LiveError, LiveRecord, Seen};
+use fdb_tests::same::{holds, same};
+use std::process::Abort;
+use std::sync::Wait;
+
+/// A record with no lock and no metadata version.
+pub fn unlocked(version: u64) -> Record {
+    Record {
+        version,
+        locked: false,
+        metadata: None,
+    }
+}
+
+/// Reports a version by the token of a reporter.
+pub fn report_at<J: Live, R: Wait + Abort, G: Gate>(
+    rt: &R,
+    live: &LiveRecord<J>,
+    gate: &G,
+    seen: &mut Seen<J>,
+    version: u64,
+) -> Result<Ack, LiveError> {
+    let who = seen.reporter().expect(rt, "a reporter's token");
+    live.report(rt, gate, who, seen, unlocked(version))
+}
+
+/// Checks what the report of a version is answered, and its token's position.
+fn reports<J: Live, R: Wait + Abort>(
+    rt: &R,
+    live: &LiveRecord<J>,
+    seen: &mut Seen<J>,
+    version: u64,
+    (raised, position): (bool, u64),
+) {
+    let found = report_at(rt, live, &OpenGate, seen, version);
+    same(rt, &found, &Ok(Ack { raised, position }), &version);
+    same(rt, &seen.position(), &position, &version);
+}
+
+/// Checks what a read answers, and its token's position.
+pub fn reads<J: Live, R: Wait + Abort>(
+    rt: &R,
+    live: &LiveRecord<J>,
+    seen: &mut Seen<J>,
+    version: u64,
+    position: u64,
+) {
+    let rec = unlocked(version);
+    same(
+        rt,
+        &live.read(rt, seen),
+        &Fetched { rec, position },
+        &version,
+    );
+    same(rt, &seen.position(), &position, &version);
+}
+
+/// Checks that the report of a version above the greatest one is refused, and changes nothing.
+fn refuses<J: Live, R: Wait + Abort>(
+    rt: &R,
+    live: &LiveRecord<J>,
+    seen: &mut Seen<J>,
+    version: u64,
+    position: u64,
+) {
+    let found = report_at(rt, live, &OpenGate, seen, 9_223_372_036_854_775_808);
+    same(rt, &found, &Err(LiveError::TooLarge), &"too large");
+    reads(rt, live, seen, version, position);
+}
+
+/// The reads and reports of two reporters and of the first token, which nobody tells anything.
+pub fn work_through<J: Live, R: Wait + Abort>(rt: &R, mut parts: Parts<J>) {
+    let (mut one, mut zero) = (parts.last(rt), parts.last(rt));
+    let Parts {
+        live,
+        mut first,
+        tokens,
+    } = parts;
+    holds(rt, tokens.is_empty(), &"two reporters");
+    same(rt, &first.reporter(), &None, &"the first token");
+    are_numbered(rt, &zero, &one);
+    reads(rt, &live, &mut zero, 100, 0);
+    refuses(rt, &live, &mut zero, 100, 0);
+    reports(rt, &live, &mut zero, 200, (true, 1));
+    reports(rt, &live, &mut zero, 200, (false, 1));
+    reads(rt, &live, &mut first, 200, 1);
+    reports(rt, &live, &mut one, 150, (false, 1));
+}
+
+/// Checks that two tokens are those of the reporters 0 and 1.
+fn are_numbered<J: Live>(rt: &impl Abort, zero: &Seen<J>, one: &Seen<J>) {
+    same(rt, &zero.reporter(), &Some(0), &"reporter 0");
+    same(rt, &one.reporter(), &Some(1), &"reporter 1");
+}
+
+/// Checks the positions of two tokens.
+fn are_at<J: Live>(rt: &impl Abort, (zero, at): (&Seen<J>, u64), (one, place): (&Seen<J>, u64)) {
+    same(rt, &zero.position(), &at, &"reporter 0");
+    same(rt, &one.position(), &place, &"reporter 1");
+}
+
+/// Each of two reporters raises the record and learns what the other has seen, and keeps its number.
+pub fn learn_crosswise<J: Live, R: Wait + Abort>(rt: &R, mut parts: Parts<J>) {
+    let (mut one, mut zero) = (parts.last(rt), parts.last(rt));
+    let live = parts.live;
+    reports(rt, &live, &mut zero, 200, (true, 1));
+    let early = live.split(&mut zero);
+    reports(rt, &live, &mut one, 300, (true, 2));
+    are_at(rt, (&zero, 1), (&one, 2));
+    exchange(rt, &live, &mut zero, &mut one);
+    are_at(rt, (&zero, 2), (&one, 2));
+    are_numbered(rt, &zero, &one);
+    // told of less
+    live.learn(rt, &mut zero, early);
+    are_at(rt, (&zero, 2), (&one, 2));
+    live.meet(rt, &mut zero, &mut one);
+    reports(rt, &live, &mut zero, 400, (true, 3));
+}
+
+/// Each of two holders learns what the other has seen.
+fn exchange<J: Live, R: Wait + Abort>(
+    rt: &R,
+    live: &LiveRecord<J>,
+    zero: &mut Seen<J>,
+    one: &mut Seen<J>,
+) {
+    let of_zero = live.split(zero);
+    let of_one = live.split(one);
+    same(rt, &of_zero.reporter(), &None, &"split off");
+    same(rt, &of_one.reporter(), &None, &"split off");
+    live.learn(rt, zero, of_one);
+    live.learn(rt, one, of_zero);
+}

@@ -1,0 +1,165 @@
+//! Reporters and readers, each in a thread of its own.
+
+use crate::live::Parts;
+use crate::live::steps::{reads, unlocked};
+use fdb_history::OpenGate;
+use fdb_live::{Live, LiveRecord, Seen};
+use fdb_tests::same::{holds, same};
+use std::alloc::{AllocError, Global};
+use std::process::Abort;
+use std::sync::Wait;
+use std::thread;
+use std::thread::Threads;
+
+/// How many reports or reads each thread makes.
+const TURNS: u64 = 1000;
+
+/// One that reports or reads.
+#[derive(Drop)]
+struct Worker<J: Live> {
+    token: Seen<J>,
+    /// The version that it read last.
+    version: u64,
+    /// How many of its reports raised the record.
+    raises: u64,
+    /// Whether a position or a version ever fell, or a report was refused.
+    failed: bool,
+}
+
+impl<J: Live> Worker<J> {
+    fn new(token: Seen<J>) -> Self {
+        Worker {
+            token,
+            version: 0,
+            raises: 0,
+            failed: false,
+        }
+    }
+
+    /// Reports rising versions that no other worker reports, or reads where its token has no number.
+    fn work<R: Wait>(&mut self, rt: &R, live: &LiveRecord<J>, reporters: u64) {
+        for turn in 0..TURNS {
+            match self.token.reporter() {
+                Some(who) => {
+                    let before = turn.saturating_mul(reporters).saturating_add(100);
+                    self.report(rt, live, before.saturating_add(u64::from(who) + 1));
+                }
+                None => self.read(rt, live),
+            }
+        }
+    }
+
+    /// Reports a version, if its token has a number.
+    fn report<R: Wait>(&mut self, rt: &R, live: &LiveRecord<J>, version: u64) {
+        let before = self.token.position();
+        let Some(who) = self.token.reporter() else {
+            return;
+        };
+        match live.report(rt, &OpenGate, who, &mut self.token, unlocked(version)) {
+            Ok(ack) => {
+                self.raises = self.raises.saturating_add(u64::from(ack.raised));
+                self.failed |= ack.position < before;
+            }
+            Err(_) => self.failed = true,
+        }
+    }
+
+    fn read<R: Wait>(&mut self, rt: &R, live: &LiveRecord<J>) {
+        let before = self.token.position();
+        let fetched = live.read(rt, &mut self.token);
+        self.failed |= fetched.position < before || fetched.rec.version < self.version;
+        self.version = fetched.rec.version;
+    }
+}
+
+/// A worker for each reporter and for each reader.
+fn workers_of<J: Live>(
+    alloc: Global,
+    live: &LiveRecord<J>,
+    first: &mut Seen<J>,
+    tokens: Vec<Seen<J>>,
+    readers: u32,
+) -> Result<Vec<Worker<J>>, AllocError> {
+    let mut workers = Vec::new(alloc);
+    for token in tokens {
+        workers.push(Worker::new(token))?;
+    }
+    for _ in 0..readers {
+        workers.push(Worker::new(live.split(first)))?;
+    }
+    Ok(workers)
+}
+
+/// Every reporter reports rising versions that no other has, and readers read beside them. Then the greatest version
+/// stands, at the position that counts the raises, and all tokens meet.
+pub fn run_all<J: Live + Send + Sync, R: Threads + Wait + Abort + Sync>(
+    rt: &R,
+    alloc: Global,
+    parts: Parts<J>,
+    readers: u32,
+) -> Result<(), AllocError> {
+    let Parts {
+        live,
+        mut first,
+        tokens,
+    } = parts;
+    let reporters = tokens.len() as u64;
+    let mut workers = workers_of(alloc, &live, &mut first, tokens, readers)?;
+    let threads = workers.len().max(1);
+    thread::for_each_mut(
+        rt,
+        workers.as_mut_slice(),
+        threads,
+        &|_, worker| {
+            worker.work(rt, &live, reporters);
+        },
+    );
+    let greatest = TURNS.saturating_mul(reporters).saturating_add(100);
+    reads(rt, &live, &mut first, greatest, raises_of(rt, &workers));
+    all_meet(rt, &live, &mut first, workers);
+    Ok(())
+}
+
+/// How many reports raised the record. No worker failed.
+fn raises_of<J: Live>(rt: &impl Abort, workers: &[Worker<J>]) -> u64 {
+    let mut raises = 0u64;
+    for worker in workers {
+        holds(rt, !worker.failed, &"what was seen fell, or was refused");
+        raises = raises.saturating_add(worker.raises);
+    }
+    raises
+}
+
+/// Any two of the tokens meet, and the first, which has seen all, learns of no more.
+fn all_meet<J: Live, R: Wait + Abort>(
+    rt: &R,
+    live: &LiveRecord<J>,
+    first: &mut Seen<J>,
+    mut workers: Vec<Worker<J>>,
+) {
+    let all = first.position();
+    while let Some(mut one) = workers.pop() {
+        meets(rt, live, &mut one.token, &mut workers);
+        tells(rt, live, first, &mut one.token);
+        same(rt, &first.position(), &all, &"told of no more");
+    }
+}
+
+/// A token meets those of some workers.
+fn meets<J: Live, R: Wait>(
+    rt: &R,
+    live: &LiveRecord<J>,
+    one: &mut Seen<J>,
+    workers: &mut Vec<Worker<J>>,
+) {
+    for other in workers {
+        live.meet(rt, one, &mut other.token);
+    }
+}
+
+/// The first token meets another, and learns what that has seen.
+fn tells<J: Live, R: Wait>(rt: &R, live: &LiveRecord<J>, first: &mut Seen<J>, one: &mut Seen<J>) {
+    live.meet(rt, first, one);
+    let told = live.split(one);
+    live.learn(rt, first, told);
+}

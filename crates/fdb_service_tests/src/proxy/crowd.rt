@@ -1,0 +1,232 @@
+//! Clients and proxies, each in a thread of its own.
+
+use crate::live::steps::report_at;
+use crate::proxy::stand::{Stand, Waiter, opts_of, queue_of, request_of, submit};
+use fdb_history::{OpenGate, Priority};
+use fdb_live::{Live, LiveRecord, Seen};
+use fdb_proxy::{Answer, Desk, GrvProxy};
+use fdb_tests::same::{holds, same};
+use std::alloc::{AllocError, Global};
+use std::process::Abort;
+use std::sync::Wait;
+use std::thread;
+use std::thread::Threads;
+
+/// How often each client reports and then asks.
+const TURNS: u64 = 100;
+
+/// How many requests it leaves before it waits for their answers.
+const REQUESTS: u64 = 10;
+
+/// Two desks, and the record that their proxies read.
+#[derive(Drop)]
+struct Service<J: Live> {
+    alloc: Global,
+    live: LiveRecord<J>,
+    one: Desk<J>,
+    other: Desk<J>,
+}
+
+/// One that reports and asks.
+#[derive(Drop)]
+struct Client<J: Live> {
+    number: u32,
+    token: Seen<J>,
+    /// How many of its requests were answered as they should be, and once.
+    answered: u64,
+}
+
+impl<J: Live> Client<J> {
+    /// Reports versions that no other client reports, and asks. It stops where memory is refused.
+    fn work<R: Wait + Abort>(&mut self, rt: &R, service: &Service<J>) -> Result<(), AllocError> {
+        for turn in 0..TURNS {
+            let version = turn
+                .saturating_mul(4)
+                .saturating_add(u64::from(self.number) + 200);
+            let live = &service.live;
+            let acked = report_at(rt, live, &OpenGate, &mut self.token, version).is_ok();
+            holds(rt, acked, &version);
+            let first = turn.saturating_mul(REQUESTS);
+            let asked = self.token.position();
+            let waiters = self.ask(rt, service, first)?;
+            self.hear(rt, service, first, asked, waiters.as_slice());
+        }
+        Ok(())
+    }
+
+    /// Leaves requests at both desks in turn, with serial numbers from the first one on.
+    fn ask<R: Wait>(
+        &mut self,
+        rt: &R,
+        service: &Service<J>,
+        first: u64,
+    ) -> Result<Vec<Waiter<J>>, AllocError> {
+        let mut waiters = Vec::new(service.alloc);
+        for place in 0..REQUESTS {
+            waiters.push(self.ask_one(rt, service, first.saturating_add(place))?)?;
+        }
+        Ok(waiters)
+    }
+
+    /// Leaves a request at one of the desks.
+    fn ask_one<R: Wait>(
+        &mut self,
+        rt: &R,
+        service: &Service<J>,
+        serial: u64,
+    ) -> Result<Waiter<J>, AllocError> {
+        let (alloc, live) = (service.alloc, &service.live);
+        let opts = opts_of(Priority::Default, 1, Vec::new(alloc), 0);
+        let (request, waiter) = request_of(
+            alloc,
+            live,
+            &mut self.token,
+            self.number,
+            serial,
+            opts,
+        )?;
+        let desk = if serial % 2 == 0 {
+            &service.one
+        } else {
+            &service.other
+        };
+        match submit(rt, desk, request) {
+            Ok(()) => Ok(waiter),
+            Err(_) => Err(AllocError),
+        }
+    }
+
+    /// Waits for the answers to requests with such serial numbers and this asked position.
+    fn hear<R: Wait>(
+        &mut self,
+        rt: &R,
+        service: &Service<J>,
+        first: u64,
+        asked: u64,
+        waiters: &[Waiter<J>],
+    ) {
+        let mut serial = first;
+        for waiter in waiters {
+            self.hear_one(rt, service, serial, asked, waiter);
+            serial = serial.saturating_add(1);
+        }
+    }
+
+    /// Waits for an answer, and until no second one may come.
+    fn hear_one<R: Wait>(
+        &mut self,
+        rt: &R,
+        service: &Service<J>,
+        serial: u64,
+        asked: u64,
+        waiter: &Waiter<J>,
+    ) {
+        let Ok(Answer::Reply(reply)) = waiter.recv(rt) else {
+            return;
+        };
+        let own = (reply.client, reply.serial, reply.asked) == (self.number, serial, asked);
+        let once = waiter.recv(rt).is_err();
+        if own && once && reply.position >= asked {
+            self.answered = self.answered.saturating_add(1);
+        }
+        service.live.learn(rt, &mut self.token, reply.seen);
+    }
+}
+
+/// A client for each token.
+fn clients_of<J: Live>(alloc: Global, tokens: Vec<Seen<J>>) -> Result<Vec<Client<J>>, AllocError> {
+    let mut clients = Vec::new(alloc);
+    for token in tokens {
+        let number = token.reporter().unwrap_or(0);
+        clients.push(Client {
+            number,
+            token,
+            answered: 0,
+        })?;
+    }
+    Ok(clients)
+}
+
+/// Four clients ask two proxies, and each of their requests is answered.
+pub fn ask_all<J: Live + Send + Sync, R: Threads + Wait + Abort + Sync>(
+    rt: &R,
+    stand: Stand<J>,
+) -> Result<(), AllocError> {
+    let Stand {
+        alloc,
+        live,
+        mut seen,
+        reporters,
+        ..
+    } = stand;
+    let mut clients = clients_of(alloc, reporters)?;
+    let service = Service {
+        alloc,
+        live,
+        one: Desk::new(alloc),
+        other: Desk::new(alloc),
+    };
+    let served = serve_clients(rt, &service, &mut seen, clients.as_mut_slice())?;
+    holds(rt, served, &"a proxy has a thread and memory");
+    let wanted = TURNS.saturating_mul(REQUESTS);
+    for client in &clients {
+        same(rt, &client.answered, &wanted, &client.number);
+    }
+    Ok(())
+}
+
+/// A proxy that lets 100,000 transactions start in each window.
+fn proxy_of<'a, J: Live>(
+    service: &'a Service<J>,
+    desk: &'a Desk<J>,
+    seen: &mut Seen<J>,
+) -> Result<GrvProxy<'a, J>, AllocError> {
+    let queue = queue_of(service.alloc, 100_000, 100_000, 100_000)?;
+    let (alloc, live) = (service.alloc, &service.live);
+    let token = live.split(seen);
+    Ok(GrvProxy::new(alloc, live, desk, queue, 10_000_000, token))
+}
+
+/// Runs two proxies, and beside them the clients, each in a thread of its own. Answers whether all could be run, and the
+/// proxies ended because their desks were closed.
+fn serve_clients<J: Live + Send + Sync, R: Threads + Wait + Abort + Sync>(
+    rt: &R,
+    service: &Service<J>,
+    seen: &mut Seen<J>,
+    clients: &mut [Client<J>],
+) -> Result<bool, AllocError> {
+    let first = proxy_of(service, &service.one, seen)?;
+    let second = proxy_of(service, &service.other, seen)?;
+    let served = thread::scope(thread::scope_env(), rt, |scope| {
+        let first = scope.spawn(move || first.run(rt).is_ok());
+        let second = scope.spawn(move || second.run(rt).is_ok());
+        if first.is_ok() && second.is_ok() {
+            ask_side_by_side(rt, service, clients);
+        }
+        service.one.close(rt);
+        service.other.close(rt);
+        match (first, second) {
+            (Ok(first), Ok(second)) => first.join(rt) && second.join(rt),
+            _ => false,
+        }
+    });
+    Ok(served)
+}
+
+/// Lets each client work in a thread of its own.
+fn ask_side_by_side<J: Live + Send + Sync, R: Threads + Wait + Abort + Sync>(
+    rt: &R,
+    service: &Service<J>,
+    clients: &mut [Client<J>],
+) {
+    let threads = clients.len().max(1);
+    thread::for_each_mut(
+        rt,
+        clients,
+        threads,
+        &|_, client| {
+            let worked = client.work(rt, service).is_ok();
+            holds(rt, worked, &"memory for a client");
+        },
+    );
+}

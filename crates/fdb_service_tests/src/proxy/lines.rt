@@ -1,0 +1,176 @@
+//! A text, each line of which is a call, and behind `=>` what it is answered:
+//!
+//! - `report` has a version: the position after it;
+//! - `see`: the clients see the record, and their position;
+//! - `submit` has a client, a serial number, a priority, a count, a moment and tags: `in`, or what is handed back and why;
+//! - `leave`: who asked last waits no more;
+//! - `close`: the desk is closed;
+//! - `serve`: the answers to what waits at the desk, as one batch;
+//! - `run` has the limits and the room of a queue: the proxy runs in a thread of its own until its desk is closed;
+//! - `answers`: those that came to each who waits, in order;
+//! - `position`: that of the proxy's token.
+//!
+//! The queues have a throttle of the tag `t` at the default priority: 5 transactions a second until the moment 5000.
+
+use crate::proxy::answers::{answers_text, asker_text, awaited};
+use crate::proxy::stand::{Ended, Queue, Stand, opts_of, queue_of, submit};
+use fdb_history::{GrvOpts, Priority, Tag};
+use fdb_live::Live;
+use fdb_proxy::{GrvProxy, ProxyError, Request, Taken, serve_batch};
+use fdb_queue::Req;
+use fdb_tests::line::{Line, tag};
+use std::alloc::{AllocError, Global};
+use std::process::Abort;
+use std::sync::Wait;
+use std::thread;
+use std::thread::Threads;
+
+/// Plays the lines of a text.
+pub fn play_lines<J: Live + Send + Sync, R: Threads + Wait + Abort + Sync>(
+    rt: &R,
+    mut stand: Stand<J>,
+    text: &str,
+) -> Result<(), AllocError> {
+    for it in text.lines() {
+        let mut line = Line::new(it);
+        let found = match line.next_word() {
+            None | Some("#") => continue,
+            Some(call) => called(rt, &mut stand, call, &mut line)?,
+        };
+        line.wants(rt, &found);
+    }
+    Ok(())
+}
+
+/// What a call is answered.
+fn called<J: Live + Send + Sync, R: Threads + Wait + Abort + Sync>(
+    rt: &R,
+    stand: &mut Stand<J>,
+    call: &str,
+    line: &mut Line<'_>,
+) -> Result<String, AllocError> {
+    let alloc = stand.alloc;
+    match call {
+        "report" => stand.report(rt, line.number(rt)).to_string(alloc),
+        "see" => seen(rt, stand),
+        "submit" => submitted(rt, stand, line),
+        "leave" => left(stand),
+        "close" => closed(rt, stand),
+        "serve" => served(rt, stand),
+        "run" => run(rt, stand, line),
+        "answers" => awaited(rt, alloc, stand.waiters.as_slice()),
+        "position" => stand.served.position().to_string(alloc),
+        _ => line.fails(rt, "no call"),
+    }
+}
+
+fn seen<J: Live, R: Wait>(rt: &R, stand: &mut Stand<J>) -> Result<String, AllocError> {
+    stand.live.read(rt, &mut stand.seen);
+    stand.seen.position().to_string(stand.alloc)
+}
+
+fn submitted<J: Live, R: Wait + Abort>(
+    rt: &R,
+    stand: &mut Stand<J>,
+    line: &mut Line<'_>,
+) -> Result<String, AllocError> {
+    let (client, serial) = (line.who(rt), line.number(rt));
+    let opts = opts(rt, stand.alloc, line)?;
+    let (request, waiter) = stand.request(client, serial, opts)?;
+    match submit(rt, &stand.desk, request) {
+        Ok(()) => {
+            stand.waiters.push(waiter)?;
+            String::from_str(stand.alloc, "in")
+        }
+        Err((cause, back)) => handed_back(stand.alloc, cause, &back),
+    }
+}
+
+/// What a client asks for.
+fn opts(rt: &impl Abort, alloc: Global, line: &mut Line<'_>) -> Result<GrvOpts, AllocError> {
+    let (priority, count) = (line.priority(rt), line.number(rt));
+    let at = line.number(rt);
+    Ok(opts_of(priority, count, tags(alloc, line)?, at))
+}
+
+/// The tags of the words that are left in front of `=>`.
+fn tags(alloc: Global, line: &mut Line<'_>) -> Result<Vec<Tag>, AllocError> {
+    let mut tags = Vec::new(alloc);
+    for _ in 0..10 {
+        match line.next_word() {
+            None | Some("=>") => break,
+            Some(word) => tags.push(tag(alloc, word)?)?,
+        }
+    }
+    Ok(tags)
+}
+
+/// A request that the desk does not take.
+fn handed_back<J: Live>(
+    alloc: Global,
+    cause: ProxyError,
+    back: &Req<Request<J>>,
+) -> Result<String, AllocError> {
+    let request = &back.payload;
+    let mut text = asker_text(alloc, request.client, request.serial, request.asked)?;
+    text.push_str(&cause.to_string(alloc)?)?;
+    Ok(text)
+}
+
+fn left<J: Live>(stand: &mut Stand<J>) -> Result<String, AllocError> {
+    let left = stand.waiters.pop().is_some();
+    String::from_str(stand.alloc, if left { "gone" } else { "nobody" })
+}
+
+fn closed<J: Live, R: Wait>(rt: &R, stand: &mut Stand<J>) -> Result<String, AllocError> {
+    stand.desk.close(rt);
+    String::from_str(stand.alloc, "ok")
+}
+
+fn served<J: Live, R: Wait>(rt: &R, stand: &mut Stand<J>) -> Result<String, AllocError> {
+    let alloc = stand.alloc;
+    let queue = throttled_queue(alloc, 1, 1, 1)?;
+    let Taken { requests, .. } = stand.desk.take(rt, false);
+    match serve_batch(rt, alloc, &stand.live, &mut stand.served, &queue, requests) {
+        Ok(answers) => answers_text(alloc, answers.as_slice()),
+        Err((cause, _)) => cause.to_string(alloc),
+    }
+}
+
+fn run<J: Live + Send + Sync, R: Threads + Wait + Abort + Sync>(
+    rt: &R,
+    stand: &mut Stand<J>,
+    line: &mut Line<'_>,
+) -> Result<String, AllocError> {
+    let (normal, batch) = (line.number(rt), line.number(rt));
+    let queue = throttled_queue(stand.alloc, normal, batch, line.number(rt))?;
+    match run_in_thread(rt, stand.proxy(queue)) {
+        Ok(token) => {
+            stand.served = token;
+            String::from_str(stand.alloc, "ok")
+        }
+        Err((cause, _)) => cause.to_string(stand.alloc),
+    }
+}
+
+/// Runs a proxy in a thread of its own.
+fn run_in_thread<J: Live + Send + Sync, R: Threads + Wait + Sync>(
+    rt: &R,
+    proxy: GrvProxy<'_, J>,
+) -> Ended<J> {
+    thread::join(rt, || proxy.run(rt), || ()).0
+}
+
+/// A queue with the throttle.
+fn throttled_queue<J: Live>(
+    alloc: Global,
+    normal: u64,
+    batch: u64,
+    room: u64,
+) -> Result<Queue<J>, AllocError> {
+    let mut queue = queue_of(alloc, normal, batch, room)?;
+    match queue.set_throttle(Priority::Default, tag(alloc, "t")?, 5, 5000) {
+        Ok(()) => Ok(queue),
+        Err(_) => Err(AllocError),
+    }
+}

@@ -1,0 +1,277 @@
+//! Batches and proxies that may be refused memory.
+
+use crate::proxy::stand::{Ended, Queue, Stand, Waiter, opts_of, queue_of, submit};
+use fdb_history::Priority;
+use fdb_live::Live;
+use fdb_proxy::{Answer, Cause, GrvProxy, ProxyError, Request, serve_batch};
+use fdb_queue::{QueueError, Req};
+use fdb_tests::same::{holds, same};
+use std::alloc::AllocError;
+use std::process::Abort;
+use std::sync::Wait;
+use std::thread::Threads;
+use std::{mem, thread};
+
+/// How many requests wait at the desk.
+const REQUESTS: u64 = 3;
+
+/// Leaves the requests of client 0 on the desk, with serial numbers from 0 on. One that is refused memory is handed back,
+/// and left once more.
+fn submit_all<J: Live, R: Wait + Abort>(rt: &R, stand: &mut Stand<J>) -> Result<(), AllocError> {
+    for serial in 0..REQUESTS {
+        let opts = opts_of(Priority::Default, 1, Vec::new(stand.alloc), 0);
+        let (request, waiter) = stand.request(0, serial, opts)?;
+        stand.waiters.push(waiter)?;
+        match submit(rt, &stand.desk, request) {
+            Ok(()) => {}
+            Err((cause, back)) => submit_again(rt, stand, cause, back.payload, serial)?,
+        }
+    }
+    Ok(())
+}
+
+/// Leaves a request on the desk that was refused.
+fn submit_again<J: Live, R: Wait + Abort>(
+    rt: &R,
+    stand: &Stand<J>,
+    cause: ProxyError,
+    back: Request<J>,
+    serial: u64,
+) -> Result<(), AllocError> {
+    same(rt, &cause, &ProxyError::Memory, &"left on an open desk");
+    same(rt, &back.client, &0, &"is handed back");
+    same(rt, &back.serial, &serial, &"is handed back");
+    match submit(rt, &stand.desk, back) {
+        Ok(()) => Ok(()),
+        Err(_) => Err(AllocError),
+    }
+}
+
+/// Serves a batch, by a second call where memory is refused to the first, which has then changed nothing and hands the
+/// requests back.
+pub fn serve_refused<J: Live, R: Wait + Abort>(
+    rt: &R,
+    mut stand: Stand<J>,
+) -> Result<(), AllocError> {
+    submit_all(rt, &mut stand)?;
+    stand.report(rt, 2100);
+    let queue = queue_of(stand.alloc, 1, 1, 1)?;
+    let requests = taken(rt, &mut stand);
+    let answers = match serve(rt, &mut stand, &queue, requests) {
+        Err((cause, back)) => serve_again(rt, &mut stand, &queue, cause, back)?,
+        Ok(answers) => answers,
+    };
+    are_replies(rt, answers.as_slice());
+    is_at(rt, &stand, 1);
+    Ok(())
+}
+
+/// What waits at the desk.
+fn taken<J: Live, R: Wait>(rt: &R, stand: &mut Stand<J>) -> Vec<Req<Request<J>>> {
+    stand.desk.take(rt, false).requests
+}
+
+/// Serves a batch once more that came back, and to which nothing had happened.
+fn serve_again<J: Live, R: Wait + Abort>(
+    rt: &R,
+    stand: &mut Stand<J>,
+    queue: &Queue<J>,
+    cause: ProxyError,
+    back: Vec<Req<Request<J>>>,
+) -> Result<Vec<Answer<J>>, AllocError> {
+    same(rt, &cause, &ProxyError::Memory, &"a batch that is refused");
+    is_at(rt, stand, 0);
+    are_handed_back(rt, back.as_slice());
+    serve(rt, stand, queue, back).map_err(|_| AllocError)
+}
+
+/// Compares the position of the proxy's token.
+fn is_at<J: Live>(rt: &impl Abort, stand: &Stand<J>, position: u64) {
+    same(
+        rt,
+        &stand.served.position(),
+        &position,
+        &"the proxy's token",
+    );
+}
+
+/// Serves a batch.
+fn serve<J: Live, R: Wait>(
+    rt: &R,
+    stand: &mut Stand<J>,
+    queue: &Queue<J>,
+    requests: Vec<Req<Request<J>>>,
+) -> Result<Vec<Answer<J>>, (ProxyError, Vec<Req<Request<J>>>)> {
+    serve_batch(
+        rt,
+        stand.alloc,
+        &stand.live,
+        &mut stand.served,
+        queue,
+        requests,
+    )
+}
+
+/// Checks that all requests come back in order.
+fn are_handed_back<J: Live>(rt: &impl Abort, back: &[Req<Request<J>>]) {
+    same(rt, &(back.len() as u64), &REQUESTS, &"are handed back");
+    for (place, request) in back.iter().enumerate() {
+        same(
+            rt,
+            &request.payload.serial,
+            &(place as u64),
+            &"is handed back",
+        );
+    }
+}
+
+/// Checks that each answer is the reply to its request, in order.
+fn are_replies<J: Live>(rt: &impl Abort, answers: &[Answer<J>]) {
+    same(rt, &(answers.len() as u64), &REQUESTS, &"answers");
+    for (place, answer) in answers.iter().enumerate() {
+        holds(rt, is_reply(answer, place as u64), &place);
+    }
+}
+
+/// Whether an answer is the reply to a request, after a report.
+fn is_reply<J: Live>(answer: &Answer<J>, serial: u64) -> bool {
+    match answer {
+        Answer::Reply(reply) => reply.serial == serial && reply.rec.version == 2100,
+        Answer::Refused(_) => false,
+    }
+}
+
+/// What came of some requests.
+#[derive(Clone, Copy)]
+struct Heard {
+    /// How many were answered with the reply.
+    replies: u64,
+    /// How many were answered that their offer was refused memory.
+    refused: u64,
+    /// How many were dropped without an answer.
+    dropped: u64,
+}
+
+/// Runs a proxy. Where it ends well, each request has one answer: the reply, or that its offer was refused memory, which it
+/// is not where the queue had as many requests before. Where it ends for want of memory, its desk is closed and empty.
+pub fn run_refused<J: Live + Send + Sync, R: Threads + Wait + Abort + Sync>(
+    rt: &R,
+    mut stand: Stand<J>,
+    used: bool,
+) -> Result<(), AllocError> {
+    let mut queue = queue_of(stand.alloc, 9, 9, 9)?;
+    if used {
+        fill_and_empty(&mut stand, &mut queue)?;
+    }
+    submit_all(rt, &mut stand)?;
+    stand.report(rt, 2100);
+    let waiters = mem::replace(&mut stand.waiters, Vec::new(stand.alloc));
+    let (ended, heard) = run_and_hear(rt, &mut stand, queue, &waiters)?;
+    match ended {
+        Ok(()) => {
+            same(rt, &heard.dropped, &0, &"are dropped");
+            holds(rt, !used || heard.refused == 0, &"there was capacity");
+            Ok(())
+        }
+        Err(cause) => {
+            same(rt, &cause, &ProxyError::Memory, &"a proxy that ended");
+            is_left_closed(rt, &stand);
+            Err(AllocError)
+        }
+    }
+}
+
+/// Checks that the desk is closed and empty.
+fn is_left_closed<J: Live, R: Wait + Abort>(rt: &R, stand: &Stand<J>) {
+    let taken = stand.desk.take(rt, false);
+    holds(rt, taken.closed, &"the desk is closed");
+    holds(rt, taken.requests.is_empty(), &"the desk is empty");
+}
+
+/// Lets a queue have as many requests as will come, and none after that.
+fn fill_and_empty<J: Live>(stand: &mut Stand<J>, queue: &mut Queue<J>) -> Result<(), AllocError> {
+    for serial in 0..REQUESTS {
+        let opts = opts_of(Priority::Default, 1, Vec::new(stand.alloc), 0);
+        let (payload, _) = stand.request(1, serial, opts)?;
+        let (priority, count) = (Priority::Default, 1);
+        let offered = queue.offer(Req {
+            priority,
+            count,
+            payload,
+        });
+        offered.map_err(|_| AllocError)?;
+    }
+    for _ in 0..REQUESTS {
+        queue.pop();
+    }
+    Ok(())
+}
+
+/// Runs the proxy in a thread of its own, and closes its desk once all requests are answered.
+fn run_and_hear<J: Live + Send + Sync, R: Threads + Wait + Abort + Sync>(
+    rt: &R,
+    stand: &mut Stand<J>,
+    queue: Queue<J>,
+    waiters: &[Waiter<J>],
+) -> Result<(Result<(), ProxyError>, Heard), AllocError> {
+    let (alloc, token) = (stand.alloc, stand.live.split(&mut stand.served));
+    let (live, desk) = (&stand.live, &stand.desk);
+    let proxy = GrvProxy::new(alloc, live, desk, queue, 1_000_000, token);
+    thread::scope(thread::scope_env(), rt, |scope| {
+        let Ok(running) = scope.spawn(move || cause_of(proxy.run(rt))) else {
+            return Err(AllocError);
+        };
+        let heard = hear_all(rt, waiters);
+        if heard.dropped == 0 {
+            desk.close(rt);
+        }
+        Ok((running.join(rt), heard))
+    })
+}
+
+/// Why a proxy ended, if not since its desk was closed.
+fn cause_of<J: Live>(ended: Ended<J>) -> Result<(), ProxyError> {
+    match ended {
+        Ok(_) => Ok(()),
+        Err((cause, _)) => Err(cause),
+    }
+}
+
+/// Waits until each request is answered once, or dropped.
+fn hear_all<J: Live, R: Wait + Abort>(rt: &R, waiters: &[Waiter<J>]) -> Heard {
+    let mut heard = Heard {
+        replies: 0,
+        refused: 0,
+        dropped: 0,
+    };
+    for (serial, waiter) in waiters.iter().enumerate() {
+        hear(rt, &mut heard, serial as u64, waiter);
+    }
+    heard
+}
+
+/// Waits until a request is answered once, or dropped.
+fn hear<J: Live, R: Wait + Abort>(rt: &R, heard: &mut Heard, serial: u64, waiter: &Waiter<J>) {
+    match waiter.recv(rt) {
+        Ok(answer) => {
+            assert!(rt; waiter.recv(rt).is_err(), "a second answer to {serial}");
+            if is_reply(&answer, serial) {
+                heard.replies = heard.replies.saturating_add(1);
+            } else {
+                assert!(rt; is_refused_memory(&answer, serial), "no answer to {serial}");
+                heard.refused = heard.refused.saturating_add(1);
+            }
+        }
+        Err(_) => heard.dropped = heard.dropped.saturating_add(1),
+    }
+}
+
+/// Whether an answer is that the offer of a request was refused memory.
+fn is_refused_memory<J: Live>(answer: &Answer<J>, serial: u64) -> bool {
+    match answer {
+        Answer::Reply(_) => false,
+        Answer::Refused(refused) => {
+            refused.serial == serial && refused.cause == Cause::Queue(QueueError::Memory)
+        }
+    }
+}
