@@ -9,14 +9,14 @@
 mod error;
 mod lines;
 mod outcome;
-mod printed;
+mod printing;
 mod reading;
 mod script;
 mod setup;
 
 pub use error::ScriptError;
 pub use outcome::Outcome;
-pub use printed::text;
+pub use printing::text;
 pub use reading::read_script;
 pub use script::{
     Act, Command, MAX_CLIENTS, MAX_COMMANDS, MAX_ROUNDS, MAX_SCRIPT_BYTES, MAX_TAGS, MAX_THROTTLES,

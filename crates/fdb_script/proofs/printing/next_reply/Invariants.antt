@@ -1,6 +1,6 @@
 use Rattle.std.proofs.Common.{◌≡◌, length}
 use Rattle.fdb_script.specs.Text.{replies_of}
-use Rattle.fdb_script.proofs.printed.next_reply.Given as goal
+use Rattle.fdb_script.proofs.printing.next_reply.Given as goal
 
 -- what was passed over answers no command
 abbrev pub invariant-loop-call : goal.invariant-loop-call

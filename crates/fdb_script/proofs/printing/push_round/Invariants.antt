@@ -1,6 +1,6 @@
 use Rattle.std.proofs.Common.{◌≡◌, ◌++◌, drop, map, take, string_bytes}
 use Rattle.fdb_script.specs.Text.{calls_after, replies_of, round_lines}
-use Rattle.fdb_script.proofs.printed.push_round.Given as goal
+use Rattle.fdb_script.proofs.printing.push_round.Given as goal
 
 -- what is written, and the lines of what is left, are all lines; and so are the calls of the clients so far and those of the others
 abbrev pub invariant-loop-client : goal.invariant-loop-client

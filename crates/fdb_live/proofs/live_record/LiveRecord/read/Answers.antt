@@ -1,5 +1,5 @@
 use Rattle.fdb_live.proofs.Tokens.{looked_below, looked_in_range}
-use Rattle.fdb_live.proofs.record.LiveRecord.read.Goals as goal
+use Rattle.fdb_live.proofs.live_record.LiveRecord.read.Goals as goal
 
 pub returns-clause-below : goal.returns-clause-below
 returns-clause-below g c = looked_below c.seen.invariant.2 c.look-fetched.ensures.looks

@@ -1,7 +1,7 @@
 use Rattle.std.proofs.Common.{sym, ◌∙◌}
 use Rattle.fdb_script.specs.Text.{replies_of}
 use Rattle.fdb_script.proofs.Texts.{part_written, passed_over, replied}
-use Rattle.fdb_script.proofs.printed.push_client.Goals as goal
+use Rattle.fdb_script.proofs.printing.push_client.Goals as goal
 
 pub loop-number-preserved-then-from-client : goal.loop-number-preserved-then-from-client
 loop-number-preserved-then-from-client c =

@@ -1,6 +1,6 @@
 use Rattle.std.proofs.Common.{sym, ◌∙◌, ◌<◌, length, arith}
 use Rattle.fdb_script.proofs.Texts.{client_replied, part_written}
-use Rattle.fdb_script.proofs.printed.push_round.Goals as goal
+use Rattle.fdb_script.proofs.printing.push_round.Goals as goal
 
 pub loop-client-preserved : goal.loop-client-preserved
 loop-client-preserved c =

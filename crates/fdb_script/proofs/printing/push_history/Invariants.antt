@@ -1,6 +1,6 @@
 use Rattle.std.proofs.Common.{◌≡◌, ◌++◌, drop, string_bytes}
 use Rattle.fdb_script.specs.Text.{history_lines}
-use Rattle.fdb_script.proofs.printed.push_history.Given as goal
+use Rattle.fdb_script.proofs.printing.push_history.Given as goal
 
 -- what is written, and the lines of what is left, are all lines
 abbrev pub invariant-loop-number : goal.invariant-loop-number

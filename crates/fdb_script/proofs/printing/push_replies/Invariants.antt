@@ -1,6 +1,6 @@
 use Rattle.std.proofs.Common.{◌≡◌, ◌++◌, drop, map, string_bytes}
 use Rattle.fdb_script.specs.Text.{replies_of, reply_lines}
-use Rattle.fdb_script.proofs.printed.push_replies.Given as goal
+use Rattle.fdb_script.proofs.printing.push_replies.Given as goal
 
 -- what is written, and the lines of what is left, are all lines
 abbrev pub invariant-loop-round : goal.invariant-loop-round

@@ -1,6 +1,6 @@
 use Rattle.std.proofs.Common.{◌≡◌, ◌++◌, ◌==◌, drop, count_by, string_bytes}
 use Rattle.fdb_script.specs.Text.{client_lines, replies_of}
-use Rattle.fdb_script.proofs.printed.push_client.Given as goal
+use Rattle.fdb_script.proofs.printing.push_client.Given as goal
 
 -- what is written, and the lines of what is left, are all lines; and what is left comes to the same in the end
 abbrev pub invariant-loop-number : goal.invariant-loop-number

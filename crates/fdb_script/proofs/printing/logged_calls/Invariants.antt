@@ -1,6 +1,6 @@
 use Rattle.std.proofs.Common.{◌≡◌, map, take}
 use Rattle.fdb_script.specs.Text.{replies_of}
-use Rattle.fdb_script.proofs.printed.logged_calls.Given as goal
+use Rattle.fdb_script.proofs.printing.logged_calls.Given as goal
 
 -- the calls of the logs so far
 abbrev pub invariant-loop-log : goal.invariant-loop-log
