@@ -1,11 +1,12 @@
 -- The laws of answers: what is kept, and that requests make a chain.
 use Rattle.std.proofs.Common.{◌≡◌, ℕ, zero, suc, ◌+◌, ◌-◌, ◌<◌, ◌≤◌, Bool, true, false, cond, not, ◌&&◌, List, [], ◌∷◌, ◌++◌, reverse, length, take, slice_get, Option, Some, None, Ok, Err, refl, sym, ap, ◌∙◌, subst, le_refl, arith, eqb, ltb, leb, eqb-true, find}
-use Rattle.std.proofs.lemmas.Bool.{cond-true, cond-false, eq-eqb, and_parts, lt-ltb, le-ltb, ltb-false, leb-true, leb-false, le-leb, not_from_true, false_from_ne_true}
+use Rattle.std.proofs.lemmas.Bool.{cond-true, cond-false, eq-eqb, and_parts, ltb-false, leb-true, leb-false, false_from_ne_true}
+use Rattle.std.proofs.lemmas.Bool.Decides.{nat_tests}
 use Rattle.std.proofs.lemmas.Option.{same_Some, none-some, slice_get_within, slice_get-get_or, get_or_from_slice_get}
 use Rattle.std.proofs.lemmas.List.{append-nil, append_assoc, get_or-reverse, length-reverse, take_at, take_all}
 use Rattle.std.proofs.lemmas.List.Sums.{sum_by-cons}
 use Rattle.fdb_history.specs.Chain.{latest, IsChain}
-use Rattle.fdb_history.specs.Answer.{Chain, kept_among, kept, next_answer, fresh_answer, kept_answer, answer_to, chain_after, after_asks}
+use Rattle.fdb_history.specs.Answer.{Chain, kept_among, kept, next_answer, kept_answer, answer_to, chain_after, after_asks}
 use Rattle.fdb_history.specs.declared.chain.Ask.{Ask}
 use Rattle.fdb_history.specs.declared.chain.Issued.{Issued}
 use Rattle.fdb_history.specs.declared.log.Refusal.TheVariants.{UnknownProxy, Early, Exhausted}
@@ -119,14 +120,9 @@ kept-latest epoch_end recovery answers proxy num answer chain found =
 
 pub repeated-kept : (chain : Chain) (ask : Ask) (answer : Issued) → IsChain chain.epoch_end chain.recovery chain.answers → ask.proxy < chain.proxies → kept ask.proxy ask.num chain.answers ≡ Some answer → answer_to chain ask ≡ Ok (record answer { fresh = false })
 repeated-kept chain ask answer is known found =
-    let last = latest ask.proxy chain.answers in
     let old = kept-latest chain.epoch_end chain.recovery chain.answers ask.proxy ask.num answer is found in
-    cond-false (not (ltb ask.proxy chain.proxies)) (Err UnknownProxy) (cond (ltb (last + 1) ask.num) (Err (Early (last + 1))) (cond (leb ask.num last) (kept_answer (kept ask.proxy ask.num chain.answers)) (fresh_answer chain ask)))
-    (not_from_true (ltb ask.proxy chain.proxies) (lt-ltb ask.proxy chain.proxies known))
-    ∙ cond-false (ltb (last + 1) ask.num) (Err (Early (last + 1))) (cond (leb ask.num last) (kept_answer (kept ask.proxy ask.num chain.answers)) (fresh_answer chain ask))
-    (le-ltb (last + 1) ask.num (omega arith))
-    ∙ cond-true (leb ask.num last) (kept_answer (kept ask.proxy ask.num chain.answers)) (fresh_answer chain ask) (le-leb ask.num last old)
-    ∙ ap kept_answer found
+    let again : answer_to chain ask ≡ kept_answer (kept ask.proxy ask.num chain.answers) = grind (arith, nat_tests) in
+    again ∙ ap kept_answer found
 
 -- the chain with one more answer
 abbrev with_next : Chain → Ask → Chain

@@ -1,8 +1,8 @@
 -- What a client has drawn, along the calls of its log, and which answers that bears out.
-use Rattle.std.proofs.Common.{◌≡◌, ℕ, ◌+◌, ◌-◌, ◌==◌, ◌&&◌, Bool, true, false, cond, List, [], ◌∷◌, ◌++◌, filter, length, slice_get, Option, Some, None, refl, ap, sym, ◌∙◌, subst, inl, inr, arith, leb, append-nil, length-append}
+use Rattle.std.proofs.Common.{◌≡◌, ℕ, ◌+◌, ◌-◌, ◌==◌, ◌&&◌, Bool, true, false, cond, List, [], ◌∷◌, ◌++◌, filter, length, slice_get, Option, Some, None, refl, ap, sym, ◌∙◌, subst, inl, inr, arith, append-nil, length-append}
 use Rattle.std.specs.List.{find}
 use Rattle.std.specs.Option.{option_map, option_map_or, option_and_then, option_or}
-use Rattle.std.proofs.lemmas.Bool.{and_parts, cases_eq, cases_lt, cases_order, cond-true, eq-eqb, eqb-true, lt-ltb, le-ltb, le-leb, lt-leb, ne_eqb, false≢true}
+use Rattle.std.proofs.lemmas.Bool.{and_parts, cases_eq, cases_lt, cases_order, cond-true, eq-eqb, eqb-true, ne_eqb, false≢true}
 use Rattle.std.proofs.lemmas.Bool.Decides.{eqb_tells, leb_tells, nat_tests}
 use Rattle.std.proofs.lemmas.List.Concat.{flat_map-append}
 use Rattle.std.proofs.lemmas.List.Elements.{filter-append}
@@ -217,11 +217,9 @@ is_fresh issued = issued.fresh
 due_cases : (latest_num num : ℕ) (again next : Bool) (P : Type 0) → by_number latest_num num false again next ≡ true → (again ≡ true → P) → (num ≡ latest_num + 1 → next ≡ true → P) → P
 due_cases latest_num num again next P due if_again if_next =
     elim (cases_order num (latest_num + 1)) [
-      | inl same ↦
-          if_next same (sym (ap (λ b. cond b false (cond (leb num latest_num) again next)) (le-ltb (latest_num + 1) num (omega arith)) ∙ ap (λ b. cond b again next) (lt-leb num latest_num (omega arith))) ∙ due)
-      | inr (inl below) ↦
-          if_again (sym (ap (λ b. cond b false (cond (leb num latest_num) again next)) (le-ltb (latest_num + 1) num (omega arith)) ∙ ap (λ b. cond b again next) (le-leb num latest_num (omega arith))) ∙ due)
-      | inr (inr above) ↦ absurd (false≢true (sym (ap (λ b. cond b false (cond (leb num latest_num) again next)) (lt-ltb (latest_num + 1) num above)) ∙ due))
+      | inl same ↦ if_next same (grind (arith, nat_tests))
+      | inr (inl below) ↦ if_again (grind (arith, nat_tests))
+      | inr (inr above) ↦ let none : false ≡ true = grind (arith, nat_tests) in absurd (false≢true none)
     ]
 
 step-asked : (chain : List Issued) (client : ℕ) (answers fresh : List Issued) (own : KeptReplies) (num processed at : ℕ) (issued : Issued) → AreOwn chain client answers fresh own

@@ -34,8 +34,8 @@ pub enum AuditFault {
         /// The call.
         call: u64,
     },
-    /// A reply that nothing justifies: neither its call, nor the chain, nor the client's own log. Where the chain has an entry of
-    /// the client that none of its calls drew, the call is the end of its log, and call 0 where it has no log.
+    /// A reply that nothing justifies: it is at odds with its call, the chain or the client's own log. Where the chain has
+    /// an entry of the client that none of its calls drew, the call is the end of its log, and call 0 where it has no log.
     #[error("Stray {client} {call}")]
     Stray {
         /// The client.

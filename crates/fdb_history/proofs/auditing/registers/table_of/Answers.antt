@@ -7,5 +7,5 @@ loop-raise-preserved c =
     let pushed = c.push_reserved-in-loop-raise.ensures in
     record {
       table = rw pushed.items (table-more c.loop-raise.invariant.table _ c.after_report-current.result (omega arith) c.after_report-current.ensures);
-      room = omega (arith, pushed.capacity);
+      capacity = omega (arith, pushed.capacity);
     }
