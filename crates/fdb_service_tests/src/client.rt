@@ -181,8 +181,9 @@ log 1 => 1 calls, at 0
 read 1 dropped => the GRV proxy is closed
 read 1 closed => the GRV proxy is closed
 read 1 full => the queue is full
+read 1 full_serial => the answer is another call's
 read 1 memory => want of memory
-log 1 => 4 calls, at 0
+log 1 => 5 calls, at 0
 read 1 served => 2100 at 1
 ask 0 0 4000 => 3100 after 2100, fresh
 lock 0 3 => raised at 2
@@ -192,7 +193,7 @@ shut => ok
 read 1 served => the GRV proxy is closed
 ask 0 0 5000 => 4100 after 3100, fresh
 report 0 4 => raised at 3
-log 1 => 8 calls, at 2
+log 1 => 9 calls, at 2
 meet => ok
 ";
 

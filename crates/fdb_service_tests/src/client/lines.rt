@@ -5,7 +5,7 @@ use crate::client::{Service, Stand};
 use fdb_client::{Client, ClientError, ReadVersion};
 use fdb_history::{GrvOpts, Issued, OpenGate, Priority, Sequence};
 use fdb_live::{Ack, Live, Seen};
-use fdb_tests::line::Line;
+use fdb_tests::line::{Line, tag};
 use std::alloc::{AllocError, Global};
 use std::process::Abort;
 use std::sync::Wait;
@@ -52,7 +52,7 @@ fn called<J: Live + Send + Sync, R: Threads + Wait + Abort + Sync>(
         "report" => reported(rt, alloc, client, line.number(rt), false),
         "lock" => reported(rt, alloc, client, line.number(rt), true),
         "read" | "aware" => {
-            let (opts, way) = (opts_of(alloc, call == "aware"), way(rt, line));
+            let (opts, way) = (told_apart(alloc, call == "aware")?, way(rt, line));
             let found = read_served(rt, alloc, service, &mut stand.served, client, opts, way);
             read_text(alloc, found)
         }
@@ -114,9 +114,23 @@ fn way(rt: &impl Abort, line: &mut Line<'_>) -> Way {
         "dropped" => Way::Dropped,
         "closed" => Way::Closed,
         "full" => Way::Full,
+        "full_serial" => Way::FullOfAnotherSerial,
         "memory" => Way::OutOfMemory,
         _ => line.fails(rt, "no way to answer"),
     }
+}
+
+/// A read of which each option is another than that of a plain one.
+fn told_apart(alloc: Global, lock_aware: bool) -> Result<GrvOpts, AllocError> {
+    let mut tags = Sequence::new(alloc);
+    tags.push(tag(alloc, "web")?)?;
+    Ok(GrvOpts {
+        priority: Priority::Batch,
+        count: 7,
+        tags,
+        lock_aware,
+        at: 9,
+    })
 }
 
 /// A read of one transaction without tags.

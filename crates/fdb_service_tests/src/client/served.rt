@@ -10,6 +10,7 @@ use fdb_history::{GrvOpts, OpenGate, Sequence};
 use fdb_live::{Live, LiveRecord, Seen};
 use fdb_proxy::{Answer, Cause, Desk, Refused, Reply, Request};
 use fdb_queue::QueueError;
+use fdb_tests::same::holds;
 use std::alloc::{AllocError, Global};
 use std::process::Abort;
 use std::sync::Wait;
@@ -33,11 +34,34 @@ pub enum Way {
     Closed,
     /// Its queue is full.
     Full,
+    /// Its queue is full, says an answer under a number that is one too high.
+    FullOfAnotherSerial,
     /// Its queue is refused memory.
     OutOfMemory,
 }
 
-/// A client's read, while its desk is served in another thread.
+/// What a client's request has to be.
+#[derive(Drop)]
+struct Wanted {
+    client: u32,
+    serial: u64,
+    asked: u64,
+    opts: GrvOpts,
+}
+
+impl Wanted {
+    /// Whether this is such a request.
+    fn is_met<J: Live>(&self, request: &Request<J>) -> bool {
+        request.client == self.client
+            && request.serial == self.serial
+            && request.asked == self.asked
+            && request.seen.position() == self.asked
+            && request.opts == self.opts
+    }
+}
+
+/// A client's read, while its desk is served in another thread. It leaves one request there, under the number of the calls
+/// before it, and with what the client has seen and was told to ask.
 pub fn read_served<J: Live + Send + Sync, R: Threads + Wait + Abort + Sync>(
     rt: &R,
     alloc: Global,
@@ -48,12 +72,20 @@ pub fn read_served<J: Live + Send + Sync, R: Threads + Wait + Abort + Sync>(
     way: Way,
 ) -> Result<ReadVersion, ClientError> {
     let (desk, live) = (&service.desk, &service.live);
-    thread::join(
+    let wanted = Wanted {
+        client: client.number(),
+        serial: client.calls().len() as u64,
+        asked: client.position(),
+        opts: opts.clone()?,
+    };
+    let (_, found) = thread::join(
         rt,
-        || serve(rt, alloc, desk, live, served, way),
+        || serve(rt, alloc, desk, live, served, &wanted, way),
         || client.read_version(rt, &OpenGate, desk, opts),
-    )
-    .1
+    );
+    let left = desk.take(rt, false);
+    holds(rt, left.requests.is_empty(), &"one request is left");
+    found
 }
 
 /// Takes what comes to the desk first, and answers it.
@@ -63,10 +95,13 @@ fn serve<J: Live, R: Wait + Abort>(
     desk: &Desk<J>,
     live: &LiveRecord<J>,
     served: &mut Seen<J>,
+    wanted: &Wanted,
     way: Way,
 ) {
     let mut taken = desk.take(rt, true);
     if let Some(request) = taken.requests.pop() {
+        holds(rt, wanted.is_met(&request.payload), &"the request");
+        holds(rt, taken.requests.is_empty(), &"one request");
         answer(rt, alloc, live, served, request.payload, way);
     }
 }
@@ -85,6 +120,7 @@ fn answer<J: Live, R: Wait>(
         Way::Dropped => None,
         Way::Closed => Some(refused(request, Cause::Closed)),
         Way::Full => Some(refused(request, Cause::Queue(QueueError::Full))),
+        Way::FullOfAnotherSerial => Some(full_of_another(request)),
         Way::OutOfMemory => Some(refused(request, Cause::Queue(QueueError::Memory))),
         _ => replied(rt, alloc, live, served, request, way),
     };
@@ -112,6 +148,12 @@ fn refused<J: Live>(request: Request<J>, cause: Cause) -> Answer<J>
         seen,
         cause,
     })
+}
+
+/// That the request after this one finds a full queue.
+fn full_of_another<J: Live>(mut request: Request<J>) -> Answer<J> {
+    request.serial = request.serial.saturating_add(1);
+    refused(request, Cause::Queue(QueueError::Full))
 }
 
 /// What a read gives, as the answer to this request or to another one.
