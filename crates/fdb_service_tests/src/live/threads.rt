@@ -138,7 +138,10 @@ fn all_meet<J: Live, R: Wait + Abort>(
     mut workers: Vec<Worker<J>>,
 ) {
     let all = first.position();
-    while let Some(mut one) = workers.pop() {
+    for _ in 0..workers.len() {
+        let Some(mut one) = workers.pop() else {
+            break;
+        };
         meets(rt, live, &mut one.token, &mut workers);
         tells(rt, live, first, &mut one.token);
         same(rt, &first.position(), &all, &"told of no more");
