@@ -18,24 +18,26 @@ use std::alloc::Global;
 use std::marker::Model;
 use std::sync::Wait;
 
-/// A client of a run, and how many reads it has made.
+/// A client of a run.
 ///
 /// Contracts see it as the calls of its log.
 #[derive(Drop)]
 pub(crate) struct Player<'a, J: Live> {
     client: Client<'a, J>,
+    /// How many of its calls are reads.
     reads: u64,
 }
 
 impl<'a, J: Live> Model for Player<'a, J> {
     ghost use Rattle.std.specs.Prelude.{◌≡◌, List};
     ghost use Rattle.fdb_history.specs.declared.log.Call.{Call};
+    ghost use Rattle.fdb_replay.specs.Routing.{reads_of};
 
     ghost Value = { List Call };
 
     ghost view = { λ player. player.client.calls };
 
-    ghost invariant = { λ player. player.client.begun ≡ 0 };
+    ghost invariant = { λ player. (player.client.begun ≡ 0) × (player.reads ≡ reads_of player.client.calls) };
 }
 
 impl<'a, J: Live> Player<'a, J> {
@@ -98,8 +100,13 @@ impl<'a, J: Live> Player<'a, J> {
     {
         let opts = opts.clone()?;
         let desk = world.desks.route(number, self.reads);
-        self.reads = self.reads.wrapping_add(1);
-        settled(self.client.read_version(rt, world.gate, desk, opts))
+        let answer = self.client.read_version(rt, world.gate, desk, opts);
+        if !matches!(answer, Err(ClientError::Memory)) {
+            // Its reads are no more than its calls.
+            let _calls = self.client.calls();
+            self.reads += 1;
+        }
+        settled(answer)
     }
 
     /// Asks for the next commit version.
