@@ -7,7 +7,8 @@ from edits import BESIDE, TRIED, crates, edits_in, fault_of_edit
 from harness import EXAMPLES, ROOT, done, fault_of, run
 
 DEFINED = re.compile(r"^(?:abbrev )?pub (?:record |data )?(?!(?:use|mod)\b)([^\s:({]+)", re.MULTILINE)
-PRIVATE = "Private to a crate"
+# What is in this folder of a crate's specs/ is private to the crate, and what this section of docs/DEFINITIONS.md names so.
+PRIVATE_FOLDER, PRIVATE = "private/", "Private to a crate"
 # A file in `code`, with its crate where that is another than the last one; behind 'of', only a name of the file is meant.
 FILE = re.compile(r"(` of )?`(?:(\w+)/specs/)?([\w/]+\.antt)`")
 MOST_TRIED = 12
@@ -37,35 +38,49 @@ def words_for(crate):
     return {word for it in said if f"`{crate}/specs/" in it for word in re.findall(r"`([^`\n]+)`", it)}
 
 
-def private_files():
+def specs_of(crate):
+    """The files of a crate's specs/, as their paths from there."""
+    folder = f"crates/{crate}/specs"
+    return [os.path.relpath(path, f"{ROOT}/{folder}") for path in files_below(folder, ".antt")]
+
+
+def named_private():
     """The files that docs/DEFINITIONS.md calls private as a whole: a crate, and a file of its specs/."""
     crate, found = "", []
-    for of, named, file in FILE.findall(sections()[PRIVATE]):
+    for of, named, file in FILE.findall(sections().get(PRIVATE, "")):
         crate = named or crate
         found += [(crate, file)] * (not of)
     return found
 
 
+def private_files():
+    """The files of definitions that are private to their crate: by their folder, or as docs/DEFINITIONS.md says."""
+    by_folder = [(crate, file) for crate in crates() for file in specs_of(crate) if file.startswith(PRIVATE_FOLDER)]
+    return list(dict.fromkeys(by_folder + named_private()))
+
+
 def definitions(_program):
-    """Each definition is named in a section about its crate, unless its file is private, and then no other crate uses it."""
+    """Each definition is named in a section about its crate, unless its file is private: no other crate and no public file uses that."""
     private = private_files()
     for crate in crates():
         words, specs = words_for(crate), f"crates/{crate}/specs"
-        for path in files_below(specs, ".antt"):
-            file = os.path.relpath(path, f"{ROOT}/{specs}")
+        for file in specs_of(crate):
             if (crate, file) not in private:
-                missing = [name for name in DEFINED.findall(text_of(path)) if name not in words]
+                missing = [name for name in DEFINED.findall(text_of(f"{ROOT}/{specs}/{file}")) if name not in words]
                 yield f"{specs}/{file}", f"docs/DEFINITIONS.md leaves out {', '.join(missing)}" if missing else None
     for crate, file in private:
-        yield f"crates/{crate}/specs/{file} is private", users_of(crate, file)
+        yield f"crates/{crate}/specs/{file} is private", users_of(crate, file, private)
 
 
-def users_of(crate, file):
-    """Returns which other crates name a private file, or that there is no such file, or None."""
-    if not os.path.isfile(f"{ROOT}/crates/{crate}/specs/{file}"):
+def users_of(crate, file, private):
+    """Returns what uses a private file and may not, or that there is no such file, or None."""
+    if file not in specs_of(crate):
         return "there is no such file"
     module = f"Rattle.{crate}.specs.{file.removesuffix('.antt').replace('/', '.')}."
     used = [it for it in crates() if it != crate and any(module in text_of(path) for path in sources_of(it))]
+    if file.startswith(PRIVATE_FOLDER):
+        public = [it for it in specs_of(crate) if (crate, it) not in private]
+        used += [f"specs/{it}" for it in public if module in text_of(f"{ROOT}/crates/{crate}/specs/{it}")]
     return f"it is used by {', '.join(used)}" if used else None
 
 

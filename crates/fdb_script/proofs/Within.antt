@@ -136,14 +136,14 @@ report_fits : (clients client : ℕ) (num : Option ℕ) (locked : Option Bool) (
 report_fits clients client (Some num) (Some locked) (Some metadata) act e = subst (IsAct clients client) (same_Some _ act e) refl
 report_fits clients client _ _ _ act e = absurd (none-some act e)
 
-told : (clients client : ℕ) (found : Option ℕ) (act : Act) → ((to : ℕ) → found ≡ Some to → (nat_lt to clients && not (to == client)) ≡ true) → option_map Tell found ≡ Some act → IsAct clients client act
-told clients client None act fit e = absurd (none-some act e)
-told clients client (Some to) act fit e = subst (IsAct clients client) (same_Some _ act e) (fit to refl)
+tell_to : (clients client : ℕ) (found : Option ℕ) (act : Act) → ((to : ℕ) → found ≡ Some to → (nat_lt to clients && not (to == client)) ≡ true) → option_map Tell found ≡ Some act → IsAct clients client act
+tell_to clients client None act fit e = absurd (none-some act e)
+tell_to clients client (Some to) act fit e = subst (IsAct clients client) (same_Some _ act e) (fit to refl)
 
 tell_fits : (clients client : ℕ) (found : Option ℕ) (act : Act) → ((to : ℕ) → found ≡ Some to → nat_lt to clients ≡ true)
     → option_map Tell (checked (λ to. not (to == client)) found) ≡ Some act → IsAct clients client act
 tell_fits clients client found act below e =
-    told clients client (checked (λ to. not (to == client)) found) act
+    tell_to clients client (checked (λ to. not (to == client)) found) act
     (λ to is. let h = checked_some (λ other. not (other == client)) found to is in both_true (nat_lt to clients) (not (to == client)) (below to h.1) h.0) e
 
 client_below : (clients : ℕ) (name : List ℕ) (value : Data) (client : ℕ) → member (whole_below clients) name value ≡ Some client → nat_lt client clients ≡ true

@@ -1,5 +1,5 @@
--- The logs of a run answer the script: each client did what it was told, in its order, and learnt what it was told by
--- others, and nothing else. (this product's own)
+-- The logs of a run answer the script: each client did its commands, in their order, learnt what others told it, and
+-- did nothing else. (this product's own)
 use Rattle.std.specs.Prelude.{◌≡◌, ℕ, ◌+◌, ◌<◌, ◌==◌, max, Bool, false, List, [], ◌∷◌, ◌++◌, length, map, filter, fold, drop, replicate}
 use Rattle.std.specs.List.{FoldsTo}
 use Rattle.fdb_history.specs.Added.{AddsCall}
@@ -16,8 +16,8 @@ use Rattle.fdb_script.specs.declared.script.Command.{Command}
 
 -- ---- commands
 
--- What a client calls when it is told to act, after its calls so far. To ask is to ask for the commit version after
--- those that it has got.
+-- What a client calls for an act, after its calls so far. To ask is to ask for the commit version after those that it
+-- has got.
 abbrev pub input_of : List Call → Act → Input
 input_of before (Grv opts) = input.Grv opts
 input_of before (Ask processed at) = input.Ask (length (fresh_answers before) + 1) processed at
@@ -40,18 +40,18 @@ pub record Performs (before : List ClientLog) (commands : List Command) (after :
 
 -- ---- learning
 
--- what a client is told: by whom, and up to which position the teller had seen the register
-pub record Tale : Type 0 where
+-- what a client was told: by whom, and up to which position the teller had seen the register
+pub record Told : Type 0 where
   pub teller : ℕ
   pub position : ℕ
 
--- a client's calls, with one more, by which it learns a tale: from then on it has seen what the teller had seen, too
-abbrev pub learns : List Call → Tale → List Call
-learns before tale =
+-- a client's calls, with one more, by which it learns what it was told: from then on it has seen what the teller had seen, too
+abbrev pub learns : List Call → Told → List Call
+learns before told =
     before ++ record {
-      input = input.Learn tale.teller;
+      input = input.Learn told.teller;
       asked = position_after_calls 0 before;
-      position = max (position_after_calls 0 before) tale.position;
+      position = max (position_after_calls 0 before) told.position;
       answer = answer.Told;
     } ∷ []
 
@@ -63,11 +63,12 @@ tells client (input.Report num locked metadata) = false
 tells client (input.Tell to) = to == client
 tells client (input.Learn from) = false
 
--- the tales to a client in these clients' calls, from this teller on: by teller, and then in the order of its calls
-abbrev pub tales_from : ℕ → ℕ → List (List Call) → List Tale
-tales_from client teller [] = []
-tales_from client teller (calls ∷ others) =
-    map (λ call. record { teller = teller; position = call.position }) (filter (λ call. tells client call.input) calls) ++ tales_from client (teller + 1) others
+-- what a client was told in these clients' calls, from this teller on: by teller, and then in the order of its calls
+abbrev pub told_from : ℕ → ℕ → List (List Call) → List Told
+told_from client teller [] = []
+told_from client teller (calls ∷ others) =
+    map (λ call. record { teller = teller; position = call.position }) (filter (λ call. tells client call.input) calls)
+    ++ told_from client (teller + 1) others
 
 -- the calls that each client has more than before
 abbrev pub added_calls : List ClientLog → List ClientLog → List (List Call)
@@ -78,7 +79,8 @@ added_calls (log ∷ before) (after ∷ logs) = drop (length log.calls) after.ca
 -- the logs from this client on, with what each learns of these calls
 abbrev pub learnt_from : ℕ → List (List Call) → List ClientLog → List ClientLog
 learnt_from client calls [] = []
-learnt_from client calls (log ∷ logs) = record { calls = fold learns log.calls (tales_from client 0 calls) } ∷ learnt_from (client + 1) calls logs
+learnt_from client calls (log ∷ logs) =
+    record { calls = fold learns log.calls (told_from client 0 calls) } ∷ learnt_from (client + 1) calls logs
 
 -- ---- rounds
 

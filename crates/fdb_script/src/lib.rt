@@ -1,4 +1,4 @@
-//! Scripts in, text out: what the clients of a run are told to do, and how what came of it is printed.
+//! Scripts in, text out: what the clients of a run are to do, and how what came of it is printed.
 //!
 //! [`read_script`] makes a [`Script`] of the bytes of a JSON text, and [`text`] prints what a run of it left. In `specs/`,
 //! `Plan` has what a script says and its limits, `Reading` the plan of a JSON value, `Answering` when the logs of a run

@@ -139,7 +139,7 @@ pub(crate) struct ReplyLine<'a> {
     pub(crate) client: u64,
     /// The command's place in the round.
     pub(crate) number: u64,
-    /// What the client was told to do.
+    /// What the client was to do.
     pub(crate) act: &'a Act,
     /// What it called, and was answered.
     pub(crate) call: &'a Call,

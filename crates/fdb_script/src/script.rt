@@ -24,7 +24,7 @@ pub const MAX_TAGS: usize = 5;
 /// A throttle that every GRV proxy is given. Of two with one priority and one tag, the one further down counts.
 #[derive(Debug, Drop, PartialEq, Eq)]
 pub struct Throttle {
-    /// The priority of the requests that are told of it.
+    /// The priority of the requests that it is for.
     pub priority: Priority,
     /// The tag.
     pub tag: Tag,
@@ -34,7 +34,7 @@ pub struct Throttle {
     pub expires: u64,
 }
 
-/// What a client is told to do.
+/// What a client is to do.
 #[derive(Debug, Drop, PartialEq, Eq)]
 pub enum Act {
     /// Read the read version.
