@@ -1,7 +1,7 @@
 //! The desks of the GRV proxies of a run.
 
 ghost use Rattle.std.specs.Prelude.{◌≡◌, ◌<◌, ◌≤◌, IfOk, vec_len};
-ghost use Rattle.fdb_replay.specs.Routing.{desk_for};
+ghost use Rattle.fdb_replay.specs.private.Routing.{desk_for};
 
 use fdb_live::Live;
 use fdb_proxy::Desk;
@@ -17,7 +17,7 @@ pub(crate) struct Desks<J: Live> {
 }
 
 impl<J: Live> Desks<J> {
-    /// So many open desks with no request on them. It is refused for want of memory alone.
+    /// So many open desks with no request on them. It fails only where memory runs out.
     pub(crate) fn new(alloc: Global, proxies: u32) -> Result<Self, AllocError>
         requires some { 0 < proxies }
         requires few { proxies ≤ 16 }

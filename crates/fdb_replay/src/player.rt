@@ -4,11 +4,11 @@ ghost use Rattle.std.specs.Prelude.{◌≡◌, ◌≢◌, ◌+◌, ◌++◌, ◌
 ghost use Rattle.fdb_history.specs.Added.{AddsCall};
 ghost use Rattle.fdb_history.specs.Log.{fresh_answers};
 ghost use Rattle.fdb_history.specs.declared.log.Input.TheVariants as input;
-ghost use Rattle.fdb_replay.specs.Rounds.{told_by, told_in};
+ghost use Rattle.fdb_replay.specs.private.Rounds.{tells_by, tells_in};
 ghost use Rattle.fdb_script.specs.Answering.{input_of, learns};
 
 use crate::fault::RunFault;
-use crate::tale::Tale;
+use crate::tell::Tell;
 use crate::world::World;
 use fdb_client::{Client, ClientError};
 use fdb_history::{ClientLog, Gate, GrvOpts};
@@ -31,7 +31,7 @@ pub(crate) struct Player<'a, J: Live> {
 impl<'a, J: Live> Model for Player<'a, J> {
     ghost use Rattle.std.specs.Prelude.{◌≡◌, List};
     ghost use Rattle.fdb_history.specs.declared.log.Call.{Call};
-    ghost use Rattle.fdb_replay.specs.Routing.{reads_of};
+    ghost use Rattle.fdb_replay.specs.private.Routing.{reads_of};
 
     ghost Value = { List Call };
 
@@ -60,7 +60,7 @@ impl<'a, J: Live> Player<'a, J> {
         client.finish().0
     }
 
-    /// Does what it is told, as the client with this number. What it tells another by that is added to the tales.
+    /// Does what a command says, as the client with this number. What it tells another by that is added to the tells.
     /// A call that is refused is done, too.
     pub(crate) fn perform<R: Wait, G: Gate>(
         &mut self,
@@ -68,10 +68,10 @@ impl<'a, J: Live> Player<'a, J> {
         world: &World<'_, J, G>,
         number: u32,
         act: &Act,
-        tales: &mut Vec<Tale<J>>,
+        tells: &mut Vec<Tell<J>>,
     ) -> Result<(), RunFault>
         ensures ok { OnOk result (AddsCall self.old (input_of self.old act.now) self.new) }
-        ensures told { OnOk result (tales.new.items ≡ tales.old.items ++ told_in number (drop (length self.old) self.new)) }
+        ensures told { OnOk result (tells.new.items ≡ tells.old.items ++ tells_in number (drop (length self.old) self.new)) }
         ensures err { IfErr result (λ fault. fault ≡ RunFault.Memory) }
     {
         match act {
@@ -83,11 +83,12 @@ impl<'a, J: Live> Player<'a, J> {
                 locked,
                 metadata,
             } => self.report(rt, world, *num, *locked, *metadata),
-            Act::Tell { to } => self.tell(number, *to, tales),
+            Act::Tell { to } => self.tell(number, *to, tells),
         }
     }
 
     /// Reads the read version, at the desk of its next read.
+    #[tactic(auto, using(crate::proofs::Turns::reads_below))]
     fn read<R: Wait, G: Gate>(
         &mut self,
         rt: &R,
@@ -101,11 +102,13 @@ impl<'a, J: Live> Player<'a, J> {
         let opts = opts.clone()?;
         let desk = world.desks.route(number, self.reads);
         let answer = self.client.read_version(rt, world.gate, desk, opts);
-        if !matches!(answer, Err(ClientError::Memory)) {
-            // Its reads are no more than its calls.
-            let _calls = self.client.calls();
-            self.reads += 1;
+        if matches!(answer, Err(ClientError::Memory)) {
+            return Err(RunFault::Memory);
         }
+        // This read is one of its calls, so that there is a number for one more.
+        let calls = self.client.calls().len() as u64;
+        prove!(self.reads < calls);
+        self.reads += 1;
         settled(answer)
     }
 
@@ -160,24 +163,24 @@ impl<'a, J: Live> Player<'a, J> {
     }
 
     /// Tells another what it has seen.
-    fn tell(&mut self, number: u32, to: u32, tales: &mut Vec<Tale<J>>) -> Result<(), RunFault>
+    fn tell(&mut self, number: u32, to: u32, tells: &mut Vec<Tell<J>>) -> Result<(), RunFault>
         ensures ok { OnOk result (AddsCall self.old (input.Tell to) self.new) }
-        ensures told { OnOk result (tales.new.items ≡ tales.old.items ++ told_in number (drop (length self.old) self.new)) }
+        ensures told { OnOk result (tells.new.items ≡ tells.old.items ++ tells_in number (drop (length self.old) self.new)) }
         ensures err { IfErr result (λ fault. fault ≡ RunFault.Memory) }
     {
         let Ok(seen) = self.client.tell(to) else {
             return Err(RunFault::Memory);
         };
-        tales.push(Tale::new(number, to, seen))?;
+        tells.push(Tell::new(number, to, seen))?;
         Ok(())
     }
 
     /// Learns what it was told.
-    pub(crate) fn learn<R: Wait>(&mut self, rt: &R, tale: Tale<J>) -> Result<(), RunFault>
-        ensures ok { OnOk result (self.new ≡ learns self.old (record { teller = tale.from; position = tale.position })) }
+    pub(crate) fn learn<R: Wait>(&mut self, rt: &R, tell: Tell<J>) -> Result<(), RunFault>
+        ensures ok { OnOk result (self.new ≡ learns self.old (record { teller = tell.from; position = tell.position })) }
         ensures err { IfErr result (λ fault. fault ≡ RunFault.Memory) }
     {
-        let Tale { to: _, from, seen } = tale;
+        let Tell { to: _, from, seen } = tell;
         match self.client.learn(rt, from, seen) {
             Ok(()) => Ok(()),
             Err(_) => Err(RunFault::Memory),

@@ -1,4 +1,4 @@
--- Which GRV proxy a read goes to. (private to this crate)
+-- Which GRV proxy a read goes to.
 use Rattle.std.specs.Prelude.{ℕ, ◌+◌, ◌%◌, Bool, true, false, List, filter, length}
 use Rattle.fdb_history.specs.declared.log.Call.{Call}
 use Rattle.fdb_history.specs.declared.log.Input.{Input}
