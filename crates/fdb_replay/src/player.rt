@@ -1,6 +1,6 @@
 //! A client of a run.
 
-ghost use Rattle.std.specs.Prelude.{◌≡◌, ◌≢◌, ◌+◌, ◌++◌, ◌∷◌, [], Err, Some, OnOk, IfOk, IfErr, drop, length};
+ghost use Rattle.std.specs.Prelude.{◌≡◌, ◌≢◌, ◌+◌, ◌++◌, ◌∷◌, [], Err, Some, true, false, OnOk, IfOk, IfErr, drop, length};
 ghost use Rattle.fdb_history.specs.Added.{AddsCall};
 ghost use Rattle.fdb_history.specs.Log.{fresh_answers};
 ghost use Rattle.fdb_history.specs.declared.log.Input.TheVariants as input;
@@ -14,7 +14,7 @@ use fdb_client::{Client, ClientError};
 use fdb_history::{ClientLog, Gate, GrvOpts};
 use fdb_live::{Live, LiveRecord, Seen};
 use fdb_script::Act;
-use std::alloc::Global;
+use std::alloc::{AllocError, Global};
 use std::marker::Model;
 use std::sync::Wait;
 
@@ -88,7 +88,6 @@ impl<'a, J: Live> Player<'a, J> {
     }
 
     /// Reads the read version, at the desk of its next read.
-    #[tactic(auto, using(crate::proofs::Turns::reads_below))]
     fn read<R: Wait, G: Gate>(
         &mut self,
         rt: &R,
@@ -99,10 +98,10 @@ impl<'a, J: Live> Player<'a, J> {
         ensures ok { OnOk result (AddsCall self.old (input.Grv opts.now) self.new) }
         ensures err { IfErr result (λ fault. fault ≡ RunFault.Memory) }
     {
-        let opts = opts.clone()?;
+        let opts = copy_of(opts)?;
         let desk = world.desks.route(number, self.reads);
         let answer = self.client.read_version(rt, world.gate, desk, opts);
-        if matches!(answer, Err(ClientError::Memory)) {
+        if !is_logged(&answer) {
             return Err(RunFault::Memory);
         }
         // This read is one of its calls, so that there is a number for one more.
@@ -186,6 +185,21 @@ impl<'a, J: Live> Player<'a, J> {
             Err(_) => Err(RunFault::Memory),
         }
     }
+}
+
+/// A copy of what a read says.
+fn copy_of(opts: &GrvOpts) -> Result<GrvOpts, AllocError>
+    ensures { IfOk result (λ copy. copy ≡ opts.now) }
+{
+    opts.clone()
+}
+
+/// Whether a call with this answer is in the log.
+fn is_logged<T>(answer: &Result<T, ClientError>) -> bool
+    ensures logged { result ≡ true → answer.now ≢ Err ClientError.Memory }
+    ensures memory { result ≡ false → answer.now ≡ Err ClientError.Memory }
+{
+    !matches!(answer, Err(ClientError::Memory))
 }
 
 /// What an answer leaves to be done: nothing, but where memory was refused, which is also why a proxy closes its desk
