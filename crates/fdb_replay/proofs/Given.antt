@@ -28,7 +28,8 @@ use Rattle.clap.specs.declared.parser.matches.Found.{Found}
 use Rattle.clap.specs.declared.parser.matches.MatchedArg.{MatchedArg}
 use Rattle.clap.proofs.CallerLemmas.{entry_by_id, same_rules_by_id}
 use Rattle.clap.proofs.CallerReads.{signed_reads}
-use Rattle.fdb_replay.specs.Words.{AskReplay, ReadsInput, command, script_argument, proxies_argument, history_argument}
+use Rattle.fdb_replay.specs.private.Asked.{AskReplay}
+use Rattle.fdb_replay.specs.Words.{ReadsInput, command, script_argument, proxies_argument, history_argument}
 use Rattle.fdb_replay.specs.declared.words.Words.{Words}
 
 -- the text t is a value that the parser takes, as a typed getter reads it

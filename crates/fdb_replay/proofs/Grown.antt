@@ -1,4 +1,4 @@
--- A client does what it is told, call by call.
+-- A client does its commands, call by call.
 use Rattle.std.proofs.Common.{◌≡◌, ◌≢◌, ℕ, ◌+◌, ◌<◌, ◌≤◌, List, [], ◌∷◌, ◌++◌, length, drop, get_or, refl, ap, sym, ◌∙◌, append_assoc, arith}
 use Rattle.std.specs.List.{FoldsTo, flat_map}
 use Rattle.std.proofs.lemmas.Bool.{eq-eqb, ne_eqb}
@@ -6,7 +6,7 @@ use Rattle.std.proofs.lemmas.List.{append-nil, drop_at, drop_more}
 use Rattle.fdb_history.specs.Added.{AddsCall}
 use Rattle.fdb_history.specs.declared.log.Call.{Call}
 use Rattle.fdb_history.specs.declared.log.Input.{Input}
-use Rattle.fdb_replay.specs.Rounds.{Told, told_by, told_in}
+use Rattle.fdb_replay.specs.private.Rounds.{Tell, tells_by, tells_in}
 use Rattle.fdb_script.specs.Answering.{AnswersCommand, commands_of}
 use Rattle.fdb_script.specs.declared.script.Command.{Command}
 
@@ -24,22 +24,22 @@ grown_more old before after wanted so_far added = record {
   is = added.added ∙ ap (λ calls. calls ++ added.call ∷ []) so_far.is ∙ append_assoc old so_far.more (added.call ∷ []);
 }
 
-told_both : (from : ℕ) (these those : List Call) → told_in from (these ++ those) ≡ told_in from these ++ told_in from those
-told_both from [] those = refl
-told_both from (call ∷ these) those =
-    ap (λ told. told_by from call.position call.input ++ told) (told_both from these those)
-    ∙ sym (append_assoc (told_by from call.position call.input) (told_in from these) (told_in from those))
+tells_both : (from : ℕ) (these those : List Call) → tells_in from (these ++ those) ≡ tells_in from these ++ tells_in from those
+tells_both from [] those = refl
+tells_both from (call ∷ these) those =
+    ap (λ told. tells_by from call.position call.input ++ told) (tells_both from these those)
+    ∙ sym (append_assoc (tells_by from call.position call.input) (tells_in from these) (tells_in from those))
 
 -- what is told by one call more
-pub told_more : (from : ℕ) (old before after : List Call) (wanted : Input) (so_far now : List Told) → Grows old before → AddsCall before wanted after → so_far ≡ told_in from (drop (length old) before)
-    → now ≡ so_far ++ told_in from (drop (length before) after) → now ≡ told_in from (drop (length old) after)
+pub tells_more : (from : ℕ) (old before after : List Call) (wanted : Input) (so_far now : List Tell) → Grows old before → AddsCall before wanted after → so_far ≡ tells_in from (drop (length old) before)
+    → now ≡ so_far ++ tells_in from (drop (length before) after) → now ≡ tells_in from (drop (length old) after)
 unfolding grown_more
-told_more from old before after wanted so_far now grown added told is =
+tells_more from old before after wanted so_far now grown added told is =
     let until : drop (length old) before ≡ grown.more = ap (drop (length old)) grown.is ∙ drop_at old grown.more (length old) refl in
     let last : drop (length before) after ≡ added.call ∷ [] = ap (drop (length before)) added.added ∙ drop_at before (added.call ∷ []) (length before) refl in
     let more = grown_more old before after wanted grown added in
     let all : drop (length old) after ≡ grown.more ++ added.call ∷ [] = ap (drop (length old)) more.is ∙ drop_at old more.more (length old) refl in
-    is ∙ rw (told, until, last, all) (sym (told_both from grown.more (added.call ∷ [])))
+    is ∙ rw (told, until, last, all) (sym (tells_both from grown.more (added.call ∷ [])))
 
 -- a command of the client's own is done
 pub one_command_more : (client place : ℕ) (commands : List Command) (command : Command) (before after last : List Call) → place < length commands → command ≡ get_or commands place command

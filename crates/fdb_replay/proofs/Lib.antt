@@ -8,3 +8,4 @@ pub mod Performed
 pub mod Runs
 pub mod Written
 pub mod Throttled
+pub mod Turns

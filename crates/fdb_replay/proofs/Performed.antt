@@ -1,11 +1,11 @@
--- A round is answered once its clients have done what they are told, and learnt what they told one another.
+-- A round is answered once its clients have done their commands, and learnt what they told one another.
 use Rattle.std.proofs.Common.{◌≡◌, ℕ, zero, suc, ◌+◌, ◌<◌, ◌≤◌, List, [], ◌∷◌, ◌++◌, length, drop, take, set, get_or, refl, ap, sym, ◌∙◌, subst, append_assoc, arith}
 use Rattle.std.specs.List.{FoldsTo}
 use Rattle.std.proofs.lemmas.List.{append-nil, drop_all, drop_more, drop-set-lt, length-append, length-map, length-set, take_all, take_more_set}
 use Rattle.fdb_history.specs.Log.{calls_of}
 use Rattle.fdb_history.specs.declared.log.Call.{Call}
 use Rattle.fdb_history.specs.declared.log.ClientLog.{ClientLog}
-use Rattle.fdb_replay.specs.Rounds.{IsPlayed, PerformsFrom, Told, all_told, logs_of}
+use Rattle.fdb_replay.specs.private.Rounds.{IsPlayed, PerformsFrom, Tell, all_tells, logs_of}
 use Rattle.fdb_replay.proofs.Parts.{same_clients}
 use Rattle.fdb_script.specs.Answering.{AnswersCommand, AnswersRound, added_calls, commands_of, learnt_from}
 use Rattle.fdb_script.specs.declared.script.Command.{Command}
@@ -19,10 +19,10 @@ each_from first (suc client) commands (calls ∷ before) (more ∷ after) done w
     subst (λ c. FoldsTo AnswersCommand (calls_of (logs_of before) client) (commands_of c commands) (calls_of (logs_of after) client)) (omega arith)
     (each_from (first + 1) client commands before after done.1 (omega arith))
 
-pub round_answered : (commands : List Command) (old now learnt : List (List Call)) (tales : List Told) → IsPlayed 0 commands old now tales
-    → ((tales ≡ all_told 0 old now) → logs_of learnt ≡ learnt_from 0 (added_calls (logs_of old) (logs_of now)) (logs_of now))
+pub round_answered : (commands : List Command) (old now learnt : List (List Call)) (tells : List Tell) → IsPlayed 0 commands old now tells
+    → ((tells ≡ all_tells 0 old now) → logs_of learnt ≡ learnt_from 0 (added_calls (logs_of old) (logs_of now)) (logs_of now))
     → AnswersRound (logs_of old) commands (logs_of learnt)
-round_answered commands old now learnt tales played learns =
+round_answered commands old now learnt tells played learns =
     record {
       performed = logs_of now;
       performs = record {

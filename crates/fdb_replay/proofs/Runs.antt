@@ -10,7 +10,7 @@ use Rattle.fdb_history.specs.declared.fault.AuditFault.TheVariants.{Order, Clash
 use Rattle.fdb_history.specs.declared.log.Call.{Call}
 use Rattle.fdb_history.specs.declared.log.ClientLog.{ClientLog}
 use Rattle.fdb_replay.specs.Outcome.{Fails, opening, run_fault}
-use Rattle.fdb_replay.specs.Rounds.{logs_of}
+use Rattle.fdb_replay.specs.private.Rounds.{logs_of}
 use Rattle.fdb_script.specs.Answering.{Answers, AnswersRound, added_calls, learnt_from}
 use Rattle.fdb_script.specs.Plan.{Plan}
 use Rattle.fdb_script.specs.declared.script.Command.{Command}

@@ -3,7 +3,7 @@ use Rattle.std.proofs.Common.{◌≡◌, ℕ, ◌+◌, ◌<◌, List, [], ◌∷
 use Rattle.std.proofs.lemmas.List.{map_more, reverse-append}
 use Rattle.fdb_queue.specs.Throttles as queue
 use Rattle.fdb_queue.specs.Throttles.{SameThrottles, is_for, last_set}
-use Rattle.fdb_replay.specs.Throttling.{throttle_of, throttles_of}
+use Rattle.fdb_replay.specs.private.Throttling.{throttle_of, throttles_of}
 use Rattle.fdb_script.specs.declared.script.Throttle.{Throttle}
 
 -- one more on top of the same is the same

@@ -1,10 +1,8 @@
 pub mod Outcome
 pub mod Replay
-pub mod Rounds
-pub mod Routing
-pub mod Throttling
 pub mod Words
 pub use Rattle.fdb_script.specs.Answering
 pub use Rattle.fdb_script.specs.Plan
 pub use Rattle.fdb_script.specs.Reading
 pub use Rattle.fdb_script.specs.Text
+pub mod private

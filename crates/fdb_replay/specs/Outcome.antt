@@ -23,7 +23,7 @@ opening recovery = record { version = recovery; locked = false; metadata = None 
 
 -- The outcome is that of a run of the script.
 pub record IsRunOf (plan : Plan) (outcome : Outcome) : Type 0 where
-  -- each client did what it was told, in its order, and learnt what it was told by others, and nothing else
+  -- each client did its commands, in their order, learnt what others told it, and did nothing else
   pub answers : Answers plan outcome.logs.items
   -- the commit versions are one chain, without gap or fork
   pub one_chain : IsChain plan.epoch_end plan.recovery outcome.chain.items
@@ -31,12 +31,12 @@ pub record IsRunOf (plan : Plan) (outcome : Outcome) : Type 0 where
   pub linear : IsLinear (opening plan.recovery) outcome.logs.items outcome.history.events
   -- the history is in the fixed order
   pub in_order : outcome.history.events ≡ explained outcome.logs.items
-  -- each answer is borne out by its input, the chain and its client's own log, and each commit version was drawn by a call
-  pub none_astray : Nowhere (IsStray outcome.chain.items outcome.logs.items)
+  -- each answer is justified by its input, the chain and its client's own log, and each commit version was drawn by a call
+  pub none_stray : Nowhere (IsStray outcome.chain.items outcome.logs.items)
   -- each commit version that was drawn, but for the first, is above the register that its asker had seen
   pub none_low : Nowhere (Low (opening plan.recovery) outcome.logs.items)
 
--- how a run is refused by its audit: want of memory is its own
+-- how a run fails where its audit does: out of memory is the run's own
 abbrev pub run_fault : AuditFault → RunFault
 run_fault audit.Memory = Memory
 run_fault fault = Audit fault
@@ -50,7 +50,7 @@ pub record IsFaulty (plan : Plan) (fault : AuditFault) : Type 0 where
   pub first : IsFirstFault (opening plan.recovery) chain logs fault
   pub not_memory : fault ≢ audit.Memory
 
--- A run fails for want of memory, or with the fault that its audit finds.
+-- A run fails where memory runs out, or with the fault that its audit finds.
 abbrev pub Fails : Plan → RunFault → Type 0
 Fails plan Memory = Unit {0}
 Fails plan (Audit fault) = IsFaulty plan fault

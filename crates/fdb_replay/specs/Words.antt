@@ -5,7 +5,6 @@ use Rattle.std.specs.Prelude.{◌≡◌, ◌≢◌, ◌⊎◌, ◌≤◌, ⊤, �
 use Rattle.std.specs.Io.KnownBytes.{Appends, Consumes}
 use Rattle.std.specs.Option.{option_map_or}
 use Rattle.std.specs.Str.{bytes_eq}
-use Rattle.std.specs.Str.Parse.{digits_value, without_leading_plus}
 use Rattle.clap.specs.Simple.{on_top}
 use Rattle.clap.specs.Words.{App, IsAmong, Kinds, Rule, Text, fault_of, first_of, matches_of, new_app, new_rule, one_of, with_rule}
 use Rattle.clap.specs.declared.builder.action.ArgAction.TheVariants.{SetTrue}
@@ -15,13 +14,10 @@ use Rattle.fdb_history.specs.declared.fault.AuditFault.{AuditFault}
 use Rattle.fdb_replay.specs.Outcome.{IsFaulty}
 use Rattle.fdb_replay.specs.Replay.{IsRefused, Replays, TakesSome}
 use Rattle.fdb_replay.specs.declared.driving.TheConstants.{MAX_SCRIPT_BYTES}
-use Rattle.fdb_replay.specs.declared.words.Request.{Request}
-use Rattle.fdb_replay.specs.declared.words.Request.TheVariants as request
-use Rattle.fdb_replay.specs.declared.words.Words.{Words}
 use Rattle.fdb_script.specs.Plan.{Plan}
 use Rattle.fdb_script.specs.Reading.{Reads}
 
--- SCRIPT, --proxies N and --history, as clap is told of them
+-- SCRIPT, --proxies N and --history, as clap is given them
 abbrev pub script_argument : Rule
 script_argument = record (new_rule (codes "script")) { value_names = 1 }
 
@@ -61,27 +57,9 @@ AreWrong words = (kind : _) × (kind ≢ DisplayHelp) × IsAmong kind (faults wo
 abbrev pub script_named : List Text → Option Text
 script_named words = first_of (codes "script") (matches_of command words)
 
--- the number of GRV proxies, which is 1 unless it is said
-abbrev pub proxies_named : List Text → ℕ
-proxies_named words = option_map_or (λ digits. digits_value 10 (without_leading_plus digits)) (one_of (codes "proxies") (matches_of command words)) 1
-
 -- the history is written too
 abbrev pub wants_history : List Text → Bool
 wants_history words = option_map_or (λ value. bytes_eq value (codes "true")) (one_of (codes "history") (matches_of command words)) false
-
--- the words ask for a replay, with these
-pub record AskReplay (words : List Text) (asked : Words) : Type 0 where
-  pub taken : faults words ≡ []
-  pub script : option_map (λ path. path.now) asked.script ≡ script_named words
-  pub proxies : asked.proxies ≡ proxies_named words
-  pub some_proxy : 1 ≤ asked.proxies
-  pub few_proxies : asked.proxies ≤ 16
-  pub history : asked.history ≡ wants_history words
-
--- the words ask for this
-abbrev pub Ask : List Text → Request → Type 0
-Ask words (request.Replay asked) = AskReplay words asked
-Ask words (request.Help help) = AsksHelp words
 
 -- the words ask for something
 abbrev pub AreTaken : List Text → Type 0

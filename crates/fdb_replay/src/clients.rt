@@ -2,7 +2,7 @@
 
 ghost use Rattle.std.specs.Prelude.{◌≡◌, ◌<◌, ◌≤◌, ℕ, [], IfErr, IfOk, OnOk, Some, length, replicate, slice_get, vec_len};
 ghost use Rattle.std.specs.List.{FoldsTo};
-ghost use Rattle.fdb_replay.specs.Rounds.{logs_of};
+ghost use Rattle.fdb_replay.specs.private.Rounds.{logs_of};
 ghost use Rattle.fdb_script.specs.Answering.{AnswersRound};
 
 use crate::fault::RunFault;

@@ -1,7 +1,7 @@
 //! The desks of the GRV proxies of a run.
 
-ghost use Rattle.std.specs.Prelude.{◌≡◌, ◌<◌, ◌≤◌, IfOk, Some, slice_get, vec_len};
-ghost use Rattle.fdb_replay.specs.Routing.{desk_for};
+ghost use Rattle.std.specs.Prelude.{◌≡◌, ◌<◌, ◌≤◌, IfOk, vec_len};
+ghost use Rattle.fdb_replay.specs.private.Routing.{desk_for};
 
 use fdb_live::Live;
 use fdb_proxy::Desk;
@@ -17,7 +17,7 @@ pub(crate) struct Desks<J: Live> {
 }
 
 impl<J: Live> Desks<J> {
-    /// So many open desks with no request on them. It is refused for want of memory alone.
+    /// So many open desks with no request on them. It fails only where memory runs out.
     pub(crate) fn new(alloc: Global, proxies: u32) -> Result<Self, AllocError>
         requires some { 0 < proxies }
         requires few { proxies ≤ 16 }
@@ -38,12 +38,19 @@ impl<J: Live> Desks<J> {
     }
 
     /// The desk for a client's next read, where it has made so many reads before.
-    pub(crate) fn route(&self, client: u32, reads: u64) -> &Desk<J>
-        ensures { slice_get self.now.desks.items (desk_for (vec_len self.now.desks) client reads) ≡ Some result.now }
+    pub(crate) fn route(&self, client: u32, reads: u64) -> &Desk<J> {
+        &self.desks[self.place(client, reads)]
+    }
+
+    /// The place of that desk. (what a desk holds is behind a lock, and so no clause can tell one from another: this one says
+    /// which is taken)
+    #[tactic(auto, using(crate::proofs::Turns::in_turn))]
+    fn place(&self, client: u32, reads: u64) -> usize
+        ensures { result ≡ desk_for (vec_len self.now.desks) client reads }
     {
         let desks = self.desks.len() as u64;
         let place = (u64::from(client) % desks + reads % desks) % desks;
-        &self.desks[place as usize]
+        place as usize
     }
 
     /// Closes all desks. Takes no memory.

@@ -149,9 +149,9 @@ impl From<ReplayFault> for Fault {
 /// to `out`; or writes the help there.
 ///
 /// Answers the status of the program: 0 where all of it is done, 1 where the script is refused, 2 where the words are,
-/// 3 for want of memory, 4 for an audit fault, and 5 where reading or writing failed, a file that cannot be opened and
+/// 3 where memory ran out, 4 for an audit fault, and 5 where reading or writing failed, a file that cannot be opened and
 /// a script of more than [`MAX_SCRIPT_BYTES`] included. Faults are looked for in the order words, reading, script, run,
-/// writing. Whatever is not 0 is told by a line to `err`; where that line cannot be written, the status is the same.
+/// writing. Whatever is not 0 is reported by a line to `err`; where that line cannot be written, the status is the same.
 /// At most one byte more than [`MAX_SCRIPT_BYTES`] is taken from the input, and nothing is written after a write that failed.
 pub fn drive<R: Threads + Wait + Sync + Files, I: Read, O: Write, E: Write>(
     rt: &R,

@@ -10,7 +10,7 @@ mod replaying;
 mod rounds;
 mod running;
 mod serving;
-mod tale;
+mod tell;
 mod throttles;
 mod words;
 mod world;

@@ -1,41 +1,43 @@
 //! A client of a run.
 
-ghost use Rattle.std.specs.Prelude.{◌≡◌, ◌≢◌, ◌+◌, ◌++◌, ◌∷◌, [], Err, Some, OnOk, IfOk, IfErr, drop, length};
+ghost use Rattle.std.specs.Prelude.{◌≡◌, ◌≢◌, ◌+◌, ◌++◌, ◌∷◌, [], Err, Some, true, false, OnOk, IfOk, IfErr, drop, length};
 ghost use Rattle.fdb_history.specs.Added.{AddsCall};
 ghost use Rattle.fdb_history.specs.Log.{fresh_answers};
 ghost use Rattle.fdb_history.specs.declared.log.Input.TheVariants as input;
-ghost use Rattle.fdb_replay.specs.Rounds.{told_by, told_in};
+ghost use Rattle.fdb_replay.specs.private.Rounds.{tells_by, tells_in};
 ghost use Rattle.fdb_script.specs.Answering.{input_of, learns};
 
 use crate::fault::RunFault;
-use crate::tale::Tale;
+use crate::tell::Tell;
 use crate::world::World;
 use fdb_client::{Client, ClientError};
 use fdb_history::{ClientLog, Gate, GrvOpts};
 use fdb_live::{Live, LiveRecord, Seen};
 use fdb_script::Act;
-use std::alloc::Global;
+use std::alloc::{AllocError, Global};
 use std::marker::Model;
 use std::sync::Wait;
 
-/// A client of a run, and how many reads it has made.
+/// A client of a run.
 ///
 /// Contracts see it as the calls of its log.
 #[derive(Drop)]
 pub(crate) struct Player<'a, J: Live> {
     client: Client<'a, J>,
+    /// How many of its calls are reads.
     reads: u64,
 }
 
 impl<'a, J: Live> Model for Player<'a, J> {
     ghost use Rattle.std.specs.Prelude.{◌≡◌, List};
     ghost use Rattle.fdb_history.specs.declared.log.Call.{Call};
+    ghost use Rattle.fdb_replay.specs.private.Routing.{reads_of};
 
     ghost Value = { List Call };
 
     ghost view = { λ player. player.client.calls };
 
-    ghost invariant = { λ player. player.client.begun ≡ 0 };
+    ghost invariant = { λ player. (player.client.begun ≡ 0) × (player.reads ≡ reads_of player.client.calls) };
 }
 
 impl<'a, J: Live> Player<'a, J> {
@@ -58,7 +60,7 @@ impl<'a, J: Live> Player<'a, J> {
         client.finish().0
     }
 
-    /// Does what it is told, as the client with this number. What it tells another by that is added to the tales.
+    /// Does what a command says, as the client with this number. What it tells another by that is added to the tells.
     /// A call that is refused is done, too.
     pub(crate) fn perform<R: Wait, G: Gate>(
         &mut self,
@@ -66,10 +68,10 @@ impl<'a, J: Live> Player<'a, J> {
         world: &World<'_, J, G>,
         number: u32,
         act: &Act,
-        tales: &mut Vec<Tale<J>>,
+        tells: &mut Vec<Tell<J>>,
     ) -> Result<(), RunFault>
         ensures ok { OnOk result (AddsCall self.old (input_of self.old act.now) self.new) }
-        ensures told { OnOk result (tales.new.items ≡ tales.old.items ++ told_in number (drop (length self.old) self.new)) }
+        ensures told { OnOk result (tells.new.items ≡ tells.old.items ++ tells_in number (drop (length self.old) self.new)) }
         ensures err { IfErr result (λ fault. fault ≡ RunFault.Memory) }
     {
         match act {
@@ -81,7 +83,7 @@ impl<'a, J: Live> Player<'a, J> {
                 locked,
                 metadata,
             } => self.report(rt, world, *num, *locked, *metadata),
-            Act::Tell { to } => self.tell(number, *to, tales),
+            Act::Tell { to } => self.tell(number, *to, tells),
         }
     }
 
@@ -96,10 +98,17 @@ impl<'a, J: Live> Player<'a, J> {
         ensures ok { OnOk result (AddsCall self.old (input.Grv opts.now) self.new) }
         ensures err { IfErr result (λ fault. fault ≡ RunFault.Memory) }
     {
-        let opts = opts.clone()?;
+        let opts = copy_of(opts)?;
         let desk = world.desks.route(number, self.reads);
-        self.reads = self.reads.wrapping_add(1);
-        settled(self.client.read_version(rt, world.gate, desk, opts))
+        let answer = self.client.read_version(rt, world.gate, desk, opts);
+        if !is_logged(&answer) {
+            return Err(RunFault::Memory);
+        }
+        // This read is one of its calls, so that there is a number for one more.
+        let calls = self.client.calls().len() as u64;
+        prove!(self.reads < calls);
+        self.reads += 1;
+        settled(answer)
     }
 
     /// Asks for the next commit version.
@@ -153,29 +162,44 @@ impl<'a, J: Live> Player<'a, J> {
     }
 
     /// Tells another what it has seen.
-    fn tell(&mut self, number: u32, to: u32, tales: &mut Vec<Tale<J>>) -> Result<(), RunFault>
+    fn tell(&mut self, number: u32, to: u32, tells: &mut Vec<Tell<J>>) -> Result<(), RunFault>
         ensures ok { OnOk result (AddsCall self.old (input.Tell to) self.new) }
-        ensures told { OnOk result (tales.new.items ≡ tales.old.items ++ told_in number (drop (length self.old) self.new)) }
+        ensures told { OnOk result (tells.new.items ≡ tells.old.items ++ tells_in number (drop (length self.old) self.new)) }
         ensures err { IfErr result (λ fault. fault ≡ RunFault.Memory) }
     {
         let Ok(seen) = self.client.tell(to) else {
             return Err(RunFault::Memory);
         };
-        tales.push(Tale::new(number, to, seen))?;
+        tells.push(Tell::new(number, to, seen))?;
         Ok(())
     }
 
     /// Learns what it was told.
-    pub(crate) fn learn<R: Wait>(&mut self, rt: &R, tale: Tale<J>) -> Result<(), RunFault>
-        ensures ok { OnOk result (self.new ≡ learns self.old (record { teller = tale.from; position = tale.position })) }
+    pub(crate) fn learn<R: Wait>(&mut self, rt: &R, tell: Tell<J>) -> Result<(), RunFault>
+        ensures ok { OnOk result (self.new ≡ learns self.old (record { teller = tell.from; position = tell.position })) }
         ensures err { IfErr result (λ fault. fault ≡ RunFault.Memory) }
     {
-        let Tale { to: _, from, seen } = tale;
+        let Tell { to: _, from, seen } = tell;
         match self.client.learn(rt, from, seen) {
             Ok(()) => Ok(()),
             Err(_) => Err(RunFault::Memory),
         }
     }
+}
+
+/// A copy of what a read says.
+fn copy_of(opts: &GrvOpts) -> Result<GrvOpts, AllocError>
+    ensures { IfOk result (λ copy. copy ≡ opts.now) }
+{
+    opts.clone()
+}
+
+/// Whether a call with this answer is in the log.
+fn is_logged<T>(answer: &Result<T, ClientError>) -> bool
+    ensures logged { result ≡ true → answer.now ≢ Err ClientError.Memory }
+    ensures memory { result ≡ false → answer.now ≡ Err ClientError.Memory }
+{
+    !matches!(answer, Err(ClientError::Memory))
 }
 
 /// What an answer leaves to be done: nothing, but where memory was refused, which is also why a proxy closes its desk

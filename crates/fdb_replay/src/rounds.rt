@@ -1,14 +1,14 @@
-//! A round of a run: each client does what it is told, and then they learn what they told one another.
+//! A round of a run: each client does its commands, and then they learn what they told one another.
 
 ghost use Rattle.std.specs.Prelude.{◌≡◌, ◌+◌, ◌++◌, ◌≤◌, ◌<◌, [], ℕ, true, false, OnOk, IfOk, IfErr, length, drop, fold, get_or, map, slice_index_or, vec_len};
 ghost use Rattle.std.specs.List.{FoldsTo};
 ghost use Rattle.std.specs.Thread.{IsSync, IsSend};
-ghost use Rattle.fdb_replay.specs.Rounds.{IsPlayed, PerformsFrom, all_told, logs_of, teach, told_in};
+ghost use Rattle.fdb_replay.specs.private.Rounds.{IsPlayed, PerformsFrom, all_tells, logs_of, teach, tells_in};
 ghost use Rattle.fdb_script.specs.Answering.{AnswersCommand, AnswersRound, commands_of};
 
 use crate::fault::RunFault;
 use crate::player::Player;
-use crate::tale::Tale;
+use crate::tell::Tell;
 use crate::world::World;
 use fdb_history::{Gate, Sequence};
 use fdb_live::Live;
@@ -24,7 +24,7 @@ const MAX_CLIENTS: usize = 64;
 #[derive(Drop)]
 struct Round<'a> {
     commands: &'a [Command],
-    /// Whether the client with this number is told anything.
+    /// Whether the client with this number has a command.
     acts: [bool; MAX_CLIENTS],
     ghost idle: { (client : ℕ) → slice_index_or acts client true ≡ false → commands_of client commands.now ≡ [] },
 }
@@ -40,7 +40,7 @@ impl<'a> Round<'a> {
         }
     }
 
-    /// Whether one of so many clients is told anything, the first of whom has this number.
+    /// Whether one of so many clients has a command, the first of whom has this number.
     fn acts_among(&self, first: u32, clients: usize) -> bool
         requires { first + clients ≤ 64 }
         ensures some { result ≡ true → 0 < clients }
@@ -56,7 +56,7 @@ impl<'a> Round<'a> {
     }
 }
 
-/// Which clients are told anything by these commands.
+/// Which clients have one of these commands.
 #[tactic(auto, using(crate::proofs::Acts::one_set, crate::proofs::Acts::none_set))]
 fn acts_in(commands: &[Command]) -> [bool; MAX_CLIENTS]
     ensures { (client : ℕ) → slice_index_or result client true ≡ false → commands_of client commands.now ≡ [] }
@@ -104,20 +104,20 @@ fn play_round<'a, J: Live + Send + Sync, R: Threads + Wait + Sync, G: Gate>(
 {
     let round = Round::new(commands);
     let part = play_part(rt, alloc, world, &round, 0, clients)?;
-    let Part { mut clients, tales } = part;
-    learn_all(rt, &mut clients, tales)?;
+    let Part { mut clients, tells } = part;
+    learn_all(rt, &mut clients, tells)?;
     Ok(clients)
 }
 
-/// Clients that have done what they were told in a round, and what they told others by that.
+/// Clients that have done their commands of a round, and what they told others by that.
 #[derive(Drop)]
 struct Part<'a, J: Live> {
     clients: Vec<Player<'a, J>>,
-    tales: Vec<Tale<J>>,
+    tells: Vec<Tell<J>>,
 }
 
-/// Has these clients, the first of whom has this number, do what they are told in a round, those who are told anything
-/// each in a thread of its own, the last of them in this one. Answers what they told, by client and then by command.
+/// Has these clients, the first of whom has this number, do their commands of a round, each that has any in a thread of its
+/// own, the last of them in this one. Answers what they told, by client and then by command.
 #[cycle(parts)]
 #[tactic(auto, using(crate::proofs::Parts::one_played_at))]
 fn play_part<'a, J: Live + Send + Sync, R: Threads + Wait + Sync, G: Gate>(
@@ -129,18 +129,18 @@ fn play_part<'a, J: Live + Send + Sync, R: Threads + Wait + Sync, G: Gate>(
     mut clients: Vec<Player<'a, J>>,
 ) -> Result<Part<'a, J>, RunFault>
     requires few { first + vec_len clients ≤ 64 }
-    ensures ok { IfOk result (λ part. IsPlayed first round.now.commands.now clients.entry.items part.clients.items part.tales.items) }
+    ensures ok { IfOk result (λ part. IsPlayed first round.now.commands.now clients.entry.items part.clients.items part.tells.items) }
     ensures err { IfErr result (λ fault. fault ≡ RunFault.Memory) }
 {
     if !round.acts_among(first, clients.len()) {
         return Ok(Part {
             clients,
-            tales: Vec::new(alloc),
+            tells: Vec::new(alloc),
         });
     }
     if clients.len() == 1 {
-        let tales = play_client(rt, alloc, world, round.commands, first, &mut clients[0])?;
-        return Ok(Part { clients, tales });
+        let tells = play_client(rt, alloc, world, round.commands, first, &mut clients[0])?;
+        return Ok(Part { clients, tells });
     }
     let half = clients.len() / 2;
     let next = first + half as u32;
@@ -148,11 +148,11 @@ fn play_part<'a, J: Live + Send + Sync, R: Threads + Wait + Sync, G: Gate>(
     let both_act = round.acts_among(first, half) && round.acts_among(next, others.len());
     let front = move || -> Result<Part<'_, J>, RunFault>
         requires { IsSync R.row × IsSync J.row × IsSend J.row × IsSync G.row × (first + vec_len clients ≤ 64) }
-        ensures { IfOk result (λ part. IsPlayed first round.entry.now.commands.now clients.entry.items part.clients.items part.tales.items) × IfErr result (λ fault. fault ≡ RunFault.Memory) }
+        ensures { IfOk result (λ part. IsPlayed first round.entry.now.commands.now clients.entry.items part.clients.items part.tells.items) × IfErr result (λ fault. fault ≡ RunFault.Memory) }
     { play_part(rt, alloc, world, round, first, clients) };
     let back = move || -> Result<Part<'_, J>, RunFault>
         requires { IsSync R.row × IsSync J.row × IsSend J.row × IsSync G.row × (next + vec_len others ≤ 64) }
-        ensures { IfOk result (λ part. IsPlayed next round.entry.now.commands.now others.entry.items part.clients.items part.tales.items) × IfErr result (λ fault. fault ≡ RunFault.Memory) }
+        ensures { IfOk result (λ part. IsPlayed next round.entry.now.commands.now others.entry.items part.clients.items part.tells.items) × IfErr result (λ fault. fault ≡ RunFault.Memory) }
     { play_part(rt, alloc, world, round, next, others) };
     let (theirs, ours) = if both_act {
         join(rt, front, back)
@@ -162,11 +162,11 @@ fn play_part<'a, J: Live + Send + Sync, R: Threads + Wait + Sync, G: Gate>(
     let mut part = theirs?;
     let mut rest = ours?;
     part.clients.append(&mut rest.clients)?;
-    part.tales.append(&mut rest.tales)?;
+    part.tells.append(&mut rest.tells)?;
     Ok(part)
 }
 
-/// Has a client do what it is told in a round.
+/// Has a client do its commands of a round.
 #[tactic(auto, using(crate::proofs::Grown::not_grown))]
 fn play_client<J: Live, R: Wait, G: Gate>(
     rt: &R,
@@ -175,34 +175,34 @@ fn play_client<J: Live, R: Wait, G: Gate>(
     commands: &[Command],
     number: u32,
     client: &mut Player<'_, J>,
-) -> Result<Vec<Tale<J>>, RunFault>
+) -> Result<Vec<Tell<J>>, RunFault>
     ensures ok { OnOk result (FoldsTo AnswersCommand client.old (commands_of number commands.now) client.new) }
-    ensures told { IfOk result (λ tales. tales.items ≡ told_in number (drop (length client.old) client.new)) }
+    ensures told { IfOk result (λ tells. tells.items ≡ tells_in number (drop (length client.old) client.new)) }
     ensures err { IfErr result (λ fault. fault ≡ RunFault.Memory) }
 {
-    let mut tales = Vec::new(alloc);
+    let mut tells = Vec::new(alloc);
     for command in commands {
         if command.client == number {
-            client.perform(rt, world, number, &command.act, &mut tales)?;
+            client.perform(rt, world, number, &command.act, &mut tells)?;
         }
     }
-    Ok(tales)
+    Ok(tells)
 }
 
 /// Has each client learn what it was told.
 fn learn_all<J: Live, R: Wait>(
     rt: &R,
     clients: &mut Vec<Player<'_, J>>,
-    tales: Vec<Tale<J>>,
+    tells: Vec<Tell<J>>,
 ) -> Result<(), RunFault>
-    ensures ok { OnOk result (clients.new.items ≡ fold teach clients.old.items tales.items) }
+    ensures ok { OnOk result (clients.new.items ≡ fold teach clients.old.items tells.items) }
     ensures len { OnOk result (length clients.new.items ≡ length clients.old.items) }
     ensures err { IfErr result (λ fault. fault ≡ RunFault.Memory) }
 {
-    for tale in tales {
-        let to = tale.to as usize;
+    for tell in tells {
+        let to = tell.to as usize;
         if to < clients.len() {
-            clients[to].learn(rt, tale)?;
+            clients[to].learn(rt, tell)?;
         }
     }
     Ok(())

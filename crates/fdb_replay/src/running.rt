@@ -21,13 +21,13 @@ use std::sync::Wait;
 use std::thread::Threads;
 
 /// Plays a script, audits what it leaves, and answers it: the logs of its clients, the chain of commit versions, and
-/// a history that explains them, in the fixed order. It plays the rounds in order. In a round each client that is told to do
-/// something does it in a thread of its own, its commands in order; what was told in a round is learnt at its end.
+/// a history that explains them, in the fixed order. It plays the rounds in order. In a round each client that has commands
+/// does them in order, in a thread of its own; what was told in a round is learnt at its end.
 ///
 /// There are 1 to 16 GRV proxies, each in a thread of its own for the whole run. A client's reads go to them in turn.
 /// The gate is passed where the sequencer's lock is held, where that of the reports is, and where an answer to a read has come.
 ///
-/// It fails for want of memory, that for a thread included, or with the fault that the audit finds.
+/// It fails where memory runs out, that for a thread included, or with the fault that the audit finds.
 pub fn run<R: Threads + Wait + Sync, G: Gate>(
     rt: &R,
     alloc: Global,

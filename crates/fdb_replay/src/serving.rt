@@ -2,7 +2,7 @@
 
 ghost use Rattle.std.specs.Prelude.{◌≡◌, ◌≤◌, IfOk, IfErr, OnOk, length, vec_len};
 ghost use Rattle.std.specs.List.{FoldsTo};
-ghost use Rattle.fdb_replay.specs.Rounds.{logs_of};
+ghost use Rattle.fdb_replay.specs.private.Rounds.{logs_of};
 ghost use Rattle.fdb_script.specs.Answering.{AnswersRound};
 ghost use Rattle.fdb_script.specs.Plan.{IsPlan};
 
@@ -23,7 +23,7 @@ use std::thread::{JoinHandle, Scope, Threads};
 /// A GRV proxy for each desk, in order: each with a queue of its own, made with what the script says, and with a token that
 /// is split off the first one.
 ///
-/// It is refused for want of memory alone.
+/// It fails only where memory runs out.
 pub(crate) fn proxies_of<'a, J: Live>(
     alloc: Global,
     live: &'a LiveRecord<J>,
@@ -48,8 +48,8 @@ pub(crate) fn proxies_of<'a, J: Live>(
 /// The logs of the clients, once all rounds are played. Meanwhile each proxy serves its desk in a thread of its own;
 /// however the rounds end, the desks are then closed, and the proxies joined.
 ///
-/// It is refused for want of memory alone: where a proxy cannot be started, which leaves all rounds unplayed, or where a
-/// client or a proxy met it.
+/// It fails only where memory runs out: where a proxy cannot be started, which leaves all rounds unplayed, or in a
+/// client or a proxy.
 pub(crate) fn served<J: Live + Send + Sync, R: Threads + Wait + Sync, G: Gate>(
     rt: &R,
     alloc: Global,

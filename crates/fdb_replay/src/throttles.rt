@@ -5,7 +5,7 @@ ghost use Rattle.std.specs.List.{AllByRecursion};
 ghost use Rattle.fdb_queue.specs.Config.{IsConfig};
 ghost use Rattle.fdb_queue.specs.Queue.{new_queue};
 ghost use Rattle.fdb_queue.specs.Throttles.{SameThrottles};
-ghost use Rattle.fdb_replay.specs.Throttling.{throttle_of, throttles_of};
+ghost use Rattle.fdb_replay.specs.private.Throttling.{throttle_of, throttles_of};
 ghost use Rattle.fdb_script.specs.Plan.{is_tag};
 
 use crate::fault::RunFault;
@@ -16,7 +16,7 @@ use std::alloc::Global;
 /// A queue in which nothing waits, with no budget yet and these throttles. Of two throttles for one priority and tag, the
 /// later counts.
 ///
-/// It is refused for want of memory alone.
+/// It fails only where memory runs out.
 pub(crate) fn throttled_queue<T: Drop>(
     alloc: Global,
     config: QueueConfig,

@@ -3,7 +3,8 @@
 ghost use Rattle.std.specs.Prelude.{◌≡◌, false, [], List, IfOk, IfErr, map, string_bytes};
 ghost use Rattle.clap.specs.Words.{IsParsedFrom, Text, app_of, found_of, matches_of, rows_of, rule_of};
 ghost use Rattle.clap.specs.declared.builder.command.Command.{Command};
-ghost use Rattle.fdb_replay.specs.Words.{AreWrong, Ask, AskReplay, command as command_read, faults, history_argument, proxies_argument, script_argument};
+ghost use Rattle.fdb_replay.specs.Words.{AreWrong, command as command_read, faults, history_argument, proxies_argument, script_argument};
+ghost use Rattle.fdb_replay.specs.private.Asked.{Ask, AskReplay};
 
 use clap::error::ErrorKind;
 use clap::{Arg, ArgAction, ArgMatches, Command, Error, value_parser};
@@ -51,8 +52,8 @@ pub(crate) enum WordsFault {
     Memory,
 }
 
-/// The words of the command line behind the program's own name. Words that are not UTF-8 are an error, and so is want
-/// of memory.
+/// The words of the command line behind the program's own name. Words that are not UTF-8 are an error, and so
+/// is memory that runs out.
 pub fn command_line<R: Env + Alloc<A = Global>>(rt: &R) -> io::Result<Vec<String>> {
     Ok(env::args(rt)?.skip(1).collect(rt.alloc())?)
 }

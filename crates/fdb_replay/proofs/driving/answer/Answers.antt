@@ -1,5 +1,5 @@
 use Rattle.std.proofs.Common.{map, string_bytes}
-use Rattle.fdb_replay.specs.Words.{AskReplay}
+use Rattle.fdb_replay.specs.private.Asked.{AskReplay}
 use Rattle.fdb_replay.proofs.Given.{file_named}
 use Rattle.fdb_replay.proofs.driving.answer.Goals as goal
 

@@ -1,6 +1,6 @@
 use Rattle.std.proofs.Common.{◌≡◌, ◌+◌, ◌/◌, ◌++◌, length, map, sym, subst, rules}
 use Rattle.std.proofs.lemmas.List.{take-append-drop}
-use Rattle.fdb_replay.specs.Rounds.{IsPlayed}
+use Rattle.fdb_replay.specs.private.Rounds.{IsPlayed}
 use Rattle.fdb_replay.proofs.Parts.{both_played, none_played}
 use Rattle.fdb_replay.proofs.rounds.+parts.Goals as goal
 
@@ -19,9 +19,9 @@ returns-clause-ok g t c =
     let part = c.in_ok-part.part in
     let rest = c.in_ok-rest.rest in
     let cut = c.in_ok-others.ensures in
-    let front : IsPlayed first commands left part.clients.items part.tales.items = search rules in
-    let back : IsPlayed next commands right rest.clients.items rest.tales.items = search rules in
+    let front : IsPlayed first commands left part.clients.items part.tells.items = search rules in
+    let back : IsPlayed next commands right rest.clients.items rest.tells.items = search rules in
     let cut_is : next ≡ first + length left = search rules in
     let whole : left ++ right ≡ old = rw (cut.items, cut.tail) (take-append-drop (c.len-half.result / 2) old) in
     subst (λ all. IsPlayed first commands all c.append.new.self.items c.append-2.new.self.items) whole
-    (rw (c.in_ok-append.ensures.items, c.in_ok-append-2.ensures.items) (both_played first next commands left part.clients.items right rest.clients.items part.tales.items rest.tales.items cut_is front back))
+    (rw (c.in_ok-append.ensures.items, c.in_ok-append-2.ensures.items) (both_played first next commands left part.clients.items right rest.clients.items part.tells.items rest.tells.items cut_is front back))

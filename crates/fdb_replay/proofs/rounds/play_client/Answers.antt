@@ -1,6 +1,6 @@
 use Rattle.std.proofs.Common.{◌<◌, ◌∙◌, length, ap, subst, arith}
 use Rattle.fdb_script.specs.Answering.{AnswersCommand, commands_of, input_of}
-use Rattle.fdb_replay.proofs.Grown.{grown_more, told_more, one_command_more, other_command}
+use Rattle.fdb_replay.proofs.Grown.{grown_more, tells_more, one_command_more, other_command}
 use Rattle.fdb_replay.proofs.rounds.play_client.Goals as goal
 use Rattle.fdb_replay.proofs.rounds.play_client.Goals.{then-command-number+in_ok-perform, else-command-number}
 
@@ -13,21 +13,21 @@ loop-command-preserved g c =
     let place = c.loop-command.command-index in
     let command = c.command-item.result in
     let client = c.args.number in
-    let tales = c.loop-command.tales.items in
+    let tells = c.loop-command.tells.items in
     let within : place < length commands = omega (arith, c.loop-command-test.true, c.loop-command.auto.command-index-end) in
     elim c.if-command-number.branch [
       | then-command-number+in_ok-perform w ↦
           let after = w.perform.new.self in
           let wanted = input_of before command.act in
           let added = w.in_ok-perform.ensures.ok in
-          let told = told_more client old before after wanted tales w.perform.new.tales.items so_far.grown added so_far.told w.in_ok-perform.ensures.told in
-          rw (w.client-is, w.tales-is) (record {
+          let told = tells_more client old before after wanted tells w.perform.new.tells.items so_far.grown added so_far.told w.in_ok-perform.ensures.told in
+          rw (w.client-is, w.tells-is) (record {
             grown = grown_more old before after wanted so_far.grown added;
             told = told;
             forwards = λ last rest. so_far.forwards last (one_command_more client place commands command before after last within c.command-item.is w.if-command-number.true added rest);
           })
       | else-command-number w ↦
-          rw (w.client-is, w.tales-is) (record {
+          rw (w.client-is, w.tells-is) (record {
             grown = so_far.grown;
             told = so_far.told;
             forwards = λ last rest. so_far.forwards last (other_command client place commands command before last within c.command-item.is w.if-command-number.false rest);

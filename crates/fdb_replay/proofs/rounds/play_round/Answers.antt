@@ -1,5 +1,5 @@
 use Rattle.std.proofs.Common.{◌≡◌, fold, ap, sym, subst, ◌∙◌}
-use Rattle.fdb_replay.specs.Rounds.{IsPlayed, logs_of, teach}
+use Rattle.fdb_replay.specs.private.Rounds.{IsPlayed, logs_of, teach}
 use Rattle.fdb_script.specs.Answering.{AnswersRound}
 use Rattle.fdb_replay.proofs.Learnt.{learnt}
 use Rattle.fdb_replay.proofs.Parts.{same_clients}
@@ -10,10 +10,10 @@ pub returns-clause-ok : goal.returns-clause-ok
 returns-clause-ok g c =
     let old = c.args.clients.items in
     let now = c.in_ok-part.part.clients.items in
-    let tales = c.in_ok-part.part.tales.items in
+    let tells = c.in_ok-part.part.tells.items in
     let commands = c.args.commands.now in
-    let played : IsPlayed 0 commands old now tales = rw c.new-round.ensures at c.in_ok-part.ensures.ok in
-    let answered = round_answered commands old now (fold teach now tales) tales played (learnt old now tales) in
+    let played : IsPlayed 0 commands old now tells = rw c.new-round.ensures at c.in_ok-part.ensures.ok in
+    let answered = round_answered commands old now (fold teach now tells) tells played (learnt old now tells) in
     subst (λ learnt. AnswersRound (logs_of old) commands (logs_of learnt)) (sym c.in_ok-learn_all.ensures.ok) answered
 
 pub returns-clause-few : goal.returns-clause-few

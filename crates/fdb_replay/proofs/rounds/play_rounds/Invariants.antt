@@ -1,7 +1,7 @@
 use Rattle.std.proofs.Common.{◌≡◌, List, drop, length}
 use Rattle.std.specs.List.{FoldsTo}
 use Rattle.fdb_history.specs.declared.log.Call.{Call}
-use Rattle.fdb_replay.specs.Rounds.{logs_of}
+use Rattle.fdb_replay.specs.private.Rounds.{logs_of}
 use Rattle.fdb_script.specs.Answering.{AnswersRound}
 use Rattle.fdb_replay.proofs.rounds.play_rounds.Given as goal
 

@@ -20,6 +20,6 @@ returns-clause-ok c =
       one_chain = c.requires.one_chain;
       linear = rw (start, c.as_slice-2.ensures.value) at c.in_ok-history.ensures.linear;
       in_order = audited.3;
-      none_astray = audited.1;
+      none_stray = audited.1;
       none_low = audited.2;
     }

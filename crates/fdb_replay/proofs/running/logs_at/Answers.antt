@@ -2,7 +2,7 @@ use Rattle.std.proofs.Common.{◌≡◌, ◌≤◌, [], List, length, replicate,
 use Rattle.std.proofs.lemmas.Result.{IfOk-weaker}
 use Rattle.std.specs.List.{FoldsTo}
 use Rattle.fdb_history.specs.declared.log.Call.{Call}
-use Rattle.fdb_replay.specs.Rounds.{logs_of}
+use Rattle.fdb_replay.specs.private.Rounds.{logs_of}
 use Rattle.fdb_script.specs.Answering.{Answers, AnswersRound}
 use Rattle.fdb_replay.proofs.Runs.{from_the_start, same_clients}
 use Rattle.fdb_replay.proofs.running.logs_at.Goals as goal

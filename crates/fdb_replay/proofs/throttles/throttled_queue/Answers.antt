@@ -2,7 +2,7 @@ use Rattle.std.proofs.Common.{ap, ◌∙◌, subst}
 use Rattle.std.proofs.lemmas.List.{take_all}
 use Rattle.fdb_queue.specs.Queue.{Queue}
 use Rattle.fdb_queue.specs.Throttles.{SameThrottles}
-use Rattle.fdb_replay.specs.Throttling.{throttles_of}
+use Rattle.fdb_replay.specs.private.Throttling.{throttles_of}
 use Rattle.fdb_replay.proofs.Throttled.{one_more}
 use Rattle.fdb_replay.proofs.throttles.throttled_queue.Goals as goal
 

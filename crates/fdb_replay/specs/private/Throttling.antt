@@ -1,4 +1,4 @@
--- The throttles of a script, as the queues of its GRV proxies have them. (private to this crate)
+-- The throttles of a script, as the queues of its GRV proxies have them.
 use Rattle.std.specs.Prelude.{List, map, reverse}
 use Rattle.fdb_queue.specs.Throttles as queue
 use Rattle.fdb_script.specs.declared.script.Throttle.{Throttle}

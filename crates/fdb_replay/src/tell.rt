@@ -9,7 +9,7 @@ use std::marker::Model;
 ///
 /// Contracts see it as who is told, who tells, and the position that the teller had come to.
 #[derive(Drop)]
-pub(crate) struct Tale<J: Live> {
+pub(crate) struct Tell<J: Live> {
     /// Who is told.
     pub(crate) to: u32,
     /// Who tells.
@@ -18,23 +18,23 @@ pub(crate) struct Tale<J: Live> {
     pub(crate) seen: Seen<J>,
 }
 
-impl<J: Live> Model for Tale<J> {
+impl<J: Live> Model for Tell<J> {
     ghost use Rattle.std.specs.Prelude.{◌≡◌, None, length};
-    ghost use Rattle.fdb_replay.specs.Rounds.{Told};
+    ghost use Rattle.fdb_replay.specs.private.Rounds.{Tell};
 
-    ghost Value = { Told };
+    ghost Value = { Tell };
 
-    ghost view = { λ tale. record { to = tale.to; from = tale.from; position = length tale.seen.raises } };
+    ghost view = { λ tell. record { to = tell.to; from = tell.from; position = length tell.seen.raises } };
 
-    ghost invariant = { λ tale. tale.seen.reporter ≡ None };
+    ghost invariant = { λ tell. tell.seen.reporter ≡ None };
 }
 
-impl<J: Live> Tale<J> {
+impl<J: Live> Tell<J> {
     /// One client told another what it had seen.
     pub(crate) fn new(from: u32, to: u32, seen: Seen<J>) -> Self
         requires { seen.reporter ≡ None }
         ensures { result ≡ record { to = to; from = from; position = length seen.raises } }
     {
-        Tale { to, from, seen }
+        Tell { to, from, seen }
     }
 }
