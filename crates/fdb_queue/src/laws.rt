@@ -29,7 +29,8 @@ pub fn windows_pass_over_nobody<T>()
         → window queue ≡ take (length (window queue)) (row queue.waiting) }
     ensures may_start { (queue : Queue T) (before after : List (Req T)) (request : Req T)
         → window queue ≡ before ++ request ∷ after
-        → may_start queue.config queue.budgets request.priority (total before + request.count) ≡ true }
+        → may_start queue.config queue.budgets request.priority (total before + request.count)
+        ≡ true }
     ensures in_range { (queue : Queue T) → length (window queue) ≤ MAX_STARTED }
     ensures longest { (queue : Queue T) (count : ℕ) → length (window queue) < count
         → count ≤ length (row queue.waiting) → fits queue (take count (row queue.waiting)) ≡ false }
@@ -61,8 +62,9 @@ pub fn budgets_are_bounded<T>()
         → (after_window elapsed queue).budgets.batch ≤ 20000000 }
 {}
 
-/// What a queue keeps to, it keeps to whatever is let in and started: no more requests wait than the
-/// capacity allows, each waits in the list of its priority, and the budgets are within their bounds.
+/// What a queue keeps to, it keeps to whatever is let in and started: no more requests wait than
+/// the capacity allows, each waits in the list of its priority, and the budgets are within their
+/// bounds.
 pub fn queues_stay_queues<T>()
     ensures admitted { (queue : Queue T) (request : Req T) → IsQueue queue
         → refusal_of queue request ≡ None → IsQueue (admitted queue request) }

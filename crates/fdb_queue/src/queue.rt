@@ -249,7 +249,8 @@ impl<T> GrvQueue<T> {
 
     /// The limits of some tags at a priority and a moment: for each tag in order, also for one that
     /// stands twice, the throttle last set, if it expires later than that moment. It fails only
-    /// where memory runs out, and only where a limit is due. It takes logarithmic time for each tag.
+    /// where memory runs out, and only where a limit is due. It takes logarithmic time for each
+    /// tag.
     pub fn throttles(
         &self,
         priority: Priority,

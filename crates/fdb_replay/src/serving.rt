@@ -33,6 +33,7 @@ pub(crate) fn proxies_of<'a, J: Live>(
 ) -> Result<Vec<GrvProxy<'a, J>>, RunFault>
     requires { IsPlan script.now }
     ensures each { IfOk result (λ proxies. vec_len proxies ≡ vec_len desks.now.desks) }
+    ensures made { IfOk result (λ proxies. All (IsMadeFor script.now) proxies.items) }
     ensures err { IfErr result (λ fault. fault ≡ RunFault.Memory) }
 {
     let mut proxies = Vec::new(alloc);
