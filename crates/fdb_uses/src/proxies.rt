@@ -6,7 +6,7 @@ use anyhow::{Result, anyhow};
 use fdb_chain::{ChainCore, Sequencer};
 use fdb_client::{Client, ClientError, ReadVersion};
 use fdb_history::{GrvOpts, OpenGate, Priority, Record, Sequence};
-use fdb_live::{Live, LiveRecord, Opened, Seen, UnderName};
+use fdb_live::{Live, LiveRecord, Opened, Seen};
 use fdb_proxy::{Desk, GrvProxy};
 use fdb_queue::{GrvQueue, QueueConfig};
 use std::alloc::Global;
@@ -37,40 +37,32 @@ struct Service<J: Live> {
     far: Desk<J>,
 }
 
-/// Opens a service for two clients, and has them work under a name that stands for it.
+/// Opens a service for two clients, and has them work.
 pub fn two_clients<R: Print + Threads + Wait + Sync>(rt: &R, alloc: Global) -> Result<()> {
     let opened = LiveRecord::<Brand>::open(rt, alloc, START, 2)?;
-    opened.named(rt, 0, START.version, TwoClients { alloc })
+    let core = ChainCore::new(alloc, 0, START.version, 2)?;
+    serve::<Brand, R>(rt, alloc, opened, core)
 }
 
-/// What two clients do.
-#[derive(Drop)]
-struct TwoClients {
+/// Serves the clients under a name that stands for the service.
+fn serve<J: Live + Send + Sync, R: Print + Threads + Wait + Sync>(
+    rt: &R,
     alloc: Global,
-}
-
-impl<R: Print + Threads + Wait + Sync> UnderName<R> for TwoClients {
-    type Output = Result<()>;
-
-    /// Serves the clients.
-    fn run<J: Live + Send + Sync>(
-        self,
-        rt: &R,
-        opened: Opened,
-        epoch_end: u64,
-        recovery: u64,
-    ) -> Result<()> {
-        let alloc = self.alloc;
-        let core = ChainCore::new(alloc, epoch_end, recovery, 2)?;
-        let (live, mut seen, mut tokens) = opened.parts::<J>()?;
-        let service = Service {
-            sequencer: Sequencer::new(core),
-            live,
-            near: Desk::new(alloc),
-            far: Desk::new(alloc),
-        };
-        work(rt, alloc, &service, &mut seen, tokens.pop(), tokens.pop())
-    }
+    opened: Opened,
+    core: ChainCore,
+) -> Result<()>
+    requires opened { opened ≡ record { table = J.table; start = J.start; reporters = J.reporters } }
+    requires epoch_end { core.epoch_end ≡ J.epoch_end }
+    requires recovery { core.recovery ≡ J.recovery }
+{
+    let (live, mut seen, mut tokens) = opened.parts::<J>()?;
+    let service = Service {
+        sequencer: Sequencer::new(core),
+        live,
+        near: Desk::new(alloc),
+        far: Desk::new(alloc),
+    };
+    work(rt, alloc, &service, &mut seen, tokens.pop(), tokens.pop())
 }
 
 /// Has one client commit and tell the other, and both read.
