@@ -1,8 +1,9 @@
 //! The GRV proxies of a run, which serve while its rounds are played.
 
-ghost use Rattle.std.specs.Prelude.{◌≡◌, ◌≤◌, IfOk, IfErr, OnOk, length, vec_len};
+ghost use Rattle.std.specs.Prelude.{◌≡◌, ◌≤◌, All, IfOk, IfErr, OnOk, length, vec_len};
 ghost use Rattle.std.specs.List.{FoldsTo};
 ghost use Rattle.fdb_replay.specs.private.Rounds.{logs_of};
+ghost use Rattle.fdb_replay.specs.private.Throttling.{IsMadeFor};
 ghost use Rattle.fdb_script.specs.Answering.{AnswersRound};
 ghost use Rattle.fdb_script.specs.Plan.{IsPlan};
 

@@ -1,5 +1,9 @@
-use Rattle.std.proofs.Common.{◌≡◌, vec_len}
+use Rattle.std.proofs.Common.{◌≡◌, All, vec_len}
+use Rattle.fdb_replay.specs.private.Throttling.{IsMadeFor}
 use Rattle.fdb_replay.proofs.serving.proxies_of.Given as goal
 
 abbrev pub invariant-loop-desk : goal.invariant-loop-desk
-invariant-loop-desk g l = vec_len l.proxies ≡ l.desk-index
+invariant-loop-desk g l = record {
+  len : vec_len l.proxies ≡ l.desk-index;
+  made : All (IsMadeFor l.fn.script.now) l.proxies.items;
+}
