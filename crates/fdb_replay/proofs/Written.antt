@@ -6,7 +6,7 @@ use Rattle.std.proofs.KnownBytes.{Appends-kept}
 use Rattle.clap.specs.Words.{Text}
 use Rattle.fdb_replay.specs.Replay.{IsCut, Refuses, Replays}
 use Rattle.fdb_replay.specs.Words.{IsCutShort, MayBeRead, Replayed}
-use Rattle.fdb_replay.specs.declared.driving.TheConstants.{MAX_SCRIPT_BYTES}
+use Rattle.fdb_script.specs.declared.script.TheConstants.{MAX_SCRIPT_BYTES}
 use Rattle.fdb_replay.specs.declared.replaying.ReplayFault.{ReplayFault}
 use Rattle.fdb_replay.specs.declared.replaying.ReplayFault.TheVariants.{Write}
 use Rattle.fdb_script.specs.Plan.{Plan}

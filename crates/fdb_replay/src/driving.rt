@@ -6,13 +6,13 @@ ghost use Rattle.std.specs.IoError.{error_kind};
 ghost use Rattle.fdb_replay.specs.Words.{AreTaken, AreWrong, IsBegun, IsCutShort, IsDone, MayAskFaulty, MayAskInVain, MayBeFaulty, MayBeNoScript, MayBeRead, ReadsInput, Replayed, TakesAtMost};
 ghost use Rattle.fdb_history.specs.declared.fault.AuditFault.{AuditFault};
 ghost use Rattle.fdb_script.specs.declared.error.ScriptError.{ScriptError};
-ghost use Rattle.fdb_replay.specs.declared.driving.TheConstants.{MAX_SCRIPT_BYTES};
+ghost use Rattle.fdb_script.specs.declared.script.TheConstants.{MAX_SCRIPT_BYTES};
 
 use crate::fault::RunFault;
 use crate::replaying::{ReplayFault, replay};
 use crate::words::{Request, Words, WordsFault, parse};
 use fdb_history::{AuditFault, OpenGate};
-use fdb_script::ScriptError;
+use fdb_script::{MAX_SCRIPT_BYTES, ScriptError};
 use std::alloc::Global;
 use std::fs::{File, Files};
 use std::io;
@@ -20,9 +20,6 @@ use std::io::{ErrorKind, Read, Write};
 use std::sync::Wait;
 use std::thread::Threads;
 use thiserror::Error;
-
-/// The most bytes of a script that the program reads.
-pub const MAX_SCRIPT_BYTES: usize = 16_777_216;
 
 /// The most bytes that one read asks for.
 const PIECE: usize = 65_536;

@@ -15,8 +15,9 @@ mod throttles;
 mod words;
 mod world;
 
-pub use driving::{Fault, MAX_SCRIPT_BYTES, drive};
+pub use driving::{Fault, drive};
 pub use fault::RunFault;
+pub use fdb_script::MAX_SCRIPT_BYTES;
 pub use replaying::{ReplayFault, replay};
 pub use running::run;
 pub use words::command_line;

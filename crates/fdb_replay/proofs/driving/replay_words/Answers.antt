@@ -1,7 +1,7 @@
 use Rattle.std.proofs.Common.{◌≤◌, inl, inr, length, subst, arith}
 use Rattle.std.proofs.lemmas.Result.{err_from_is_err_and}
 use Rattle.fdb_replay.specs.Replay.{IsCut, Replays}
-use Rattle.fdb_replay.specs.declared.driving.TheConstants.{MAX_SCRIPT_BYTES}
+use Rattle.fdb_script.specs.declared.script.TheConstants.{MAX_SCRIPT_BYTES}
 use Rattle.fdb_replay.proofs.Written.{replayed_in_part, replayed_whole}
 use Rattle.fdb_replay.proofs.driving.replay_words.Goals as goal
 
