@@ -14,7 +14,7 @@ use crate::throttles::throttled_queue;
 use crate::world::World;
 use fdb_history::{ClientLog, Gate, Sequence};
 use fdb_live::{Live, LiveRecord, Seen};
-use fdb_proxy::GrvProxy;
+use fdb_proxy::{Desk, GrvProxy};
 use fdb_script::{Command, Script};
 use std::alloc::Global;
 use std::sync::Wait;
@@ -39,12 +39,26 @@ pub(crate) fn proxies_of<'a, J: Live>(
 {
     let mut proxies = Vec::new(alloc);
     for desk in desks.as_slice() {
-        let queue = throttled_queue(alloc, script.config(), script.throttles())?;
-        let seen = live.split(first);
-        let proxy = GrvProxy::new(alloc, live, desk, queue, script.elapsed(), seen);
-        proxies.push(proxy)?;
+        proxies.push(proxy_at(alloc, live, desk, script, first)?)?;
     }
     Ok(proxies)
+}
+
+/// A GRV proxy for a desk.
+fn proxy_at<'a, J: Live>(
+    alloc: Global,
+    live: &'a LiveRecord<J>,
+    desk: &'a Desk<J>,
+    script: &Script,
+    first: &mut Seen<J>,
+) -> Result<GrvProxy<'a, J>, RunFault>
+    requires { IsPlan script.now }
+    ensures made { IfOk result (IsMadeFor script.now) }
+    ensures err { IfErr result (λ fault. fault ≡ RunFault.Memory) }
+{
+    let queue = throttled_queue(alloc, script.config(), script.throttles())?;
+    let seen = live.split(first);
+    Ok(GrvProxy::new(alloc, live, desk, queue, script.elapsed(), seen))
 }
 
 /// The logs of the clients, once all rounds are played. Meanwhile each proxy serves its desk in a thread of its own;
