@@ -100,6 +100,17 @@ def edits(_program):
         yield f"crates/{crate}/{TRIED}", f"it has {tried} edits, and {MOST_TRIED} are the most" if tried > MOST_TRIED else None
 
 
+def promised(_program):
+    """Each planted wrong body is named in its crate's section of docs/PROMISES.md, in bold where the gate tries it."""
+    parts = re.split(r"^## (.*)$", text_of(f"{ROOT}/docs/PROMISES.md"), flags=re.MULTILINE)
+    sections_by_title = dict(zip(parts[1::2], parts[2::2]))
+    for crate in crates():
+        section = sections_by_title.get(f"`{crate}`", "")
+        for folder, form in ((TRIED, r"\*\*`{}`\*\*"), (BESIDE, r"(?<!\*)`{}`(?!\*)")):
+            missing = [name for name in edits_in(crate, folder)[0] if not re.search(form.format(name), section)]
+            yield f"crates/{crate}/{folder} in docs/PROMISES.md", f"it leaves out {', '.join(missing)}" if missing else None
+
+
 def believed(_program):
     """What README.md and docs/DEFINITIONS.md say of how much the headline rests on is so."""
     found, lines = headline()

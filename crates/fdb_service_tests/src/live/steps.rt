@@ -89,6 +89,9 @@ pub fn work_through<J: Live, R: Wait + Abort>(rt: &R, mut parts: Parts<J>) {
     reports(rt, &live, &mut zero, 200, (false, 1));
     reads(rt, &live, &mut first, 200, 1);
     reports(rt, &live, &mut one, 150, (false, 1));
+    reports(rt, &live, &mut one, 300, (true, 2));
+    // its token has seen a version as great, and nothing of the raise since
+    reports(rt, &live, &mut zero, 200, (false, 2));
 }
 
 /// Checks that two tokens are those of the reporters 0 and 1.
