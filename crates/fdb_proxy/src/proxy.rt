@@ -64,7 +64,11 @@ impl<'a, J: Live> GrvProxy<'a, J> {
     ) -> Self
         requires { IsElapsed elapsed }
         ensures { result ≡ record {
-            seen = seen; config = queue.config; throttles = queue.throttles; elapsed = elapsed } }
+          seen = seen;
+          config = queue.config;
+          throttles = queue.throttles;
+          elapsed = elapsed;
+        } }
     {
         GrvProxy {
             alloc,
