@@ -9,3 +9,5 @@ mod gated;
 mod refused_memory;
 #[cfg(test)]
 mod replay;
+#[cfg(test)]
+mod same;

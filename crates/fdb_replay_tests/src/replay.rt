@@ -7,7 +7,7 @@ mod values;
 ghost use Rattle.std.specs.Prelude.{◌<◌, ◌≤◌};
 
 use crate::calls::{drives, replays};
-use fdb_tests::same::{same, same_text};
+use crate::same::{same, same_text};
 use std::alloc::Global;
 use std::fs::Files;
 use std::io;

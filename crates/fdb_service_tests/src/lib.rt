@@ -4,8 +4,12 @@
 #[cfg(test)]
 mod client;
 #[cfg(test)]
+mod line;
+#[cfg(test)]
 mod live;
 #[cfg(test)]
 mod proxy;
 #[cfg(test)]
 mod refused_memory;
+#[cfg(test)]
+mod same;

@@ -3,21 +3,23 @@
 //!
 //! Tests stand in crates of their own, so that no library is proved twice. Most are texts, one case after another, that a
 //! small reader for each subject plays when the test runs: a literal in the code would be carried through the proof of its
-//! function. Without its tests this crate is what all of them use: a line of a text, and comparisons.
+//! function. Without its tests this crate is empty.
 #![tactic(auto)]
 
 #[cfg(test)]
 mod audits;
 #[cfg(test)]
 mod chain;
-pub mod line;
+#[cfg(test)]
+mod line;
 #[cfg(test)]
 mod queue;
 #[cfg(test)]
 mod refused_memory;
 #[cfg(test)]
 mod register;
-pub mod same;
+#[cfg(test)]
+mod same;
 #[cfg(test)]
 mod script;
 #[cfg(test)]

@@ -2,9 +2,9 @@
 
 use crate::calls::{outcome_of, replays, script_of, text_of};
 use crate::replay::{HISTORY, REPLIES, SCRIPT};
+use crate::same::{holds, same, same_text};
 use fdb_replay::{ReplayFault, RunFault};
 use fdb_script::ScriptError;
-use fdb_tests::same::{holds, same, same_text};
 use std::alloc::Global;
 use std::process::Abort;
 use std::str::from_utf8;

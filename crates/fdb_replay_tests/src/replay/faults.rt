@@ -1,9 +1,9 @@
 //! Faults: the line and the status that the program ends with.
 
+use crate::same::{same, says};
 use fdb_history::AuditFault;
 use fdb_replay::Fault;
 use fdb_script::ScriptError;
-use fdb_tests::same::{same, says};
 use std::alloc::Global;
 use std::process::Abort;
 use std::test::Fail;

@@ -2,8 +2,8 @@
 
 use super::{REPLIES, SCRIPT, assert_ran, driven, words_of};
 use crate::calls::{drives, replays};
+use crate::same::{holds, same, same_text};
 use fdb_replay::{MAX_SCRIPT_BYTES, ReplayFault};
-use fdb_tests::same::{holds, same, same_text};
 use std::alloc::Global;
 use std::fs::Files;
 use std::io;

@@ -2,10 +2,10 @@
 
 use super::SCRIPT;
 use crate::calls::{outcome_of, script_of, text_of};
+use crate::same::{same_text, says};
 use fdb_history::{AuditFault, Call};
 use fdb_replay::{ReplayFault, RunFault};
 use fdb_script::{Outcome, ScriptError};
-use fdb_tests::same::{same_text, says};
 use std::alloc::{AllocError, Global};
 use std::process::Abort;
 use std::str::from_utf8;

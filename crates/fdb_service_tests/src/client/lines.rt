@@ -2,10 +2,10 @@
 
 use crate::client::served::{Way, read_served};
 use crate::client::{Service, Stand};
+use crate::line::{Line, tag};
 use fdb_client::{Client, ClientError, ReadVersion};
 use fdb_history::{GrvOpts, Issued, OpenGate, Priority, Sequence};
 use fdb_live::{Ack, Live, Seen};
-use fdb_tests::line::{Line, tag};
 use std::alloc::{AllocError, Global};
 use std::process::Abort;
 use std::sync::Wait;

@@ -2,13 +2,13 @@
 
 use crate::client::lines::opts_of;
 use crate::client::{Service, Stand};
+use crate::same::holds;
 use fdb_chain::Sequencer;
 use fdb_client::{Client, ClientError, ReadVersion};
 use fdb_history::OpenGate;
 use fdb_live::{Live, Seen};
 use fdb_proxy::{Desk, GrvProxy};
 use fdb_queue::{GrvQueue, QueueConfig};
-use fdb_tests::same::holds;
 use std::alloc::Global;
 use std::process::Abort;
 use std::sync::Wait;

@@ -4,13 +4,13 @@ ghost use Rattle.std.specs.Prelude.{◌≡◌, true};
 ghost use Rattle.fdb_proxy.specs.Cause.{is_due};
 
 use crate::client::Service;
+use crate::same::holds;
 use crossbeam_channel::Sender;
 use fdb_client::{Client, ClientError, ReadVersion};
 use fdb_history::{GrvOpts, OpenGate, Sequence};
 use fdb_live::{Live, LiveRecord, Seen};
 use fdb_proxy::{Answer, Cause, Desk, Refused, Reply, Request};
 use fdb_queue::QueueError;
-use fdb_tests::same::holds;
 use std::alloc::{AllocError, Global};
 use std::process::Abort;
 use std::sync::Wait;

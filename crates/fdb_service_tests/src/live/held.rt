@@ -2,10 +2,10 @@
 
 use crate::live::Parts;
 use crate::live::steps::{report_at, unlocked};
+use crate::same::{holds, same};
 use crossbeam_utils::Backoff;
 use fdb_history::{Gate, Place};
 use fdb_live::{Ack, Fetched, Live};
-use fdb_tests::same::{holds, same};
 use std::process::Abort;
 use std::sync::Wait;
 use std::sync::atomic::{AtomicBool, Ordering};

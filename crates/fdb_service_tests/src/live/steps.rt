@@ -1,9 +1,9 @@
 //! What one thread does with a live record.
 
 use crate::live::Parts;
+use crate::same::{holds, same};
 use fdb_history::{Gate, OpenGate, Record};
 use fdb_live::{Ack, Fetched, Live, LiveError, LiveRecord, Seen};
-use fdb_tests::same::{holds, same};
 use std::process::Abort;
 use std::sync::Wait;
 

@@ -2,9 +2,9 @@
 
 use crate::live::Parts;
 use crate::live::steps::{reads, unlocked};
+use crate::same::{holds, same};
 use fdb_history::OpenGate;
 use fdb_live::{Live, LiveRecord, Seen};
-use fdb_tests::same::{holds, same};
 use std::alloc::{AllocError, Global};
 use std::process::Abort;
 use std::sync::Wait;

@@ -2,10 +2,10 @@
 
 use crate::live::steps::report_at;
 use crate::proxy::stand::{Stand, Waiter, opts_of, queue_of, request_of, submit};
+use crate::same::{holds, same};
 use fdb_history::{OpenGate, Priority};
 use fdb_live::{Live, LiveRecord, Seen};
 use fdb_proxy::{Answer, Desk, GrvProxy};
-use fdb_tests::same::{holds, same};
 use std::alloc::{AllocError, Global};
 use std::process::Abort;
 use std::sync::Wait;

@@ -12,13 +12,13 @@
 //!
 //! The queues have a throttle of the tag `t` at the default priority: 5 transactions a second until the moment 5000.
 
+use crate::line::{Line, tag};
 use crate::proxy::answers::{answers_text, asker_text, awaited};
 use crate::proxy::stand::{Ended, Queue, Stand, opts_of, queue_of, submit};
 use fdb_history::{GrvOpts, Priority, Tag};
 use fdb_live::Live;
 use fdb_proxy::{GrvProxy, ProxyError, Request, Taken, serve_batch};
 use fdb_queue::Req;
-use fdb_tests::line::{Line, tag};
 use std::alloc::{AllocError, Global};
 use std::process::Abort;
 use std::sync::Wait;

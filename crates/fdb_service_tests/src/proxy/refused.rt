@@ -1,11 +1,11 @@
 //! Batches and proxies that may be refused memory.
 
 use crate::proxy::stand::{Ended, Queue, Stand, Waiter, opts_of, queue_of, submit};
+use crate::same::{holds, same};
 use fdb_history::Priority;
 use fdb_live::Live;
 use fdb_proxy::{Answer, Cause, GrvProxy, ProxyError, Request, serve_batch};
 use fdb_queue::{QueueError, Req};
-use fdb_tests::same::{holds, same};
 use std::alloc::AllocError;
 use std::process::Abort;
 use std::sync::Wait;

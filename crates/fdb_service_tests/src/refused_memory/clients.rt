@@ -2,15 +2,15 @@
 
 ghost use Rattle.std.specs.Prelude.{◌≡◌};
 
+use crate::line::tag;
 use crate::live::steps::unlocked;
+use crate::same::same;
 use fdb_chain::{ChainCore, ChainError, Sequencer};
 use fdb_client::{Client, ClientError, ReadVersion};
 use fdb_history::{GrvOpts, OpenGate, Priority, Sequence};
 use fdb_live::{Ack, Live, LiveRecord, Opened, Seen};
 use fdb_proxy::{Desk, GrvProxy, Request};
 use fdb_queue::{GrvQueue, QueueConfig};
-use fdb_tests::line::tag;
-use fdb_tests::same::same;
 use std::alloc::{AllocError, Global};
 use std::fmt::Debug;
 use std::marker::Brand;

@@ -1,8 +1,8 @@
 //! Live records.
 
 use crate::live::{Case, play};
+use crate::same::same;
 use fdb_live::LiveError;
-use fdb_tests::same::same;
 use std::alloc::Global;
 use std::process::Abort;
 use std::sync::Wait;
