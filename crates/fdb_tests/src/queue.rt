@@ -5,6 +5,7 @@
 //! - `offer` has a priority, a count and a payload: `in`, or the payload that was pushed `out`;
 //! - `window` has a time: the payloads that start, and behind a bar the budgets after it;
 //! - `waits` has a time: a number, or `none`;
+//! - `skip` has a time: how many idle windows were held at once, and behind a bar the budgets after them;
 //! - `lengths` has nothing: how many system, default and batch requests wait;
 //! - `throttle` has a priority, a tag, a rate and an expiry;
 //! - `limits` has a priority, a moment and tags: how many limits there are, and each with its tag, rate and expiry.
@@ -87,6 +88,7 @@ fn called(
             None => String::from_str(alloc, "none"),
             Some(windows) => windows.to_string(alloc),
         },
+        "skip" => skipped(rt, alloc, queue, line),
         "lengths" => lengths_text(alloc, queue),
         "throttle" => throttled(rt, alloc, queue, line),
         "limits" => limited(rt, alloc, queue, line),
@@ -124,6 +126,17 @@ fn held(
     };
     let (normal, batch) = (queue.budgets().normal, queue.budgets().batch);
     format!(in alloc; "{started}| {normal} {batch}")
+}
+
+fn skipped(
+    rt: &impl Abort,
+    alloc: Global,
+    queue: &mut GrvQueue<u32>,
+    line: &mut Line<'_>,
+) -> Result<String, AllocError> {
+    let windows = queue.skip_idle(line.number(rt));
+    let (normal, batch) = (queue.budgets().normal, queue.budgets().batch);
+    format!(in alloc; "{windows} | {normal} {batch}")
 }
 
 /// The payloads of requests, each with a space behind it.

@@ -35,6 +35,32 @@ offer default 100000 7 => in
 waits 1 => 199998000000
 ";
 
+/// Idle windows at once: 199,998,000,000 bring the budget to what the head lacks. A batch request of
+/// 11 lacks 10 transactions by both rates, of which the normal one keeps no more while it is idle.
+const SKIPPED: &str = "
+new 1 0 1 => ok
+skip 1000000 => 0 | 0 0
+offer default 100000 7 => in
+skip 0 => 0 | 0 0
+skip 10000001 => 0 | 0 0
+skip 1 => 199998000000 | 199998000000 0
+skip 1 => 0 | 199998000000 0
+window 1 => 7 | 20000000 0
+new 1 1 2 => ok
+offer batch 11 3 => in
+waits 1 => none
+skip 1 => 20000000 | 20000000 20000000
+window 1 => 3 | 20000000 19999990
+offer system 1 4 => in
+offer default 100 5 => in
+skip 1 => 0 | 20000000 19999990
+";
+
+#[test]
+fn idle_windows_are_skipped(rt: HostRuntime) -> Result<(), Fail> {
+    play(&rt, rt.alloc(), SKIPPED)
+}
+
 #[test]
 fn the_waiting_is_counted(rt: HostRuntime) -> Result<(), Fail> {
     play(&rt, rt.alloc(), WAITS)
@@ -99,6 +125,24 @@ fn compare(
     Ok(())
 }
 
+/// Compares idle windows that are held at once with as many that are turned.
+fn compare_skipped(
+    rt: &impl Abort,
+    alloc: Global,
+    case: Case,
+    priority: Priority,
+    text: &str,
+) -> Result<(), QueueError> {
+    let mut skipped = waiting(rt, alloc, case, priority)?;
+    let mut turned = waiting(rt, alloc, case, priority)?;
+    for _ in 0..skipped.skip_idle(case.elapsed) {
+        same(rt, &turned.window(case.elapsed)?.len(), &0, &text);
+    }
+    same(rt, &skipped.budgets(), &turned.budgets(), &text);
+    same(rt, &skipped.window(case.elapsed)?.len(), &1, &text);
+    Ok(())
+}
+
 /// The members of a case each.
 const CASES: &str = "\
 1 1 1 1000000 0
@@ -125,6 +169,8 @@ fn the_waiting_is_what_windows_take(rt: HostRuntime) -> Result<(), Fail> {
         };
         compare(&rt, rt.alloc(), case, Priority::Default, text)?;
         compare(&rt, rt.alloc(), case, Priority::Batch, text)?;
+        compare_skipped(&rt, rt.alloc(), case, Priority::Default, text)?;
+        compare_skipped(&rt, rt.alloc(), case, Priority::Batch, text)?;
     }
     Ok(())
 }
