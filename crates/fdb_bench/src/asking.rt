@@ -11,12 +11,12 @@ use std::alloc::Global;
 use std::time::CpuClock;
 
 /// How many commit proxies ask, where there are many.
-pub const MANY: u32 = 64;
+pub(crate) const MANY: u32 = 64;
 
 const RECOVERY: u64 = 100;
 
 /// Fresh requests by so many commit proxies in turn.
-pub fn fresh(
+pub(crate) fn fresh(
     clock: &impl CpuClock,
     alloc: Global,
     proxies: u32,
@@ -33,7 +33,7 @@ pub fn fresh(
 }
 
 /// Repeats of numbers without a pattern, of a chain with as many answers.
-pub fn repeats(clock: &impl CpuClock, alloc: Global, size: u32) -> Result<Measured, Fault> {
+pub(crate) fn repeats(clock: &impl CpuClock, alloc: Global, size: u32) -> Result<Measured, Fault> {
     let mut chain = empty_chain(alloc, MANY)?;
     let drawn = ask_fresh(&mut chain, MANY, size)?;
     let watch = Stopwatch::start(clock);
@@ -46,7 +46,11 @@ pub fn repeats(clock: &impl CpuClock, alloc: Global, size: u32) -> Result<Measur
 }
 
 /// Three fresh requests and a repeat in turn, by many proxies of which each has processed all but its last few answers.
-pub fn processed(clock: &impl CpuClock, alloc: Global, size: u32) -> Result<Measured, Fault> {
+pub(crate) fn processed(
+    clock: &impl CpuClock,
+    alloc: Global,
+    size: u32,
+) -> Result<Measured, Fault> {
     let mut chain = empty_chain(alloc, MANY)?;
     let watch = Stopwatch::start(clock);
     let checksum = ask_mixed(&mut chain, size)?;
@@ -58,7 +62,7 @@ pub fn processed(clock: &impl CpuClock, alloc: Global, size: u32) -> Result<Meas
 }
 
 /// A chain that nobody has asked yet, with so many commit proxies.
-pub fn empty_chain(alloc: Global, proxies: u32) -> Result<ChainCore, Fault> {
+pub(crate) fn empty_chain(alloc: Global, proxies: u32) -> Result<ChainCore, Fault> {
     match ChainCore::new(alloc, 0, RECOVERY, proxies) {
         Ok(chain) => Ok(chain),
         Err(_) => Err(Fault::Chain),

@@ -31,7 +31,7 @@ const OPENING: Record = Record {
 };
 
 /// Audits the logs of 64 clients with so many calls in all, a few times.
-pub fn audits(clock: &impl CpuClock, alloc: Global, size: u32) -> Result<Measured, Fault> {
+pub(crate) fn audits(clock: &impl CpuClock, alloc: Global, size: u32) -> Result<Measured, Fault> {
     let run = Run::of(alloc, size)?;
     let logs = run.logs.as_slice();
     if logs.len() > 64 {

@@ -19,7 +19,7 @@ const REQUESTS: u32 = 20_000;
 type Batch<J> = Vec<Req<Request<J>>>;
 
 /// Serves batches of so many requests each, which were made before.
-pub fn batches<J: Live, R: CpuClock + Wait>(
+pub(crate) fn batches<J: Live, R: CpuClock + Wait>(
     rt: &R,
     alloc: Global,
     live: &LiveRecord<J>,

@@ -13,7 +13,7 @@ use std::time::{Clock, CpuClock};
 
 /// What is measured.
 #[derive(Clone, Copy)]
-pub enum Benchmark {
+pub(crate) enum Benchmark {
     /// Fresh requests for commit versions by one proxy. The size is how many there are.
     FreshOfOne,
     /// Fresh requests by 64 proxies. The size is how many there are.
@@ -40,7 +40,7 @@ pub enum Benchmark {
 
 impl Benchmark {
     /// All of them.
-    pub const ALL: [Benchmark; 26] = [
+    pub(crate) const ALL: [Benchmark; 26] = [
         Benchmark::FreshOfOne,
         Benchmark::FreshOfMany,
         Benchmark::Repeats,
@@ -70,7 +70,7 @@ impl Benchmark {
     ];
 
     /// Its name.
-    pub fn name(self) -> &'static str {
+    pub(crate) fn name(self) -> &'static str {
         match self {
             Benchmark::FreshOfOne => "fresh_of_one",
             Benchmark::FreshOfMany => "fresh_of_many",
@@ -89,7 +89,7 @@ impl Benchmark {
     }
 
     /// The one of a name.
-    pub fn of_name(name: &str) -> Option<Benchmark> {
+    pub(crate) fn of_name(name: &str) -> Option<Benchmark> {
         for benchmark in Benchmark::ALL {
             if benchmark.name() == name {
                 return Some(benchmark);
@@ -99,7 +99,7 @@ impl Benchmark {
     }
 
     /// The clock that its time is of: processor time, or wall time where threads work side by side.
-    pub fn clock_name(self) -> &'static str {
+    pub(crate) fn clock_name(self) -> &'static str {
         if self.is_shared() {
             "wall time"
         } else {
@@ -117,7 +117,7 @@ impl Benchmark {
     }
 
     /// A size at which it takes milliseconds at most.
-    pub fn small_size(self) -> u32 {
+    pub(crate) fn small_size(self) -> u32 {
         match self {
             Benchmark::Windows | Benchmark::PushOuts | Benchmark::Throttles | Benchmark::Live(_) =>
                 100,
@@ -136,7 +136,7 @@ impl Benchmark {
     }
 
     /// The size that a word says, or why it may not be.
-    pub fn size_of(self, word: &str) -> Result<u32> {
+    pub(crate) fn size_of(self, word: &str) -> Result<u32> {
         let size = word
             .parse::<u32>()
             .context(format_args!("the size {word:?}"))?;
@@ -149,7 +149,7 @@ impl Benchmark {
     }
 
     /// Runs it.
-    pub fn run<R: Clock + CpuClock + Threads + Wait + Sync>(
+    pub(crate) fn run<R: Clock + CpuClock + Threads + Wait + Sync>(
         self,
         rt: &R,
         alloc: Global,

@@ -2,21 +2,21 @@
 
 /// A fold over the words that it was given, in their order.
 #[derive(Clone, Copy)]
-pub struct Checksum(u64);
+pub(crate) struct Checksum(u64);
 
 impl Checksum {
     /// Of no words.
-    pub const EMPTY: Checksum = Checksum(0);
+    pub(crate) const EMPTY: Checksum = Checksum(0);
 
     const FACTOR: u64 = 6_364_136_223_846_793_005;
 
     /// With one more word.
-    pub fn with(self, word: u64) -> Checksum {
+    pub(crate) fn with(self, word: u64) -> Checksum {
         Checksum(self.0.wrapping_mul(Self::FACTOR).wrapping_add(word))
     }
 
     /// As a number.
-    pub fn value(self) -> u64 {
+    pub(crate) fn value(self) -> u64 {
         self.0
     }
 }

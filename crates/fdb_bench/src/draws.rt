@@ -2,18 +2,18 @@
 
 /// A linear congruential generator, of which the upper half of each state is drawn.
 #[derive(Clone, Copy)]
-pub struct Draws(u64);
+pub(crate) struct Draws(u64);
 
 impl Draws {
     /// The first state.
-    pub const START: Draws = Draws(1);
+    pub(crate) const START: Draws = Draws(1);
 
     const FACTOR: u64 = 6_364_136_223_846_793_005;
 
     const SUMMAND: u64 = 1_442_695_040_888_963_407;
 
     /// The next number, below 2 to the 32nd.
-    pub fn next_number(&mut self) -> u64 {
+    pub(crate) fn next_number(&mut self) -> u64 {
         self.0 = self
             .0
             .wrapping_mul(Self::FACTOR)

@@ -4,7 +4,7 @@ use std::alloc::{AllocError, AllocFailed};
 
 /// Why a benchmark could not be run: what failed that it measures, or prepares.
 #[derive(Clone, Copy)]
-pub enum Fault {
+pub(crate) enum Fault {
     Memory,
     Chain,
     Live,
@@ -15,7 +15,7 @@ pub enum Fault {
 
 impl Fault {
     /// What is said of it.
-    pub fn line(self) -> &'static str {
+    pub(crate) fn line(self) -> &'static str {
         match self {
             Fault::Memory => "want of memory",
             Fault::Chain => "the chain of commit versions failed",

@@ -4,7 +4,7 @@ use crate::team::Team;
 
 /// What is measured at a live record.
 #[derive(Clone, Copy)]
-pub enum Load {
+pub(crate) enum Load {
     /// Reads by a team, with nothing written. The size is the number of raises before.
     Reads(Team),
     /// Reads by a team, beside a thread that reports all the time. The size is the number of raises before.
@@ -21,7 +21,7 @@ pub enum Load {
 
 impl Load {
     /// Its name.
-    pub fn name(self) -> &'static str {
+    pub(crate) fn name(self) -> &'static str {
         match self {
             Load::Reads(Team::One) => "reads_of_one",
             Load::Reads(Team::Two) => "reads_of_two",
@@ -41,7 +41,7 @@ impl Load {
     }
 
     /// Whether threads do it side by side.
-    pub fn is_shared(self) -> bool {
+    pub(crate) fn is_shared(self) -> bool {
         !matches!(self, Load::Batches | Load::Tokens)
     }
 }

@@ -5,23 +5,23 @@ use std::time::Duration;
 
 /// What a benchmark computed, and what it took.
 #[derive(Clone, Copy)]
-pub struct Measured {
+pub(crate) struct Measured {
     /// How many operations there were.
-    pub operations: u64,
+    pub(crate) operations: u64,
     /// The time of all of them, if the clock said it: processor time, or wall time where threads work side by side.
-    pub time: Option<Duration>,
+    pub(crate) time: Option<Duration>,
     /// The checksum over what they answered.
-    pub checksum: Checksum,
+    pub(crate) checksum: Checksum,
 }
 
 /// A time in nanoseconds.
-pub fn nanos(time: Duration) -> u64 {
+pub(crate) fn nanos(time: Duration) -> u64 {
     time.as_secs()
         .saturating_mul(1_000_000_000)
         .saturating_add(u64::from(time.subsec_nanos()))
 }
 
 /// The tenths of a nanosecond that each of some operations took, which took so many nanoseconds in all.
-pub fn tenths(nanos: u64, operations: u64) -> u64 {
+pub(crate) fn tenths(nanos: u64, operations: u64) -> u64 {
     nanos.saturating_mul(10) / operations.max(1)
 }

@@ -40,7 +40,7 @@ impl<J: Live> Asker<J> {
 }
 
 /// So many requests by each of so many threads. Nobody reports, so all replies have the record that was opened.
-pub fn asks<J: Live + Send + Sync, R: Clock + Threads + Wait + Sync>(
+pub(crate) fn asks<J: Live + Send + Sync, R: Clock + Threads + Wait + Sync>(
     rt: &R,
     alloc: Global,
     live: &LiveRecord<J>,

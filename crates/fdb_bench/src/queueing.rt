@@ -26,7 +26,7 @@ const FLOODS: u32 = 10;
 const WAITS_PER_WINDOW: u32 = 8;
 
 /// Offers of all priorities, and windows that start about as much as is offered, at a queue that is nearly full.
-pub fn windows(clock: &impl CpuClock, alloc: Global, room: u32) -> Result<Measured, Fault> {
+pub(crate) fn windows(clock: &impl CpuClock, alloc: Global, room: u32) -> Result<Measured, Fault> {
     let mut queue = nearly_full(alloc, room)?;
     let offers = room.saturating_mul(OFFERS_PER_ROOM);
     let watch = Stopwatch::start(clock);
@@ -40,7 +40,11 @@ pub fn windows(clock: &impl CpuClock, alloc: Global, room: u32) -> Result<Measur
 
 /// Floods of system requests into a queue that is filled with batch and default requests: each pushes one out, until
 /// none is left and the others are refused.
-pub fn push_outs(clock: &impl CpuClock, alloc: Global, room: u32) -> Result<Measured, Fault> {
+pub(crate) fn push_outs(
+    clock: &impl CpuClock,
+    alloc: Global,
+    room: u32,
+) -> Result<Measured, Fault> {
     let watch = Stopwatch::start(clock);
     let checksum = flood_each_time(alloc, room)?;
     Ok(Measured {
@@ -51,7 +55,7 @@ pub fn push_outs(clock: &impl CpuClock, alloc: Global, room: u32) -> Result<Meas
 }
 
 /// Questions how many windows the head of the row waits, with a window after every few.
-pub fn waits(clock: &impl CpuClock, alloc: Global, size: u32) -> Result<Measured, Fault> {
+pub(crate) fn waits(clock: &impl CpuClock, alloc: Global, size: u32) -> Result<Measured, Fault> {
     let mut queue = empty_queue(alloc, 10, 10, 1)?;
     let head = request_of(Priority::Default, 100_000, 0);
     let before = offered(&mut queue, Checksum::EMPTY, head)?;
@@ -65,7 +69,7 @@ pub fn waits(clock: &impl CpuClock, alloc: Global, size: u32) -> Result<Measured
 }
 
 /// A queue in which nobody waits.
-pub fn empty_queue(
+pub(crate) fn empty_queue(
     alloc: Global,
     normal: u64,
     batch: u64,

@@ -6,7 +6,7 @@ use fdb_live::{Live, LiveRecord, Seen};
 use std::sync::Wait;
 
 /// Reads so often. A read is marked whose position is below the one before.
-pub fn read_in_turn<J: Live, R: Wait>(
+pub(crate) fn read_in_turn<J: Live, R: Wait>(
     rt: &R,
     live: &LiveRecord<J>,
     seen: &mut Seen<J>,

@@ -9,7 +9,7 @@ use std::sync::atomic::{AtomicU64, Ordering};
 
 /// Reports a version, and so many times in all, each time one that is greater by so much. A report is marked that
 /// raises the record.
-pub fn report_in_turn<J: Live, R: Wait>(
+pub(crate) fn report_in_turn<J: Live, R: Wait>(
     rt: &R,
     live: &LiveRecord<J>,
     seen: &mut Seen<J>,
@@ -27,7 +27,7 @@ pub fn report_in_turn<J: Live, R: Wait>(
 }
 
 /// Reports a version, and the next ones, for as long as a thread reads.
-pub fn report_beside<J: Live, R: Wait>(
+pub(crate) fn report_beside<J: Live, R: Wait>(
     rt: &R,
     live: &LiveRecord<J>,
     seen: &mut Seen<J>,

@@ -9,16 +9,16 @@ use fdb_queue::{GrvQueue, QueueConfig};
 use std::alloc::{AllocError, Global};
 
 /// The time between two windows: at the greatest rate each may start as many transactions as any.
-pub const ELAPSED: u64 = 10_000_000;
+pub(crate) const ELAPSED: u64 = 10_000_000;
 
 /// The greatest rate and the greatest room.
 const MOST: u64 = 100_000;
 
 /// Where the answer to a request comes.
-pub type Waiter<J> = Receiver<Answer<J>>;
+pub(crate) type Waiter<J> = Receiver<Answer<J>>;
 
 /// A queue in which nobody waits for long.
-pub fn queue<J: Live>(alloc: Global) -> Result<GrvQueue<Request<J>>, Fault> {
+pub(crate) fn queue<J: Live>(alloc: Global) -> Result<GrvQueue<Request<J>>, Fault> {
     let config = QueueConfig {
         normal: MOST,
         batch: MOST,
@@ -28,7 +28,7 @@ pub fn queue<J: Live>(alloc: Global) -> Result<GrvQueue<Request<J>>, Fault> {
 }
 
 /// A default request for one transaction, by the client 0 and with what a token has seen, and where its answer comes.
-pub fn request<J: Live>(
+pub(crate) fn request<J: Live>(
     alloc: Global,
     live: &LiveRecord<J>,
     seen: &mut Seen<J>,
@@ -58,7 +58,7 @@ fn opts(alloc: Global) -> GrvOpts {
 }
 
 /// A word for an answer, if it is a reply.
-pub fn answer_word<J: Live>(answer: &Answer<J>) -> Option<u64> {
+pub(crate) fn answer_word<J: Live>(answer: &Answer<J>) -> Option<u64> {
     match answer {
         Answer::Reply(reply) => {
             let word = reply

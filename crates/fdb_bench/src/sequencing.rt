@@ -37,7 +37,7 @@ struct Asker {
 
 /// So many requests, shared by so many threads. No time passes between them, so each draws the version after the last
 /// one, and together the threads draw the same versions in every schedule.
-pub fn asks<R: Clock + Threads + Wait + Sync>(
+pub(crate) fn asks<R: Clock + Threads + Wait + Sync>(
     rt: &R,
     alloc: Global,
     threads: u32,

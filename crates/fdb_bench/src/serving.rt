@@ -39,7 +39,7 @@ struct Served<J: Live> {
 }
 
 /// Opens a live record, and measures it under a load.
-pub fn measure<R: Clock + CpuClock + Threads + Wait + Sync>(
+pub(crate) fn measure<R: Clock + CpuClock + Threads + Wait + Sync>(
     rt: &R,
     alloc: Global,
     load: Load,

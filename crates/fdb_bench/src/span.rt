@@ -4,20 +4,20 @@ use std::time::{Clock, Duration};
 
 /// From one moment to another.
 #[derive(Clone, Copy)]
-pub struct Span {
+pub(crate) struct Span {
     begun: Duration,
     ended: Duration,
 }
 
 impl Span {
     /// No time, which adds nothing to another.
-    pub const EMPTY: Span = Span {
+    pub(crate) const EMPTY: Span = Span {
         begun: Duration::MAX,
         ended: Duration::ZERO,
     };
 
     /// From a moment until now, if the clock says both.
-    pub fn since(begun: Option<Duration>, clock: &impl Clock) -> Option<Span> {
+    pub(crate) fn since(begun: Option<Duration>, clock: &impl Clock) -> Option<Span> {
         Some(Span {
             begun: begun?,
             ended: moment(clock)?,
@@ -25,7 +25,7 @@ impl Span {
     }
 
     /// From where the first of two begins to where the last ends.
-    pub fn with(self, other: Span) -> Span {
+    pub(crate) fn with(self, other: Span) -> Span {
         Span {
             begun: self.begun.min(other.begun),
             ended: self.ended.max(other.ended),
@@ -33,12 +33,12 @@ impl Span {
     }
 
     /// How long it is.
-    pub fn length(self) -> Duration {
+    pub(crate) fn length(self) -> Duration {
         self.ended.saturating_sub(self.begun)
     }
 }
 
 /// The moment that it is, if the clock says it.
-pub fn moment(clock: &impl Clock) -> Option<Duration> {
+pub(crate) fn moment(clock: &impl Clock) -> Option<Duration> {
     clock.monotonic().ok()
 }

@@ -6,25 +6,25 @@ use crate::span::Span;
 
 /// What came of some calls.
 #[derive(Clone, Copy)]
-pub struct Tally {
+pub(crate) struct Tally {
     /// How many calls there were.
-    pub calls: u64,
+    pub(crate) calls: u64,
     /// The sum of what they answered.
-    pub sum: u64,
+    pub(crate) sum: u64,
     /// How many of them did what not every call does: each caller says what.
-    pub marked: u64,
+    pub(crate) marked: u64,
 }
 
 impl Tally {
     /// Of no calls.
-    pub const EMPTY: Tally = Tally {
+    pub(crate) const EMPTY: Tally = Tally {
         calls: 0,
         sum: 0,
         marked: 0,
     };
 
     /// With one more call.
-    pub fn with_call(self, answer: u64, marked: bool) -> Tally {
+    pub(crate) fn with_call(self, answer: u64, marked: bool) -> Tally {
         Tally {
             calls: self.calls.wrapping_add(1),
             sum: self.sum.wrapping_add(answer),
@@ -44,22 +44,22 @@ impl Tally {
 
 /// What came of the calls of one thread, or of several, and when they were made.
 #[derive(Clone, Copy)]
-pub struct Timed {
+pub(crate) struct Timed {
     /// What came of them.
-    pub tally: Tally,
+    pub(crate) tally: Tally,
     /// From when to when they were made, if the clock said it.
-    pub span: Option<Span>,
+    pub(crate) span: Option<Span>,
 }
 
 impl Timed {
     /// Of no calls.
-    pub const EMPTY: Timed = Timed {
+    pub(crate) const EMPTY: Timed = Timed {
         tally: Tally::EMPTY,
         span: Some(Span::EMPTY),
     };
 
     /// With the calls of another thread.
-    pub fn with(self, other: Timed) -> Timed {
+    pub(crate) fn with(self, other: Timed) -> Timed {
         let span = match (self.span, other.span) {
             (Some(one), Some(two)) => Some(one.with(two)),
             _ => None,
@@ -72,7 +72,7 @@ impl Timed {
 
     /// What it is as a benchmark's outcome with a checksum. The time is that from the first thread's begin to the last
     /// one's end.
-    pub fn measured(self, checksum: Checksum) -> Measured {
+    pub(crate) fn measured(self, checksum: Checksum) -> Measured {
         Measured {
             operations: self.tally.calls,
             time: self.span.map(Span::length),

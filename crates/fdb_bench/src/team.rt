@@ -2,7 +2,7 @@
 
 /// The threads that do the same, side by side.
 #[derive(Clone, Copy)]
-pub enum Team {
+pub(crate) enum Team {
     One,
     Two,
     Four,
@@ -10,7 +10,7 @@ pub enum Team {
 
 impl Team {
     /// How many they are.
-    pub fn threads(self) -> u32 {
+    pub(crate) fn threads(self) -> u32 {
         match self {
             Team::One => 1,
             Team::Two => 2,

@@ -11,7 +11,7 @@ use std::time::CpuClock;
 const CALLS: u64 = 3;
 
 /// So many times one token's holder tells another's what it has seen.
-pub fn tokens<J: Live, R: CpuClock + Wait>(
+pub(crate) fn tokens<J: Live, R: CpuClock + Wait>(
     rt: &R,
     live: &LiveRecord<J>,
     teller: &mut Seen<J>,

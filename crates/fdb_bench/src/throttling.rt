@@ -21,7 +21,11 @@ const TAGS_PER_REQUEST: usize = 4;
 const LAST_MOMENT: u64 = 1_000;
 
 /// Sets so many throttles, and looks them up by requests of four tags at other priorities and moments.
-pub fn throttles(clock: &impl CpuClock, alloc: Global, size: u32) -> Result<Measured, Fault> {
+pub(crate) fn throttles(
+    clock: &impl CpuClock,
+    alloc: Global,
+    size: u32,
+) -> Result<Measured, Fault> {
     let tags = tags(alloc, size)?;
     set_and_look_up(clock, alloc, size, tags.as_slice())
 }

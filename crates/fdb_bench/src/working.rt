@@ -14,7 +14,7 @@ use std::time::Clock;
 
 /// What a thread does at the live record.
 #[derive(Clone, Copy)]
-pub enum Role {
+pub(crate) enum Role {
     /// It reads.
     Reads,
     /// It reports a version, and each time one that is greater by so much.
@@ -25,7 +25,7 @@ pub enum Role {
 
 /// One that reads or reports in a thread of its own, and what came of it.
 #[derive(Drop)]
-pub struct Worker<J: Live> {
+pub(crate) struct Worker<J: Live> {
     token: Option<Seen<J>>,
     role: Role,
     outcome: Result<Timed, Fault>,
@@ -33,7 +33,7 @@ pub struct Worker<J: Live> {
 
 impl<J: Live> Worker<J> {
     /// One that has not begun.
-    pub fn new(token: Seen<J>, role: Role) -> Self {
+    pub(crate) fn new(token: Seen<J>, role: Role) -> Self {
         Worker {
             token: Some(token),
             role,
@@ -106,7 +106,7 @@ fn report_untimed<J: Live, R: Wait>(
 }
 
 /// Each works in a thread of its own, with so many calls; so many of them read. Answers what came of all of it.
-pub fn work_side_by_side<J: Live + Send + Sync, R: Clock + Threads + Wait + Sync>(
+pub(crate) fn work_side_by_side<J: Live + Send + Sync, R: Clock + Threads + Wait + Sync>(
     rt: &R,
     live: &LiveRecord<J>,
     workers: &mut [Worker<J>],

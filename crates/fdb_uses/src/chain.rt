@@ -7,7 +7,7 @@ use std::alloc::Global;
 
 /// Draws two commit versions, and asks for the first one again: it gets the answer that was kept
 /// for its number.
-pub fn commit_versions(rt: &impl Print, alloc: Global) -> Result<()> {
+pub(crate) fn commit_versions(rt: &impl Print, alloc: Global) -> Result<()> {
     let mut chain = ChainCore::new(alloc, 0, 100, 1)?;
     for (num, at) in [(1, 1_000), (2, 3_000), (1, 9_000)] {
         let issued = chain.ask(Ask {

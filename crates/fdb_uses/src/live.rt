@@ -9,7 +9,7 @@ use std::sync::Wait;
 
 /// Opens a live record for two reporters, and has them report under a name that stands for it, so
 /// that no token of another record fits it.
-pub fn two_reporters<R: Print + Wait>(rt: &R, alloc: Global) -> Result<()> {
+pub(crate) fn two_reporters<R: Print + Wait>(rt: &R, alloc: Global) -> Result<()> {
     let opened = LiveRecord::<Brand>::open(rt, alloc, unlocked(100), 2)?;
     opened.named(rt, 0, 100, TwoReporters)
 }

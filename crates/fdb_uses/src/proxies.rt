@@ -38,7 +38,7 @@ struct Service<J: Live> {
 }
 
 /// Opens a service for two clients, and has them work.
-pub fn two_clients<R: Print + Threads + Wait + Sync>(rt: &R, alloc: Global) -> Result<()> {
+pub(crate) fn two_clients<R: Print + Threads + Wait + Sync>(rt: &R, alloc: Global) -> Result<()> {
     let opened = LiveRecord::<Brand>::open(rt, alloc, START, 2)?;
     let core = ChainCore::new(alloc, 0, START.version, 2)?;
     serve::<Brand, R>(rt, alloc, opened, core)

@@ -10,7 +10,7 @@ const ELAPSED: u64 = 1_000_000;
 
 /// Has two requests wait, of which one window starts the first. The second has more transactions
 /// than a window grants; the queue tells how many windows it still waits.
-pub fn one_window(rt: &impl Print, alloc: Global) -> Result<()> {
+pub(crate) fn one_window(rt: &impl Print, alloc: Global) -> Result<()> {
     let config = QueueConfig {
         normal: 10,
         batch: 5,

@@ -27,7 +27,7 @@ const COMMIT: Issued = Issued {
 
 /// Client 0 commits at 200, and client 1 comes to know of it: it has seen position 1, the first
 /// raise. Then it reads 100.
-pub fn caught(rt: &impl Print, alloc: Global) -> Result<()> {
+pub(crate) fn caught(rt: &impl Print, alloc: Global) -> Result<()> {
     let logs = vec![in alloc; writer(alloc)?, reader(alloc)?]?;
     match audit(alloc, START, &[COMMIT], &logs) {
         Ok(history) => println!(rt; "explained by {} events", history.events.len())?,
