@@ -4,7 +4,6 @@ use Rattle.std.proofs.lemmas.Bool.Decides.{nat_tests}
 use mathlib.Core.List.{IsPrefix}
 use mathlib.Core.Option.{some, some-ne-none, some-injective}
 use lib.ListN.{get_elem?, length-set}
-use Rattle.atomic_table.proofs.Lists.{at_set}
 use Rattle.fdb_history.specs.declared.register.Record.{Record}
 use Rattle.fdb_live.specs.private.Rule.{Fits, spent}
 use Rattle.fdb_live.specs.declared.raise.Raise.{Raise}
@@ -29,6 +28,14 @@ moved_else from to k j n e = go (k == from) refl
     go : (b : Bool) → (k == from) ≡ b → j ≡ (if b then to else k)
     go true is = absurd (n (grind (arith, nat_tests)))
     go false is = e
+
+-- what is at a place once one was set is the new one, there, and else what was there before
+pub at_set : {A : Type 0} (l : List A) (i j : ℕ) (a b : A) → get_elem? (set l i a) j ≡ some b → ((j ≡ i) × (a ≡ b)) ⊎ ((j ≢ i) × (get_elem? l j ≡ some b))
+at_set [] i j a b e = absurd (some-ne-none b (sym e))
+at_set (x ∷ xs) zero zero a b e = inl (refl, some-injective a b e)
+at_set (x ∷ xs) zero (suc j) a b e = inr ((λ h. omega arith), e)
+at_set (x ∷ xs) (suc i) zero a b e = inr ((λ h. omega arith), e)
+at_set (x ∷ xs) (suc i) (suc j) a b e = ⊎_elim (λ t. inl (ap suc t.0, t.1)) (λ t. let n = t.0 in inr ((λ h. n (omega arith)), t.1)) (at_set xs i j a b e)
 
 at_new : {A : Type 0} (l : List A) (a b : A) (j : ℕ) → get_elem? (l ++ a ∷ []) j ≡ some b → (get_elem? l j ≡ some b) ⊎ ((j ≡ length l) × (a ≡ b))
 at_new [] a b zero e = inr (refl, some-injective a b e)

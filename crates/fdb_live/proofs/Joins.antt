@@ -3,14 +3,13 @@ use Rattle.std.proofs.Common.{◌≡◌, ◌≢◌, ℕ, zero, suc, ◌<◌, ◌
 use mathlib.Core.List.{IsPrefix}
 use mathlib.Core.Option.{some}
 use lib.ListN.{get_elem?}
-use Rattle.atomic_table.proofs.Lists.{at_set}
 use Rattle.crossbeam_utils.specs.Register.{Merges}
 use Rattle.fdb_live.specs.declared.raise.Raise.{Raise}
 use Rattle.fdb_live.specs.declared.view.View.{View}
 use Rattle.fdb_live.specs.Seen.{longer}
 use Rattle.fdb_live.specs.private.Rule.{Fits, Kept, spent, joined, taken}
 use Rattle.fdb_live.proofs.Prefixes.{prefix_trans, prefix_whole, prefix_length, prefix_longer}
-use Rattle.fdb_live.proofs.Fitting.{moved, moved_here, moved_else, fits_merge}
+use Rattle.fdb_live.proofs.Fitting.{at_set, moved, moved_here, moved_else, fits_merge}
 
 -- the second pass of a join is as it was
 still_there : (views : List View) (pass other : ℕ) (both w : View) → ¬ (other ≡ pass) → get_elem? (set views pass both) other ≡ some w → get_elem? views other ≡ some w

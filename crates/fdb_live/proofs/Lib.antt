@@ -1,4 +1,5 @@
 pub mod Prefixes
+pub mod Register
 pub mod Logs
 pub mod Fitting
 pub mod Splits

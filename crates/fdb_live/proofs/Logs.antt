@@ -8,33 +8,32 @@ use Rattle.std.proofs.lemmas.List.Elements.{All-nil, All-cons, All-head, All-tai
 use mathlib.Core.List.{IsPrefix}
 use Rattle.fdb_history.specs.declared.register.Record.{Record}
 use Rattle.fdb_history.specs.declared.register.TheConstants.{MAX_VERSION}
-use Rattle.fdb_history.specs.Register.{raises}
+use Rattle.fdb_history.specs.Register.{after_report, raises}
 use Rattle.fdb_live.specs.Seen.{last_record, rises, raised_by}
 use Rattle.fdb_live.specs.declared.raise.Raise.{Raise}
+use Rattle.fdb_live.proofs.Register.{raises_higher, after_at_least, after_in_range}
 
-pub raises_higher : (a b : Record) → raises a b ≡ true → a.version < b.version
-raises_higher a b e = grind (arith, nat_tests)
-
-pub last_record-push : (start : Record) (log : List Raise) (r : Raise) → last_record start (log ++ r ∷ []) ≡ r.rec
+pub last_record-push : (start : Record) (log : List Raise) (r : Raise) → last_record start (log ++ r ∷ []) ≡ after_report (last_record start log) r.rec
 last_record-push start [] r = refl
-last_record-push start (q ∷ log) r = last_record-push q.rec log r
+last_record-push start (q ∷ log) r = last_record-push (after_report start q.rec) log r
 
 pub rises-push : (start : Record) (log : List Raise) (r : Raise) → rises start log ≡ true → raises (last_record start log) r.rec ≡ true → rises start (log ++ r ∷ []) ≡ true
 rises-push start [] r h up = and_from _ _ up refl
 rises-push start (q ∷ log) r h up =
-    let parts = and_parts (raises start q.rec) (rises q.rec log) h in
-    and_from _ _ parts.0 (rises-push q.rec log r parts.1 up)
+    let parts = and_parts (raises start q.rec) (rises (after_report start q.rec) log) h in
+    and_from _ _ parts.0 (rises-push (after_report start q.rec) log r parts.1 up)
 
 -- each raise is a version or more above the one before it
 pub position_below_version : (start : Record) (log : List Raise) → rises start log ≡ true → length log + start.version ≤ (last_record start log).version
 position_below_version start [] h = omega arith
 position_below_version start (q ∷ log) h =
-    let parts = and_parts (raises start q.rec) (rises q.rec log) h in
-    omega (arith, raises_higher start q.rec parts.0, position_below_version q.rec log parts.1)
+    let parts = and_parts (raises start q.rec) (rises (after_report start q.rec) log) h in
+    let least = (after_at_least start q.rec).1 in
+    omega (arith, raises_higher start q.rec parts.0, position_below_version (after_report start q.rec) log parts.1)
 
 pub last_in_range : (start : Record) (log : List Raise) → start.version ≤ MAX_VERSION → All (λ r. r.rec.version ≤ MAX_VERSION) log → (last_record start log).version ≤ MAX_VERSION
 last_in_range start [] begun all = begun
-last_in_range start (q ∷ log) begun all = last_in_range q.rec log (All-head (λ r. r.rec.version ≤ MAX_VERSION) q log all) (All-tail (λ r. r.rec.version ≤ MAX_VERSION) q log all)
+last_in_range start (q ∷ log) begun all = last_in_range (after_report start q.rec) log (after_in_range start q.rec begun (All-head (λ r. r.rec.version ≤ MAX_VERSION) q log all)) (All-tail (λ r. r.rec.version ≤ MAX_VERSION) q log all)
 
 pub above_start : (start : Record) (log : List Raise) (rec : Record) → rises start log ≡ true → raises (last_record start log) rec ≡ true → start.version < rec.version
 above_start start log rec h up = omega (arith, position_below_version start log h, raises_higher (last_record start log) rec up)
@@ -42,8 +41,11 @@ above_start start log rec h up = omega (arith, position_below_version start log 
 pub above_all : (start : Record) (log : List Raise) (rec : Record) → rises start log ≡ true → raises (last_record start log) rec ≡ true → All (λ r. r.rec.version < rec.version) log
 above_all start [] rec h up = All-nil _
 above_all start (q ∷ log) rec h up =
-    let parts = and_parts (raises start q.rec) (rises q.rec log) h in
-    All-cons (λ r. r.rec.version < rec.version) q log (above_start q.rec log rec parts.1 up) (above_all q.rec log rec parts.1 up)
+    let next = after_report start q.rec in
+    let parts = and_parts (raises start q.rec) (rises next log) h in
+    let least = (after_at_least start q.rec).1 in
+    let above = above_start next log rec parts.1 up in
+    All-cons (λ r. r.rec.version < rec.version) q log (omega arith) (above_all next log rec parts.1 up)
 
 chosen : (b : Bool) (at : ℕ) (whole front back : List ℕ) → whole ≡ front ++ back → (if b then (at ∷ whole) else whole) ≡ (if b then (at ∷ front) else front) ++ back
 chosen true at whole front back e = ap (λ l. at ∷ l) e

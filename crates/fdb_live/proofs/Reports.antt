@@ -1,45 +1,48 @@
 -- What a report makes of the right to replace and of its token.
-use Rattle.std.proofs.Common.{◌≡◌, ℕ, ◌+◌, ◌<◌, ◌≤◌, Bool, true, false, true≢false, List, [], ◌∷◌, ◌++◌, length, Option, None, Some, refl, sym, ap, ◌∙◌, subst, arith, length-append}
+use Rattle.std.proofs.Common.{◌≡◌, ◌≢◌, ℕ, ◌+◌, ◌<◌, ◌≤◌, Bool, true, false, true≢false, List, [], ◌∷◌, ◌++◌, length, Option, None, Some, refl, sym, ap, ◌∙◌, subst, arith, length-append}
 use Rattle.std.specs.Prelude.{MatchBool, IsSome}
-use Rattle.std.proofs.lemmas.Bool.Decides.{nat_tests}
 use Rattle.std.proofs.lemmas.List.Elements.{All-nil, All-cons, All-append}
 use mathlib.Core.List.{IsPrefix}
 use Rattle.fdb_history.specs.declared.register.Record.{Record}
 use Rattle.fdb_history.specs.declared.register.TheConstants.{MAX_VERSION}
-use Rattle.fdb_history.specs.Register.{raises}
+use Rattle.fdb_history.specs.Register.{after_report, raises}
 use Rattle.fdb_live.specs.declared.fetched.Fetched.{Fetched}
 use Rattle.fdb_live.specs.declared.raise.Raise.{Raise}
 use Rattle.fdb_live.specs.declared.view.View.{View}
 use Rattle.fdb_live.specs.Seen.{Sight, last_record, rises, IsLog, raised_by, IsRaisedBy, IsNotRaisedBy}
 use Rattle.fdb_live.specs.private.Rule.{having_seen, taken, lowest_of, without_lowest, Looks, Adds}
 use Rattle.fdb_live.specs.private.Token.{IsHolder, IsRight, IsReported}
-use Rattle.fdb_live.proofs.Logs.{rises-push, position_below_version, above_start, above_all, raised_by-push_own}
+use Rattle.fdb_live.proofs.Logs.{last_record-push, rises-push, position_below_version, above_start, above_all, raised_by-push_own}
 use Rattle.fdb_live.proofs.Prefixes.{prefix_trans}
+use Rattle.fdb_live.proofs.Register.{raises_higher, not_raised_lower, raised_stands, not_raised_stays, changed_raises, same_not_raised}
+
+raised_test : (a b next : Record) → next ≡ after_report a b → next ≢ a → raises a b ≡ true
+raised_test a b next becomes apart = changed_raises a b (λ same. apart (becomes ∙ same))
 
 -- positions never exceed versions
-pub room : (v u : View) (x : Fetched) (rec : Record) → Looks v x x u → 0 < v.reporters → x.rec.version < rec.version → x.position + 1 ≤ rec.version
-room v u x rec l some higher =
+pub room : (v u : View) (x : Fetched) (rec next : Record) → Looks v x x u → 0 < v.reporters → next ≡ after_report x.rec rec → next ≢ x.rec → x.position + 1 ≤ rec.version
+room v u x rec next l some becomes apart =
+    let higher = raises_higher x.rec rec (raised_test x.rec rec next becomes apart) in
     let r = l.register some in
     let below = position_below_version v.start u.seen (l.legal some).rises in
     let same = ap (λ (y : Record). y.version) r.rec in
     let at = r.position in
     omega arith
 
-raised_test : (a b : Record) → a.version < b.version → raises a b ≡ true
-raised_test a b h = grind (arith, nat_tests)
-
-unraised_test : (a b : Record) → b.version ≤ a.version → raises a b ≡ false
-unraised_test a b h = grind (arith, nat_tests)
-
 -- what the pass with the right may add
-pub record MayAdd (u : View) (y : Fetched) : Type 0 where
+pub record MayAdd (u : View) (y : Fetched) (rec : Record) : Type 0 where
   pub right : u.replaces ≡ true
   pub numbered : u.low < u.high
   pub next : y.position ≡ length u.seen + 1
-  pub raises : raises (last_record u.start u.seen) y.rec ≡ true
+  pub raises : raises (last_record u.start u.seen) rec ≡ true
+  pub becomes : y.rec ≡ after_report (last_record u.start u.seen) rec
 
-pub may_add : (v u : View) (x y : Fetched) → Looks v x x u → 0 < v.reporters → v.replaces ≡ true → v.low < v.high → y.position ≡ x.position + 1 → x.rec.version < y.rec.version → MayAdd u y
-may_add v u x y l some right numbered position higher =
+found_is : (v u : View) (x : Fetched) → Looks v x x u → 0 < v.reporters → x.rec ≡ last_record u.start u.seen
+found_is v u x l some = (l.register some).rec ∙ sym (ap (λ w. last_record w.start u.seen) l.is)
+
+pub may_add : (v u : View) (x y : Fetched) (rec : Record) → Looks v x x u → 0 < v.reporters → v.replaces ≡ true → v.low < v.high → y.position ≡ x.position + 1 → y.rec ≡ after_report x.rec rec → y.rec ≢ x.rec → MayAdd u y rec
+may_add v u x y rec l some right numbered position becomes apart =
+    let last = found_is v u x l some in
     let r = l.register some in
     let low = ap (λ w. w.low) l.is in
     let high = ap (λ w. w.high) l.is in
@@ -47,28 +50,29 @@ may_add v u x y l some right numbered position higher =
       right = ap (λ w. w.replaces) l.is ∙ right;
       numbered = omega arith;
       next = omega arith;
-      raises = subst (λ (z : Record). raises z y.rec ≡ true) (r.rec ∙ sym (ap (λ w. last_record w.start u.seen) l.is)) (raised_test x.rec y.rec higher);
+      raises = subst (λ (z : Record). raises z rec ≡ true) last (raised_test x.rec rec y.rec becomes apart);
+      becomes = becomes ∙ ap (λ z. after_report z rec) last;
     }
 
-pub reported_lower : (v u : View) (x : Fetched) (rec : Record) → Looks v x x u → 0 < v.reporters → rec.version ≤ x.rec.version → IsReported v rec false x.position u
-reported_lower v u x rec l some lower =
+pub reported_same : (v u : View) (x : Fetched) (rec next : Record) → Looks v x x u → 0 < v.reporters → next ≡ after_report x.rec rec → next ≡ x.rec → IsReported v rec false x.position u
+reported_same v u x rec next l some becomes same =
     let r = l.register some in record {
       found = u.seen;
       tells = l.tells;
       numbers = l.numbers;
       legal = l.legal some;
       is = l.is;
-      raised_is = sym (subst (λ (z : Record). raises z rec ≡ false) r.rec (unraised_test x.rec rec lower));
+      raised_is = sym (subst (λ (z : Record). raises z rec ≡ false) r.rec (same_not_raised x.rec rec (sym becomes ∙ same)));
       seen = refl;
       position_is = r.position;
     }
 
-pub reported_higher : (v u w : View) (x y : Fetched) (rec : Record) → Looks v x x u → 0 < v.reporters → x.rec.version < rec.version → y.rec ≡ rec → y.position ≡ x.position + 1 → Adds u y y w → IsReported v rec true y.position w
-reported_higher v u w x y rec l some higher same position added =
+pub reported_changed : (v u w : View) (x y : Fetched) (rec : Record) → Looks v x x u → 0 < v.reporters → y.rec ≡ after_report x.rec rec → y.rec ≢ x.rec → y.position ≡ x.position + 1 → Adds rec u y y w → IsReported v rec true y.position w
+reported_changed v u w x y rec l some becomes apart position added =
     let r = l.register some in
     let new : Raise = record { reporter = v.low; rec = rec } in
     let it : List Raise = u.seen ++ new ∷ [] in
-    let as_new : w ≡ having_seen u it = added ∙ ap (λ (z : ℕ × Record). having_seen u (u.seen ++ record { reporter = z.0; rec = z.1 } ∷ [])) (λ i. (ap (λ z. z.low) l.is i, same i)) in
+    let as_new : w ≡ having_seen u it = added ∙ ap (λ (z : ℕ). having_seen u (u.seen ++ record { reporter = z; rec = rec } ∷ [])) (ap (λ z. z.low) l.is) in
     let seen : w.seen ≡ it = ap (λ z. z.seen) as_new in
     let at = r.position in record {
       found = u.seen;
@@ -76,13 +80,10 @@ reported_higher v u w x y rec l some higher same position added =
       numbers = l.numbers;
       legal = l.legal some;
       is = as_new ∙ (ap (λ z. having_seen z it) l.is ∙ ap (having_seen v) (sym seen));
-      raised_is = sym (subst (λ (z : Record). raises z rec ≡ true) r.rec (raised_test x.rec rec higher));
+      raised_is = sym (subst (λ (z : Record). raises z rec ≡ true) r.rec (raised_test x.rec rec y.rec becomes apart));
       seen = seen;
       position_is = omega (arith, ap length seen, length-append u.seen (new ∷ []));
     }
-
-not_raised_lower : (a b : Record) → raises a b ≡ false → b.version ≤ a.version
-not_raised_lower a b e = grind (arith, nat_tests)
 
 -- what the right and the token are after a report
 pub record HasReported (start : Record) (reporters : ℕ) (number : Option ℕ) (old : Sight) (rec : Record) (raised : Bool) (position : ℕ) (right token : View) : Type 0 where
@@ -100,13 +101,16 @@ module _ (start : Record) (n : ℕ) where
   raised_so : (old found new : List Raise) (rec : Record) → IsPrefix old found → raised_by n 1 found ≡ raised_by n 1 old → rises start found ≡ true → raises (last_record start found) rec ≡ true → new ≡ found ++ record { reporter = n; rec = rec } ∷ [] → IsRaisedBy start rec (sight old) (sight new)
   raised_so old found new rec seen own legal up is =
       let it : Raise = record { reporter = n; rec = rec } in
-      let long : length new ≡ 1 + length found = omega (arith, ap length is, length-append found (it ∷ [])) in record {
+      let long : length new ≡ 1 + length found = omega (arith, ap length is, length-append found (it ∷ [])) in
+      let becomes : last_record start new ≡ after_report (last_record start found) rec = ap (last_record start) is ∙ last_record-push start found it in record {
         number = n;
         before = found;
         reporter = refl;
         seen = seen;
         last = is;
         raises = up;
+        becomes = becomes;
+        stands = becomes ∙ raised_stands (last_record start found) rec up;
         above_start = above_start start found rec legal up;
         above_all = above_all start found rec legal up;
         own = ap (raised_by n 1) is ∙ (raised_by-push_own n 1 found it refl ∙ (ap (λ l. l ++ (1 + length found) ∷ []) own ∙ ap (λ (k : ℕ). raised_by n 1 old ++ k ∷ []) (sym long)));
@@ -115,7 +119,7 @@ module _ (start : Record) (n : ℕ) where
   unraised_so : (old found new : List Raise) (rec : Record) → raised_by n 1 found ≡ raised_by n 1 old → raises (last_record start found) rec ≡ false → new ≡ found → IsNotRaisedBy start rec (sight old) (sight new)
   unraised_so old found new rec own same is =
       let down : raises (last_record start new) rec ≡ false = subst (λ l. raises (last_record start l) rec ≡ false) (sym is) same in
-      record { raises = down; not_above = not_raised_lower (last_record start new) rec down; own = ap (raised_by n 1) is ∙ own }
+      record { raises = down; stays = not_raised_stays (last_record start new) rec down; not_above = not_raised_lower (last_record start new) rec down; own = ap (raised_by n 1) is ∙ own }
 
   -- what was seen after a report is a log
   log_after : (reporters : ℕ) (found new : List Raise) (rec : Record) (raised : Bool) → n < reporters → rec.version ≤ MAX_VERSION → IsLog start reporters found → raised ≡ raises (last_record start found) rec → MatchBool raised (new ≡ found ++ record { reporter = n; rec = rec } ∷ []) (new ≡ found) → IsLog start reporters new

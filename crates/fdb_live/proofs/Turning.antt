@@ -8,7 +8,7 @@ use lib.ListN.{get_elem?}
 use Rattle.crossbeam_utils.specs.Register.{Turns}
 use Rattle.fdb_history.specs.declared.register.Record.{Record}
 use Rattle.fdb_history.specs.declared.register.TheConstants.{MAX_VERSION}
-use Rattle.fdb_history.specs.Register.{raises}
+use Rattle.fdb_history.specs.Register.{after_report, raises}
 use Rattle.fdb_live.specs.declared.fetched.Fetched.{Fetched}
 use Rattle.fdb_live.specs.declared.raise.Raise.{Raise}
 use Rattle.fdb_live.specs.declared.view.View.{View}
@@ -97,18 +97,18 @@ settles pass v x views k at =
     (having_seen v v.seen, s.kept, record { is = refl; tells = s.tells })
 
 -- the pass with the right raises
-pub adds : (pass : ℕ) (v : View) (y : Fetched) → v.replaces ≡ true → v.low < v.high → y.position ≡ length v.seen + 1 → raises (last_record v.start v.seen) y.rec ≡ true → y.rec.version ≤ MAX_VERSION → Turns Kept pass v (λ _. y) Adds
-adds pass v y replaces some_number position up in_range x views k at =
+pub adds : (rec : Record) (pass : ℕ) (v : View) (y : Fetched) → v.replaces ≡ true → v.low < v.high → y.position ≡ length v.seen + 1 → raises (last_record v.start v.seen) rec ≡ true → y.rec ≡ after_report (last_record v.start v.seen) rec → rec.version ≤ MAX_VERSION → Turns Kept pass v (λ _. y) (Adds rec)
+adds rec pass v y replaces some_number position up becomes in_range x views k at =
     let f = k.each pass v at in
     let right = f.right replaces in
     let numbers = f.numbers in
     let here = f.held v.low (omega arith) some_number in
     let same = (f.opened (omega arith)).0 in
-    let new : Raise = record { reporter = v.low; rec = y.rec } in
+    let new : Raise = record { reporter = v.low; rec = rec } in
     let log : List Raise = v.seen ++ new ∷ [] in
     let longer : IsPrefix k.log log = subst (λ l. IsPrefix l log) right.2 (new ∷ [], refl) in
     let legal = subst (λ (l : List Raise). IsLog k.start k.reporters l) (sym right.2) k.legal in
-    let rises' : rises k.start log ≡ true = rises-push k.start v.seen new legal.rises (subst (λ (start : Record). raises (last_record start v.seen) y.rec ≡ true) same up) in
+    let rises' : rises k.start log ≡ true = rises-push k.start v.seen new legal.rises (subst (λ (start : Record). raises (last_record start v.seen) rec ≡ true) same up) in
     let numbered : All (λ r. r.reporter < k.reporters) log = All-append (λ r. r.reporter < k.reporters) v.seen (new ∷ []) legal.numbered (All-cons (λ r. r.reporter < k.reporters) new [] (let c = right.1 in omega arith) (All-nil _)) in
     let others : (j : ℕ) (u : View) → j ≢ pass → get_elem? views j ≡ some u → Fits k.start k.reporters log k.seat k.holder j u =
     λ j u apart e. (let g = k.each j u e in record {
@@ -129,9 +129,14 @@ adds pass v y replaces some_number position up in_range x views k at =
         log = log;
         seat = k.seat;
         holder = k.holder;
-        register = λ o. record { position = position ∙ (sym (length-append v.seen (new ∷ []))); rec = sym (last_record-push k.start v.seen new) };
+        register = λ o. record { position = position ∙ (sym (length-append v.seen (new ∷ []))); rec = becomes ∙ (ap (λ (start : Record). after_report (last_record start v.seen) rec) same ∙ sym (last_record-push k.start v.seen new)) };
         legal = record { rises = rises'; numbered = numbered; in_range = All-append (λ r. r.rec.version ≤ MAX_VERSION) v.seen (new ∷ []) legal.in_range (All-cons (λ r. r.rec.version ≤ MAX_VERSION) new [] in_range (All-nil _)); start_in_range = legal.start_in_range };
         each = fits_set k.start k.reporters log k.seat k.holder views pass (having_seen v log) others mine;
       },
       refl,
     )
+
+-- the same of a report that a name stands for
+pub adds_named : {rec named : Record} (pass : ℕ) (v : View) (y : Fetched) → rec ≡ named → v.replaces ≡ true → v.low < v.high → y.position ≡ length v.seen + 1 → raises (last_record v.start v.seen) rec ≡ true → y.rec ≡ after_report (last_record v.start v.seen) rec → rec.version ≤ MAX_VERSION → Turns Kept pass v (λ _. y) (Adds named)
+adds_named {rec} pass v y is replaces some_number position up becomes in_range =
+    subst (λ (z : Record). Turns Kept pass v (λ _. y) (Adds z)) is (adds rec pass v y replaces some_number position up becomes in_range)

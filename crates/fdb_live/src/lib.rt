@@ -1,5 +1,5 @@
-//! The live committed version in a cell that threads read without a lock, and tokens that prove
-//! what their holders have seen of it.
+//! The live committed version in a cell that threads read without the lock of the reports, and
+//! tokens that prove what their holders have seen of it.
 #![tactic(auto)]
 
 mod ack;

@@ -2,7 +2,7 @@
 
 ghost use Rattle.std.specs.Prelude.{◌≡◌, ◌+◌, ◌<◌, ◌≤◌, [], length, true};
 ghost use Rattle.crossbeam_utils.specs.Seq.{IsSamePass, cell_view};
-ghost use Rattle.fdb_history.specs.Register.{raises};
+ghost use Rattle.fdb_history.specs.Register.{after_report, raises};
 ghost use Rattle.fdb_live.specs.Seen.{last_record};
 ghost use Rattle.fdb_live.specs.private.Token.{IsReported};
 ghost use Rattle.fdb_live.specs.private.Rule.{Adds, Looks, Settles, copy_of, first, joined, lowest_of, opened, spent, taken, without_lowest};
@@ -11,9 +11,10 @@ use crate::ack::Ack;
 use crate::fetched::Fetched;
 use crate::held::Held;
 use crate::view;
-use crate::view::{Cell, View};
+use crate::view::{Cell, Reported, View};
 use crossbeam_utils::atomic::seq_cell;
 use fdb_history::{MAX_VERSION, Record, Service};
+use std::marker::Brand;
 use std::sync::Wait;
 
 /// A pass of the cell. It has no bytes.
@@ -61,21 +62,31 @@ pub(crate) fn settle<R: Wait>(rt: &R, cell: &Cell, pass: &mut Pass) -> Fetched
     cell.load_as::<view::Settles, R>(rt, pass).fetched()
 }
 
-/// Replaces the record by a later one.
+/// Replaces the record by what a report makes of it.
 #[inline]
-pub(crate) fn add<R: Wait>(rt: &R, cell: &Cell, pass: &mut Pass, raised: Fetched)
+pub(crate) fn add<P: Reported, R: Wait>(
+    rt: &R,
+    cell: &Cell,
+    pass: &mut Pass,
+    rec: Record,
+    raised: Fetched,
+)
+    requires named { rec ≡ P.rec }
     requires cell { pass.old.table_id ≡ cell.now.table.shared.table_id }
     requires right { (cell_view pass.old).replaces ≡ true }
     requires numbered { (cell_view pass.old).low < (cell_view pass.old).high }
     requires next { raised.position ≡ length (cell_view pass.old).seen + 1 }
     requires raises { raises
         (last_record (cell_view pass.old).start (cell_view pass.old).seen)
-        raised.rec ≡ true }
-    requires in_range { raised.rec.version ≤ MAX_VERSION }
+        rec ≡ true }
+    requires becomes { raised.rec ≡ after_report
+        (last_record (cell_view pass.old).start (cell_view pass.old).seen)
+        rec }
+    requires in_range { rec.version ≤ MAX_VERSION }
     ensures cell { IsSamePass pass.old pass.new }
-    ensures adds { Adds (cell_view pass.old) raised raised (cell_view pass.new) }
+    ensures adds { Adds rec (cell_view pass.old) raised raised (cell_view pass.new) }
 {
-    cell.swap_as::<view::Adds, R>(rt, pass, Held::of(raised));
+    cell.swap_as::<view::Adds<P>, R>(rt, pass, Held::of(raised));
 }
 
 /// Splits off a copy of what was seen.
@@ -147,17 +158,18 @@ pub(crate) fn report<R: Wait>(rt: &R, cell: &Cell, pass: &mut Pass, rec: Record)
         (cell_view pass.new) }
 {
     let found = look(rt, cell, pass);
-    if rec.version <= found.rec.version {
+    let next = found.rec.after_report(rec);
+    if next == found.rec {
         return Ack {
             raised: false,
             position: found.position,
         };
     }
     let raised = Fetched {
-        rec,
+        rec: next,
         position: found.position + 1,
     };
-    add(rt, cell, pass, raised);
+    add::<Brand, R>(rt, cell, pass, rec, raised);
     Ack {
         raised: true,
         position: raised.position,

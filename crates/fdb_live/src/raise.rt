@@ -8,6 +8,6 @@ use fdb_history::Record;
 pub struct Raise {
     /// The number of the reporter that made it.
     pub reporter: u32,
-    /// The record that then stood.
+    /// The record that it reported.
     pub rec: Record,
 }

@@ -7,7 +7,7 @@ use crossbeam_utils::atomic::seq_cell::RuledSeqCell;
 use crossbeam_utils::rule::{Outcome, Protocol};
 use fdb_history::{Record, Service};
 use std::collections::LinkedList;
-use std::marker::PhantomData;
+use std::marker::{Brand, PhantomData};
 
 /// What a pass knows.
 pub(crate) struct View {
@@ -72,13 +72,30 @@ impl Outcome<Held, View> for Settles {
     ghost then = { InWords HasSettled };
 }
 
-/// A raise.
-pub(crate) struct Adds;
+/// Stands for a record that is reported.
+pub(crate) trait Reported {
+    ghost use Rattle.fdb_history.specs.declared.register.Record.{Record};
 
-impl Outcome<Held, View> for Adds {
+    // The record.
+    ghost rec: { Record };
+}
+
+/// The report that a call may pick the record of.
+impl Reported for Brand {
+    ghost use Rattle.fdb_live.specs.private.Rule.{no_record};
+
+    ghost rec = { no_record };
+}
+
+/// A raise.
+pub(crate) struct Adds<P: Reported> {
+    report: PhantomData<P>,
+}
+
+impl<P: Reported> Outcome<Held, View> for Adds<P> {
     ghost use Rattle.fdb_live.specs.private.Rule.{Adds as HasAdded, InWords};
 
-    ghost then = { InWords HasAdded };
+    ghost then = { InWords (HasAdded P.rec) };
 }
 
 /// A copy of what was seen is split off.

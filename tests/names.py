@@ -1,0 +1,102 @@
+"""Tokens of one service's name do not compile beside a live record of another's.
+
+No proof says so, and an edit that must fail has to compile. So the check of types is asked, on a scratch copy of fdb_live
+and the crate below it, with a small program above them. It needs no proof, and stops before anything is built.
+"""
+import os
+import re
+import shutil
+import tempfile
+
+from harness import ROOT, run
+
+BELOW = ["fdb_history", "fdb_live"]
+SECONDS = 300
+
+HEAD = """//! A live record, and tokens that are given to it.
+#![tactic(auto)]
+
+use fdb_history::{OpenGate, Record};
+use fdb_live::{Ack, Fetched, Live, LiveError, LiveRecord, Seen};
+use std::sync::Wait;
+
+fn main() {}
+"""
+# Each function gives a record of the name `J` a token of the name that stands for NAME.
+CALLS = {
+    "read": """
+pub fn read_ITS<J: Live, K: Live, R: Wait>(rt: &R, live: &LiveRecord<J>, token: &mut Seen<NAME>) -> Fetched {
+    live.read(rt, token)
+}
+""",
+    "report": """
+pub fn report_ITS<J: Live, K: Live, R: Wait>(
+    rt: &R,
+    live: &LiveRecord<J>,
+    token: &mut Seen<NAME>,
+    rec: Record,
+) -> Result<Ack, LiveError> {
+    live.report(rt, &OpenGate, 0, token, rec)
+}
+""",
+    "split": """
+pub fn split_ITS<J: Live, K: Live>(live: &LiveRecord<J>, token: &mut Seen<NAME>) {
+    let _ = live.split(token);
+}
+""",
+    "learn": """
+pub fn learn_ITS<J: Live, K: Live, R: Wait>(rt: &R, live: &LiveRecord<J>, own: &mut Seen<J>, token: Seen<NAME>) {
+    live.learn(rt, own, token);
+}
+""",
+    "meet": """
+pub fn meet_ITS<J: Live, K: Live, R: Wait>(rt: &R, live: &LiveRecord<J>, own: &mut Seen<J>, token: &mut Seen<NAME>) {
+    live.meet(rt, own, token);
+}
+""",
+}
+NAMES = {"own": "J", "other": "K"}
+ERROR = re.compile(r"src/main\.rt:(\d+):\d+: error(.*)")
+MISMATCH = re.compile(r"\[mismatched-types\]: expected `(&mut )?Seen<J>`, found `(&mut )?Seen<K>`")
+
+
+def text_of_calls():
+    """Returns the program, and for each of its lines the call and whose token it is given. The two forms of a call differ in a name."""
+    text, places = HEAD, [None] * HEAD.count("\n")
+    for call, form in CALLS.items():
+        for its, name in NAMES.items():
+            text += form.replace("ITS", its).replace("NAME", name)
+            places += [(call, its)] * form.count("\n")
+    return text, places
+
+
+def types_checked(text):
+    """Returns what the check of types says of this program above the live record."""
+    with tempfile.TemporaryDirectory(prefix="names-") as top:
+        for crate in BELOW:
+            for part in ("src", "specs"):
+                shutil.copytree(f"{ROOT}/crates/{crate}/{part}", f"{top}/crates/{crate}/{part}")
+        with open(f"{ROOT}/crates.txt", encoding="utf-8") as it:
+            lines = [line for line in it if line.split(":")[0] in BELOW]
+        with open(f"{top}/crates.txt", "w", encoding="utf-8") as it:
+            it.writelines([*lines, f"names: {' '.join(BELOW)}\n"])
+        os.makedirs(f"{top}/crates/names/src")
+        with open(f"{top}/crates/names/src/main.rt", "w", encoding="utf-8") as it:
+            it.write(text)
+        ran = run(["rt", "try"], seconds=SECONDS, cwd=f"{top}/crates/names")
+    return (ran.out + ran.err).decode(errors="replace")
+
+
+def names(_program):
+    """Each call takes a token of the record's own name, and the same text with another name is refused."""
+    text, places = text_of_calls()
+    said, errors = types_checked(text), {}
+    for line, error in ERROR.findall(said):
+        errors.setdefault(places[int(line) - 1], []).append(error)
+    for call in CALLS:
+        fault = errors.pop((call, "own"), None)
+        yield f"{call}: a token of the same name", f"refused: {fault}" if fault else None
+        found = errors.pop((call, "other"), [])
+        is_so = len(found) == 1 and MISMATCH.fullmatch(found[0])
+        yield f"{call}: a token of another name", None if is_so else f"the errors are {found}; rt said {said[-200:]!r}"
+    yield "nothing else is refused", f"{errors}" if errors else None
