@@ -95,6 +95,7 @@ impl ChainCore {
         ensures err { OnErr result (self.new ≡ self.old) }
 
         ensures request { IfOk result (IsFor ask) }
+        ensures in_range { IfOk result (λ issued. issued.version ≤ MAX_VERSION) }
         ensures refused { IfErr result (MayRefuse ask) }
     {
         let issued = self.answer_to(ask)?;
@@ -133,6 +134,7 @@ impl ChainCore {
     fn answer_to(&self, ask: Ask) -> Result<Issued, ChainError>
         ensures answer { IsAnswer (answer_to self.now ask) result }
         ensures request { IfOk result (IsFor ask) }
+        ensures in_range { IfOk result (λ issued. issued.version ≤ MAX_VERSION) }
         ensures refused { IfErr result (MayRefuse ask) }
     {
         let Some(latest) = self.latest_num(ask.proxy) else {
@@ -165,6 +167,7 @@ impl ChainCore {
         ensures answer { IsAnswer (kept_answer (kept proxy num self.now.answers)) result }
         ensures request { IfOk result (λ answer. (answer.proxy ≡ proxy) × (answer.num ≡ num)) }
         ensures again { IfOk result (λ answer. answer.fresh ≡ false) }
+        ensures in_range { IfOk result (λ answer. answer.version ≤ MAX_VERSION) }
         ensures refused { IfErr result (λ cause. cause ≡ ChainError.Forgotten) }
     {
         match self.replies[proxy as usize].reply(self.answers.as_slice(), num) {
@@ -180,6 +183,7 @@ impl ChainCore {
     fn fresh_answer(&self, ask: Ask) -> Result<Issued, ChainError>
         ensures answer { IsAnswer (fresh_answer self.now ask) result }
         ensures request { IfOk result (IsFor ask) }
+        ensures in_range { IfOk result (λ answer. answer.version ≤ MAX_VERSION) }
         ensures refused { IfErr result (λ cause. cause ≡ ChainError.Exhausted) }
     {
         let next = self.next_answer(ask);

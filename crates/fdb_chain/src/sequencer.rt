@@ -1,9 +1,10 @@
 //! The chain of commit versions, shared by threads.
 
-ghost use Rattle.std.specs.Prelude.{◌≡◌, IfOk, IfErr, OnErr};
+ghost use Rattle.std.specs.Prelude.{◌≡◌, ◌≤◌, IfOk, IfErr, OnErr};
 ghost use Rattle.fdb_chain.specs.ChainCore.{IsAnswer, IsFor, IsOf, MayRefuse};
 ghost use Rattle.fdb_history.specs.Answer.{Chain, answer_to, with_answer};
 ghost use Rattle.fdb_history.specs.Chain.{IsChain};
+ghost use Rattle.fdb_history.specs.declared.register.TheConstants.{MAX_VERSION};
 
 use crate::chain_core::ChainCore;
 use crate::error::ChainError;
@@ -48,6 +49,7 @@ impl<S: Service> Held<S> {
 
         ensures of_service { IsOf S.epoch_end S.recovery self.old }
         ensures request { IfOk result (IsFor ask) }
+        ensures in_range { IfOk result (λ issued. issued.version ≤ MAX_VERSION) }
         ensures refused { IfErr result (MayRefuse ask) }
     {
         // its type keeps that its answers are one chain
@@ -84,11 +86,12 @@ impl<S: Service> Sequencer<S> {
     /// While it is, the gate's `SequencerHeld` is passed with the proxy's number, before the chain is asked.
     ///
     /// So it is what the definition answers after the asks so far, whatever these were: of some chain of the service.
-    /// An answer is one to this very request. A request is refused as `UnknownProxy`, `Early`, `Forgotten`,
+    /// An answer is one to this very request, of a version that is not too large. A request is refused as `UnknownProxy`, `Early`, `Forgotten`,
     /// `Exhausted` or for memory, and the chain is then as it was.
     pub fn ask<R: Wait, G: Gate>(&self, rt: &R, gate: &G, ask: Ask) -> Result<Issued, ChainError>
         ensures answer { (before : Chain) × IsOf S.epoch_end S.recovery before × IsAnswer (answer_to before ask) result }
         ensures request { IfOk result (IsFor ask) }
+        ensures in_range { IfOk result (λ issued. issued.version ≤ MAX_VERSION) }
         ensures refused { IfErr result (MayRefuse ask) }
     {
         let mut held = self.held.lock(rt);

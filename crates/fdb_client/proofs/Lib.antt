@@ -3,4 +3,3 @@ pub mod Calls
 pub mod Longer
 pub mod Own
 pub mod Reading
-pub mod InRange

@@ -1,29 +1,27 @@
 //! A client of the service.
 
-ghost use Rattle.std.specs.Prelude.{◌≡◌, ◌≢◌, ℕ, ◌+◌, ◌<◌, ◌≤◌, vec_len, vec_capacity, [], length};
+ghost use Rattle.std.specs.Prelude.{◌≡◌, ◌≢◌, [], length};
 ghost use Rattle.std.specs.Prelude.{IfOk, IfErr, IfNone, IfSome, OnOk, OnErr, Result, None, Some};
 ghost use Rattle.fdb_client.specs.Account.{Account, new_account, sight};
 ghost use Rattle.fdb_client.specs.Calls.{Asks, Learns, Reads, Reports, Tells};
 ghost use Rattle.fdb_client.specs.Calls.{next_number, request_of};
-ghost use Rattle.fdb_client.specs.Returned.{ReadReturns};
 ghost use Rattle.fdb_chain.specs.ChainCore.{IsAnswer, IsFor};
 ghost use Rattle.fdb_history.specs.declared.log.Refusal.{Refusal};
 ghost use Rattle.fdb_history.specs.declared.chain.Issued.{Issued};
 ghost use Rattle.fdb_history.specs.Log.{position_after_calls};
 ghost use Rattle.fdb_live.specs.Seen.{own_positions};
-ghost use mathlib.Core.List.{IsPrefix};
 
 use crate::error::ClientError;
-use crate::exchange;
 use crate::exchange::NoReply;
 use crate::journal::Journal;
 use crate::read::ReadVersion;
+use crate::{exchange, reply};
 use fdb_chain::{ChainError, Sequencer};
 use fdb_history::{
     Ask, Call, CallAnswer, ClientLog, Gate, GrvOpts, Input, Issued, Record, Refusal, Sequence,
 };
 use fdb_live::{Ack, Live, LiveRecord, Seen};
-use fdb_proxy::{Desk, Reply, Request};
+use fdb_proxy::{Desk, Request};
 use std::alloc::{AllocError, Global};
 use std::marker::Model;
 use std::sync::Wait;
@@ -147,7 +145,7 @@ impl<'a, J: Live> Client<'a, J> {
             reply,
         };
         match exchange::reply_to(rt, gate, desk, request, answers) {
-            Ok(reply) => take_reply(
+            Ok(reply) => reply::take_reply(
                 rt,
                 self.live,
                 &mut self.seen,
@@ -348,91 +346,6 @@ fn copy_of(opts: &GrvOpts) -> Result<GrvOpts, AllocError>
     ensures { IfOk result (λ copy. copy ≡ opts.now) }
 {
     opts.clone()
-}
-
-/// Takes in the reply to a read, logs it, and gives what the read returns. Where memory is refused,
-/// nothing has changed.
-fn take_reply<J: Live, R: Wait>(
-    rt: &R,
-    live: &LiveRecord<J>,
-    seen: &mut Seen<J>,
-    journal: &mut Journal,
-    opts: GrvOpts,
-    reply: Reply<J>,
-) -> Result<ReadVersion, ClientError>
-    requires room { vec_len journal.old.calls < vec_capacity journal.old.calls }
-    requires asked { reply.asked ≡ length seen.old.raises }
-    ensures logged { result ≢ Err ClientError.Memory → (number begun : ℕ)
-        → seen.old.reporter ≡ Some number
-        → position_after_calls begun journal.old.calls.items ≡ length seen.old.raises
-        → Reads J.start opts
-        (record { number = number; begun = begun; calls = journal.old.calls.items; raises = seen.old.raises })
-        (record { number = number; begun = begun; calls = journal.new.calls.items; raises = seen.new.raises })
-        result }
-    ensures come_to { result ≢ Err ClientError.Memory
-        → (begun : ℕ) → position_after_calls begun journal.new.calls.items ≡ length seen.new.raises }
-    ensures reporter { seen.new.reporter ≡ seen.old.reporter }
-    ensures seen { result ≡ Err ClientError.Memory → seen.new ≡ seen.old }
-    ensures calls { result ≡ Err ClientError.Memory
-        → journal.new.calls.items ≡ journal.old.calls.items }
-{
-    let locked_out = reply.rec.locked && !opts.lock_aware;
-    let value = value_of(&reply, locked_out)?;
-    let Reply {
-        client: _,
-        serial: _,
-        asked,
-        seen: told,
-        rec,
-        position,
-        limits,
-    } = reply;
-    hear(rt, live, seen, told);
-    journal.add(Call {
-        input: Input::Grv(opts),
-        asked,
-        position,
-        answer: CallAnswer::Version {
-            rec,
-            limits,
-            locked_out,
-        },
-    });
-    value
-}
-
-/// Learns what a reply has seen, which is no less.
-#[tactic(auto, using(crate::proofs::Longer::longer_of_no_less))]
-fn hear<J: Live, R: Wait>(rt: &R, live: &LiveRecord<J>, seen: &mut Seen<J>, told: Seen<J>)
-    requires unnumbered { told.reporter ≡ None }
-    requires no_less { length seen.old.raises ≤ length told.raises }
-    ensures reporter { seen.new.reporter ≡ seen.old.reporter }
-    ensures raises { seen.new.raises ≡ told.raises }
-    ensures extends { IsPrefix seen.old.raises seen.new.raises }
-    ensures own { own_positions seen.new ≡ own_positions seen.old }
-{
-    live.learn(rt, seen, told);
-}
-
-/// What a read returns for its reply. It takes memory for a copy of the limits alone.
-fn value_of<J: Live>(
-    reply: &Reply<J>,
-    locked_out: bool,
-) -> Result<Result<ReadVersion, ClientError>, AllocError>
-    ensures value { IfOk result (ReadReturns reply.now.position
-        (CallAnswer.Version reply.now.rec reply.now.limits locked_out)) }
-    ensures not_memory { IfOk result (λ value. value ≢ Err ClientError.Memory) }
-{
-    if locked_out {
-        return Ok(Err(ClientError::Locked {
-            version: reply.rec.version,
-        }));
-    }
-    Ok(Ok(ReadVersion {
-        rec: reply.rec,
-        position: reply.position,
-        limits: reply.limits.clone()?,
-    }))
 }
 
 /// How a refusal of the sequencer is logged: not at all, where it is for memory.

@@ -69,7 +69,7 @@ impl Journal {
     /// Reserves capacity for a call that gets no commit version.
     pub(crate) fn reserve(&mut self) -> Result<(), AllocError>
         ensures calls { self.new.calls.items ≡ self.old.calls.items }
-        ensures room { OnOk result (vec_len self.new.calls < vec_capacity self.new.calls) }
+        ensures capacity { OnOk result (vec_len self.new.calls < vec_capacity self.new.calls) }
     {
         self.calls.reserve(1)
     }
@@ -77,7 +77,7 @@ impl Journal {
     /// Reserves capacity for a request under a number.
     pub(crate) fn reserve_under(&mut self, num: u64) -> Result<(), AllocError>
         ensures calls { self.new.calls.items ≡ self.old.calls.items }
-        ensures room { OnOk result (vec_len self.new.calls < vec_capacity self.new.calls) }
+        ensures capacity { OnOk result (vec_len self.new.calls < vec_capacity self.new.calls) }
         ensures under { OnOk result (HasCapacityUnder num self.new.versions) }
     {
         self.calls.reserve(1)?;
@@ -87,7 +87,7 @@ impl Journal {
     /// Adds a call that got no commit version.
     #[tactic(auto, using(crate::proofs::Calls::position_of_added))]
     pub(crate) fn add(&mut self, call: Call)
-        requires room { vec_len self.old.calls < vec_capacity self.old.calls }
+        requires capacity { vec_len self.old.calls < vec_capacity self.old.calls }
         requires none { answer_in call.answer ≡ [] }
         ensures calls { self.new.calls.items ≡ self.old.calls.items ++ call ∷ [] }
         ensures come_to { (begun : ℕ) → position_after_calls begun self.new.calls.items ≡ call.position }
@@ -119,7 +119,7 @@ impl Journal {
     /// Adds a request that was answered.
     #[tactic(auto, using(crate::proofs::Calls::position_of_added))]
     pub(crate) fn add_answer(&mut self, input: Input, position: u64, issued: Issued)
-        requires room { vec_len self.old.calls < vec_capacity self.old.calls }
+        requires capacity { vec_len self.old.calls < vec_capacity self.old.calls }
         requires under { HasCapacityUnder issued.num self.old.versions }
         requires in_range { issued.version ≤ MAX_VERSION }
         ensures calls { self.new.calls.items ≡ self.old.calls.items ++ record {

@@ -13,6 +13,7 @@ mod error;
 mod exchange;
 mod journal;
 mod read;
+mod reply;
 mod versions;
 
 pub use client::Client;

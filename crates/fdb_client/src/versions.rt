@@ -61,7 +61,7 @@ impl Versions {
     pub(crate) fn reserve(&mut self, num: u64) -> Result<(), AllocError>
         ensures in_turn { self.new.in_turn.items ≡ self.old.in_turn.items }
         ensures others { self.new.others.items ≡ self.old.others.items }
-        ensures room { OnOk result (HasCapacityUnder num self.new) }
+        ensures capacity { OnOk result (HasCapacityUnder num self.new) }
     {
         if num == self.in_turn.len() as u64 + 1 {
             return self.in_turn.reserve(1);

@@ -3,6 +3,7 @@
 ghost use Rattle.std.specs.Prelude.{◌≡◌};
 
 mod lines;
+mod noting;
 mod pair;
 mod served;
 
@@ -167,7 +168,8 @@ fn calls_without_a_proxy(rt: HostRuntime) -> Result<(), Fail> {
     play(&rt, rt.alloc(), 1, Case::Lines(CALLS))
 }
 
-/// Reads whose answers are another call's, never come, or are refusals; after each the client goes on.
+/// Reads whose answers are another call's, never come, or are refusals; after each the client goes
+/// on. Each passes the gate once where an answer has come, whatever that says, else not at all.
 const READS: &str = "
 read 0 served => 100 at 0
 read 0 serial => the answer is another call's
@@ -194,6 +196,15 @@ read 1 served => the GRV proxy is closed
 ask 0 0 5000 => 4100 after 3100, fresh
 report 0 4 => raised at 3
 log 1 => 9 calls, at 2
+# client 1 goes on, with calls that need no proxy and with another proxy's desk
+ask 1 0 6000 => there is no such commit proxy
+report 1 1 => no commit version was issued under this number
+tell 1 0 => at 2
+log 1 => 12 calls, at 2
+aside 1 served => 4100 at 3
+aside 1 full => the queue is full
+read 1 served => the GRV proxy is closed
+log 1 => 15 calls, at 3
 meet => ok
 ";
 

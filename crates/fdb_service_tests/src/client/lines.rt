@@ -1,6 +1,6 @@
 //! The lines of a text, each a call, and behind `=>` what comes of it.
 
-use crate::client::served::{Way, read_served};
+use crate::client::served::{Reading, Way, read_served};
 use crate::client::{Service, Stand};
 use crate::line::{Line, tag};
 use fdb_client::{Client, ClientError, ReadVersion};
@@ -51,9 +51,13 @@ fn called<J: Live + Send + Sync, R: Threads + Wait + Abort + Sync>(
         "reask" => reasked(rt, alloc, service, client, line),
         "report" => reported(rt, alloc, client, line.number(rt), false),
         "lock" => reported(rt, alloc, client, line.number(rt), true),
-        "read" | "aware" => {
-            let (opts, way) = (told_apart(alloc, call == "aware")?, way(rt, line));
-            let found = read_served(rt, alloc, service, &mut stand.served, client, opts, way);
+        "read" | "aware" | "aside" => {
+            let reading = Reading {
+                aside: call == "aside",
+                opts: told_apart(alloc, call == "aware")?,
+                way: way(rt, line),
+            };
+            let found = read_served(rt, alloc, service, &mut stand.served, client, reading);
             read_text(alloc, found)
         }
         "tell" => told(alloc, client, line.who(rt), &mut stand.told),

@@ -4,10 +4,11 @@ ghost use Rattle.std.specs.Prelude.{◌≡◌, true};
 ghost use Rattle.fdb_proxy.specs.Cause.{is_due};
 
 use crate::client::Service;
+use crate::client::noting::Noting;
 use crate::same::holds;
 use crossbeam_channel::Sender;
 use fdb_client::{Client, ClientError, ReadVersion};
-use fdb_history::{GrvOpts, OpenGate, Sequence};
+use fdb_history::{GrvOpts, Sequence};
 use fdb_live::{Live, LiveRecord, Seen};
 use fdb_proxy::{Answer, Cause, Desk, Refused, Reply, Request};
 use fdb_queue::QueueError;
@@ -40,16 +41,27 @@ pub enum Way {
     OutOfMemory,
 }
 
+/// A read, and how it is answered.
+#[derive(Drop)]
+pub struct Reading {
+    /// Whether it is at the other desk.
+    pub aside: bool,
+    pub opts: GrvOpts,
+    pub way: Way,
+}
+
 /// What a client's request has to be.
 #[derive(Drop)]
-struct Wanted {
+struct Wanted<'a> {
     client: u32,
     serial: u64,
     asked: u64,
     opts: GrvOpts,
+    /// The gate, which nobody has passed before the answer.
+    gate: &'a Noting,
 }
 
-impl Wanted {
+impl<'a> Wanted<'a> {
     /// Whether this is such a request.
     fn is_met<J: Live>(&self, request: &Request<J>) -> bool {
         request.client == self.client
@@ -61,52 +73,59 @@ impl Wanted {
 }
 
 /// A client's read, while its desk is served in another thread. It leaves one request there, under the number of the calls
-/// before it, and with what the client has seen and was told to ask.
+/// before it, and with what the client has seen and was told to ask. It passes the gate once where
+/// an answer came, and not before.
 pub fn read_served<J: Live + Send + Sync, R: Threads + Wait + Abort + Sync>(
     rt: &R,
     alloc: Global,
     service: &Service<J>,
     served: &mut Seen<J>,
     client: &mut Client<'_, J>,
-    opts: GrvOpts,
-    way: Way,
+    reading: Reading,
 ) -> Result<ReadVersion, ClientError> {
-    let (desk, live) = (&service.desk, &service.live);
+    let Reading { aside, opts, way } = reading;
+    let live = &service.live;
+    let desk = if aside { &service.other } else { &service.desk };
+    let gate = Noting::new(client.number());
     let wanted = Wanted {
         client: client.number(),
         serial: client.calls().len() as u64,
         asked: client.position(),
         opts: opts.clone()?,
+        gate: &gate,
     };
-    let (_, found) = thread::join(
+    let (answered, found) = thread::join(
         rt,
         || serve(rt, alloc, desk, live, served, &wanted, way),
-        || client.read_version(rt, &OpenGate, desk, opts),
+        || client.read_version(rt, &gate, desk, opts),
     );
     let left = desk.take(rt, false);
     holds(rt, left.requests.is_empty(), &"one request is left");
+    gate.was_passed(rt, u64::from(answered), "passes after a read");
     found
 }
 
-/// Takes what comes to the desk first, and answers it.
+/// Takes what comes to the desk first, and answers it. Says whether an answer was sent.
 fn serve<J: Live, R: Wait + Abort>(
     rt: &R,
     alloc: Global,
     desk: &Desk<J>,
     live: &LiveRecord<J>,
     served: &mut Seen<J>,
-    wanted: &Wanted,
+    wanted: &Wanted<'_>,
     way: Way,
-) {
+) -> bool {
     let mut taken = desk.take(rt, true);
-    if let Some(request) = taken.requests.pop() {
-        holds(rt, wanted.is_met(&request.payload), &"the request");
-        holds(rt, taken.requests.is_empty(), &"one request");
-        answer(rt, alloc, live, served, request.payload, way);
-    }
+    let Some(request) = taken.requests.pop() else {
+        return false;
+    };
+    holds(rt, wanted.is_met(&request.payload), &"the request");
+    holds(rt, taken.requests.is_empty(), &"one request");
+    wanted.gate.was_passed(rt, 0, "passes before an answer");
+    answer(rt, alloc, live, served, request.payload, way)
 }
 
-/// Answers a request.
+/// Answers a request. Says whether an answer was sent.
 fn answer<J: Live, R: Wait>(
     rt: &R,
     alloc: Global,
@@ -114,7 +133,7 @@ fn answer<J: Live, R: Wait>(
     served: &mut Seen<J>,
     request: Request<J>,
     way: Way,
-) {
+) -> bool {
     let reply: Result<Sender<Answer<J>>, AllocError> = request.reply.clone();
     let answer = match way {
         Way::Dropped => None,
@@ -124,8 +143,9 @@ fn answer<J: Live, R: Wait>(
         Way::OutOfMemory => Some(refused(request, Cause::Queue(QueueError::Memory))),
         _ => replied(rt, alloc, live, served, request, way),
     };
-    if let (Ok(reply), Some(answer)) = (reply, answer) {
-        let _ = reply.send(rt, answer);
+    match (reply, answer) {
+        (Ok(reply), Some(answer)) => reply.send(rt, answer).is_ok(),
+        _ => false,
     }
 }
 

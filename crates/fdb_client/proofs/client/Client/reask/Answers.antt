@@ -1,5 +1,4 @@
 use Rattle.std.proofs.Common.{rules, ap, sym, ◌∙◌}
-use Rattle.fdb_client.proofs.InRange.{version-in_range}
 use Rattle.fdb_client.specs.Calls.{request_of}
 use Rattle.fdb_history.specs.Answer.{answer_to}
 use Rattle.fdb_history.specs.Strays.{logged_as}
@@ -17,8 +16,3 @@ returns-in-Some-clause-logged g c _ =
     let (chain, of, is) = c.in-Err.ensures.answer in
     let answered = sym (ap logged_as (c.in-Some.ensures.some _ is)) ∙ ap (λ account. logged_as (answer_to chain (request_of account c.args.num c.args.processed c.args.at))) c.self.view_is in
     record { answer = Refused c.in-Some.refusal; logged = search rules; chain = chain; of_service = of; answered = answered; returned = search rules }
-
-pub add_answer-requires-clause-in_range : goal.add_answer-requires-clause-in_range
-add_answer-requires-clause-in_range g c =
-    let (chain, of, is) = c.in-Ok.ensures.answer in
-    version-in_range _ _ chain _ c.in-Ok.issued of is

@@ -1,7 +1,7 @@
 use Rattle.std.proofs.Common.{rules, refl}
 use Rattle.fdb_client.proofs.Own.{own_same}
 use Rattle.fdb_history.specs.declared.log.CallAnswer.TheVariants.{Version}
-use Rattle.fdb_client.proofs.client.take_reply.Goals as goal
+use Rattle.fdb_client.proofs.reply.take_reply.Goals as goal
 
 pub returns-clause-logged : goal.returns-clause-logged
 returns-clause-logged g c _ number begun reporter come_to =

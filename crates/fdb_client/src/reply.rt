@@ -1,0 +1,103 @@
+//! The reply to a read: what the client learns from it, logs and returns.
+
+ghost use Rattle.std.specs.Prelude.{◌≡◌, ◌≢◌, ℕ, ◌<◌, ◌≤◌, IfOk, None, Some, length};
+ghost use Rattle.std.specs.Prelude.{vec_len, vec_capacity};
+ghost use Rattle.fdb_client.specs.Calls.{Reads};
+ghost use Rattle.fdb_client.specs.Returned.{ReadReturns};
+ghost use Rattle.fdb_history.specs.Log.{position_after_calls};
+ghost use Rattle.fdb_live.specs.Seen.{own_positions};
+ghost use mathlib.Core.List.{IsPrefix};
+
+use crate::error::ClientError;
+use crate::journal::Journal;
+use crate::read::ReadVersion;
+use fdb_history::{Call, CallAnswer, GrvOpts, Input};
+use fdb_live::{Live, LiveRecord, Seen};
+use fdb_proxy::Reply;
+use std::alloc::AllocError;
+use std::sync::Wait;
+
+/// Takes in the reply to a read, logs it, and gives what the read returns. Where memory is refused,
+/// nothing has changed.
+pub(crate) fn take_reply<J: Live, R: Wait>(
+    rt: &R,
+    live: &LiveRecord<J>,
+    seen: &mut Seen<J>,
+    journal: &mut Journal,
+    opts: GrvOpts,
+    reply: Reply<J>,
+) -> Result<ReadVersion, ClientError>
+    requires capacity { vec_len journal.old.calls < vec_capacity journal.old.calls }
+    requires asked { reply.asked ≡ length seen.old.raises }
+    ensures logged { result ≢ Err ClientError.Memory → (number begun : ℕ)
+        → seen.old.reporter ≡ Some number
+        → position_after_calls begun journal.old.calls.items ≡ length seen.old.raises
+        → Reads J.start opts
+        (record { number = number; begun = begun; calls = journal.old.calls.items; raises = seen.old.raises })
+        (record { number = number; begun = begun; calls = journal.new.calls.items; raises = seen.new.raises })
+        result }
+    ensures come_to { result ≢ Err ClientError.Memory
+        → (begun : ℕ) → position_after_calls begun journal.new.calls.items ≡ length seen.new.raises }
+    ensures reporter { seen.new.reporter ≡ seen.old.reporter }
+    ensures seen { result ≡ Err ClientError.Memory → seen.new ≡ seen.old }
+    ensures calls { result ≡ Err ClientError.Memory
+        → journal.new.calls.items ≡ journal.old.calls.items }
+{
+    let locked_out = reply.rec.locked && !opts.lock_aware;
+    let value = value_of(&reply, locked_out)?;
+    let Reply {
+        client: _,
+        serial: _,
+        asked,
+        seen: told,
+        rec,
+        position,
+        limits,
+    } = reply;
+    hear(rt, live, seen, told);
+    journal.add(Call {
+        input: Input::Grv(opts),
+        asked,
+        position,
+        answer: CallAnswer::Version {
+            rec,
+            limits,
+            locked_out,
+        },
+    });
+    value
+}
+
+/// Learns what a reply has seen, which is no less.
+#[tactic(auto, using(crate::proofs::Longer::longer_of_no_less))]
+fn hear<J: Live, R: Wait>(rt: &R, live: &LiveRecord<J>, seen: &mut Seen<J>, told: Seen<J>)
+    requires unnumbered { told.reporter ≡ None }
+    requires no_less { length seen.old.raises ≤ length told.raises }
+    ensures reporter { seen.new.reporter ≡ seen.old.reporter }
+    ensures raises { seen.new.raises ≡ told.raises }
+    ensures extends { IsPrefix seen.old.raises seen.new.raises }
+    ensures own { own_positions seen.new ≡ own_positions seen.old }
+{
+    live.learn(rt, seen, told);
+}
+
+/// What a read returns for its reply. It takes memory for a copy of the limits alone.
+fn value_of<J: Live>(
+    reply: &Reply<J>,
+    locked_out: bool,
+) -> Result<Result<ReadVersion, ClientError>, AllocError>
+    ensures value { IfOk result (ReadReturns reply.now.position
+        (CallAnswer.Version reply.now.rec reply.now.limits locked_out)) }
+    ensures not_memory { IfOk result (λ value. value ≢ Err ClientError.Memory) }
+{
+    if locked_out {
+        return Ok(Err(ClientError::Locked {
+            version: reply.rec.version,
+        }));
+    }
+    Ok(Ok(ReadVersion {
+        rec: reply.rec,
+        position: reply.position,
+        limits: reply.limits.clone()?,
+    }))
+}
