@@ -11,6 +11,8 @@ DEFINED = re.compile(r"^(?:abbrev )?pub (?:record |data )?(?!(?:use|mod)\b)([^\s
 PRIVATE_FOLDER, PRIVATE = "private/", "Private to a crate"
 # A file in `code`, with its crate where that is another than the last one; behind 'of', only a name of the file is meant.
 FILE = re.compile(r"(` of )?`(?:(\w+)/specs/)?([\w/]+\.antt)`")
+# A citation of what a crate proves for itself. Other crates go by its contracts and definitions.
+PROOFS_OF = re.compile(r"\bRattle\.(fdb_\w+)\.proofs\b")
 MOST_TRIED = 12
 
 
@@ -60,7 +62,8 @@ def private_files():
 
 
 def definitions(_program):
-    """Each definition is named in a section about its crate, unless its file is private: no other crate and no public file uses that."""
+    """Each definition is named in a section about its crate, unless its file is private: no other crate and no public file uses
+    that. Nor does a crate use what stands in another's proofs."""
     private = private_files()
     for crate in crates():
         words, specs = words_for(crate), f"crates/{crate}/specs"
@@ -70,6 +73,8 @@ def definitions(_program):
                 yield f"{specs}/{file}", f"docs/DEFINITIONS.md leaves out {', '.join(missing)}" if missing else None
     for crate, file in private:
         yield f"crates/{crate}/specs/{file} is private", users_of(crate, file, private)
+    for crate in crates():
+        yield f"crates/{crate} cites no proofs of another", proofs_cited_by(crate)
 
 
 def users_of(crate, file, private):
@@ -86,6 +91,12 @@ def users_of(crate, file, private):
 
 def sources_of(crate):
     return (path for part in ("src", "specs", "proofs") for path in files_below(f"crates/{crate}/{part}", (".rt", ".antt")))
+
+
+def proofs_cited_by(crate):
+    """Returns which files of a crate cite proofs of other crates, and of which, or None."""
+    cited = {os.path.relpath(path, ROOT): set(PROOFS_OF.findall(text_of(path))) - {crate} for path in sources_of(crate)}
+    return "; ".join(f"{path} cites proofs of {', '.join(sorted(them))}" for path, them in cited.items() if them) or None
 
 
 def edits(_program):
