@@ -129,7 +129,7 @@ def edits(_program):
 
 
 def promised(_program):
-    """Each planted wrong body is named once in its crate's section of docs/PROMISES.md, in bold where the gate tries it."""
+    """Each planted wrong body is named once in its crate's section of docs/PROMISES.md, in bold exactly where the gate tries it."""
     parts = re.split(r"^## (.*)$", text_of(f"{ROOT}/docs/PROMISES.md"), flags=re.MULTILINE)
     sections_by_title = dict(zip(parts[1::2], parts[2::2]))
     for crate in crates():
@@ -137,6 +137,8 @@ def promised(_program):
         for folder, form in ((TRIED, "**`{}`**"), (BESIDE, "`{}`")):
             wrong = [name for name in edits_in(crate, folder)[0] if named(name, section) != [form.format(name)]]
             yield f"crates/{crate}/{folder} in docs/PROMISES.md", f"not named once, as {form.format('it')}: {', '.join(wrong)}" if wrong else None
+        stale = sorted(set(re.findall(r"\*\*`(\w+)`\*\*", section)) - set(edits_in(crate, TRIED)[0]))
+        yield f"what docs/PROMISES.md has in bold of {crate}", f"the gate does not try {', '.join(stale)}" if stale else None
 
 
 def named(name, text):
