@@ -8,7 +8,10 @@ import sys
 from typing import NamedTuple
 
 ROOT = os.path.dirname(os.path.dirname(os.path.abspath(__file__)))
-HEADLINE = (("fdb_replay", "Replay", "Replays"),)
+# What the clauses of `replay` cite: of what it writes, of a refusal, and of a writer that failed.
+HEADLINE = (("fdb_replay", "Replay", "Replays"), ("fdb_replay", "Replay", "Refuses"), ("fdb_replay", "Replay", "IsCut"))
+# The parts of it that documents count, each with all that it rests on.
+PARTS = (HEADLINE[0], ("fdb_history", "Linear", "IsLinear"), ("fdb_replay", "Outcome", "IsRunOf"))
 BEGIN = re.compile(r"^(?:abbrev )?pub (?:record |data )?(?!(?:use|mod)\b)([^\s:({]+)")
 USE = re.compile(r"^use Rattle\.(fdb_\w+)\.specs\.([\w.]+?)(?:\.\{([^}]*)\}| as (\w+))\s*$")
 WORD = re.compile(r"[^\W\d][\w-]*")
@@ -64,10 +67,16 @@ def rests_on(roots):
     return list(found.values()), types
 
 
-def headline():
-    """Returns how many definitions the headline rests on, and how many lines these are."""
+def lines_of(definitions):
+    return sum(len(it.lines) for it in definitions)
+
+
+def counts():
+    """Returns, by name, how many definitions the headline rests on and how many lines: all, of each part, and in each file."""
     found, _types = rests_on(HEADLINE)
-    return len(found), sum(len(it.lines) for it in found)
+    by_file = {f"{it.file}.antt": lines_of(other for other in found if other.file == it.file) for it in found}
+    parts = {root[-1]: lines_of(rests_on([root])[0]) for root in PARTS}
+    return {"definitions": len(found), "headline": lines_of(found), **parts, **by_file}
 
 
 def main(words):
@@ -81,8 +90,8 @@ def main(words):
     for it in found:
         by_file.setdefault((it.crate, it.file), []).append(it)
     for (crate, file), them in sorted(by_file.items()):
-        print(f"{sum(len(it.lines) for it in them):4} lines  crates/{crate}/specs/{file}.antt: {', '.join(it.name for it in them)}")
-    print(f"{sum(len(it.lines) for it in found)} lines, {len(found)} definitions, over the types {', '.join(sorted(types))}")
+        print(f"{lines_of(them):4} lines  crates/{crate}/specs/{file}.antt: {', '.join(it.name for it in them)}")
+    print(f"{lines_of(found)} lines, {len(found)} definitions, over the types {', '.join(sorted(types))}")
 
 
 if __name__ == "__main__":

@@ -2,7 +2,7 @@
 import os
 import re
 
-from believed import headline
+from believed import counts
 from edits import BESIDE, TRIED, crates, edits_in, fault_of_edit
 from harness import EXAMPLES, ROOT, done, fault_of, run
 
@@ -11,7 +11,26 @@ DEFINED = re.compile(r"^(?:abbrev )?pub (?:record |data )?(?!(?:use|mod)\b)([^\s
 PRIVATE_FOLDER, PRIVATE = "private/", "Private to a crate"
 # A file in `code`, with its crate where that is another than the last one; behind 'of', only a name of the file is meant.
 FILE = re.compile(r"(` of )?`(?:(\w+)/specs/)?([\w/]+\.antt)`")
+# A citation of what a crate proves for itself. Other crates go by its contracts and definitions.
+PROOFS_OF = re.compile(r"\bRattle\.(fdb_\w+)\.proofs\b")
 MOST_TRIED = 12
+# Where documents say how many lines of definitions there are, by the names of believed.counts.
+COUNTED = (
+    ("README.md", "rest on %(headline)d lines of them"),
+    ("README.md", "%(Reading.antt)d say how a script is read from JSON"),
+    ("README.md", "%(Text.antt)d what is printed"),
+    ("README.md", "%(IsLinear)d what a linear history is"),
+    ("docs/DEFINITIONS.md", "rests on %(headline)d lines in %(definitions)d definitions"),
+    ("docs/DEFINITIONS.md", "%(Replays)d of these lines say what is written"),
+    ("docs/DEFINITIONS.md", "%(Register.antt)d lines of `Register.antt`"),
+    ("docs/DEFINITIONS.md", "it takes %(IsLinear)d lines"),
+    ("docs/DEFINITIONS.md", "`Chain.antt`, %(Chain.antt)d lines"),
+    ("docs/DEFINITIONS.md", "`Strays.antt`, %(Strays.antt)d lines"),
+    ("docs/DEFINITIONS.md", "`Answering.antt`, %(Answering.antt)d lines"),
+    ("docs/DEFINITIONS.md", "takes %(IsRunOf)d lines with all of them"),
+    ("docs/DEFINITIONS.md", "`Reading.antt`, %(Reading.antt)d lines"),
+    ("docs/DEFINITIONS.md", "`Text.antt`, %(Text.antt)d lines in two crates"),
+)
 
 
 def text_of(file):
@@ -60,7 +79,8 @@ def private_files():
 
 
 def definitions(_program):
-    """Each definition is named in a section about its crate, unless its file is private: no other crate and no public file uses that."""
+    """Each definition is named in a section about its crate, unless its file is private: no other crate and no public file uses
+    that. Nor does a crate use what stands in another's proofs."""
     private = private_files()
     for crate in crates():
         words, specs = words_for(crate), f"crates/{crate}/specs"
@@ -70,6 +90,8 @@ def definitions(_program):
                 yield f"{specs}/{file}", f"docs/DEFINITIONS.md leaves out {', '.join(missing)}" if missing else None
     for crate, file in private:
         yield f"crates/{crate}/specs/{file} is private", users_of(crate, file, private)
+    for crate in crates():
+        yield f"crates/{crate} cites no proofs of another", proofs_cited_by(crate)
 
 
 def users_of(crate, file, private):
@@ -88,6 +110,12 @@ def sources_of(crate):
     return (path for part in ("src", "specs", "proofs") for path in files_below(f"crates/{crate}/{part}", (".rt", ".antt")))
 
 
+def proofs_cited_by(crate):
+    """Returns which files of a crate cite proofs of other crates, and of which, or None."""
+    cited = {os.path.relpath(path, ROOT): set(PROOFS_OF.findall(text_of(path))) - {crate} for path in sources_of(crate)}
+    return "; ".join(f"{path} cites proofs of {', '.join(sorted(them))}" for path, them in cited.items() if them) or None
+
+
 def edits(_program):
     """Each planted wrong body applies to its crate, and the gate tries few of each crate."""
     for crate in crates():
@@ -101,21 +129,29 @@ def edits(_program):
 
 
 def promised(_program):
-    """Each planted wrong body is named in its crate's section of docs/PROMISES.md, in bold where the gate tries it."""
+    """Each planted wrong body is named once in its crate's section of docs/PROMISES.md, in bold exactly where the gate tries it."""
     parts = re.split(r"^## (.*)$", text_of(f"{ROOT}/docs/PROMISES.md"), flags=re.MULTILINE)
     sections_by_title = dict(zip(parts[1::2], parts[2::2]))
     for crate in crates():
         section = sections_by_title.get(f"`{crate}`", "")
-        for folder, form in ((TRIED, r"\*\*`{}`\*\*"), (BESIDE, r"(?<!\*)`{}`(?!\*)")):
-            missing = [name for name in edits_in(crate, folder)[0] if not re.search(form.format(name), section)]
-            yield f"crates/{crate}/{folder} in docs/PROMISES.md", f"it leaves out {', '.join(missing)}" if missing else None
+        for folder, form in ((TRIED, "**`{}`**"), (BESIDE, "`{}`")):
+            wrong = [name for name in edits_in(crate, folder)[0] if named(name, section) != [form.format(name)]]
+            yield f"crates/{crate}/{folder} in docs/PROMISES.md", f"not named once, as {form.format('it')}: {', '.join(wrong)}" if wrong else None
+        stale = sorted(set(re.findall(r"\*\*`(\w+)`\*\*", section)) - set(edits_in(crate, TRIED)[0]))
+        yield f"what docs/PROMISES.md has in bold of {crate}", f"the gate does not try {', '.join(stale)}" if stale else None
+
+
+def named(name, text):
+    """How a text names something in `code`: each time with the stars around it, if it is in bold."""
+    return re.findall(rf"(?:\*\*)?`{name}`(?:\*\*)?", text)
 
 
 def believed(_program):
-    """What README.md and docs/DEFINITIONS.md say of how much the headline rests on is so."""
-    found, lines = headline()
-    for document, said in (("README.md", f"rests on {lines} lines"), ("docs/DEFINITIONS.md", f"rests on {lines} lines in {found} definitions")):
-        yield document, None if said in text_of(f"{ROOT}/{document}") else f"it does not say that the headline {said}"
+    """What README.md and docs/DEFINITIONS.md say of how much a reader has to believe is so."""
+    found = counts()
+    for document, form in COUNTED:
+        said = form % found
+        yield f"{document}: {said}", None if said in text_of(f"{ROOT}/{document}") else "it does not say so"
 
 
 def blocks():
