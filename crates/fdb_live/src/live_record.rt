@@ -52,8 +52,9 @@ impl<J: Live> LiveRecord<J> {
     }
 
     /// Reports a committed version (`reportLiveCommittedVersion` of masterserver) for the reporter
-    /// whose token it is. It replaces the record where its version is greater, and else leaves it;
-    /// it is acknowledged in either case.
+    /// whose token it is. The record becomes what [`Record::after_report`] makes of it: it is
+    /// replaced where the version is greater, and else left. The report is acknowledged in either
+    /// case.
     ///
     /// It is refused as `TooLarge` where the version is above the greatest one, and for nothing
     /// else. It waits for the other reports. While it holds their lock it passes the gate as `who`,

@@ -145,7 +145,8 @@ pub(crate) fn take(cell: &Cell, pass: &mut Pass, other: Pass)
     cell.join_pass::<view::Numbered>(pass, other);
 }
 
-/// Reports a record by the pass with the right to replace, under its lowest number.
+/// Reports a record by the pass with the right to replace, under its lowest number. It raises where
+/// the report changes the record.
 #[inline]
 pub(crate) fn report<R: Wait>(rt: &R, cell: &Cell, pass: &mut Pass, rec: Record) -> Ack
     requires cell { pass.old.table_id ≡ cell.now.table.shared.table_id }
