@@ -1,5 +1,5 @@
 -- A turn of a proxy, by the definitions of its queue.
-use Rattle.std.specs.Prelude.{◌≡◌, ◌⊎◌, ℕ, Bool, true, false, List, [], ◌∷◌, ◌++◌, Option, None, Some, map, option_to_list}
+use Rattle.std.specs.Prelude.{◌≡◌, ◌⊎◌, ℕ, Bool, true, false, List, [], ◌∷◌, ◌++◌, Option, None, Some, ◌<◌, length, map, option_to_list}
 use Rattle.std.specs.List.{FoldsTo}
 use Rattle.fdb_proxy.specs.declared.turn.TurnedAway.{TurnedAway}
 use Rattle.fdb_queue.specs.declared.error.QueueError.{QueueError}
@@ -7,7 +7,7 @@ use Rattle.fdb_queue.specs.declared.error.QueueError.TheVariants.{Full, Memory}
 use Rattle.fdb_queue.specs.declared.request.Req.{Req}
 use Rattle.fdb_queue.specs.Admission.{refusal_of, admitted, pushed_out}
 use Rattle.fdb_queue.specs.Queue.{Queue}
-use Rattle.fdb_queue.specs.Waiting.{row}
+use Rattle.fdb_queue.specs.Waiting.{nothing}
 use Rattle.fdb_queue.specs.Window.{window, after_window}
 
 -- A queue while requests are offered to it, and those that it turned away so far, in order.
@@ -35,13 +35,25 @@ IsOutcome None before request after = (after ≡ admitting before request) ⊎ (
 abbrev pub Offers : {T : Type 0} → Offering T → Req T → Offering T → Type 0
 Offers before request after = IsOutcome (refusal_of before.queue request) before request after
 
+-- Each of some requests is offered to a queue, in order: whom that turns away, and the queue then.
+abbrev pub AreOffered : {T : Type 0} → Queue T → List (Req T) → List (TurnedAway T) → Queue T → Type 0
+AreOffered before offered turned_away filled =
+    FoldsTo Offers (record { queue = before; turned_away = [] }) offered
+    (record { queue = filled; turned_away = turned_away })
+
+-- Some offers lead from one queue to another, whose window starts something.
+pub record HasOffersToStart {T : Type 0} (before : Queue T) (offered : List (Req T)) (after : Queue T) : Type 0 where
+  pub turned_away : List (TurnedAway T)
+  pub offers : AreOffered before offered turned_away after
+  pub starts : 0 < length (window after)
+
 -- A turn of a proxy: each of some requests is offered to its queue, in order, and then one window
 -- is held. It gives what the window starts, and whom the offers turned away. (`transactionStarter`
 -- and `queueGetReadVersionRequests` of GrvProxyServer; that one turn follows the other with this
 -- time between them is this product's own)
 pub record IsTurn {T : Type 0} (elapsed : ℕ) (before : Queue T) (offered started : List (Req T)) (turned_away : List (TurnedAway T)) (after : Queue T) : Type 0 where
   pub filled : Queue T
-  pub offers : FoldsTo Offers (record { queue = before; turned_away = [] }) offered (record { queue = filled; turned_away = turned_away })
+  pub offers : AreOffered before offered turned_away filled
   pub starts : started ≡ window filled
   pub leaves : after ≡ after_window elapsed filled
 
@@ -49,9 +61,13 @@ pub record IsTurn {T : Type 0} (elapsed : ℕ) (before : Queue T) (offered start
 abbrev pub HasTurn : {T : Type 0} → ℕ → Queue T → List (Req T) → Queue T → Type 0
 HasTurn {T} elapsed before offered after = (started : List (Req T)) × (turned_away : List (TurnedAway T)) × IsTurn elapsed before offered started turned_away after
 
+-- a queue that all have left
+abbrev pub emptied : {T : Type 0} → Queue T → Queue T
+emptied queue = record queue { waiting = nothing }
+
 -- One turn with some requests leads from one queue to another; after the last one, all that are left
--- leave the queue.
+-- leave the queue, and nothing else is done there.
 abbrev pub HasTurnOrLast : {T : Type 0} → Bool → ℕ → Queue T → List (Req T) → Queue T → Type 0
 HasTurnOrLast false elapsed before offered after = HasTurn elapsed before offered after
 HasTurnOrLast {T} true elapsed before offered after =
-    (turned : Queue T) × HasTurn elapsed before offered turned × (row after.waiting ≡ [])
+    (turned : Queue T) × HasTurn elapsed before offered turned × (after ≡ emptied turned)
