@@ -226,6 +226,7 @@ fn refusal_of<J: Live>(gone: TurnedAway<Request<J>>) -> (Sender<Answer<J>>, Refu
 }
 
 /// Answers all requests that are left.
+#[tactic(auto, using(crate::proofs::Turns::nothing_waits))]
 fn close<J: Live, R: Wait>(rt: &R, line: &mut Line<Request<J>>) -> Result<(), ProxyError>
     ensures left { OnOk result (line.new.queue ≡ emptied line.old.queue) }
     ensures elapsed { line.new.elapsed ≡ line.old.elapsed }
