@@ -9,3 +9,4 @@ pub mod Turning
 pub mod Keeping
 mod Examples
 pub mod Popping
+pub mod Skipping

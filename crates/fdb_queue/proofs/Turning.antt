@@ -47,7 +47,7 @@ missing queue request = request.count * RATE_WINDOW - (limit_of queue.config req
 
 -- ---- whether a window starts something
 
-held : {T : Type 0} (queue : Queue T) (request : Req T) (left : List (Req T)) → row queue.waiting ≡ request ∷ left
+pub held : {T : Type 0} (queue : Queue T) (request : Req T) (left : List (Req T)) → row queue.waiting ≡ request ∷ left
     → may_start queue.config queue.budgets request.priority request.count ≡ false → window queue ≡ []
 held {T = T} queue request left is stays =
     let none : total {T = T} [] + request.count ≡ request.count = omega arith in
@@ -90,7 +90,7 @@ may_by config budgets Batch count h sure =
 
 -- ---- a window that starts nothing
 
-abbrev waited : {T : Type 0} → ℕ → Queue T → Queue T
+abbrev pub waited : {T : Type 0} → ℕ → Queue T → Queue T
 waited elapsed queue = record queue { budgets = budgets_after queue.config queue.budgets elapsed [] queue.waiting }
 
 pub after_idle : {T : Type 0} (elapsed : ℕ) (queue : Queue T) → window queue ≡ [] → after_window elapsed queue ≡ waited elapsed queue
@@ -182,7 +182,7 @@ idle_within elapsed queue request left (suc count) step h is grants idle =
     one_more (missing queue request) count step some later
 
 -- a product that is less than one and one more factor
-below_factor : (a b step : ℕ) → a * step < b * step + step → a ≤ b
+pub below_factor : (a b step : ℕ) → a * step < b * step + step → a ≤ b
 below_factor a b step less = grind arith
 
 -- a limit that is not 0 grants something
@@ -244,7 +244,7 @@ bounded queue budgets request left elapsed idle config time is own sure all =
 
 -- ---- the number that is computed
 
-first_split : {X : Type 0} (xs : List X) (x : X) → first xs ≡ Some x → (left : List X) × (xs ≡ x ∷ left)
+pub first_split : {X : Type 0} (xs : List X) (x : X) → first xs ≡ Some x → (left : List X) × (xs ≡ x ∷ left)
 first_split [] x h = cc
 first_split (y ∷ ys) x h = (ys, (let same : y ≡ x = cc in rw same refl))
 

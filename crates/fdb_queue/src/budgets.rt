@@ -1,10 +1,11 @@
 //! The budgets of the two rates.
 
-ghost use Rattle.std.specs.Prelude.{◌≡◌, ◌≤◌, ◌*◌, ◌^◌};
+ghost use Rattle.std.specs.Prelude.{◌≡◌, ◌≤◌, ◌<◌, ◌*◌, ◌^◌, ℕ};
 ghost use Rattle.fdb_queue.specs.Budgets.{can_start, budget_after, cut};
 ghost use Rattle.fdb_queue.specs.Config.{IsElapsed};
 ghost use Rattle.fdb_queue.specs.Kept.{IsBudget};
-ghost use Rattle.fdb_queue.specs.declared.config.TheConstants.{MAX_RATE};
+ghost use Rattle.fdb_queue.specs.private.Rates.{idle_budget, lacking};
+ghost use Rattle.fdb_queue.specs.declared.config.TheConstants.{MAX_COUNT, MAX_RATE};
 
 use crate::config::{IDLE_BURST, MAX_BURST, RATE_WINDOW};
 
@@ -42,4 +43,40 @@ pub(crate) fn after(elapsed: u64, limit: u64, started: u64, budget: u64, idle: b
     (budget + elapsed * limit)
         .saturating_sub(elapsed * started)
         .min(burst * RATE_WINDOW)
+}
+
+/// The budget of a rate after so many windows that started nothing, while something waits for the
+/// rate or nothing does.
+pub(crate) fn after_idle(windows: u64, elapsed: u64, limit: u64, budget: u64, idle: bool) -> u64
+    requires elapsed { IsElapsed elapsed }
+    requires limit { limit ≤ MAX_RATE }
+    requires budget { IsBudget budget }
+    ensures value { result ≡ idle_budget windows elapsed limit budget idle }
+    ensures in_range { IsBudget result }
+{
+    if windows == 0 {
+        return budget;
+    }
+    let burst = if idle { IDLE_BURST } else { MAX_BURST };
+    windows
+        .saturating_mul(elapsed * limit)
+        .saturating_add(budget)
+        .min(burst * RATE_WINDOW)
+}
+
+/// A number of windows for all of which a rate holds so many transactions back.
+pub(crate) fn windows_held(elapsed: u64, limit: u64, budget: u64, transactions: u64) -> u64
+    requires elapsed { IsElapsed elapsed }
+    requires limit { limit ≤ MAX_RATE }
+    requires budget { IsBudget budget }
+    requires transactions { transactions ≤ MAX_COUNT }
+    ensures { (before : ℕ) → before < result
+        → before * (elapsed * limit) < lacking limit budget transactions }
+{
+    let granted = elapsed * limit;
+    if granted == 0 {
+        return 0;
+    }
+    let lacking = (transactions * RATE_WINDOW).saturating_sub(limit * RATE_WINDOW + budget);
+    lacking.div_ceil(granted)
 }

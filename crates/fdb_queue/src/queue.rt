@@ -1,6 +1,6 @@
 //! The queue of a GRV proxy.
 
-ghost use Rattle.std.specs.Prelude.{◌≡◌, ◌+◌, ◌*◌, ◌<◌, ◌≤◌, ◌⊎◌, ◌↔◌, ◌∷◌, ◌++◌, ◌^◌, ◌==◌, [], length, drop, if◌then◌else◌, OnOk, OnErr, IfOk, IfErr, IsSome, IfSome, IsSomeAnd, option_to_list};
+ghost use Rattle.std.specs.Prelude.{◌≡◌, ℕ, ◌+◌, ◌*◌, ◌<◌, ◌≤◌, ◌⊎◌, ◌↔◌, ◌∷◌, ◌++◌, ◌^◌, ◌==◌, [], length, drop, if◌then◌else◌, OnOk, OnErr, IfOk, IfErr, IsSome, IfSome, IsSomeAnd, option_to_list};
 ghost use Rattle.std.specs.Int.{div_ceil};
 ghost use Rattle.fdb_queue.specs.Admission.{refusal_of, admitted, pushed_out, is_full, IsCause};
 ghost use Rattle.fdb_queue.specs.Config.{IsConfig, IsElapsed};
@@ -8,7 +8,7 @@ ghost use Rattle.fdb_queue.specs.Kept.{IsQueue};
 ghost use Rattle.fdb_queue.specs.Queue.{new_queue};
 ghost use Rattle.fdb_queue.specs.Throttles.{limits_of, SameThrottles};
 ghost use Rattle.fdb_queue.specs.Waiting.{first, row, total, without_first};
-ghost use Rattle.fdb_queue.specs.Waits.{IsSure, limit_of, StartsAfter};
+ghost use Rattle.fdb_queue.specs.Waits.{IsSure, limit_of, StartsAfter, after_windows};
 ghost use Rattle.fdb_queue.specs.private.Rates.{budget_of};
 ghost use Rattle.fdb_queue.specs.declared.config.TheConstants.{MAX_COUNT, MAX_ELAPSED};
 ghost use Rattle.fdb_queue.specs.Window.{window, after_window};
@@ -193,6 +193,80 @@ impl<T> GrvQueue<T> {
         let needed = head.count * RATE_WINDOW;
         let missing = needed.saturating_sub(limit * RATE_WINDOW + budget);
         Some(missing.div_ceil(elapsed * limit))
+    }
+
+    /// Holds at once the windows of `elapsed` microseconds that start nothing before the head of the
+    /// row may start, with no offer between them, and answers how many they are. Where the head is
+    /// sure to start, the next window starts it: they are as many as [`GrvQueue::waits`] says. It
+    /// takes constant time and no memory.
+    ///
+    /// It holds none in an empty row, where the head is a system request, which any window starts,
+    /// and for a time out of range.
+    pub fn skip_idle(&mut self, elapsed: u64) -> u64
+        ensures idle { (before : ℕ) → before < result
+            → window (after_windows elapsed before self.old) ≡ [] }
+        ensures after { self.new ≡ after_windows elapsed result self.old }
+        ensures exact { IsElapsed elapsed → IfSome (first (row self.old.waiting)) (λ head.
+            IsSure self.old.config head.priority head.count
+            → StartsAfter elapsed self.old result) }
+    {
+        if !config::is_elapsed(elapsed) {
+            return 0;
+        }
+        let windows = self.idle_windows(elapsed);
+        let lengths = self.waiting.lengths();
+        let unbatched = lengths.system + lengths.default_;
+        self.budgets = Budgets {
+            normal: budgets::after_idle(
+                windows,
+                elapsed,
+                self.config.normal,
+                self.budgets.normal,
+                unbatched == 0,
+            ),
+            batch: budgets::after_idle(
+                windows,
+                elapsed,
+                self.config.batch,
+                self.budgets.batch,
+                unbatched + lengths.batch == 0,
+            ),
+        };
+        windows
+    }
+
+    /// How many windows start nothing before the head of the row may start.
+    fn idle_windows(&self, elapsed: u64) -> u64
+        requires { IsElapsed elapsed }
+        ensures idle { (before : ℕ) → before < result
+            → window (after_windows elapsed before self.now) ≡ [] }
+        ensures exact { IfSome (first (row self.now.waiting)) (λ head.
+            IsSure self.now.config head.priority head.count
+            → StartsAfter elapsed self.now result) }
+    {
+        match self.waits(elapsed) {
+            Some(windows) => windows,
+            None => self.windows_both_hold(elapsed),
+        }
+    }
+
+    /// How many windows start nothing while both rates may hold a batch request at the head of the
+    /// row, and none where no such one is there.
+    fn windows_both_hold(&self, elapsed: u64) -> u64
+        requires { IsElapsed elapsed }
+        ensures { (before : ℕ) → before < result
+            → window (after_windows elapsed before self.now) ≡ [] }
+    {
+        let Some(head) = self.waiting.head() else {
+            return 0;
+        };
+        if head.priority != Priority::Batch {
+            return 0;
+        }
+        let (config, budgets) = (self.config, self.budgets);
+        let normal = budgets::windows_held(elapsed, config.normal, budgets.normal, head.count);
+        let batch = budgets::windows_held(elapsed, config.batch, budgets.batch, head.count);
+        normal.max(batch)
     }
 
     /// The limit and the budget of the rate that alone holds a request at the head of the row, if
