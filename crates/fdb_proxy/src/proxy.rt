@@ -83,9 +83,10 @@ impl<'a, J: Live> GrvProxy<'a, J> {
     ///
     /// In each turn it takes what waits at the desk, and waits there only where its queue is empty;
     /// it offers each request to the queue, holds one window, and serves what started as one batch.
-    /// A request that was refused or pushed out is answered so. Once the desk is closed it has one
-    /// more turn, and then answers all that is left `Closed`. An answer whose receiver is gone is
-    /// dropped.
+    /// Where nothing came, the windows that start nothing before the head of its queue may start are
+    /// held at once, in constant time, and then one more. A request that was refused or pushed out
+    /// is answered so. Once the desk is closed it has one more turn, and then answers all that is
+    /// left `Closed`. An answer whose receiver is gone is dropped.
     ///
     /// Where memory is refused to itself, or to the sending of an answer, it closes the desk, drops
     /// what it holds and what waits there, and ends with `Memory`. In an offer it is the request

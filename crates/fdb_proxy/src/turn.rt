@@ -3,7 +3,7 @@
 ghost use Rattle.std.specs.Prelude.{◌≡◌, ◌==◌, ◌+◌, ◌<◌, ◌≤◌, ◌++◌, [], All, IfOk, IfErr, OnErr, length, true};
 ghost use Rattle.std.specs.Prelude.{option_to_list, vec_len, vec_capacity};
 ghost use Rattle.fdb_proxy.specs.Cause.{is_of_an_offer};
-ghost use Rattle.fdb_proxy.specs.private.Turn.{AreOffered, HasOffersToStart, IsTurn, Offers};
+ghost use Rattle.fdb_proxy.specs.private.Turn.{AreOffered, HasReady, IsReady, IsTurn, Offers, StartsSure};
 ghost use Rattle.fdb_queue.specs.Config.{IsElapsed};
 ghost use Rattle.fdb_queue.specs.Waiting.{first, row, without_first};
 ghost use Rattle.fdb_queue.specs.Window.{window, after_window};
@@ -39,8 +39,9 @@ pub(crate) struct Line<T> {
 }
 
 impl<T: Drop> Line<T> {
-    /// Offers each of some requests to the queue, in order, and then holds one window. Whoever is
-    /// turned away is added to the list, which has room for all.
+    /// Offers each of some requests to the queue, in order, and then holds one window. Where there
+    /// is none, the windows before it that start nothing are held at once. Whoever is turned away is
+    /// added to the list, which has room for all.
     ///
     /// It is refused as `Memory` alone: for the list of those that start, of which there is one
     /// then, when all have been offered. A growth of the queue that is refused turns away the one
@@ -59,15 +60,34 @@ impl<T: Drop> Line<T> {
             All (λ gone. is_of_an_offer gone.cause ≡ true) turn.turned_away.items) }
         ensures elapsed { self.new.elapsed ≡ self.old.elapsed }
         ensures memory { IfErr result (λ cause. cause ≡ ProxyError.Memory) }
-        ensures offered { OnErr result
-            (HasOffersToStart self.old.queue offered.items self.new.queue) }
+        ensures ready { OnErr result
+            (HasReady self.old.elapsed self.old.queue offered.items self.new.queue) }
+        ensures sure { IfOk result (λ turn.
+            StartsSure self.old.queue offered.items (length turn.started.items)) }
     {
-        self.offer_all(offered, &mut turned_away);
+        self.make_ready(offered, &mut turned_away);
         let started = self.start()?;
         Ok(Turn {
             started,
             turned_away,
         })
+    }
+
+    /// Offers all, or where there is none holds the windows that start nothing.
+    fn make_ready(&mut self, offered: Vec<Req<T>>, turned_away: &mut Vec<TurnedAway<T>>)
+        requires none { turned_away.old.items ≡ [] }
+        requires room { vec_len turned_away.old + vec_len offered ≤ vec_capacity turned_away.old }
+        ensures ready { IsReady self.old.elapsed
+            self.old.queue offered.items turned_away.new.items self.new.queue }
+        ensures sure { StartsSure self.old.queue offered.items (length (window self.new.queue)) }
+        ensures due { All (λ gone. is_of_an_offer gone.cause ≡ true) turned_away.new.items }
+        ensures elapsed { self.new.elapsed ≡ self.old.elapsed }
+    {
+        if offered.is_empty() {
+            self.queue.skip_idle(self.elapsed);
+        } else {
+            self.offer_all(offered, turned_away);
+        }
     }
 
     /// Offers each of some requests to the queue, in order. Whoever is turned away is added to the
