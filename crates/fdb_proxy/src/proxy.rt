@@ -3,7 +3,7 @@
 ghost use Rattle.std.specs.Prelude.{◌≡◌, [], All, IfOk, IfErr, OnOk, length, true, vec_len};
 ghost use mathlib.Core.List.{IsPrefix};
 ghost use Rattle.fdb_proxy.specs.Cause.{is_due, is_of_an_offer};
-ghost use Rattle.fdb_proxy.specs.private.Turn.{HasTurn, HasTurnOrLast};
+ghost use Rattle.fdb_proxy.specs.private.Turn.{HasTurn, HasTurnOrLast, emptied};
 ghost use Rattle.fdb_queue.specs.Config.{IsElapsed};
 ghost use Rattle.fdb_queue.specs.Waiting.{row};
 
@@ -83,9 +83,10 @@ impl<'a, J: Live> GrvProxy<'a, J> {
     ///
     /// In each turn it takes what waits at the desk, and waits there only where its queue is empty;
     /// it offers each request to the queue, holds one window, and serves what started as one batch.
-    /// A request that was refused or pushed out is answered so. Once the desk is closed it has one
-    /// more turn, and then answers all that is left `Closed`. An answer whose receiver is gone is
-    /// dropped.
+    /// Where nothing came, the windows that start nothing before the head of its queue may start are
+    /// held at once, in constant time, and then one more. A request that was refused or pushed out
+    /// is answered so. Once the desk is closed it has one more turn, and then answers all that is
+    /// left `Closed`. An answer whose receiver is gone is dropped.
     ///
     /// Where memory is refused to itself, or to the sending of an answer, it closes the desk, drops
     /// what it holds and what waits there, and ends with `Memory`. In an offer it is the request
@@ -184,10 +185,11 @@ fn serve_turn<J: Live, R: Wait>(
     ensures extends { IsPrefix seen.old.raises seen.new.raises }
     ensures memory { IfErr result (λ cause. cause ≡ ProxyError.Memory) }
 {
+    let room = Vec::with_capacity(alloc, requests.len())?;
     let Turn {
         started,
         turned_away,
-    } = line.turn(alloc, requests)?;
+    } = line.turn(requests, room)?;
     turn_away(rt, turned_away)?;
     let senders = senders_of(alloc, started.as_slice())?;
     match batch::serve_batch(rt, alloc, live, seen, &line.queue, started) {
@@ -219,13 +221,15 @@ fn refusal_of<J: Live>(gone: TurnedAway<Request<J>>) -> (Sender<Answer<J>>, Refu
     ensures client { result.1.client ≡ gone.request.payload.client }
     ensures serial { result.1.serial ≡ gone.request.payload.serial }
     ensures asked { result.1.asked ≡ gone.request.payload.asked }
+    ensures seen { result.1.seen ≡ gone.request.payload.seen }
 {
     gone.request.payload.refused(Cause::Queue(gone.cause))
 }
 
 /// Answers all requests that are left.
+#[tactic(auto, using(crate::proofs::Turns::nothing_waits))]
 fn close<J: Live, R: Wait>(rt: &R, line: &mut Line<Request<J>>) -> Result<(), ProxyError>
-    ensures left { OnOk result (row line.new.queue.waiting ≡ []) }
+    ensures left { OnOk result (line.new.queue ≡ emptied line.old.queue) }
     ensures elapsed { line.new.elapsed ≡ line.old.elapsed }
     ensures memory { IfErr result (λ cause. cause ≡ ProxyError.Memory) }
 {

@@ -1,16 +1,15 @@
 //! The queue of a proxy and its turns.
 
-ghost use Rattle.std.specs.Prelude.{◌≡◌, ◌==◌, ◌+◌, ◌<◌, ◌≤◌, ◌++◌, All, IfOk, IfErr, length, true};
+ghost use Rattle.std.specs.Prelude.{◌≡◌, ◌==◌, ◌+◌, ◌<◌, ◌≤◌, ◌++◌, [], All, IfOk, IfErr, OnErr, length, true};
 ghost use Rattle.std.specs.Prelude.{option_to_list, vec_len, vec_capacity};
 ghost use Rattle.fdb_proxy.specs.Cause.{is_of_an_offer};
-ghost use Rattle.fdb_proxy.specs.private.Turn.{IsTurn, Offers};
+ghost use Rattle.fdb_proxy.specs.private.Turn.{AreOffered, HasReady, IsReady, IsTurn, Offers, StartsSure};
 ghost use Rattle.fdb_queue.specs.Config.{IsElapsed};
-ghost use Rattle.fdb_queue.specs.Waiting.{first, row};
+ghost use Rattle.fdb_queue.specs.Waiting.{first, row, without_first};
 ghost use Rattle.fdb_queue.specs.Window.{window, after_window};
 
 use crate::error::ProxyError;
 use fdb_queue::{GrvQueue, QueueError, Req};
-use std::alloc::Global;
 use std::collections::VecDeque;
 
 /// A request that waits no more and does not start, and why.
@@ -40,16 +39,20 @@ pub(crate) struct Line<T> {
 }
 
 impl<T: Drop> Line<T> {
-    /// Offers each of some requests to the queue, in order, and then holds one window.
+    /// Offers each of some requests to the queue, in order, and then holds one window. Where there
+    /// is none, the windows before it that start nothing are held at once. Whoever is turned away is
+    /// added to the list, which has room for all.
     ///
-    /// It is refused as `Memory` alone: for the list of those that are turned away, before any
-    /// offer, or for that of those that start. A growth of the queue that is refused turns away the
-    /// one that was offered, as `Memory`.
+    /// It is refused as `Memory` alone: for the list of those that start, of which there is one
+    /// then, when all have been offered. A growth of the queue that is refused turns away the one
+    /// that was offered, as `Memory`.
     pub(crate) fn turn(
         &mut self,
-        alloc: Global,
         offered: Vec<Req<T>>,
+        mut turned_away: Vec<TurnedAway<T>>,
     ) -> Result<Turn<T>, ProxyError>
+        requires none { turned_away.items ≡ [] }
+        requires room { vec_len turned_away + vec_len offered ≤ vec_capacity turned_away }
         ensures turn { IfOk result (λ turn.
             IsTurn self.old.elapsed self.old.queue offered.items turn.started.items
             turn.turned_away.items self.new.queue) }
@@ -57,17 +60,50 @@ impl<T: Drop> Line<T> {
             All (λ gone. is_of_an_offer gone.cause ≡ true) turn.turned_away.items) }
         ensures elapsed { self.new.elapsed ≡ self.old.elapsed }
         ensures memory { IfErr result (λ cause. cause ≡ ProxyError.Memory) }
+        ensures ready { OnErr result
+            (HasReady self.old.elapsed self.old.queue offered.items self.new.queue) }
+        ensures sure { IfOk result (λ turn.
+            StartsSure self.old.queue offered.items (length turn.started.items)) }
     {
-        let mut turned_away = Vec::with_capacity(alloc, offered.len())?;
-        let mut offered = VecDeque::from(offered);
-        while let Some(request) = offered.pop_front() {
-            self.offer(request, &mut turned_away);
-        }
+        self.make_ready(offered, &mut turned_away);
         let started = self.start()?;
         Ok(Turn {
             started,
             turned_away,
         })
+    }
+
+    /// Offers all, or where there is none holds the windows that start nothing.
+    fn make_ready(&mut self, offered: Vec<Req<T>>, turned_away: &mut Vec<TurnedAway<T>>)
+        requires none { turned_away.old.items ≡ [] }
+        requires room { vec_len turned_away.old + vec_len offered ≤ vec_capacity turned_away.old }
+        ensures ready { IsReady self.old.elapsed
+            self.old.queue offered.items turned_away.new.items self.new.queue }
+        ensures sure { StartsSure self.old.queue offered.items (length (window self.new.queue)) }
+        ensures due { All (λ gone. is_of_an_offer gone.cause ≡ true) turned_away.new.items }
+        ensures elapsed { self.new.elapsed ≡ self.old.elapsed }
+    {
+        if offered.is_empty() {
+            self.queue.skip_idle(self.elapsed);
+        } else {
+            self.offer_all(offered, turned_away);
+        }
+    }
+
+    /// Offers each of some requests to the queue, in order. Whoever is turned away is added to the
+    /// list. An offer that is refused memory ends nothing: it turns away one.
+    fn offer_all(&mut self, offered: Vec<Req<T>>, turned_away: &mut Vec<TurnedAway<T>>)
+        requires none { turned_away.old.items ≡ [] }
+        requires room { vec_len turned_away.old + vec_len offered ≤ vec_capacity turned_away.old }
+        ensures offers { AreOffered
+            self.old.queue offered.items turned_away.new.items self.new.queue }
+        ensures due { All (λ gone. is_of_an_offer gone.cause ≡ true) turned_away.new.items }
+        ensures elapsed { self.new.elapsed ≡ self.old.elapsed }
+    {
+        let mut offered = VecDeque::from(offered);
+        while let Some(request) = offered.pop_front() {
+            self.offer(request, turned_away);
+        }
     }
 
     /// Offers a request to the queue. Whoever is turned away is added to the list.
@@ -99,6 +135,8 @@ impl<T: Drop> Line<T> {
         ensures after { IfOk result (λ _. self.new.queue ≡ after_window self.old.elapsed self.old.queue) }
         ensures elapsed { self.new.elapsed ≡ self.old.elapsed }
         ensures memory { IfErr result (λ cause. cause ≡ ProxyError.Memory) }
+        ensures due { OnErr result (0 < length (window self.old.queue)) }
+        ensures unchanged { OnErr result (self.new.queue ≡ self.old.queue) }
     {
         match self.queue.window(self.elapsed) {
             Ok(started) => Ok(started),
@@ -117,6 +155,8 @@ impl<T: Drop> Line<T> {
     /// Lets the first of the row go without a start.
     pub(crate) fn leave(&mut self) -> Option<Req<T>>
         ensures out { result ≡ first (row self.old.queue.waiting) }
+        ensures rest { self.new.queue
+            ≡ record self.old.queue { waiting = without_first self.old.queue.waiting } }
         ensures row { row self.old.queue.waiting ≡ option_to_list result ++ row self.new.queue.waiting }
         ensures elapsed { self.new.elapsed ≡ self.old.elapsed }
     {

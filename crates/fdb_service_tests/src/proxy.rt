@@ -33,8 +33,9 @@ pub enum Case {
     Crowd,
     /// A batch is served that may be refused memory.
     ServeRefused,
-    /// A proxy is run that may be refused memory, with a queue that has had requests before or none.
-    RunRefused { used: bool },
+    /// A proxy is run that may be refused memory, with a queue that has had requests before or none. Its answers go over
+    /// channels with room for one, or over unbounded ones, to which a send needs memory.
+    RunRefused { used: bool, unbounded: bool },
 }
 
 /// Plays a case. It fails where memory is refused, and passes else.
@@ -66,6 +67,6 @@ fn play_named<J: Live + Send + Sync, R: Threads + Wait + Abort + Sync>(
         Case::Lines(text) => play_lines(rt, stand, text),
         Case::Crowd => ask_all(rt, stand),
         Case::ServeRefused => serve_refused(rt, stand),
-        Case::RunRefused { used } => run_refused(rt, stand, used),
+        Case::RunRefused { used, unbounded } => run_refused(rt, stand, used, unbounded),
     }
 }

@@ -1,5 +1,5 @@
 -- A turn of a proxy, by the definitions of its queue.
-use Rattle.std.specs.Prelude.{◌≡◌, ◌⊎◌, ℕ, Bool, true, false, List, [], ◌∷◌, ◌++◌, Option, None, Some, map, option_to_list}
+use Rattle.std.specs.Prelude.{◌≡◌, ◌⊎◌, ℕ, Bool, true, false, List, [], ◌∷◌, ◌++◌, Option, None, Some, IfSome, ◌<◌, length, map, option_to_list}
 use Rattle.std.specs.List.{FoldsTo}
 use Rattle.fdb_proxy.specs.declared.turn.TurnedAway.{TurnedAway}
 use Rattle.fdb_queue.specs.declared.error.QueueError.{QueueError}
@@ -7,7 +7,8 @@ use Rattle.fdb_queue.specs.declared.error.QueueError.TheVariants.{Full, Memory}
 use Rattle.fdb_queue.specs.declared.request.Req.{Req}
 use Rattle.fdb_queue.specs.Admission.{refusal_of, admitted, pushed_out}
 use Rattle.fdb_queue.specs.Queue.{Queue}
-use Rattle.fdb_queue.specs.Waiting.{row}
+use Rattle.fdb_queue.specs.Waiting.{first, nothing, row}
+use Rattle.fdb_queue.specs.Waits.{IsSure, after_windows}
 use Rattle.fdb_queue.specs.Window.{window, after_window}
 
 -- A queue while requests are offered to it, and those that it turned away so far, in order.
@@ -35,23 +36,55 @@ IsOutcome None before request after = (after ≡ admitting before request) ⊎ (
 abbrev pub Offers : {T : Type 0} → Offering T → Req T → Offering T → Type 0
 Offers before request after = IsOutcome (refusal_of before.queue request) before request after
 
+-- Each of some requests is offered to a queue, in order: whom that turns away, and the queue then.
+abbrev pub AreOffered : {T : Type 0} → Queue T → List (Req T) → List (TurnedAway T) → Queue T → Type 0
+AreOffered before offered turned_away filled =
+    FoldsTo Offers (record { queue = before; turned_away = [] }) offered
+    (record { queue = filled; turned_away = turned_away })
+
+-- What a turn comes to before its window: each of some requests is offered to the queue, in order.
+-- Where there is none, windows that start nothing pass at once. (this product's own)
+pub record IsReady {T : Type 0} (elapsed : ℕ) (before : Queue T) (offered : List (Req T)) (turned_away : List (TurnedAway T)) (ready : Queue T) : Type 0 where
+  pub filled : Queue T
+  pub idle : ℕ
+  pub offers : AreOffered before offered turned_away filled
+  pub none : (earlier : ℕ) → earlier < idle → window (after_windows elapsed earlier filled) ≡ []
+  pub prompt : 0 < length offered → idle ≡ 0
+  pub passed : ready ≡ after_windows elapsed idle filled
+
+-- A turn came to a queue whose window starts something.
+pub record HasReady {T : Type 0} (elapsed : ℕ) (before : Queue T) (offered : List (Req T)) (after : Queue T) : Type 0 where
+  pub turned_away : List (TurnedAway T)
+  pub ready : IsReady elapsed before offered turned_away after
+  pub starts : 0 < length (window after)
+
+-- Where nobody was offered and the head of the row is sure to start, so many requests are some.
+abbrev pub StartsSure : {T : Type 0} → Queue T → List (Req T) → ℕ → Type 0
+StartsSure before offered started = offered ≡ []
+    → IfSome (first (row before.waiting))
+    (λ head. IsSure before.config head.priority head.count → 0 < started)
+
 -- A turn of a proxy: each of some requests is offered to its queue, in order, and then one window
--- is held. It gives what the window starts, and whom the offers turned away. (`transactionStarter`
+-- is held; where nobody is offered, the windows before that start nothing pass at once. It gives what the window starts, and whom the offers turned away. (`transactionStarter`
 -- and `queueGetReadVersionRequests` of GrvProxyServer; that one turn follows the other with this
 -- time between them is this product's own)
 pub record IsTurn {T : Type 0} (elapsed : ℕ) (before : Queue T) (offered started : List (Req T)) (turned_away : List (TurnedAway T)) (after : Queue T) : Type 0 where
-  pub filled : Queue T
-  pub offers : FoldsTo Offers (record { queue = before; turned_away = [] }) offered (record { queue = filled; turned_away = turned_away })
-  pub starts : started ≡ window filled
-  pub leaves : after ≡ after_window elapsed filled
+  pub ready : Queue T
+  pub comes_to : IsReady elapsed before offered turned_away ready
+  pub starts : started ≡ window ready
+  pub leaves : after ≡ after_window elapsed ready
 
 -- One turn with some requests leads from one queue to another.
 abbrev pub HasTurn : {T : Type 0} → ℕ → Queue T → List (Req T) → Queue T → Type 0
 HasTurn {T} elapsed before offered after = (started : List (Req T)) × (turned_away : List (TurnedAway T)) × IsTurn elapsed before offered started turned_away after
 
+-- a queue that all have left
+abbrev pub emptied : {T : Type 0} → Queue T → Queue T
+emptied queue = record queue { waiting = nothing }
+
 -- One turn with some requests leads from one queue to another; after the last one, all that are left
--- leave the queue.
+-- leave the queue, and nothing else is done there.
 abbrev pub HasTurnOrLast : {T : Type 0} → Bool → ℕ → Queue T → List (Req T) → Queue T → Type 0
 HasTurnOrLast false elapsed before offered after = HasTurn elapsed before offered after
 HasTurnOrLast {T} true elapsed before offered after =
-    (turned : Queue T) × HasTurn elapsed before offered turned × (row after.waiting ≡ [])
+    (turned : Queue T) × HasTurn elapsed before offered turned × (after ≡ emptied turned)

@@ -1,7 +1,7 @@
-//! Answers as text: whom they answer, and then the version with its position and the limits, or why there is none.
+//! Answers as text: whom they answer, and then the record with its position and the limits, or why there is none.
 
 use crate::proxy::stand::Waiter;
-use fdb_history::TagLimit;
+use fdb_history::{Record, TagLimit};
 use fdb_live::Live;
 use fdb_proxy::{Answer, Cause, Refused, Reply};
 use std::alloc::{AllocError, Global};
@@ -64,12 +64,23 @@ fn answer_text<J: Live>(alloc: Global, answer: &Answer<J>) -> Result<String, All
 
 fn reply_text<J: Live>(alloc: Global, reply: &Reply<J>) -> Result<String, AllocError> {
     let mut text = asker_text(alloc, reply.client, reply.serial, reply.asked)?;
-    let (version, position) = (reply.rec.version, reply.position);
-    text.push_str(&format!(in alloc; "{version} at {position}")?)?;
+    text.push_str(&record_text(alloc, &reply.rec)?)?;
+    let position = reply.position;
+    text.push_str(&format!(in alloc; " at {position}")?)?;
     for limit in &reply.limits {
         text.push_str(&limit_text(alloc, limit)?)?;
     }
     Ok(text)
+}
+
+/// The version, the lock and the metadata version of a record.
+fn record_text(alloc: Global, rec: &Record) -> Result<String, AllocError> {
+    let version = rec.version;
+    let lock = if rec.locked { "locked" } else { "unlocked" };
+    match rec.metadata {
+        Some(metadata) => format!(in alloc; "{version} {lock} {metadata}"),
+        None => format!(in alloc; "{version} {lock} none"),
+    }
 }
 
 fn limit_text(alloc: Global, limit: &TagLimit) -> Result<String, AllocError> {

@@ -1,6 +1,6 @@
 //! A text, each line of which is a call, and behind `=>` what it is answered:
 //!
-//! - `report` has a version: the position after it;
+//! - `report` has a version, `locked` or `unlocked`, and a metadata version or `none`: the position after it;
 //! - `see`: the clients see the record, and their position;
 //! - `submit` has a client, a serial number, a priority, a count, a moment and tags: `in`, or what is handed back and why;
 //! - `leave`: who asked last waits no more;
@@ -15,7 +15,7 @@
 use crate::line::{Line, tag};
 use crate::proxy::answers::{answers_text, asker_text, awaited};
 use crate::proxy::stand::{Ended, Queue, Stand, opts_of, queue_of, submit};
-use fdb_history::{GrvOpts, Priority, Tag};
+use fdb_history::{GrvOpts, Priority, Record, Tag};
 use fdb_live::Live;
 use fdb_proxy::{GrvProxy, ProxyError, Request, Taken, serve_batch};
 use fdb_queue::Req;
@@ -51,7 +51,7 @@ fn called<J: Live + Send + Sync, R: Threads + Wait + Abort + Sync>(
 ) -> Result<String, AllocError> {
     let alloc = stand.alloc;
     match call {
-        "report" => stand.report(rt, line.number(rt)).to_string(alloc),
+        "report" => stand.report(rt, record(rt, line)).to_string(alloc),
         "see" => seen(rt, stand),
         "submit" => submitted(rt, stand, line),
         "leave" => left(stand),
@@ -61,6 +61,17 @@ fn called<J: Live + Send + Sync, R: Threads + Wait + Abort + Sync>(
         "answers" => awaited(rt, alloc, stand.waiters.as_slice()),
         "position" => stand.served.position().to_string(alloc),
         _ => line.fails(rt, "no call"),
+    }
+}
+
+/// The record that is reported.
+fn record(rt: &impl Abort, line: &mut Line<'_>) -> Record {
+    let version = line.number(rt);
+    let locked = line.word(rt) == "locked";
+    Record {
+        version,
+        locked,
+        metadata: line.word(rt).parse().ok(),
     }
 }
 

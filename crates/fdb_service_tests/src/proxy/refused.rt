@@ -1,10 +1,11 @@
 //! Batches and proxies that may be refused memory.
 
+use crate::live::steps::unlocked;
 use crate::proxy::stand::{Ended, Queue, Stand, Waiter, opts_of, queue_of, submit};
 use crate::same::{holds, same};
 use fdb_history::Priority;
 use fdb_live::Live;
-use fdb_proxy::{Answer, Cause, GrvProxy, ProxyError, Request, serve_batch};
+use fdb_proxy::{Answer, Cause, Desk, GrvProxy, ProxyError, Request, serve_batch};
 use fdb_queue::{QueueError, Req};
 use std::alloc::AllocError;
 use std::process::Abort;
@@ -17,10 +18,13 @@ const REQUESTS: u64 = 3;
 
 /// Leaves the requests of client 0 on the desk, with serial numbers from 0 on. One that is refused memory is handed back,
 /// and left once more.
-fn submit_all<J: Live, R: Wait + Abort>(rt: &R, stand: &mut Stand<J>) -> Result<(), AllocError> {
+fn submit_all<J: Live, R: Wait + Abort>(
+    rt: &R,
+    stand: &mut Stand<J>,
+    unbounded: bool,
+) -> Result<(), AllocError> {
     for serial in 0..REQUESTS {
-        let opts = opts_of(Priority::Default, 1, Vec::new(stand.alloc), 0);
-        let (request, waiter) = stand.request(0, serial, opts)?;
+        let (request, waiter) = request_over(stand, serial, unbounded)?;
         stand.waiters.push(waiter)?;
         match submit(rt, &stand.desk, request) {
             Ok(()) => {}
@@ -28,6 +32,22 @@ fn submit_all<J: Live, R: Wait + Abort>(rt: &R, stand: &mut Stand<J>) -> Result<
         }
     }
     Ok(())
+}
+
+/// A request of client 0, whose answer goes over a channel with room for one or over an unbounded one.
+fn request_over<J: Live>(
+    stand: &mut Stand<J>,
+    serial: u64,
+    unbounded: bool,
+) -> Result<(Request<J>, Waiter<J>), AllocError> {
+    let opts = opts_of(Priority::Default, 1, Vec::new(stand.alloc), 0);
+    let (mut request, waiter) = stand.request(0, serial, opts)?;
+    if !unbounded {
+        return Ok((request, waiter));
+    }
+    let (reply, waiter) = crossbeam_channel::unbounded(stand.alloc)?;
+    request.reply = reply;
+    Ok((request, waiter))
 }
 
 /// Leaves a request on the desk that was refused.
@@ -53,8 +73,8 @@ pub fn serve_refused<J: Live, R: Wait + Abort>(
     rt: &R,
     mut stand: Stand<J>,
 ) -> Result<(), AllocError> {
-    submit_all(rt, &mut stand)?;
-    stand.report(rt, 2100);
+    submit_all(rt, &mut stand, false)?;
+    stand.report(rt, unlocked(2100));
     let queue = queue_of(stand.alloc, 1, 1, 1)?;
     let requests = taken(rt, &mut stand);
     let answers = match serve(rt, &mut stand, &queue, requests) {
@@ -158,13 +178,14 @@ pub fn run_refused<J: Live + Send + Sync, R: Threads + Wait + Abort + Sync>(
     rt: &R,
     mut stand: Stand<J>,
     used: bool,
+    unbounded: bool,
 ) -> Result<(), AllocError> {
     let mut queue = queue_of(stand.alloc, 9, 9, 9)?;
     if used {
         fill_and_empty(&mut stand, &mut queue)?;
     }
-    submit_all(rt, &mut stand)?;
-    stand.report(rt, 2100);
+    submit_all(rt, &mut stand, unbounded)?;
+    stand.report(rt, unlocked(2100));
     let waiters = mem::replace(&mut stand.waiters, Vec::new(stand.alloc));
     let (ended, heard) = run_and_hear(rt, &mut stand, queue, &waiters)?;
     match ended {
@@ -214,6 +235,7 @@ fn run_and_hear<J: Live + Send + Sync, R: Threads + Wait + Abort + Sync>(
     queue: Queue<J>,
     waiters: &[Waiter<J>],
 ) -> Result<(Result<(), ProxyError>, Heard), AllocError> {
+    let (spare, spare_waiter) = request_over(stand, REQUESTS, false)?;
     let (alloc, token) = (stand.alloc, stand.live.split(&mut stand.served));
     let (live, desk) = (&stand.live, &stand.desk);
     let proxy = GrvProxy::new(alloc, live, desk, queue, 1_000_000, token);
@@ -224,9 +246,24 @@ fn run_and_hear<J: Live + Send + Sync, R: Threads + Wait + Abort + Sync>(
         let heard = hear_all(rt, waiters);
         if heard.dropped == 0 {
             desk.close(rt);
+        } else {
+            goes_unserved(rt, desk, spare, &spare_waiter);
         }
         Ok((running.join(rt), heard))
     })
+}
+
+/// Checks that a proxy that dropped a request serves none that comes later.
+fn goes_unserved<J: Live, R: Wait + Abort>(
+    rt: &R,
+    desk: &Desk<J>,
+    request: Request<J>,
+    waiter: &Waiter<J>,
+) {
+    if submit(rt, desk, request).is_ok() {
+        let unserved = waiter.recv(rt).is_err();
+        holds(rt, unserved, &"a proxy that dropped a request has ended");
+    }
 }
 
 /// Why a proxy ended, if not since its desk was closed.

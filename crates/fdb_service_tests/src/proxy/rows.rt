@@ -6,23 +6,23 @@ use std::test::Fail;
 /// Two requests, the second of a client that has seen a report; and limits by the priority and the moment of each.
 const BATCHES: &str = "
 submit 0 0 default 1 0 => in
-report 2100 => 1
+report 2100 unlocked none => 1
 see => 1
 submit 1 3 default 1 0 => in
-serve => 0/0 from 0: 2100 at 1; 1/3 from 1: 2100 at 1
+serve => 0/0 from 0: 2100 unlocked none at 1; 1/3 from 1: 2100 unlocked none at 1
 position => 1
 # one read serves all, and the tags of each have the limits of its own priority and moment
 submit 2 7 default 1 4999 t u t => in
 submit 2 8 default 1 5000 t => in
 submit 3 9 batch 1 4999 t => in
-report 2200 => 2
-serve => 2/7 from 1: 2200 at 2, t 5 5000, t 5 5000; 2/8 from 1: 2200 at 2; 3/9 from 1: 2200 at 2
+report 2200 locked 7 => 2
+serve => 2/7 from 1: 2200 locked 7 at 2, t 5 5000, t 5 5000; 2/8 from 1: 2200 locked 7 at 2; 3/9 from 1: 2200 locked 7 at 2
 # an empty batch makes no read
-report 2300 => 3
+report 2300 locked none => 3
 serve =>
 position => 2
 submit 0 1 default 1 0 => in
-serve => 0/1 from 1: 2300 at 3
+serve => 0/1 from 1: 2300 locked none at 3
 ";
 
 #[test]
@@ -32,16 +32,16 @@ fn batches(rt: HostRuntime) -> Result<(), Fail> {
 }
 
 /// A desk that is closed refuses, and what waits there has one window, in which a limit of 2 lets a system request of 1
-/// and a default one of 1 start.
+/// and a default one of 1 start. A second window would start the default one of 2 too.
 const CLOSED: &str = "
 submit 0 0 default 1 0 => in
-submit 1 0 default 3 0 => in
+submit 1 0 default 2 0 => in
 submit 0 1 system 1 0 => in
 close => ok
 submit 2 5 default 1 0 => 2/5 from 0: the proxy's desk is closed
-report 2100 => 1
+report 2100 unlocked none => 1
 run 2 1 9 => ok
-answers => 0/0 from 0: 2100 at 1; 1/0 from 0: closed; 0/1 from 0: 2100 at 1
+answers => 0/0 from 0: 2100 unlocked none at 1; 1/0 from 0: closed; 0/1 from 0: 2100 unlocked none at 1
 position => 1
 submit 2 6 default 1 0 => 2/6 from 0: the proxy's desk is closed
 # a proxy whose desk was closed before
@@ -62,7 +62,7 @@ submit 1 0 default 1 0 => in
 submit 2 0 system 1 0 => in
 close => ok
 run 1 1 1 => ok
-answers => 0/0 from 0: the queue is full; 1/0 from 0: the queue is full; 2/0 from 0: 100 at 0
+answers => 0/0 from 0: the queue is full; 1/0 from 0: the queue is full; 2/0 from 0: 100 unlocked none at 0
 ";
 
 /// The same, the highest first.
@@ -72,7 +72,7 @@ submit 1 0 default 1 0 => in
 submit 2 0 batch 1 0 => in
 close => ok
 run 1 1 1 => ok
-answers => 0/0 from 0: 100 at 0; 1/0 from 0: the queue is full; 2/0 from 0: the queue is full
+answers => 0/0 from 0: 100 unlocked none at 0; 1/0 from 0: the queue is full; 2/0 from 0: the queue is full
 ";
 
 /// Requests that the queue does not let in.
@@ -83,7 +83,7 @@ submit 0 2 default 1 4999 t => in
 close => ok
 run 1 0 1 => ok
 answers => 0/0 from 0: the request's count is out of range; 0/1 from 0: batch requests are not let in; \
-0/2 from 0: 100 at 0, t 5 5000
+0/2 from 0: 100 unlocked none at 0, t 5 5000
 ";
 
 #[test]
@@ -105,7 +105,7 @@ leave => gone
 submit 0 3 system 1 0 => in
 close => ok
 run 1 1 3 => ok
-answers => 0/3 from 0: 100 at 0
+answers => 0/3 from 0: 100 unlocked none at 0
 ";
 
 #[test]

@@ -1,8 +1,7 @@
 //! A desk with what stands round it.
 
-use crate::live::steps::report_at;
 use crossbeam_channel::{Receiver, bounded};
-use fdb_history::{GrvOpts, OpenGate, Priority, Sequence, Tag};
+use fdb_history::{GrvOpts, OpenGate, Priority, Record, Sequence, Tag};
 use fdb_live::{Live, LiveRecord, Seen};
 use fdb_proxy::{Answer, Desk, GrvProxy, ProxyError, Request};
 use fdb_queue::{GrvQueue, QueueConfig, Req};
@@ -71,9 +70,10 @@ impl<J: Live> Stand<J> {
     }
 
     /// A report by one of the reporters, and the position after it.
-    pub fn report<R: Wait + Abort>(&mut self, rt: &R, version: u64) -> u64 {
+    pub fn report<R: Wait + Abort>(&mut self, rt: &R, rec: Record) -> u64 {
         let mut token = self.reporters.pop().expect(rt, "a reporter is left");
-        let acked = report_at(rt, &self.live, &OpenGate, &mut token, version);
+        let who = token.reporter().expect(rt, "a reporter's token");
+        let acked = self.live.report(rt, &OpenGate, who, &mut token, rec);
         acked.map_or(0, |ack| ack.position)
     }
 }

@@ -27,20 +27,26 @@ fn a_batch_bears_it(rt: HostRuntime) -> Result<(), Fail> {
 
 #[test]
 fn a_proxy_bears_it(rt: HostRuntime) -> Result<(), Fail> {
-    bears(&rt, rt.alloc(), Case::RunRefused { used: false })?;
-    bears(&rt, rt.alloc(), Case::RunRefused { used: true })?;
+    for used in [false, true] {
+        let unbounded = false;
+        bears(&rt, rt.alloc(), Case::RunRefused { used, unbounded })?;
+    }
+    Ok(())
+}
+
+#[test]
+fn a_proxy_that_cannot_send_bears_it(rt: HostRuntime) -> Result<(), Fail> {
+    let (used, unbounded) = (true, true);
+    bears(&rt, rt.alloc(), Case::RunRefused { used, unbounded })?;
     Ok(())
 }
 
 /// Passes also where every allocation is refused from one on: then what was begun ends for want of memory, or as ever.
 #[test]
 fn without_memory(rt: HostRuntime) -> Result<(), Fail> {
-    for case in [
-        Case::ServeRefused,
-        Case::RunRefused { used: false },
-        Case::RunRefused { used: true },
-    ] {
-        let _ended = play(&rt, rt.alloc(), case);
+    let _ended = play(&rt, rt.alloc(), Case::ServeRefused);
+    for (used, unbounded) in [(false, false), (true, false), (true, true)] {
+        let _ended = play(&rt, rt.alloc(), Case::RunRefused { used, unbounded });
     }
     Ok(())
 }

@@ -1,4 +1,5 @@
 use Rattle.std.proofs.Common.{◌≡◌, length}
+use Rattle.fdb_proxy.specs.private.Turn.{emptied}
 use Rattle.fdb_queue.specs.Waiting.{row}
 use Rattle.fdb_proxy.proofs.proxy.close.Given as goal
 
@@ -6,4 +7,7 @@ abbrev pub decreases-loop-request : goal.decreases-loop-request
 decreases-loop-request g l = length (row l.line.queue.waiting)
 
 abbrev pub invariant-loop-request : goal.invariant-loop-request
-invariant-loop-request g l = l.line.elapsed ≡ l.fn.line.elapsed
+invariant-loop-request g l = record {
+  elapsed : l.line.elapsed ≡ l.fn.line.elapsed;
+  left : emptied l.line.queue ≡ emptied l.fn.line.queue;
+}

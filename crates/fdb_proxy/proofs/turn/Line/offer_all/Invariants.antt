@@ -3,7 +3,7 @@ use Rattle.std.specs.List.{FoldsTo}
 use Rattle.std.specs.VecDeque.{deque_len}
 use Rattle.fdb_proxy.specs.Cause.{is_of_an_offer}
 use Rattle.fdb_proxy.specs.private.Turn.{Offering, Offers}
-use Rattle.fdb_proxy.proofs.turn.Line.turn.Given as goal
+use Rattle.fdb_proxy.proofs.turn.Line.offer_all.Given as goal
 
 -- whatever the offers that are left come to from here, all offers come to
 abbrev pub invariant-loop-request : goal.invariant-loop-request
