@@ -1,12 +1,13 @@
-"""Memory that is refused: each allocation in turn, and then that one with all that follow."""
+"""Memory and threads that are refused: each allocation and each start of a thread in turn, and then that one with all that follow."""
 import os
 import re
 import shutil
 import subprocess
 import tempfile
+from typing import NamedTuple
 
 from answers import do
-from harness import EXAMPLES, NOT_ENDED, OUT_OF_MEMORY, READING_FAILED, ROOT, WORDS_REFUSED, done, fault_of, first_output, first_script, refused as refused_script, run, written
+from harness import DONE, EXAMPLES, NO_MEMORY, NOT_ENDED, OUT_OF_MEMORY, READING_FAILED, ROOT, WORDS_REFUSED, done, fault_of, first_output, first_script, refused as refused_script, run, written
 from judge import Lawful
 from model import expected
 from races import commit
@@ -29,6 +30,17 @@ BEARING = {crate: r"^refused_memory::" for crate in ("fdb_tests", "fdb_service_t
 # Those of them that pass also where all are refused from any one on.
 WITHOUT = r"::without_memory$"
 PASSED = done(b"\ntest result: ok\n")
+# What tests/refuse.c tells where it refuses the start of a thread.
+THREAD = b"t"
+
+
+class Refused(NamedTuple):
+    """A run with something refused: the number of that, what it was, how the run ended, and what was wrong or None."""
+
+    number: int
+    what: bytes
+    status: int
+    fault: str
 
 
 def built(folder):
@@ -41,32 +53,33 @@ def built(folder):
 
 
 def run_refused(words, preloaded, number, goes_on, given):
-    """Runs a program with an allocation refused, and returns how it ended and whether it got that far."""
+    """Runs a program with one thing refused, and returns how it ended and what it was, which is nothing if it never got so far."""
     tells, told = os.pipe()
     env = {"LD_PRELOAD": preloaded, "REFUSE": str(number), "REFUSE_TELLS": str(told), "REFUSE_ON": str(int(goes_on))}
     ran = run(words, given, HANGS, env=env, pass_fds=[told])
     os.close(told)
     with os.fdopen(tells, "rb") as it:
-        return ran, it.read() != b""
+        return ran, it.read()
 
 
 def swept(words, preloaded, given, without, fault_of_ran, goes_on, step):
-    """Refuses allocations until runs end without one; `step` gives the next number.
+    """Refuses allocations and starts of threads until runs end without one; `step` gives the next number.
 
-    A run is to end as `fault_of_ran` asks, or as `without` where an allocation was refused that it could not do without, as a
-    sort can do without its buffer. Threads do not allocate in the same order in each run, so that a run may end before an
-    allocation that another one comes to. Where a run does not end in time there are no further ones.
+    A run is to end as `fault_of_ran` asks, or as `without` where something was refused that it could not do without, as a
+    sort can do without its buffer, and a client without a thread. Threads do not allocate in the same order in each run, so
+    that a run may end before an allocation that another one comes to. Where a run does not end in time there are no further
+    ones.
     """
     number, missed = 1, 0
     for _ in range(MOST_RUNS):
-        ran, got_there = run_refused(words, preloaded, number, goes_on, given)
+        ran, what = run_refused(words, preloaded, number, goes_on, given)
         fault = fault_of_ran(ran)
-        yield number, fault_of(ran, without) if fault and got_there else fault
-        missed = 0 if got_there else missed + 1
+        yield Refused(number, what, ran.status, fault_of(ran, without) if fault and what else fault)
+        missed = 0 if what else missed + 1
         if missed == MISSED or ran.status == NOT_ENDED:
             return
         number = step(number)
-    yield number, f"memory is still asked for after {MOST_RUNS} runs"
+    yield Refused(number, what, ran.status, f"memory is still asked for after {MOST_RUNS} runs")
 
 
 def exactly(wanted):
@@ -74,7 +87,7 @@ def exactly(wanted):
 
 
 def refused(program):
-    """A run that is refused memory ends with status 3 and its line, or as ever where it can do without."""
+    """A run that is refused memory or a thread ends with status 3 and its line, or as ever where it can do without."""
     each, further = lambda at: at + 1, lambda at: at + 1 + at // 12
     first, two, large = first_script(), written(TWO, clients=2, throttles=THROTTLES), written(LARGE)
     crowd = written(CROWD, clients=3, throttles=THROTTLES, room=1)
@@ -94,12 +107,16 @@ def refused(program):
         ("help", ["--help"], b"", exactly(done(run([program, "--help"]).out)), each),
     ]
     with tempfile.TemporaryDirectory(prefix="refuse-") as folder:
-        preloaded = built(folder)
+        preloaded, without_thread = built(folder), set()
         for name, words, given, fault_of_ran, step in sweeps:
             for goes_on in (False, True):
-                what = f"{name}, from allocation" if goes_on else f"{name}, allocation"
-                for number, fault in swept([program, *words], preloaded, given, OUT_OF_MEMORY, fault_of_ran, goes_on, step):
-                    yield f"{what} {number}", fault
+                begun = f"{name}, {'from ' if goes_on else ''}allocation or thread"
+                for it in swept([program, *words], preloaded, given, OUT_OF_MEMORY, fault_of_ran, goes_on, step):
+                    without_thread |= {it.status} if it.what == THREAD else set()
+                    yield f"{begun} {it.number}", it.fault
+    # A run without a proxy ends, and one without a thread for its clients goes on.
+    both = {DONE, NO_MEMORY}
+    yield "starts of threads", None if without_thread == both else f"without one, runs ended with {without_thread}, and not {both}"
 
 
 def bearing_tests(tests, pattern):
@@ -123,6 +140,6 @@ def borne(_program):
             yield f"{crate}'s tests", None if names else f"none matches {pattern!r}"
             for name in names:
                 for goes_on in (False, True) if re.search(WITHOUT, name) else (False,):
-                    what = f"{name}, {'from ' if goes_on else ''}allocation"
-                    for number, fault in swept([tests, name], preloaded, b"", PASSED, exactly(PASSED), goes_on, each):
-                        yield f"{what} {number}", fault
+                    what = f"{name}, {'from ' if goes_on else ''}allocation or thread"
+                    for it in swept([tests, name], preloaded, b"", PASSED, exactly(PASSED), goes_on, each):
+                        yield f"{what} {it.number}", it.fault
