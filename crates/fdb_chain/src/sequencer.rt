@@ -86,8 +86,9 @@ impl<S: Service> Sequencer<S> {
     /// While it is, the gate's `SequencerHeld` is passed with the proxy's number, before the chain is asked.
     ///
     /// So it is what the definition answers after the asks so far, whatever these were: of some chain of the service.
-    /// An answer is one to this very request, of a version that is not too large. A request is refused as `UnknownProxy`, `Early`, `Forgotten`,
-    /// `Exhausted` or for memory, and the chain is then as it was.
+    /// An answer is one to this very request, of a version that is not too large. A request is
+    /// refused as `UnknownProxy`, `Early`, `Forgotten`, `Exhausted` or for memory, and the chain is
+    /// then as it was.
     pub fn ask<R: Wait, G: Gate>(&self, rt: &R, gate: &G, ask: Ask) -> Result<Issued, ChainError>
         ensures answer { (before : Chain) × IsOf S.epoch_end S.recovery before × IsAnswer (answer_to before ask) result }
         ensures request { IfOk result (IsFor ask) }

@@ -52,16 +52,14 @@ pub struct Reading {
 
 /// What a client's request has to be.
 #[derive(Drop)]
-struct Wanted<'a> {
+struct Wanted {
     client: u32,
     serial: u64,
     asked: u64,
     opts: GrvOpts,
-    /// The gate, which nobody has passed before the answer.
-    gate: &'a Noting,
 }
 
-impl<'a> Wanted<'a> {
+impl Wanted {
     /// Whether this is such a request.
     fn is_met<J: Live>(&self, request: &Request<J>) -> bool {
         request.client == self.client
@@ -74,7 +72,7 @@ impl<'a> Wanted<'a> {
 
 /// A client's read, while its desk is served in another thread. It leaves one request there, under the number of the calls
 /// before it, and with what the client has seen and was told to ask. It passes the gate once where
-/// an answer came, and not before.
+/// an answer came, and else not at all.
 pub fn read_served<J: Live + Send + Sync, R: Threads + Wait + Abort + Sync>(
     rt: &R,
     alloc: Global,
@@ -92,7 +90,6 @@ pub fn read_served<J: Live + Send + Sync, R: Threads + Wait + Abort + Sync>(
         serial: client.calls().len() as u64,
         asked: client.position(),
         opts: opts.clone()?,
-        gate: &gate,
     };
     let (answered, found) = thread::join(
         rt,
@@ -101,7 +98,7 @@ pub fn read_served<J: Live + Send + Sync, R: Threads + Wait + Abort + Sync>(
     );
     let left = desk.take(rt, false);
     holds(rt, left.requests.is_empty(), &"one request is left");
-    gate.was_passed(rt, u64::from(answered), "passes after a read");
+    gate.was_passed(rt, u64::from(answered), "passes of the gate");
     found
 }
 
@@ -112,7 +109,7 @@ fn serve<J: Live, R: Wait + Abort>(
     desk: &Desk<J>,
     live: &LiveRecord<J>,
     served: &mut Seen<J>,
-    wanted: &Wanted<'_>,
+    wanted: &Wanted,
     way: Way,
 ) -> bool {
     let mut taken = desk.take(rt, true);
@@ -121,7 +118,6 @@ fn serve<J: Live, R: Wait + Abort>(
     };
     holds(rt, wanted.is_met(&request.payload), &"the request");
     holds(rt, taken.requests.is_empty(), &"one request");
-    wanted.gate.was_passed(rt, 0, "passes before an answer");
     answer(rt, alloc, live, served, request.payload, way)
 }
 
