@@ -12,20 +12,20 @@ use crate::tell::Tell;
 use crate::world::World;
 use fdb_history::{Gate, Sequence};
 use fdb_live::Live;
-use fdb_script::Command;
+use fdb_script::{Command, MAX_CLIENTS};
 use std::alloc::Global;
 use std::sync::Wait;
 use std::thread::{Threads, join};
 
 /// The most clients of a run.
-const MAX_CLIENTS: usize = 64;
+const CLIENTS: usize = MAX_CLIENTS as usize;
 
 /// What is done in a round, and by whom.
 #[derive(Drop)]
 struct Round<'a> {
     commands: &'a [Command],
     /// Whether the client with this number has a command.
-    acts: [bool; MAX_CLIENTS],
+    acts: [bool; CLIENTS],
     ghost idle: { (client : ℕ) → slice_index_or acts client true ≡ false → commands_of client commands.now ≡ [] },
 }
 
@@ -58,10 +58,10 @@ impl<'a> Round<'a> {
 
 /// Which clients have one of these commands.
 #[tactic(auto, using(crate::proofs::Acts::one_set, crate::proofs::Acts::none_set))]
-fn acts_in(commands: &[Command]) -> [bool; MAX_CLIENTS]
+fn acts_in(commands: &[Command]) -> [bool; CLIENTS]
     ensures { (client : ℕ) → slice_index_or result client true ≡ false → commands_of client commands.now ≡ [] }
 {
-    let mut acts = [false; MAX_CLIENTS];
+    let mut acts = [false; CLIENTS];
     for command in commands {
         let number = command.client as usize;
         if number < acts.len() {

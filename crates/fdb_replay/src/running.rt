@@ -27,7 +27,8 @@ use std::thread::Threads;
 /// There are 1 to 16 GRV proxies, each in a thread of its own for the whole run. A client's reads go to them in turn.
 /// The gate is passed where the sequencer's lock is held, where that of the reports is, and where an answer to a read has come.
 ///
-/// It fails where memory runs out, that for a thread included, or with the fault that the audit finds.
+/// It fails where memory runs out, or a thread for a proxy cannot be had, or with the fault that the audit finds. A client
+/// for which no thread can be had acts in the calling one.
 pub fn run<R: Threads + Wait + Sync, G: Gate>(
     rt: &R,
     alloc: Global,
