@@ -45,7 +45,8 @@ pub(crate) fn repeats(clock: &impl CpuClock, alloc: Global, size: u32) -> Result
     })
 }
 
-/// Three fresh requests and a repeat in turn, by many proxies of which each has processed all but its last few answers.
+/// Three fresh requests and a repeat in turn, by many proxies
+/// of which each has processed all but its last few answers.
 pub(crate) fn processed(
     clock: &impl CpuClock,
     alloc: Global,
@@ -105,7 +106,8 @@ fn ask_fresh(chain: &mut ChainCore, proxies: u32, size: u32) -> Result<Checksum,
     Ok(checksum)
 }
 
-/// Repeats so many requests of a chain in which each of many proxies has its share of so many answers.
+/// Repeats so many requests of a chain in which each of many
+/// proxies has its share of so many answers.
 fn ask_again(chain: &mut ChainCore, size: u32, drawn: Checksum) -> Result<Checksum, Fault> {
     let mut checksum = drawn;
     let mut draws = Draws::START;
@@ -132,7 +134,8 @@ fn ask_mixed(chain: &mut ChainCore, size: u32) -> Result<Checksum, Fault> {
     Ok(checksum)
 }
 
-/// The request at a place of the mix. A repeat goes back by up to 15 numbers, of which the last 8 are kept.
+/// The request at a place of the mix. A repeat goes back by
+/// up to 15 numbers, of which the last 8 are kept.
 fn mixed(draws: &mut Draws, place: u32) -> Ask {
     let turn = place / MANY;
     let before = u64::from(turn / 4 * 3 + turn % 4);

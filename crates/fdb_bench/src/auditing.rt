@@ -114,7 +114,8 @@ struct Run {
 }
 
 impl Run {
-    /// A run with so many calls: each client in turn draws a version, raises the register with it and reads it.
+    /// A run with so many calls: each client in turn draws a
+    /// version, raises the register with it and reads it.
     fn of(alloc: Global, size: u32) -> Result<Run, Fault> {
         let mut run = Run {
             chain: empty_chain(alloc, CLIENTS)?,

@@ -20,7 +20,8 @@ pub(crate) enum Benchmark {
     FreshOfMany,
     /// Repeats of kept numbers. The size is how many there are, and how many answers are kept.
     Repeats,
-    /// Requests and repeats by proxies that go on processing answers. The size is how many there are.
+    /// Requests and repeats by proxies that go on processing
+    /// answers. The size is how many there are.
     Processed,
     /// Offers and windows at a queue that is nearly full. The size is its room.
     Windows,
@@ -32,7 +33,8 @@ pub(crate) enum Benchmark {
     Waits,
     /// An audit of 64 logs. The size is the number of their calls.
     Audit,
-    /// Requests for commit versions by threads that share a sequencer. The size is how many there are.
+    /// Requests for commit versions by threads that share a
+    /// sequencer. The size is how many there are.
     Sequencer(Team),
     /// Calls on a live record. The load says what the size is.
     Live(Load),

@@ -7,7 +7,8 @@ use crate::team::Team;
 pub(crate) enum Load {
     /// Reads by a team, with nothing written. The size is the number of raises before.
     Reads(Team),
-    /// Reads by a team, beside a thread that reports all the time. The size is the number of raises before.
+    /// Reads by a team, beside a thread that reports all the
+    /// time. The size is the number of raises before.
     ReadsBesideReports(Team),
     /// Reports by a team. The size is how many each of its threads makes.
     Reports(Team),
@@ -15,7 +16,8 @@ pub(crate) enum Load {
     Batches,
     /// Requests by a team at a proxy. The size is how many each of its threads makes.
     Proxies(Team),
-    /// Tokens that are split off, learned and met. The size is how many times, and the number of raises before.
+    /// Tokens that are split off, learned and met. The size
+    /// is how many times, and the number of raises before.
     Tokens,
 }
 

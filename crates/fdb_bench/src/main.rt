@@ -1,8 +1,10 @@
-//! Benchmarks of the crates below: `fdb_bench NAME [SIZE]` runs one, and `fdb_bench` runs each at a small size.
+//! Benchmarks of the crates below: `fdb_bench NAME [SIZE]`
+//! runs one, and `fdb_bench` runs each at a small size.
 //!
-//! For each run standard output has the benchmark, its size and the checksum of what was computed, which is the same
-//! every time; and standard error the number of operations and the time that they took: processor time, or for threads
-//! that work side by side wall time, from the first one's begin to the last one's end.
+//! For each run standard output has the benchmark, its size and the checksum of
+//! what was computed, which is the same every time; and standard error the number
+//! of operations and the time that they took: processor time, or for threads that
+//! work side by side wall time, from the first one's begin to the last one's end.
 #![tactic(auto)]
 
 mod asking;

@@ -8,7 +8,8 @@ use std::time::Duration;
 pub(crate) struct Measured {
     /// How many operations there were.
     pub(crate) operations: u64,
-    /// The time of all of them, if the clock said it: processor time, or wall time where threads work side by side.
+    /// The time of all of them, if the clock said it: processor
+    /// time, or wall time where threads work side by side.
     pub(crate) time: Option<Duration>,
     /// The checksum over what they answered.
     pub(crate) checksum: Checksum,
@@ -21,7 +22,8 @@ pub(crate) fn nanos(time: Duration) -> u64 {
         .saturating_add(u64::from(time.subsec_nanos()))
 }
 
-/// The tenths of a nanosecond that each of some operations took, which took so many nanoseconds in all.
+/// The tenths of a nanosecond that each of some operations
+/// took, which took so many nanoseconds in all.
 pub(crate) fn tenths(nanos: u64, operations: u64) -> u64 {
     nanos.saturating_mul(10) / operations.max(1)
 }

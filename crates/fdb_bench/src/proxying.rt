@@ -24,7 +24,8 @@ struct Asker<J: Live> {
 }
 
 impl<J: Live> Asker<J> {
-    /// Asks so often. The token is moved to the thread's own stack, so that no two threads write to one cache line.
+    /// Asks so often. The token is moved to the thread's own
+    /// stack, so that no two threads write to one cache line.
     fn work<R: Clock + Wait>(
         &mut self,
         rt: &R,
@@ -39,7 +40,8 @@ impl<J: Live> Asker<J> {
     }
 }
 
-/// So many requests by each of so many threads. Nobody reports, so all replies have the record that was opened.
+/// So many requests by each of so many threads. Nobody
+/// reports, so all replies have the record that was opened.
 pub(crate) fn asks<J: Live + Send + Sync, R: Clock + Threads + Wait + Sync>(
     rt: &R,
     alloc: Global,
@@ -84,7 +86,8 @@ fn askers_of<J: Live>(
     Ok(askers)
 }
 
-/// Runs a proxy until all have asked. Answers whether it had a thread, and ended because its desk was closed.
+/// Runs a proxy until all have asked. Answers whether it had
+/// a thread, and ended because its desk was closed.
 fn serve_beside<J: Live + Send + Sync, R: Clock + Threads + Wait + Sync>(
     rt: &R,
     alloc: Global,

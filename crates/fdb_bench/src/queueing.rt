@@ -25,7 +25,8 @@ const FLOODS: u32 = 10;
 /// How many questions there are for each window.
 const WAITS_PER_WINDOW: u32 = 8;
 
-/// Offers of all priorities, and windows that start about as much as is offered, at a queue that is nearly full.
+/// Offers of all priorities, and windows that start about as
+/// much as is offered, at a queue that is nearly full.
 pub(crate) fn windows(clock: &impl CpuClock, alloc: Global, room: u32) -> Result<Measured, Fault> {
     let mut queue = nearly_full(alloc, room)?;
     let offers = room.saturating_mul(OFFERS_PER_ROOM);
@@ -38,8 +39,8 @@ pub(crate) fn windows(clock: &impl CpuClock, alloc: Global, room: u32) -> Result
     })
 }
 
-/// Floods of system requests into a queue that is filled with batch and default requests: each pushes one out, until
-/// none is left and the others are refused.
+/// Floods of system requests into a queue that is filled with batch and default
+/// requests: each pushes one out, until none is left and the others are refused.
 pub(crate) fn push_outs(
     clock: &impl CpuClock,
     alloc: Global,

@@ -7,8 +7,8 @@ use fdb_live::{Live, LiveRecord, Seen};
 use std::sync::Wait;
 use std::sync::atomic::{AtomicU64, Ordering};
 
-/// Reports a version, and so many times in all, each time one that is greater by so much. A report is marked that
-/// raises the record.
+/// Reports a version, and so many times in all, each time one that
+/// is greater by so much. A report is marked that raises the record.
 pub(crate) fn report_in_turn<J: Live, R: Wait>(
     rt: &R,
     live: &LiveRecord<J>,

@@ -27,7 +27,8 @@ pub(crate) fn queue<J: Live>(alloc: Global) -> Result<GrvQueue<Request<J>>, Faul
     GrvQueue::new(alloc, config).map_err(|_| Fault::Queue)
 }
 
-/// A default request for one transaction, by the client 0 and with what a token has seen, and where its answer comes.
+/// A default request for one transaction, by the client 0 and
+/// with what a token has seen, and where its answer comes.
 pub(crate) fn request<J: Live>(
     alloc: Global,
     live: &LiveRecord<J>,

@@ -35,8 +35,8 @@ struct Asker {
     outcome: Result<Timed, Fault>,
 }
 
-/// So many requests, shared by so many threads. No time passes between them, so each draws the version after the last
-/// one, and together the threads draw the same versions in every schedule.
+/// So many requests, shared by so many threads. No time passes between them, so each draws the
+/// version after the last one, and together the threads draw the same versions in every schedule.
 pub(crate) fn asks<R: Clock + Threads + Wait + Sync>(
     rt: &R,
     alloc: Global,
@@ -134,7 +134,8 @@ fn total(askers: &[Asker]) -> Result<Timed, Fault> {
     Ok(all)
 }
 
-/// The checksum over the number of requests, how many were fresh, the sum of their versions, and the last answer.
+/// The checksum over the number of requests, how many were
+/// fresh, the sum of their versions, and the last answer.
 fn of_answers(sequencer: Sequencer<Shared>, all: Tally) -> Checksum {
     let checksum = Checksum::EMPTY
         .with(all.calls)

@@ -113,8 +113,9 @@ impl<J: Live + Send + Sync> Served<J> {
         Ok(all.measured(of_tally(all.tally).with(all.tally.sum)))
     }
 
-    /// Reads by so many threads, after so many raises, beside a thread that reports for as long as they read. Which
-    /// records they find is a matter of the schedule, and that no position falls is not.
+    /// Reads by so many threads, after so many raises, beside a thread
+    /// that reports for as long as they read. Which records they find
+    /// is a matter of the schedule, and that no position falls is not.
     fn reads_beside<R: Clock + Threads + Wait + Sync>(
         mut self,
         rt: &R,
@@ -140,8 +141,8 @@ impl<J: Live + Send + Sync> Served<J> {
         Ok(all.measured(of_tally(all.tally)))
     }
 
-    /// So many reports by each of so many threads. How many of them raise the record is a matter of the schedule; that
-    /// the last position is their number is not, nor is the last version.
+    /// So many reports by each of so many threads. How many of them raise the record is a matter
+    /// of the schedule; that the last position is their number is not, nor is the last version.
     fn reports<R: Clock + Threads + Wait + Sync>(
         mut self,
         rt: &R,
@@ -184,7 +185,8 @@ impl<J: Live + Send + Sync> Served<J> {
         Ok(all.measured(of_tally(all.tally).with(all.tally.sum)))
     }
 
-    /// So many times a token that has seen as many raises is split off another, learned by a third one, and met by it.
+    /// So many times a token that has seen as many raises is
+    /// split off another, learned by a third one, and met by it.
     fn tokens<R: CpuClock + Wait>(mut self, rt: &R, size: u32) -> Result<Measured, Fault> {
         self.raise(rt, size)?;
         let Some(mut teller) = self.reporters.pop() else {

@@ -70,8 +70,8 @@ impl Timed {
         }
     }
 
-    /// What it is as a benchmark's outcome with a checksum. The time is that from the first thread's begin to the last
-    /// one's end.
+    /// What it is as a benchmark's outcome with a checksum. The time
+    /// is that from the first thread's begin to the last one's end.
     pub(crate) fn measured(self, checksum: Checksum) -> Measured {
         Measured {
             operations: self.tally.calls,

@@ -20,7 +20,8 @@ const TAGS_PER_REQUEST: usize = 4;
 /// The moments at which throttles expire are below this one.
 const LAST_MOMENT: u64 = 1_000;
 
-/// Sets so many throttles, and looks them up by requests of four tags at other priorities and moments.
+/// Sets so many throttles, and looks them up by requests of
+/// four tags at other priorities and moments.
 pub(crate) fn throttles(
     clock: &impl CpuClock,
     alloc: Global,

@@ -41,8 +41,8 @@ impl<J: Live> Worker<J> {
         }
     }
 
-    /// Does its work with so many calls. The token is moved to the thread's own stack, so that no two threads write
-    /// to one cache line.
+    /// Does its work with so many calls. The token is moved to the
+    /// thread's own stack, so that no two threads write to one cache line.
     fn work<R: Clock + Wait>(
         &mut self,
         rt: &R,
@@ -105,7 +105,8 @@ fn report_untimed<J: Live, R: Wait>(
     Ok(Timed::EMPTY)
 }
 
-/// Each works in a thread of its own, with so many calls; so many of them read. Answers what came of all of it.
+/// Each works in a thread of its own, with so many calls; so
+/// many of them read. Answers what came of all of it.
 pub(crate) fn work_side_by_side<J: Live + Send + Sync, R: Clock + Threads + Wait + Sync>(
     rt: &R,
     live: &LiveRecord<J>,

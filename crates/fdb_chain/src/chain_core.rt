@@ -14,10 +14,12 @@ use std::marker::Model;
 /// The most commit proxies that a chain may have.
 pub const MAX_PROXIES: u32 = 64;
 
-/// The commit versions that a sequencer has given, in one chain, and which of its answers it keeps
-/// (the part of `MasterData` of masterserver, FoundationDB 7.1, that `getVersion` reads and writes).
+/// The commit versions that a sequencer has given, in one chain, and
+/// which of its answers it keeps (the part of `MasterData` of
+/// masterserver, FoundationDB 7.1, that `getVersion` reads and writes).
 ///
-/// Contracts see it as the members that it was opened with and its fresh answers. Its memory grows with the chain.
+/// Contracts see it as the members that it was opened with
+/// and its fresh answers. Its memory grows with the chain.
 #[derive(Debug, Drop)]
 pub struct ChainCore {
     epoch_end: u64,
@@ -42,12 +44,13 @@ impl Model for ChainCore {
       answers = core.answers.items;
     } };
 
-    ghost invariant = { λ core. IsConsistent core.epoch_end core.recovery core.answers.items core.replies.items };
+    ghost invariant = { λ core.
+        IsConsistent core.epoch_end core.recovery core.answers.items core.replies.items };
 }
 
 impl ChainCore {
-    /// A chain with no answers yet, for an epoch that begins with the version `recovery`, after one that ended
-    /// with `epoch_end`, and for this many commit proxies.
+    /// A chain with no answers yet, for an epoch that begins with the version `recovery`,
+    /// after one that ended with `epoch_end`, and for this many commit proxies.
     ///
     /// It is refused as `BadEpoch`, else as `NoProxy`, else for memory.
     pub fn new(
@@ -60,7 +63,8 @@ impl ChainCore {
         ensures ok_epoch { OnOk result (IsEpoch epoch_end recovery) }
         ensures ok_proxies { OnOk result (IsProxyCount proxies) }
 
-        ensures bad_epoch { (result ≡ Err ChainError.BadEpoch) ↔ ((recovery ≤ epoch_end) ⊎ (MAX_VERSION < recovery)) }
+        ensures bad_epoch { (result ≡ Err ChainError.BadEpoch)
+            ↔ ((recovery ≤ epoch_end) ⊎ (MAX_VERSION < recovery)) }
         ensures no_proxy { (result ≡ Err ChainError.NoProxy)
             ↔ (IsEpoch epoch_end recovery × ((proxies ≡ 0) ⊎ (MAX_PROXIES < proxies))) }
         ensures else_memory { IsEpoch epoch_end recovery → IsProxyCount proxies
@@ -81,13 +85,14 @@ impl ChainCore {
         })
     }
 
-    /// Answers a request for a commit version (`getVersion` of masterserver). A request with its proxy's next
-    /// number draws the next version; one whose answer is kept gets it again.
+    /// Answers a request for a commit version (`getVersion` of masterserver). A request with
+    /// its proxy's next number draws the next version; one whose answer is kept gets it again.
     ///
-    /// It is refused as `UnknownProxy`, `Early`, `Forgotten` or `Exhausted`, the first of these that stands.
-    /// A fresh request alone takes memory. After a refusal the chain is as it was. It takes constant time, the
-    /// growth of the chain aside.
-    // Inlined, so that a request comes in registers: by memory, each would wait for the answer before it to be stored.
+    /// It is refused as `UnknownProxy`, `Early`, `Forgotten` or `Exhausted`, the first
+    /// of these that stands. A fresh request alone takes memory. After a refusal the
+    /// chain is as it was. It takes constant time, the growth of the chain aside.
+    // Inlined, so that a request comes in registers: by memory,
+    // each would wait for the answer before it to be stored.
     #[inline(always)]
     pub fn ask(&mut self, ask: Ask) -> Result<Issued, ChainError>
         ensures answer { IsAnswer (answer_to self.old ask) result }

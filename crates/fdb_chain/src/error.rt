@@ -6,7 +6,8 @@ use thiserror::Error;
 /// Why a chain is not opened, or a request for a commit version is not answered.
 #[derive(Clone, Copy, Debug, PartialEq, Eq, Error)]
 pub enum ChainError {
-    /// The recovery version is not above the end of the epoch before, or is above the greatest version.
+    /// The recovery version is not above the end of the
+    /// epoch before, or is above the greatest version.
     #[error("the recovery version is out of range")]
     BadEpoch,
     /// There would be no commit proxy, or more than `MAX_PROXIES`.

@@ -12,11 +12,12 @@ use fdb_history::{Ask, Gate, Issued, Place, Service};
 use std::marker::{Model, PhantomData};
 use std::sync::{Mutex, Wait};
 
-/// The commit versions of one service, for threads to ask for: the chain behind one lock, so that requests are
-/// answered one after another (masterserver, FoundationDB 7.1, is one process with one thread).
+/// The commit versions of one service, for threads to ask for: the chain
+/// behind one lock, so that requests are answered one after another
+/// (masterserver, FoundationDB 7.1, is one process with one thread).
 ///
-/// No clause can name the chain at the moment at which the lock is held. So the meaning of a request stands on what
-/// the lock holds; here stands what is true of every answer.
+/// No clause can name the chain at the moment at which the lock is held. So the meaning
+/// of a request stands on what the lock holds; here stands what is true of every answer.
 #[derive(Drop)]
 pub struct Sequencer<S: Service> {
     held: Mutex<Held<S>>,
@@ -37,7 +38,8 @@ impl<S: Service> Model for Held<S> {
 
     ghost view = { λ held. held.core };
 
-    ghost invariant = { λ held. (held.core.epoch_end ≡ S.epoch_end) × (held.core.recovery ≡ S.recovery) };
+    ghost invariant = { λ held. (held.core.epoch_end ≡ S.epoch_end)
+        × (held.core.recovery ≡ S.recovery) };
 }
 
 impl<S: Service> Held<S> {
@@ -82,15 +84,17 @@ impl<S: Service> Sequencer<S> {
         }
     }
 
-    /// Answers a request for a commit version, as [`ChainCore::ask`] does of the chain as it is once the lock is held.
-    /// While it is, the gate's `SequencerHeld` is passed with the proxy's number, before the chain is asked.
+    /// Answers a request for a commit version, as [`ChainCore::ask`] does of the
+    /// chain as it is once the lock is held. While it is, the gate's `SequencerHeld`
+    /// is passed with the proxy's number, before the chain is asked.
     ///
-    /// So it is what the definition answers after the asks so far, whatever these were: of some chain of the service.
-    /// An answer is one to this very request, of a version that is not too large. A request is
-    /// refused as `UnknownProxy`, `Early`, `Forgotten`, `Exhausted` or for memory, and the chain is
-    /// then as it was.
+    /// So it is what the definition answers after the asks so far, whatever these
+    /// were: of some chain of the service. An answer is one to this very request, of a
+    /// version that is not too large. A request is refused as `UnknownProxy`, `Early`,
+    /// `Forgotten`, `Exhausted` or for memory, and the chain is then as it was.
     pub fn ask<R: Wait, G: Gate>(&self, rt: &R, gate: &G, ask: Ask) -> Result<Issued, ChainError>
-        ensures answer { (before : Chain) × IsOf S.epoch_end S.recovery before × IsAnswer (answer_to before ask) result }
+        ensures answer { (before : Chain) × IsOf S.epoch_end S.recovery before
+            × IsAnswer (answer_to before ask) result }
         ensures request { IfOk result (IsFor ask) }
         ensures in_range { IfOk result (λ issued. issued.version ≤ MAX_VERSION) }
         ensures refused { IfErr result (MayRefuse ask) }
@@ -100,7 +104,8 @@ impl<S: Service> Sequencer<S> {
         held.ask(ask)
     }
 
-    /// The chain, once nobody asks any more: one of the service. It waits for nobody and takes no memory.
+    /// The chain, once nobody asks any more: one of the
+    /// service. It waits for nobody and takes no memory.
     pub fn close(self) -> ChainCore
         ensures epoch_end { result.epoch_end ≡ S.epoch_end }
         ensures recovery { result.recovery ≡ S.recovery }

@@ -60,7 +60,8 @@ pub record Asks (epoch_end recovery num processed at : ℕ) (before after : Acco
   pub logged : Logs before (input.Ask num processed at) answer after
   pub chain : definition.Chain
   pub of_service : IsOf epoch_end recovery chain
-  pub answered : answer ≡ logged_as (definition.answer_to chain (request_of before num processed at))
+  pub answered :
+      answer ≡ logged_as (definition.answer_to chain (request_of before num processed at))
   pub returned : AskReturns answer result
 
 -- ---- reports

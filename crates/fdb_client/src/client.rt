@@ -59,7 +59,8 @@ impl<'a, J: Live> Model for Client<'a, J> {
     } };
 
     ghost invariant = { λ client. (client.seen.reporter ≡ Some client.id)
-        × (position_after_calls client.begun client.journal.calls.items ≡ length client.seen.raises) };
+        × (position_after_calls client.begun client.journal.calls.items
+        ≡ length client.seen.raises) };
 }
 
 impl<'a, J: Live> Client<'a, J> {
@@ -174,7 +175,8 @@ impl<'a, J: Live> Client<'a, J> {
         at: u64,
     ) -> Result<Issued, ClientError>
         ensures logged { result ≢ Err ClientError.Memory
-            → Asks J.epoch_end J.recovery (next_number self.old) processed at self.old self.new result }
+            → Asks J.epoch_end J.recovery (next_number self.old) processed at
+            self.old self.new result }
         ensures request { IfOk result
             (IsFor (request_of self.old (next_number self.old) processed at)) }
         ensures memory { result ≡ Err ClientError.Memory → self.new ≡ self.old }

@@ -90,7 +90,8 @@ impl Journal {
         requires capacity { vec_len self.old.calls < vec_capacity self.old.calls }
         requires none { answer_in call.answer ≡ [] }
         ensures calls { self.new.calls.items ≡ self.old.calls.items ++ call ∷ [] }
-        ensures come_to { (begun : ℕ) → position_after_calls begun self.new.calls.items ≡ call.position }
+        ensures come_to { (begun : ℕ)
+            → position_after_calls begun self.new.calls.items ≡ call.position }
     {
         self.calls.push_reserved(call);
     }

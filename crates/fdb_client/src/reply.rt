@@ -33,11 +33,22 @@ pub(crate) fn take_reply<J: Live, R: Wait>(
         → seen.old.reporter ≡ Some number
         → position_after_calls begun journal.old.calls.items ≡ length seen.old.raises
         → Reads J.start opts
-        (record { number = number; begun = begun; calls = journal.old.calls.items; raises = seen.old.raises })
-        (record { number = number; begun = begun; calls = journal.new.calls.items; raises = seen.new.raises })
+        (record {
+          number = number;
+          begun = begun;
+          calls = journal.old.calls.items;
+          raises = seen.old.raises;
+        })
+        (record {
+          number = number;
+          begun = begun;
+          calls = journal.new.calls.items;
+          raises = seen.new.raises;
+        })
         result }
     ensures come_to { result ≢ Err ClientError.Memory
-        → (begun : ℕ) → position_after_calls begun journal.new.calls.items ≡ length seen.new.raises }
+        → (begun : ℕ) → position_after_calls begun journal.new.calls.items
+        ≡ length seen.new.raises }
     ensures reporter { seen.new.reporter ≡ seen.old.reporter }
     ensures seen { result ≡ Err ClientError.Memory → seen.new ≡ seen.old }
     ensures calls { result ≡ Err ClientError.Memory

@@ -42,4 +42,5 @@ pub record IsLinear (start : Record) (logs : List ClientLog) (history : List Eve
   pub ordered : AllByRecursion (λ log. NeverGoesBack 0 log.calls) logs
   -- no call has seen more than there is
   pub bounded :
-      AllByRecursion (λ log. AllByRecursion (λ call. call.position ≤ raise_count history) log.calls) logs
+      AllByRecursion
+      (λ log. AllByRecursion (λ call. call.position ≤ raise_count history) log.calls) logs

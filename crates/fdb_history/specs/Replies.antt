@@ -48,7 +48,8 @@ pub record AreRepliesOf (proxy : ℕ) (answers : List Issued) (replies : KeptRep
 -- The replies of all proxies, each at its own place.
 abbrev pub AreRepliesOfAll : List Issued → List KeptReplies → Type 0
 AreRepliesOfAll answers all =
-    (proxy : ℕ) (own : KeptReplies) → slice_get all proxy ≡ Some own → AreRepliesOf proxy answers own
+    (proxy : ℕ) (own : KeptReplies) → slice_get all proxy ≡ Some own
+    → AreRepliesOf proxy answers own
 
 -- The replies of all proxies after one more answer: those of the proxy that got it have changed.
 abbrev pub all_after : List KeptReplies → Issued → List KeptReplies

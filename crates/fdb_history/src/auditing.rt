@@ -29,13 +29,15 @@ use found::CallName;
 use registers::Registers;
 use std::alloc::{AllocError, Global};
 
-/// The history of the logs of a run, in the fixed order, or the first fault that stands in them or in the chain of
-/// commit versions that was issued to them. There are at most 64 logs, and the one at a place is
-/// that of the client of this number. `start` is the record that the register began with.
+/// The history of the logs of a run, in the fixed order, or the first fault
+/// that stands in them or in the chain of commit versions that was issued to
+/// them. There are at most 64 logs, and the one at a place is that of the
+/// client of this number. `start` is the record that the register began with.
 ///
-/// The faults are looked for in the order of [`AuditFault`], each kind in all logs before the next: the least client
-/// and in it the least call, or the least position, is named. Memory may be refused at any time. It takes time in
-/// proportion to the calls and to the chain, up to a sort of the register's events by position.
+/// The faults are looked for in the order of [`AuditFault`], each kind in all logs
+/// before the next: the least client and in it the least call, or the least position,
+/// is named. Memory may be refused at any time. It takes time in proportion to the
+/// calls and to the chain, up to a sort of the register's events by position.
 pub fn audit(
     alloc: Global,
     start: Record,
@@ -76,8 +78,8 @@ fn history_or_fault(
     Ok(explaining::explain(alloc, events)?)
 }
 
-/// The register at each position that a call has reached, or the first fault of the history. No call is out of order,
-/// and `events` are those of the logs, by position.
+/// The register at each position that a call has reached, or the first fault of the
+/// history. No call is out of order, and `events` are those of the logs, by position.
 fn faultless_registers(
     alloc: Global,
     start: Record,
@@ -91,7 +93,8 @@ fn faultless_registers(
     ensures faultless { OnOk result (IsFaultless start logs.now) }
     ensures begins { IfOk result (λ registers. registers.start ≡ start) }
     ensures right { IfOk result (λ registers. AreRegisters start logs.now registers) }
-    ensures err { IfErr result (λ fault. (chain : List Issued) → IsFirstFault start chain logs.now fault) }
+    ensures err { IfErr result
+        (λ fault. (chain : List Issued) → IsFirstFault start chain logs.now fault) }
 {
     let raises = raises::raises_of(alloc, events)?;
     let registers = registers::registers_of(alloc, start, &raises, logs)?;

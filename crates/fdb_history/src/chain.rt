@@ -34,6 +34,7 @@ pub struct Issued {
     pub version: u64,
     /// The moment of the request, in microseconds.
     pub at: u64,
-    /// Whether the version was drawn for this very call. A repeated request gets the answer that was kept, with `false`.
+    /// Whether the version was drawn for this very call. A repeated
+    /// request gets the answer that was kept, with `false`.
     pub fresh: bool,
 }

@@ -6,10 +6,12 @@ ghost use Rattle.fdb_history.specs.Event.{is_raise, register_after};
 use crate::register::Record;
 use crate::sequence::Sequence;
 
-/// One step of the register. Clients are numbered from 0, and so are the calls of each client's log.
+/// One step of the register. Clients are numbered from 0,
+/// and so are the calls of each client's log.
 #[derive(Clone, Copy, Debug, PartialEq, Eq)]
 pub enum Event {
-    /// A client reported a record (`reportLiveCommittedVersion`), and was told whether it raised the register.
+    /// A client reported a record (`reportLiveCommittedVersion`),
+    /// and was told whether it raised the register.
     Report {
         /// The client.
         client: u32,
@@ -56,9 +58,11 @@ impl Event {
     }
 }
 
-/// The record after the events. Each report of a greater version replaces the whole record; reads change nothing.
+/// The record after the events. Each report of a greater
+/// version replaces the whole record; reads change nothing.
 ///
-/// It takes the reports as they come, and asks nothing of the flags and the records that the events claim.
+/// It takes the reports as they come, and asks nothing of
+/// the flags and the records that the events claim.
 pub fn register_after(start: Record, events: &[Event]) -> Record
     ensures { result ≡ register_after start events.now }
 {

@@ -2,11 +2,12 @@
 
 use thiserror::Error;
 
-/// Why the logs of a run, with the chain of its commit versions, have no explanation. Clients are places in the
-/// list of logs and calls are places in a log, both counted from 0.
+/// Why the logs of a run, with the chain of its commit versions, have no explanation. Clients
+/// are places in the list of logs and calls are places in a log, both counted from 0.
 #[derive(Clone, Copy, Debug, PartialEq, Eq, Error)]
 pub enum AuditFault {
-    /// A call was answered from before what its client had seen, or raised the register without going on.
+    /// A call was answered from before what its client had
+    /// seen, or raised the register without going on.
     #[error("Order {client} {call}")]
     Order {
         /// The client.
@@ -34,8 +35,9 @@ pub enum AuditFault {
         /// The call.
         call: u64,
     },
-    /// A reply that nothing justifies: it is at odds with its call, the chain or the client's own log. Where the chain has
-    /// an entry of the client that none of its calls drew, the call is the end of its log, and call 0 where it has no log.
+    /// A reply that nothing justifies: it is at odds with its call, the chain or the
+    /// client's own log. Where the chain has an entry of the client that none of its
+    /// calls drew, the call is the end of its log, and call 0 where it has no log.
     #[error("Stray {client} {call}")]
     Stray {
         /// The client.
@@ -43,7 +45,8 @@ pub enum AuditFault {
         /// The call.
         call: u64,
     },
-    /// A commit version that was drawn, but for the first of the chain, and is not above what its asker had seen.
+    /// A commit version that was drawn, but for the first of
+    /// the chain, and is not above what its asker had seen.
     #[error("NotAbove {client} {call}")]
     NotAbove {
         /// The client.

@@ -11,7 +11,8 @@ pub enum Place {
     ReadAnswered,
 }
 
-/// What is called at each place. `pass` comes back, and leaves everything of this library as it was.
+/// What is called at each place. `pass` comes back, and
+/// leaves everything of this library as it was.
 pub trait Gate: Sync {
     /// The thread of client or commit proxy `who` is at the place.
     fn pass(&self, place: Place, who: u32);

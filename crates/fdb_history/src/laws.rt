@@ -1,7 +1,7 @@
 //! Laws of the definitions: what a reader would ask of a history and of a chain of commit versions.
 //!
-//! Each is the contract of a function that does nothing, so that the check proves it. It holds of every list
-//! that the definitions speak of, and so of each that the service makes.
+//! Each is the contract of a function that does nothing, so that the check proves it. It
+//! holds of every list that the definitions speak of, and so of each that the service makes.
 
 ghost use Rattle.std.specs.Prelude.{◌≡◌, ℕ, Bool, ◌+◌, ◌<◌, ◌≤◌, ◌≢◌, ◌==◌, ◌&&◌, [], ◌∷◌, ◌++◌, List, length, take, slice_get, false, Some, Ok};
 ghost use Rattle.std.specs.List.{All, AllPairs, find};
@@ -28,66 +28,81 @@ pub fn versions_rise()
         → AllPairs (λ earlier later. earlier.version < later.version) answers }
 {}
 
-/// A chain has no gap and no fork: it begins at the end of the epoch before, each answer goes on from the version
-/// of the one before it, and no two answers go on from one version.
+/// A chain has no gap and no fork: it begins at the end of the epoch before, each answer
+/// goes on from the version of the one before it, and no two answers go on from one version.
 pub fn no_gap_no_fork()
-    ensures begins { (epoch_end recovery : ℕ) (answers : List Issued) (first : Issued) → IsChain epoch_end recovery answers
+    ensures begins { (epoch_end recovery : ℕ) (answers : List Issued) (first : Issued)
+        → IsChain epoch_end recovery answers
         → slice_get answers 0 ≡ Some first → first.prev ≡ epoch_end }
-    ensures no_gap { (epoch_end recovery : ℕ) (answers : List Issued) (place : ℕ) (before after : Issued)
+    ensures no_gap { (epoch_end recovery : ℕ) (answers : List Issued)
+        (place : ℕ) (before after : Issued)
         → IsChain epoch_end recovery answers
         → slice_get answers place ≡ Some before → slice_get answers (place + 1) ≡ Some after
         → after.prev ≡ before.version }
     ensures no_fork { (epoch_end recovery : ℕ) (answers : List Issued) → epoch_end < recovery
-        → IsChain epoch_end recovery answers → AllPairs (λ one other. one.prev ≢ other.prev) answers }
+        → IsChain epoch_end recovery answers
+        → AllPairs (λ one other. one.prev ≢ other.prev) answers }
 {}
 
-/// Reads never go back: in a legal history a read or a raise sees at least the version that each earlier one saw,
-/// and at least that of the start.
+/// Reads never go back: in a legal history a read or a raise sees at least
+/// the version that each earlier one saw, and at least that of the start.
 pub fn reads_never_go_back()
-    ensures in_order { (start : Record) (events : List Event) (j k : ℕ) (earlier later : ℕ) → IsLegal start events → j ≤ k
+    ensures in_order { (start : Record) (events : List Event) (j k : ℕ) (earlier later : ℕ)
+        → IsLegal start events → j ≤ k
         → seen_at events j ≡ Some earlier → seen_at events k ≡ Some later → earlier ≤ later }
-    ensures from_the_start { (start : Record) (events : List Event) (place seen : ℕ) → IsLegal start events
+    ensures from_the_start { (start : Record) (events : List Event) (place seen : ℕ)
+        → IsLegal start events
         → seen_at events place ≡ Some seen → start.version ≤ seen }
 {}
 
-/// The position of an event is the number of raises up to and including it, and in a legal history the version
-/// of the register has risen by at least that much. So a position never exceeds the version there.
+/// The position of an event is the number of raises up to and including
+/// it, and in a legal history the version of the register has risen by
+/// at least that much. So a position never exceeds the version there.
 pub fn positions_below_versions()
     ensures counts { (events : List Event) (place : ℕ) → place < length events
         → slice_get (positions_from 0 events) place ≡ Some (raise_count (take (place + 1) events)) }
     ensures below { (start : Record) (events : List Event) → IsLegal start events
         → raise_count events + start.version ≤ (register_after start events).version }
-    ensures at_each_event { (start : Record) (events : List Event) (place position : ℕ) → IsLegal start events
+    ensures at_each_event { (start : Record) (events : List Event) (place position : ℕ)
+        → IsLegal start events
         → slice_get (positions_from 0 events) place ≡ Some position
         → position + start.version ≤ (register_after start (take (place + 1) events)).version }
 {}
 
-/// The register is the first record with the greatest version, of the start record and all that were reported.
+/// The register is the first record with the greatest
+/// version, of the start record and all that were reported.
 pub fn register_is_greatest()
     ensures greatest { (start : Record) (events : List Event)
-        → All (λ rec. rec.version ≤ (register_after start events).version) (start ∷ reports_of events) }
+        → All (λ rec. rec.version ≤ (register_after start events).version)
+        (start ∷ reports_of events) }
     ensures first { (start : Record) (events : List Event)
-        → find (λ rec. rec.version == (register_after start events).version) (start ∷ reports_of events)
+        → find (λ rec. rec.version == (register_after start events).version)
+        (start ∷ reports_of events)
         ≡ Some (register_after start events) }
 {}
 
-/// In a chain the kept answer is the first answer that its proxy got under the number, and a repeated request
-/// gets it unchanged but for `fresh`.
+/// In a chain the kept answer is the first answer that its proxy got under
+/// the number, and a repeated request gets it unchanged but for `fresh`.
 pub fn kept_is_first()
-    ensures first { (epoch_end recovery : ℕ) (answers : List Issued) (proxy num : ℕ) (answer : Issued)
+    ensures first { (epoch_end recovery : ℕ) (answers : List Issued)
+        (proxy num : ℕ) (answer : Issued)
         → IsChain epoch_end recovery answers → kept proxy num answers ≡ Some answer
         → find (λ a. a.proxy == proxy && (a.num == num)) answers ≡ Some answer }
-    ensures of_the_request { (answers : List Issued) (proxy num : ℕ) (answer : Issued) → kept proxy num answers ≡ Some answer
+    ensures of_the_request { (answers : List Issued) (proxy num : ℕ) (answer : Issued)
+        → kept proxy num answers ≡ Some answer
         → (answer.proxy ≡ proxy) × (answer.num ≡ num) }
-    ensures repeated { (chain : Chain) (ask : Ask) (answer : Issued) → IsChain chain.epoch_end chain.recovery chain.answers
+    ensures repeated { (chain : Chain) (ask : Ask) (answer : Issued)
+        → IsChain chain.epoch_end chain.recovery chain.answers
         → ask.proxy < chain.proxies → kept ask.proxy ask.num chain.answers ≡ Some answer
         → answer_to chain ask ≡ Ok (record answer { fresh = false }) }
 {}
 
-/// Whatever is asked for, the answers are one chain: a request leaves a chain one, and so do any number of requests
-/// from no answers on. An answer that was given stays, and nothing but the answers changes.
+/// Whatever is asked for, the answers are one chain: a request leaves a
+/// chain one, and so do any number of requests from no answers on. An
+/// answer that was given stays, and nothing but the answers changes.
 pub fn asks_make_a_chain()
-    ensures step { (chain : Chain) (ask : Ask) → IsChain chain.epoch_end chain.recovery chain.answers
+    ensures step { (chain : Chain) (ask : Ask)
+        → IsChain chain.epoch_end chain.recovery chain.answers
         → IsChain chain.epoch_end chain.recovery (chain_after chain (answer_to chain ask)).answers }
     ensures all { (chain : Chain) (asks : List Ask) → chain.answers ≡ []
         → IsChain chain.epoch_end chain.recovery (after_asks chain asks).answers }
@@ -97,8 +112,9 @@ pub fn asks_make_a_chain()
         → after_asks chain asks ≡ record chain { answers = (after_asks chain asks).answers } }
 {}
 
-/// Logs that a history explains have no fault of the history: where a linear history exists, no call is answered
-/// from before what its client had seen, no two raises share a position, no position that is reached lacks its raise,
+/// Logs that a history explains have no fault of the history: where a linear
+/// history exists, no call is answered from before what its client had seen, no
+/// two raises share a position, no position that is reached lacks its raise,
 /// and each read and report is answered as the register at its position would.
 pub fn explained_logs_are_faultless()
     ensures { (start : Record) (logs : List ClientLog) (history : List Event)
@@ -107,29 +123,40 @@ pub fn explained_logs_are_faultless()
 
 /// Logs without a fault of the history are explained by their events in the fixed order.
 pub fn faultless_logs_are_explained()
-    ensures { (start : Record) (logs : List ClientLog) → IsFaultless start logs → IsLinear start logs (explained logs) }
+    ensures { (start : Record) (logs : List ClientLog) → IsFaultless start logs
+        → IsLinear start logs (explained logs) }
 {}
 
-/// A read never misses a commit that its client knows of: its version is at least that of each report that was
-/// acknowledged before it in its own log, or up to a position that its client had come to, by a learn or otherwise.
+/// A read never misses a commit that its client knows of: its version is at
+/// least that of each report that was acknowledged before it in its own log,
+/// or up to a position that its client had come to, by a learn or otherwise.
 pub fn reads_see_what_was_acknowledged()
-    ensures known { (start : Record) (logs : List ClientLog) (history : List Event) (writer reader committed place : ℕ)
-        (commit read : Call) (reported seen : Record) (raised locked_out : Bool) (limits : List TagLimit)
+    ensures known { (start : Record) (logs : List ClientLog) (history : List Event)
+        (writer reader committed place : ℕ) (commit read : Call)
+        (reported seen : Record) (raised locked_out : Bool) (limits : List TagLimit)
         → IsLinear start logs history
-        → slice_get (calls_of logs writer) committed ≡ Some commit → commit.answer ≡ Acked reported raised
-        → slice_get (calls_of logs reader) place ≡ Some read → read.answer ≡ Version seen limits locked_out
+        → slice_get (calls_of logs writer) committed ≡ Some commit
+        → commit.answer ≡ Acked reported raised
+        → slice_get (calls_of logs reader) place ≡ Some read
+        → read.answer ≡ Version seen limits locked_out
         → commit.position ≤ read.asked → reported.version ≤ seen.version }
-    ensures own { (start : Record) (logs : List ClientLog) (history : List Event) (client committed place : ℕ)
-        (commit read : Call) (reported seen : Record) (raised locked_out : Bool) (limits : List TagLimit)
+    ensures own { (start : Record) (logs : List ClientLog) (history : List Event)
+        (client committed place : ℕ) (commit read : Call)
+        (reported seen : Record) (raised locked_out : Bool) (limits : List TagLimit)
         → IsLinear start logs history
-        → slice_get (calls_of logs client) committed ≡ Some commit → commit.answer ≡ Acked reported raised
-        → slice_get (calls_of logs client) place ≡ Some read → read.answer ≡ Version seen limits locked_out
+        → slice_get (calls_of logs client) committed ≡ Some commit
+        → commit.answer ≡ Acked reported raised
+        → slice_get (calls_of logs client) place ≡ Some read
+        → read.answer ≡ Version seen limits locked_out
         → committed < place → reported.version ≤ seen.version }
-    ensures learnt { (start : Record) (logs : List ClientLog) (history : List Event) (writer reader committed told place : ℕ)
-        (commit learn read : Call) (reported seen : Record) (raised locked_out : Bool) (limits : List TagLimit)
+    ensures learnt { (start : Record) (logs : List ClientLog) (history : List Event)
+        (writer reader committed told place : ℕ) (commit learn read : Call)
+        (reported seen : Record) (raised locked_out : Bool) (limits : List TagLimit)
         → IsLinear start logs history
-        → slice_get (calls_of logs writer) committed ≡ Some commit → commit.answer ≡ Acked reported raised
+        → slice_get (calls_of logs writer) committed ≡ Some commit
+        → commit.answer ≡ Acked reported raised
         → slice_get (calls_of logs reader) told ≡ Some learn → commit.position ≤ learn.position
-        → slice_get (calls_of logs reader) place ≡ Some read → read.answer ≡ Version seen limits locked_out
+        → slice_get (calls_of logs reader) place ≡ Some read
+        → read.answer ≡ Version seen limits locked_out
         → told < place → reported.version ≤ seen.version }
 {}

@@ -5,14 +5,16 @@ ghost use Rattle.fdb_history.specs.Register.{after_report};
 
 use std::fmt;
 
-/// The greatest version: FoundationDB's versions are signed numbers of 64 bits, of which none below 0 is used.
+/// The greatest version: FoundationDB's versions are signed
+/// numbers of 64 bits, of which none below 0 is used.
 pub const MAX_VERSION: u64 = 9_223_372_036_854_775_807;
 
-/// What the sequencer keeps of the newest commit that was reported: the live committed version, whether the
-/// database is locked, and the version of the metadata, if there is one.
+/// What the sequencer keeps of the newest commit that was reported: the live committed
+/// version, whether the database is locked, and the version of the metadata, if there is one.
 ///
-/// In FoundationDB 7.1 these are `liveCommittedVersion`, `databaseLocked` and `proxyMetadataVersion` of
-/// `MasterData` (masterserver), and the members of `GetRawCommittedVersionReply`.
+/// In FoundationDB 7.1 these are `liveCommittedVersion`,
+/// `databaseLocked` and `proxyMetadataVersion` of `MasterData`
+/// (masterserver), and the members of `GetRawCommittedVersionReply`.
 #[derive(Clone, Copy, Debug, PartialEq, Eq)]
 pub struct Record {
     /// The live committed version.
@@ -24,8 +26,8 @@ pub struct Record {
 }
 
 impl Record {
-    /// The record after a report. A report of a greater version replaces the whole record, and any other
-    /// changes nothing (`updateLiveCommittedVersion` of masterserver).
+    /// The record after a report. A report of a greater version replaces the whole record,
+    /// and any other changes nothing (`updateLiveCommittedVersion` of masterserver).
     pub fn after_report(self, reported: Record) -> Record
         ensures { result ≡ after_report self reported }
     {

@@ -88,21 +88,22 @@ impl Replies {
         self.places.get((num - 1) as usize).copied()
     }
 
-    /// Keeps an answer among the replies of all proxies, for the one that got it, as `keep` does. Where memory is
-    /// refused, nothing has changed.
+    /// Keeps an answer among the replies of all proxies, for the one that
+    /// got it, as `keep` does. Where memory is refused, nothing has changed.
     pub fn keep_among(all: &mut [Replies], answer: &Issued) -> Result<(), AllocError>
         requires { answer.now.proxy < length all.old }
         ensures ok { OnOk result (all.new ≡ all_after all.old answer.now) }
         ensures kept { OnOk result ((epoch_end recovery : ℕ) (answers : List Issued)
             → IsNext epoch_end recovery answers answer.now
-            → AreRepliesOfAll answers all.old → AreRepliesOfAll (answers ++ answer.now ∷ []) all.new) }
+            → AreRepliesOfAll answers all.old
+            → AreRepliesOfAll (answers ++ answer.now ∷ []) all.new) }
         ensures err { OnErr result (all.new ≡ all.old) }
     {
         all[answer.proxy as usize].keep(answer.ordinal as usize, answer.processed)
     }
 
-    /// Keeps the place of the proxy's next answer, and erases those that the proxy has processed, though not this
-    /// one. Where memory is refused, nothing has changed.
+    /// Keeps the place of the proxy's next answer, and erases those that the proxy has
+    /// processed, though not this one. Where memory is refused, nothing has changed.
     pub fn keep(&mut self, place: usize, processed: u64) -> Result<(), AllocError>
         ensures ok { OnOk result (self.new ≡ replies_after self.old place processed) }
         ensures err { OnErr result (self.new ≡ self.old) }

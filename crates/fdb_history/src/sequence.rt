@@ -62,7 +62,8 @@ impl<T> Sequence<T> {
         self.items.iter()
     }
 
-    /// Adds an item at the end. Where memory is refused, nothing has changed and the item is handed back.
+    /// Adds an item at the end. Where memory is refused,
+    /// nothing has changed and the item is handed back.
     pub fn push(&mut self, item: T) -> Result<(), AllocFailed<T>>
         ensures ok { OnOk result (self.new ≡ self.old ++ item ∷ []) }
         ensures err { OnErr result (self.new ≡ self.old) }

@@ -2,8 +2,9 @@
 
 use std::marker::Brand;
 
-/// A name that stands for one service in types and contracts, and for nothing when the program runs: types that
-/// carry two names don't fit one another. What is picked for a name is all that is known of its service.
+/// A name that stands for one service in types and contracts, and for
+/// nothing when the program runs: types that carry two names don't fit one
+/// another. What is picked for a name is all that is known of its service.
 pub trait Service {
     ghost use Rattle.std.specs.Prelude.{ℕ};
     ghost use Rattle.fdb_history.specs.declared.register.Record.{Record};

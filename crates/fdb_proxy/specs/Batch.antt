@@ -16,14 +16,17 @@ use Rattle.fdb_queue.specs.Throttles.{Throttle, limits_of}
 module _ {J : Type 0} {live : LiveGhosts J} {service : ServiceGhosts J} where
   -- what throttles the tags of a request, at its own priority and moment
   abbrev pub own_limits : List Throttle → Req (Request J live service) → List TagLimit
-  own_limits throttles request = limits_of throttles request.payload.opts.priority request.payload.opts.at request.payload.opts.tags
+  own_limits throttles request =
+      limits_of throttles request.payload.opts.priority request.payload.opts.at
+      request.payload.opts.tags
 
   -- A reply answers a request, where these throttles stand, and where a read saw these raises. It
   -- has the request's client, serial number and asked position, and the limits of its tags. Its
   -- record is the last of the raises and its position their number; it proves them to the asker,
   -- who had seen the first of them. (`sendGrvReplies` of GrvProxyServer; what it proves is this
   -- product's own)
-  pub record IsReplyTo (throttles : List Throttle) (raises : List Raise) (request : Req (Request J live service)) (reply : Reply J live service) : Type 0 where
+  pub record IsReplyTo (throttles : List Throttle) (raises : List Raise)
+      (request : Req (Request J live service)) (reply : Reply J live service) : Type 0 where
     pub client : reply.client ≡ request.payload.client
     pub serial : reply.serial ≡ request.payload.serial
     pub asked : reply.asked ≡ request.payload.asked
@@ -34,6 +37,7 @@ module _ {J : Type 0} {live : LiveGhosts J} {service : ServiceGhosts J} where
     pub extends : IsPrefix request.payload.seen.raises raises
 
   -- An answer is such a reply.
-  abbrev pub Replies : List Throttle → List Raise → Req (Request J live service) → Answer J live service → Type 0
+  abbrev pub Replies : List Throttle → List Raise
+      → Req (Request J live service) → Answer J live service → Type 0
   Replies throttles raises request (answer.Reply reply) = IsReplyTo throttles raises request reply
   Replies throttles raises request (answer.Refused refused) = ⊥

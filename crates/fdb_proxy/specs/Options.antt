@@ -8,5 +8,8 @@ use Rattle.fdb_queue.specs.Waiting.{is_priority}
 
 -- Whether a request stands in the queue by its own options: with their priority, and with their
 -- count. (this product's own)
-abbrev pub has_own_options : {J : Type 0} {live : LiveGhosts J} {service : ServiceGhosts J} → Req (Request J live service) → Bool
-has_own_options request = is_priority request.priority request.payload.opts.priority && (request.count == request.payload.opts.count)
+abbrev pub has_own_options : {J : Type 0} {live : LiveGhosts J} {service : ServiceGhosts J}
+    → Req (Request J live service) → Bool
+has_own_options request =
+    is_priority request.priority request.payload.opts.priority
+    && (request.count == request.payload.opts.count)

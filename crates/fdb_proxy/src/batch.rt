@@ -98,7 +98,8 @@ fn learn_all<J: Live, R: Wait>(
     ensures reporter { seen.new.reporter ≡ seen.old.reporter }
     ensures extends { IsPrefix seen.old.raises seen.new.raises }
     ensures own { own_positions seen.new ≡ own_positions seen.old }
-    ensures told { All (λ request. IsPrefix request.payload.seen.raises seen.new.raises) requests.old }
+    ensures told { All
+        (λ request. IsPrefix request.payload.seen.raises seen.new.raises) requests.old }
 {
     for request in requests.iter_mut() {
         learn_from(rt, live, seen, &mut request.payload);
@@ -132,7 +133,8 @@ fn answer_all<J: Live>(
 ) -> Vec<Answer<J>>
     requires rec { fetched.rec ≡ last_record J.start seen.old.raises }
     requires position { fetched.position ≡ length seen.old.raises }
-    requires told { All (λ request. IsPrefix request.payload.seen.raises seen.old.raises) requests.items }
+    requires told { All
+        (λ request. IsPrefix request.payload.seen.raises seen.old.raises) requests.items }
     requires limits { vec_len room.limits ≡ vec_len requests }
     requires answers { room.answers.items ≡ [] }
     requires len { vec_len room.answers ≡ 0 }

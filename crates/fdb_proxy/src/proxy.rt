@@ -81,12 +81,12 @@ impl<'a, J: Live> GrvProxy<'a, J> {
 
     /// Serves the desk until it is closed, and gives back the token.
     ///
-    /// In each turn it takes what waits at the desk, and waits there only where its queue is empty;
-    /// it offers each request to the queue, holds one window, and serves what started as one batch.
-    /// Where nothing came, the windows that start nothing before the head of its queue may start are
-    /// held at once, in constant time, and then one more. A request that was refused or pushed out
-    /// is answered so. Once the desk is closed it has one more turn, and then answers all that is
-    /// left `Closed`. An answer whose receiver is gone is dropped.
+    /// In each turn it takes what waits at the desk, and waits there only where its queue is
+    /// empty; it offers each request to the queue, holds one window, and serves what started as
+    /// one batch. Where nothing came, the windows that start nothing before the head of its
+    /// queue may start are held at once, in constant time, and then one more. A request that
+    /// was refused or pushed out is answered so. Once the desk is closed it has one more turn,
+    /// and then answers all that is left `Closed`. An answer whose receiver is gone is dropped.
     ///
     /// Where memory is refused to itself, or to the sending of an answer, it closes the desk, drops
     /// what it holds and what waits there, and ends with `Memory`. In an offer it is the request
@@ -95,8 +95,10 @@ impl<'a, J: Live> GrvProxy<'a, J> {
         ensures reporter { IfOk result (λ seen. seen.reporter ≡ self.entry.seen.reporter) }
         ensures extends { IfOk result (λ seen. IsPrefix self.entry.seen.raises seen.raises) }
         ensures memory { IfErr result (λ ended. ended.0 ≡ ProxyError.Memory) }
-        ensures reporter_back { IfErr result (λ ended. ended.1.reporter ≡ self.entry.seen.reporter) }
-        ensures extends_back { IfErr result (λ ended. IsPrefix self.entry.seen.raises ended.1.raises) }
+        ensures reporter_back { IfErr result
+            (λ ended. ended.1.reporter ≡ self.entry.seen.reporter) }
+        ensures extends_back { IfErr result
+            (λ ended. IsPrefix self.entry.seen.raises ended.1.raises) }
     {
         let GrvProxy {
             alloc,
@@ -155,7 +157,8 @@ fn serve_taken<J: Live, R: Wait>(
 ) -> Result<bool, ProxyError>
     ensures last { IfOk result (λ last. last ≡ taken.closed) }
     ensures turn { OnOk result
-        (HasTurnOrLast taken.closed line.old.elapsed line.old.queue taken.requests.items line.new.queue) }
+        (HasTurnOrLast taken.closed
+        line.old.elapsed line.old.queue taken.requests.items line.new.queue) }
     ensures elapsed { OnOk result (line.new.elapsed ≡ line.old.elapsed) }
     ensures left { taken.closed ≡ true → OnOk result (row line.new.queue.waiting ≡ []) }
     ensures reporter { seen.new.reporter ≡ seen.old.reporter }
@@ -179,7 +182,8 @@ fn serve_turn<J: Live, R: Wait>(
     seen: &mut Seen<J>,
     requests: Vec<Req<Request<J>>>,
 ) -> Result<(), ProxyError>
-    ensures turn { OnOk result (HasTurn line.old.elapsed line.old.queue requests.items line.new.queue) }
+    ensures turn { OnOk result
+        (HasTurn line.old.elapsed line.old.queue requests.items line.new.queue) }
     ensures elapsed { OnOk result (line.new.elapsed ≡ line.old.elapsed) }
     ensures reporter { seen.new.reporter ≡ seen.old.reporter }
     ensures extends { IsPrefix seen.old.raises seen.new.raises }

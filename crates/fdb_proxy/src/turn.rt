@@ -39,9 +39,9 @@ pub(crate) struct Line<T> {
 }
 
 impl<T: Drop> Line<T> {
-    /// Offers each of some requests to the queue, in order, and then holds one window. Where there
-    /// is none, the windows before it that start nothing are held at once. Whoever is turned away is
-    /// added to the list, which has room for all.
+    /// Offers each of some requests to the queue, in order, and then holds one
+    /// window. Where there is none, the windows before it that start nothing are held
+    /// at once. Whoever is turned away is added to the list, which has room for all.
     ///
     /// It is refused as `Memory` alone: for the list of those that start, of which there is one
     /// then, when all have been offered. A growth of the queue that is refused turns away the one
@@ -132,7 +132,8 @@ impl<T: Drop> Line<T> {
     /// Holds one window.
     fn start(&mut self) -> Result<Vec<Req<T>>, ProxyError>
         ensures started { IfOk result (λ started. started.items ≡ window self.old.queue) }
-        ensures after { IfOk result (λ _. self.new.queue ≡ after_window self.old.elapsed self.old.queue) }
+        ensures after { IfOk result
+            (λ _. self.new.queue ≡ after_window self.old.elapsed self.old.queue) }
         ensures elapsed { self.new.elapsed ≡ self.old.elapsed }
         ensures memory { IfErr result (λ cause. cause ≡ ProxyError.Memory) }
         ensures due { OnErr result (0 < length (window self.old.queue)) }
@@ -157,7 +158,8 @@ impl<T: Drop> Line<T> {
         ensures out { result ≡ first (row self.old.queue.waiting) }
         ensures rest { self.new.queue
             ≡ record self.old.queue { waiting = without_first self.old.queue.waiting } }
-        ensures row { row self.old.queue.waiting ≡ option_to_list result ++ row self.new.queue.waiting }
+        ensures row { row self.old.queue.waiting
+            ≡ option_to_list result ++ row self.new.queue.waiting }
         ensures elapsed { self.new.elapsed ≡ self.old.elapsed }
     {
         self.queue.pop()

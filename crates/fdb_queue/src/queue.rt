@@ -195,10 +195,10 @@ impl<T> GrvQueue<T> {
         Some(missing.div_ceil(elapsed * limit))
     }
 
-    /// Holds at once the windows of `elapsed` microseconds that start nothing before the head of the
-    /// row may start, with no offer between them, and answers how many they are. Where the head is
-    /// sure to start, the next window starts it: they are as many as [`GrvQueue::waits`] says. It
-    /// takes constant time and no memory.
+    /// Holds at once the windows of `elapsed` microseconds that start nothing before
+    /// the head of the row may start, with no offer between them, and answers how many
+    /// they are. Where the head is sure to start, the next window starts it: they are
+    /// as many as [`GrvQueue::waits`] says. It takes constant time and no memory.
     ///
     /// It holds none in an empty row, where the head is a system request, which any window starts,
     /// and for a time out of range.

@@ -31,9 +31,11 @@ pub record IsRunOf (plan : Plan) (outcome : Outcome) : Type 0 where
   pub linear : IsLinear (opening plan.recovery) outcome.logs.items outcome.history.events
   -- the history is in the fixed order
   pub in_order : outcome.history.events ≡ explained outcome.logs.items
-  -- each answer is justified by its input, the chain and its client's own log, and each commit version was drawn by a call
+  -- each answer is justified by its input, the chain and its
+  -- client's own log, and each commit version was drawn by a call
   pub none_stray : Nowhere (IsStray outcome.chain.items outcome.logs.items)
-  -- each commit version that was drawn, but for the first, is above the register that its asker had seen
+  -- each commit version that was drawn, but for the first,
+  -- is above the register that its asker had seen
   pub none_low : Nowhere (Low (opening plan.recovery) outcome.logs.items)
 
 -- how a run fails where its audit does: out of memory is the run's own
@@ -41,7 +43,8 @@ abbrev pub run_fault : AuditFault → RunFault
 run_fault audit.Memory = Memory
 run_fault fault = Audit fault
 
--- The clients did what the script says, and the audit of what they were answered finds this fault first.
+-- The clients did what the script says, and the audit of
+-- what they were answered finds this fault first.
 pub record IsFaulty (plan : Plan) (fault : AuditFault) : Type 0 where
   pub chain : List Issued
   pub logs : List ClientLog

@@ -19,7 +19,8 @@ pub record Replays (bytes : List ℕ) (with_history : Bool) (written : List ℕ)
   pub ran : IsRunOf plan outcome
   pub printed : written ≡ text plan outcome with_history
 
--- A script is refused as its bytes demand; a run fails as its plan says; and writing fails only where there is a script.
+-- A script is refused as its bytes demand; a run fails as its
+-- plan says; and writing fails only where there is a script.
 abbrev pub Refuses : List ℕ → ReplayFault → Type 0
 Refuses bytes (Script error) = Reads bytes (Err error)
 Refuses bytes (Run fault) = (plan : Plan) × Reads bytes (Ok plan) × Fails plan fault
@@ -37,8 +38,10 @@ pub record TakesSome (bytes : List ℕ) (before after : Option (List ℕ)) : Typ
   pub some_left : 0 < length left
   pub appended : Appends before after taken
 
--- A writer took some of the text of a run of the script that these bytes stand for, and not all of it.
-pub record IsCut (bytes : List ℕ) (with_history : Bool) (before after : Option (List ℕ)) : Type 0 where
+-- A writer took some of the text of a run of the script that
+-- these bytes stand for, and not all of it.
+pub record IsCut
+    (bytes : List ℕ) (with_history : Bool) (before after : Option (List ℕ)) : Type 0 where
   pub written : List ℕ
   pub replayed : Replays bytes with_history written
   pub cut : TakesSome written before after

@@ -1,6 +1,6 @@
--- What the words of the command line ask for. clap reads them, and its definitions say what it makes of words:
--- the matches of a command on them, and the kinds of error that it gives at them. Here stand the command, what is read
--- of its matches, and what the program does then.
+-- What the words of the command line ask for. clap reads them, and its definitions say what it
+-- makes of words: the matches of a command on them, and the kinds of error that it gives at
+-- them. Here stand the command, what is read of its matches, and what the program does then.
 use Rattle.std.specs.Prelude.{◌≡◌, ◌≢◌, ◌⊎◌, ◌≤◌, ⊤, ℕ, Bool, true, false, List, [], Option, Some, None, IfSome, Ok, length, codes, pos, option_map}
 use Rattle.std.specs.Io.KnownBytes.{Appends, Consumes}
 use Rattle.std.specs.Option.{option_map_or}
@@ -59,7 +59,9 @@ script_named words = first_of (codes "script") (matches_of command words)
 
 -- the history is written too
 abbrev pub wants_history : List Text → Bool
-wants_history words = option_map_or (λ value. bytes_eq value (codes "true")) (one_of (codes "history") (matches_of command words)) false
+wants_history words =
+    option_map_or (λ value. bytes_eq value (codes "true"))
+    (one_of (codes "history") (matches_of command words)) false
 
 -- the words ask for something
 abbrev pub AreTaken : List Text → Type 0
@@ -69,35 +71,42 @@ AreTaken words = (faults words ≡ []) ⊎ AsksHelp words
 abbrev pub ReadsInput : List Text → Type 0
 ReadsInput words = (faults words ≡ []) × (script_named words ≡ None)
 
--- these may be the bytes that were read: all that the input has, where no file is named and they are known; else any, since
--- no clause can know the bytes of a file
+-- these may be the bytes that were read: all that the input has, where no file is
+-- named and they are known; else any, since no clause can know the bytes of a file
 abbrev pub MayBeRead : Option Text → Option (List ℕ) → List ℕ → Type 0
 MayBeRead (Some path) remaining bytes = ⊤
 MayBeRead None remaining bytes = IfSome remaining (λ all. all ≡ bytes)
 
 -- what may have been read stands for no script
 abbrev pub MayBeNoScript : Option Text → Option (List ℕ) → Type 0
-MayBeNoScript script remaining = (bytes : List ℕ) × MayBeRead script remaining bytes × IsRefused bytes
+MayBeNoScript script remaining =
+    (bytes : List ℕ) × MayBeRead script remaining bytes × IsRefused bytes
 
 -- what may have been read is a script, and a run of it has a fault that its audit found
 abbrev pub MayBeFaulty : Option Text → Option (List ℕ) → Type 0
-MayBeFaulty script remaining = (bytes : List ℕ) × MayBeRead script remaining bytes × (plan : Plan) × Reads bytes (Ok plan) × (found : AuditFault) × IsFaulty plan found
+MayBeFaulty script remaining =
+    (bytes : List ℕ) × MayBeRead script remaining bytes
+    × (plan : Plan) × Reads bytes (Ok plan) × (found : AuditFault) × IsFaulty plan found
 
--- this is the text of a run of a script that may have been read, with the history where that is wanted
-pub record IsPrinted (script : Option Text) (with_history : Bool) (remaining : Option (List ℕ)) (written : List ℕ) : Type 0 where
+-- this is the text of a run of a script that may have been
+-- read, with the history where that is wanted
+pub record IsPrinted (script : Option Text) (with_history : Bool)
+    (remaining : Option (List ℕ)) (written : List ℕ) : Type 0 where
   pub bytes : List ℕ
   pub few : length bytes ≤ MAX_SCRIPT_BYTES
   pub read : MayBeRead script remaining bytes
   pub replayed : Replays bytes with_history written
 
 -- such a text was written, whole
-pub record Replayed (script : Option Text) (with_history : Bool) (remaining before after : Option (List ℕ)) : Type 0 where
+pub record Replayed (script : Option Text) (with_history : Bool)
+    (remaining before after : Option (List ℕ)) : Type 0 where
   pub written : List ℕ
   pub printed : IsPrinted script with_history remaining written
   pub appended : Appends before after written
 
 -- such a text was written in part, from its start on
-pub record IsCutShort (script : Option Text) (with_history : Bool) (remaining before after : Option (List ℕ)) : Type 0 where
+pub record IsCutShort (script : Option Text) (with_history : Bool)
+    (remaining before after : Option (List ℕ)) : Type 0 where
   pub written : List ℕ
   pub printed : IsPrinted script with_history remaining written
   pub cut : TakesSome written before after
@@ -105,24 +114,29 @@ pub record IsCutShort (script : Option Text) (with_history : Bool) (remaining be
 -- what the words ask for is done
 abbrev pub IsDone : List Text → Option (List ℕ) → Option (List ℕ) → Option (List ℕ) → Type 0
 IsDone words remaining before after = AsksHelp words
-    ⊎ ((faults words ≡ []) × Replayed (script_named words) (wants_history words) remaining before after)
+    ⊎ ((faults words ≡ [])
+    × Replayed (script_named words) (wants_history words) remaining before after)
 
--- what the words ask for is done, or the text of a replay was written in part: what a writer that fails may leave, a flush
--- that fails included
+-- what the words ask for is done, or the text of a replay was written in
+-- part: what a writer that fails may leave, a flush that fails included
 abbrev pub IsBegun : List Text → Option (List ℕ) → Option (List ℕ) → Option (List ℕ) → Type 0
 IsBegun words remaining before after = IsDone words remaining before after
-    ⊎ ((faults words ≡ []) × IsCutShort (script_named words) (wants_history words) remaining before after)
+    ⊎ ((faults words ≡ [])
+    × IsCutShort (script_named words) (wants_history words) remaining before after)
 
--- The words ask for a replay, and what may have been read stands for no script. Where no file is named and the input's bytes
--- are known, these stand for none; of the bytes of a file this says nothing.
+-- The words ask for a replay, and what may have been read stands for
+-- no script. Where no file is named and the input's bytes are known,
+-- these stand for none; of the bytes of a file this says nothing.
 abbrev pub MayAskInVain : List Text → Option (List ℕ) → Type 0
 MayAskInVain words remaining = (faults words ≡ []) × MayBeNoScript (script_named words) remaining
 
--- The words ask for a replay, and what may have been read is a script of which a run has a fault that its audit found. Where no
--- file is named and the input's bytes are known, these are such a script; of the bytes of a file this says nothing.
+-- The words ask for a replay, and what may have been read is a script of which a run
+-- has a fault that its audit found. Where no file is named and the input's bytes are
+-- known, these are such a script; of the bytes of a file this says nothing.
 abbrev pub MayAskFaulty : List Text → Option (List ℕ) → Type 0
 MayAskFaulty words remaining = (faults words ≡ []) × MayBeFaulty (script_named words) remaining
 
 -- at most so many of the input's bytes are gone, where they are known
 abbrev pub TakesAtMost : ℕ → Option (List ℕ) → Option (List ℕ) → Type 0
-TakesAtMost most before after = (taken : List ℕ) × (length taken ≤ most) × Consumes before after taken
+TakesAtMost most before after =
+    (taken : List ℕ) × (length taken ≤ most) × Consumes before after taken

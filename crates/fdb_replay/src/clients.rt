@@ -40,7 +40,8 @@ impl<'a, J: Live + Send + Sync> Clients<'a, J> {
         live: &'a LiveRecord<J>,
         tokens: Vec<Seen<J>>,
     ) -> Result<Self, AllocError>
-        requires numbered { (k : ℕ) → k < vec_len tokens → slice_get tokens.items k ≡ Some (record { reporter = Some k; raises = [] }) }
+        requires numbered { (k : ℕ) → k < vec_len tokens
+            → slice_get tokens.items k ≡ Some (record { reporter = Some k; raises = [] }) }
         requires few { vec_len tokens ≤ 64 }
         ensures { IfOk result (λ clients. clients ≡ replicate (vec_len tokens) []) }
     {
@@ -62,7 +63,8 @@ impl<'a, J: Live + Send + Sync> Clients<'a, J> {
         rounds: &[Sequence<Command>],
     ) -> Result<(), RunFault>
         requires few { length self.old ≤ 64 }
-        ensures ok { OnOk result (FoldsTo AnswersRound (logs_of self.old) rounds.now (logs_of self.new)) }
+        ensures ok { OnOk result
+            (FoldsTo AnswersRound (logs_of self.old) rounds.now (logs_of self.new)) }
         ensures err { IfErr result (λ fault. fault ≡ RunFault.Memory) }
     {
         let players = mem::replace(&mut self.players, Vec::new(alloc));

@@ -42,8 +42,8 @@ impl<J: Live> Desks<J> {
         &self.desks[self.place(client, reads)]
     }
 
-    /// The place of that desk. (what a desk holds is behind a lock, and so no clause can tell one from another: this one says
-    /// which is taken)
+    /// The place of that desk. (what a desk holds is behind a lock, and so
+    /// no clause can tell one from another: this one says which is taken)
     #[tactic(auto, using(crate::proofs::Turns::in_turn))]
     fn place(&self, client: u32, reads: u64) -> usize
         ensures { result ≡ desk_for (vec_len self.now.desks) client reads }

@@ -24,7 +24,8 @@ use thiserror::Error;
 /// The most bytes that one read asks for.
 const PIECE: usize = 65_536;
 
-/// Why the program ends with another status than 0. Its text is the line that the program writes, behind its name.
+/// Why the program ends with another status than 0. Its text
+/// is the line that the program writes, behind its name.
 #[derive(Clone, Copy, Debug, Error)]
 pub enum Fault {
     /// The bytes stand for no script.
@@ -102,7 +103,8 @@ impl From<WordsFault> for Fault {
     ghost use Rattle.fdb_replay.specs.declared.driving.Fault.TheVariants.{Memory, Words, Writing};
     ghost use Rattle.fdb_replay.specs.declared.words.WordsFault.TheVariants as cause;
 
-    ghost from_gives = { λ fault made. (fault ≡ cause.Refused → made ≡ Words) × (fault ≡ cause.Memory → made ≡ Memory) × (made ≢ Writing) };
+    ghost from_gives = { λ fault made. (fault ≡ cause.Refused → made ≡ Words)
+        × (fault ≡ cause.Memory → made ≡ Memory) × (made ≢ Writing) };
 
     fn from(fault: WordsFault) -> Self {
         match fault {
@@ -121,12 +123,15 @@ impl From<ReplayFault> for Fault {
     ghost use Rattle.fdb_script.specs.declared.error.ScriptError.{ScriptError};
     ghost use Rattle.fdb_script.specs.declared.error.ScriptError.TheVariants.{Memory};
 
-    ghost from_gives = { λ cause fault. (cause ≡ replay.Write → fault ≡ made.Writing) × (fault ≡ made.Writing → cause ≡ replay.Write) × (fault ≢ made.Words)
-        × ((error : ScriptError) → fault ≡ made.Script error → (cause ≡ replay.Script error) × (error ≢ Memory))
+    ghost from_gives = { λ cause fault. (cause ≡ replay.Write → fault ≡ made.Writing)
+        × (fault ≡ made.Writing → cause ≡ replay.Write) × (fault ≢ made.Words)
+        × ((error : ScriptError) → fault ≡ made.Script error → (cause ≡ replay.Script error)
+        × (error ≢ Memory))
         × (cause ≡ replay.Run run.Memory → fault ≡ made.Memory)
         × ((found : AuditFault) → cause ≡ replay.Run (run.Audit found) → fault ≡ made.Audit found)
         × ((found : AuditFault) → fault ≡ made.Audit found → cause ≡ replay.Run (run.Audit found))
-        × ((error : ScriptError) → cause ≡ replay.Script error → error ≢ Memory → fault ≡ made.Script error)
+        × ((error : ScriptError) → cause ≡ replay.Script error → error ≢ Memory
+        → fault ≡ made.Script error)
         × (cause ≡ replay.Script Memory → fault ≡ made.Memory) };
 
     fn from(fault: ReplayFault) -> Self {
@@ -141,15 +146,17 @@ impl From<ReplayFault> for Fault {
     }
 }
 
-/// Does what the words of the command line ask for, which are given without the program's own name, or with why they
-/// could not be had. Replays a script, from the file that the words name or else from the input, and writes the lines
-/// to `out`; or writes the help there.
+/// Does what the words of the command line ask for, which are given without the program's own
+/// name, or with why they could not be had. Replays a script, from the file that the words
+/// name or else from the input, and writes the lines to `out`; or writes the help there.
 ///
-/// Answers the status of the program: 0 where all of it is done, 1 where the script is refused, 2 where the words are,
-/// 3 where memory ran out, 4 for an audit fault, and 5 where reading or writing failed, a file that cannot be opened and
-/// a script of more than [`MAX_SCRIPT_BYTES`] included. Faults are looked for in the order words, reading, script, run,
-/// writing. Whatever is not 0 is reported by a line to `err`; where that line cannot be written, the status is the same.
-/// At most one byte more than [`MAX_SCRIPT_BYTES`] is taken from the input, and nothing is written after a write that failed.
+/// Answers the status of the program: 0 where all of it is done, 1 where the script is
+/// refused, 2 where the words are, 3 where memory ran out, 4 for an audit fault, and 5 where
+/// reading or writing failed, a file that cannot be opened and a script of more than
+/// [`MAX_SCRIPT_BYTES`] included. Faults are looked for in the order words, reading, script,
+/// run, writing. Whatever is not 0 is reported by a line to `err`; where that line cannot be
+/// written, the status is the same. At most one byte more than [`MAX_SCRIPT_BYTES`] is taken
+/// from the input, and nothing is written after a write that failed.
 pub fn drive<R: Threads + Wait + Sync + Files, I: Read, O: Write, E: Write>(
     rt: &R,
     alloc: Global,
@@ -159,20 +166,29 @@ pub fn drive<R: Threads + Wait + Sync + Files, I: Read, O: Write, E: Write>(
     err: &mut E,
 ) -> u8
     ensures range { result ≤ 5 }
-    ensures asked { result ≢ 2 → result ≢ 3 → IsOkAnd words (λ list. AreTaken (map string_bytes list.items)) }
+    ensures asked { result ≢ 2 → result ≢ 3
+        → IsOkAnd words (λ list. AreTaken (map string_bytes list.items)) }
     ensures done { result ≡ 0 → IsOkAnd words (λ list.
-        IsDone (map string_bytes list.items) (I.remaining input.old) (O.contents out.old) (O.contents out.new)) }
-    ensures refused { result ≡ 1 → IsOkAnd words (λ list. MayAskInVain (map string_bytes list.items) (I.remaining input.old)) }
-    ensures faulty { result ≡ 4 → IsOkAnd words (λ list. MayAskFaulty (map string_bytes list.items) (I.remaining input.old)) }
+        IsDone (map string_bytes list.items)
+        (I.remaining input.old) (O.contents out.old) (O.contents out.new)) }
+    ensures refused { result ≡ 1
+        → IsOkAnd words (λ list.
+        MayAskInVain (map string_bytes list.items) (I.remaining input.old)) }
+    ensures faulty { result ≡ 4
+        → IsOkAnd words (λ list.
+        MayAskFaulty (map string_bytes list.items) (I.remaining input.old)) }
     ensures wrong { result ≡ 2 → MatchResult words (λ list. AreWrong (map string_bytes list.items))
         (λ error. error_kind error ≢ ErrorKind.OutOfMemory) }
     ensures unread { OnErr words (input.new ≡ input.old) }
-    ensures left { IfOk words (λ list. (ReadsInput (map string_bytes list.items) → ⊥) → input.new ≡ input.old) }
+    ensures left { IfOk words
+        (λ list. (ReadsInput (map string_bytes list.items) → ⊥) → input.new ≡ input.old) }
     ensures quiet { result ≡ 0 → err.new ≡ err.old }
     ensures unwritten { result ≢ 0 → result ≢ 5 → out.new ≡ out.old }
     ensures begun { result ≡ 5 → (out.new ≡ out.old) ⊎ IsOkAnd words (λ list.
-        IsBegun (map string_bytes list.items) (I.remaining input.old) (O.contents out.old) (O.contents out.new)) }
-    ensures few { TakesAtMost (MAX_SCRIPT_BYTES + 1) (I.remaining input.old) (I.remaining input.new) }
+        IsBegun (map string_bytes list.items)
+        (I.remaining input.old) (O.contents out.old) (O.contents out.new)) }
+    ensures few { TakesAtMost (MAX_SCRIPT_BYTES + 1)
+        (I.remaining input.old) (I.remaining input.new) }
 {
     match answer(rt, alloc, words, input, out) {
         Ok(()) => 0,
@@ -191,22 +207,31 @@ fn answer<R: Threads + Wait + Sync + Files, I: Read, O: Write>(
     input: &mut I,
     out: &mut O,
 ) -> Result<(), Fault>
-    ensures asked { MatchResult result (λ _. IsOkAnd words (λ list. AreTaken (map string_bytes list.items)))
-        (λ fault. fault ≢ Fault.Words → fault ≢ Fault.Memory → IsOkAnd words (λ list. AreTaken (map string_bytes list.items))) }
+    ensures asked { MatchResult result
+        (λ _. IsOkAnd words (λ list. AreTaken (map string_bytes list.items)))
+        (λ fault. fault ≢ Fault.Words → fault ≢ Fault.Memory
+        → IsOkAnd words (λ list. AreTaken (map string_bytes list.items))) }
     ensures done { OnOk result (IsOkAnd words (λ list.
-        IsDone (map string_bytes list.items) (I.remaining input.old) (O.contents out.old) (O.contents out.new))) }
+        IsDone (map string_bytes list.items)
+        (I.remaining input.old) (O.contents out.old) (O.contents out.new))) }
     ensures refused { IfErr result (λ fault. (error : ScriptError) → fault ≡ Fault.Script error
-        → IsOkAnd words (λ list. MayAskInVain (map string_bytes list.items) (I.remaining input.old))) }
+        → IsOkAnd words (λ list.
+        MayAskInVain (map string_bytes list.items) (I.remaining input.old))) }
     ensures faulty { IfErr result (λ fault. (found : AuditFault) → fault ≡ Fault.Audit found
-        → IsOkAnd words (λ list. MayAskFaulty (map string_bytes list.items) (I.remaining input.old))) }
-    ensures wrong { IfErr result (λ fault. fault ≡ Fault.Words → MatchResult words (λ list. AreWrong (map string_bytes list.items))
+        → IsOkAnd words (λ list.
+        MayAskFaulty (map string_bytes list.items) (I.remaining input.old))) }
+    ensures wrong { IfErr result (λ fault. fault ≡ Fault.Words
+        → MatchResult words (λ list. AreWrong (map string_bytes list.items))
         (λ error. error_kind error ≢ ErrorKind.OutOfMemory)) }
     ensures unread { OnErr words (input.new ≡ input.old) }
-    ensures left { IfOk words (λ list. (ReadsInput (map string_bytes list.items) → ⊥) → input.new ≡ input.old) }
+    ensures left { IfOk words
+        (λ list. (ReadsInput (map string_bytes list.items) → ⊥) → input.new ≡ input.old) }
     ensures unwritten { IfErr result (λ fault. fault ≢ Fault.Writing → out.new ≡ out.old) }
     ensures begun { IfErr result (λ fault. fault ≡ Fault.Writing → IsOkAnd words (λ list.
-        IsBegun (map string_bytes list.items) (I.remaining input.old) (O.contents out.old) (O.contents out.new))) }
-    ensures few { TakesAtMost (MAX_SCRIPT_BYTES + 1) (I.remaining input.old) (I.remaining input.new) }
+        IsBegun (map string_bytes list.items)
+        (I.remaining input.old) (O.contents out.old) (O.contents out.new))) }
+    ensures few { TakesAtMost (MAX_SCRIPT_BYTES + 1)
+        (I.remaining input.old) (I.remaining input.new) }
 {
     let words = match words {
         Ok(words) => words,
@@ -238,19 +263,24 @@ fn replay_words<R: Threads + Wait + Sync + Files, I: Read, O: Write>(
 ) -> Result<(), Fault>
     requires some_proxy { 1 ≤ words.proxies }
     requires few_proxies { words.proxies ≤ 16 }
-    ensures ok { OnOk result (Replayed (option_map (λ path. path.now) words.entry.script) words.entry.history
+    ensures ok { OnOk result
+        (Replayed (option_map (λ path. path.now) words.entry.script) words.entry.history
         (I.remaining input.old) (O.contents out.old) (O.contents out.new)) }
     ensures refused { IfErr result (λ fault. (error : ScriptError) → fault ≡ Fault.Script error
-        → MayBeNoScript (option_map (λ path. path.now) words.entry.script) (I.remaining input.old)) }
+        → MayBeNoScript (option_map (λ path. path.now) words.entry.script)
+        (I.remaining input.old)) }
     ensures faulty { IfErr result (λ fault. (found : AuditFault) → fault ≡ Fault.Audit found
         → MayBeFaulty (option_map (λ path. path.now) words.entry.script) (I.remaining input.old)) }
     ensures taken { IfErr result (λ fault. fault ≢ Fault.Words) }
     ensures unwritten { IfErr result (λ fault. fault ≢ Fault.Writing → out.new ≡ out.old) }
     ensures begun { IfErr result (λ fault. fault ≡ Fault.Writing
-        → Replayed (option_map (λ path. path.now) words.entry.script) words.entry.history (I.remaining input.old) (O.contents out.old) (O.contents out.new)
-        ⊎ IsCutShort (option_map (λ path. path.now) words.entry.script) words.entry.history (I.remaining input.old) (O.contents out.old) (O.contents out.new)) }
+        → Replayed (option_map (λ path. path.now) words.entry.script) words.entry.history
+        (I.remaining input.old) (O.contents out.old) (O.contents out.new)
+        ⊎ IsCutShort (option_map (λ path. path.now) words.entry.script) words.entry.history
+        (I.remaining input.old) (O.contents out.old) (O.contents out.new)) }
     ensures left { is_some words.entry.script ≡ true → input.new ≡ input.old }
-    ensures few { TakesAtMost (MAX_SCRIPT_BYTES + 1) (I.remaining input.old) (I.remaining input.new) }
+    ensures few { TakesAtMost (MAX_SCRIPT_BYTES + 1)
+        (I.remaining input.old) (I.remaining input.new) }
 {
     let bytes = script_bytes(rt, alloc, words.script, input)?;
     replay(
@@ -268,21 +298,25 @@ fn replay_words<R: Threads + Wait + Sync + Files, I: Read, O: Write>(
     }
 }
 
-/// All bytes of the file that is named, or else of the input, if they are no more than a script may have.
+/// All bytes of the file that is named, or else of the
+/// input, if they are no more than a script may have.
 fn script_bytes<R: Files, I: Read>(
     rt: &R,
     alloc: Global,
     script: Option<&str>,
     input: &mut I,
 ) -> Result<Vec<u8>, Fault>
-    ensures all { IfOk result (λ bytes. MayBeRead (option_map (λ path. path.now) script.entry) (I.remaining input.old) bytes.items) }
+    ensures all { IfOk result (λ bytes.
+        MayBeRead (option_map (λ path. path.now) script.entry) (I.remaining input.old)
+        bytes.items) }
     ensures in_range { IfOk result (λ bytes. vec_len bytes ≤ MAX_SCRIPT_BYTES) }
     ensures err { IfErr result (λ fault. (error : ScriptError) → fault ≢ Fault.Script error) }
     ensures audit { IfErr result (λ fault. (found : AuditFault) → fault ≢ Fault.Audit found) }
     ensures taken { IfErr result (λ fault. fault ≢ Fault.Words) }
     ensures unwritten { IfErr result (λ fault. fault ≢ Fault.Writing) }
     ensures left { is_some script.entry ≡ true → input.new ≡ input.old }
-    ensures few { TakesAtMost (MAX_SCRIPT_BYTES + 1) (I.remaining input.old) (I.remaining input.new) }
+    ensures few { TakesAtMost (MAX_SCRIPT_BYTES + 1)
+        (I.remaining input.old) (I.remaining input.new) }
 {
     let Some(path) = script else {
         return read_all(alloc, input);
@@ -293,7 +327,8 @@ fn script_bytes<R: Files, I: Read>(
     }
 }
 
-/// All bytes that the input has, if they are no more than a script may have. One byte more is taken at the most.
+/// All bytes that the input has, if they are no more than a
+/// script may have. One byte more is taken at the most.
 fn read_all<I: Read>(alloc: Global, input: &mut I) -> Result<Vec<u8>, Fault>
     ensures all { IfOk result (λ bytes. IfSome (I.remaining input.old) (λ all. all ≡ bytes.items)) }
     ensures in_range { IfOk result (λ bytes. vec_len bytes ≤ MAX_SCRIPT_BYTES) }
@@ -301,7 +336,8 @@ fn read_all<I: Read>(alloc: Global, input: &mut I) -> Result<Vec<u8>, Fault>
     ensures audit { IfErr result (λ fault. (found : AuditFault) → fault ≢ Fault.Audit found) }
     ensures taken { IfErr result (λ fault. fault ≢ Fault.Words) }
     ensures unwritten { IfErr result (λ fault. fault ≢ Fault.Writing) }
-    ensures few { TakesAtMost (MAX_SCRIPT_BYTES + 1) (I.remaining input.old) (I.remaining input.new) }
+    ensures few { TakesAtMost (MAX_SCRIPT_BYTES + 1)
+        (I.remaining input.old) (I.remaining input.new) }
 {
     let mut bytes = Vec::new(alloc);
     let mut piece = Vec::new(alloc);
@@ -326,9 +362,12 @@ fn read_all<I: Read>(alloc: Global, input: &mut I) -> Result<Vec<u8>, Fault>
 /// Reads once, into the room, and adds what came to the bytes. Answers whether there may be more.
 fn read_piece<I: Read>(input: &mut I, bytes: &mut Vec<u8>, room: &mut [u8]) -> Result<bool, Fault>
     requires { 0 < length room.old }
-    ensures ok { IfOk result (λ more. (taken : List ℕ) × (bytes.new.items ≡ bytes.old.items ++ taken) × (length taken ≤ length room.old)
-        × Consumes (I.remaining input.old) (I.remaining input.new) taken × (more ≡ false → IsAtEnd (I.remaining input.new))) }
-    ensures few { OnErr result (TakesAtMost (length room.old) (I.remaining input.old) (I.remaining input.new)) }
+    ensures ok { IfOk result (λ more. (taken : List ℕ)
+        × (bytes.new.items ≡ bytes.old.items ++ taken) × (length taken ≤ length room.old)
+        × Consumes (I.remaining input.old) (I.remaining input.new) taken
+        × (more ≡ false → IsAtEnd (I.remaining input.new))) }
+    ensures few { OnErr result
+        (TakesAtMost (length room.old) (I.remaining input.old) (I.remaining input.new)) }
     ensures err { IfErr result (λ fault. (error : ScriptError) → fault ≢ Fault.Script error) }
     ensures audit { IfErr result (λ fault. (found : AuditFault) → fault ≢ Fault.Audit found) }
     ensures taken { IfErr result (λ fault. fault ≢ Fault.Words) }

@@ -1,4 +1,5 @@
-//! A script of clients, replayed against the read-version service from the script's bytes to the printed lines.
+//! A script of clients, replayed against the read-version
+//! service from the script's bytes to the printed lines.
 #![tactic(auto)]
 
 mod clients;

@@ -37,7 +37,8 @@ impl<'a, J: Live> Model for Player<'a, J> {
 
     ghost view = { λ player. player.client.calls };
 
-    ghost invariant = { λ player. (player.client.begun ≡ 0) × (player.reads ≡ reads_of player.client.calls) };
+    ghost invariant = { λ player. (player.client.begun ≡ 0)
+        × (player.reads ≡ reads_of player.client.calls) };
 }
 
 impl<'a, J: Live> Player<'a, J> {
@@ -60,8 +61,8 @@ impl<'a, J: Live> Player<'a, J> {
         client.finish().0
     }
 
-    /// Does what a command says, as the client with this number. What it tells another by that is added to the tells.
-    /// A call that is refused is done, too.
+    /// Does what a command says, as the client with this number. What it tells
+    /// another by that is added to the tells. A call that is refused is done, too.
     pub(crate) fn perform<R: Wait, G: Gate>(
         &mut self,
         rt: &R,
@@ -71,7 +72,8 @@ impl<'a, J: Live> Player<'a, J> {
         tells: &mut Vec<Tell<J>>,
     ) -> Result<(), RunFault>
         ensures ok { OnOk result (AddsCall self.old (input_of self.old act.now) self.new) }
-        ensures told { OnOk result (tells.new.items ≡ tells.old.items ++ tells_in number (drop (length self.old) self.new)) }
+        ensures told { OnOk result (tells.new.items
+            ≡ tells.old.items ++ tells_in number (drop (length self.old) self.new)) }
         ensures err { IfErr result (λ fault. fault ≡ RunFault.Memory) }
     {
         match act {
@@ -119,7 +121,8 @@ impl<'a, J: Live> Player<'a, J> {
         processed: u64,
         at: u64,
     ) -> Result<(), RunFault>
-        ensures ok { OnOk result (AddsCall self.old (input.Ask (length (fresh_answers self.old) + 1) processed at) self.new) }
+        ensures ok { OnOk result (AddsCall self.old
+            (input.Ask (length (fresh_answers self.old) + 1) processed at) self.new) }
         ensures err { IfErr result (λ fault. fault ≡ RunFault.Memory) }
     {
         settled(
@@ -164,7 +167,8 @@ impl<'a, J: Live> Player<'a, J> {
     /// Tells another what it has seen.
     fn tell(&mut self, number: u32, to: u32, tells: &mut Vec<Tell<J>>) -> Result<(), RunFault>
         ensures ok { OnOk result (AddsCall self.old (input.Tell to) self.new) }
-        ensures told { OnOk result (tells.new.items ≡ tells.old.items ++ tells_in number (drop (length self.old) self.new)) }
+        ensures told { OnOk result (tells.new.items
+            ≡ tells.old.items ++ tells_in number (drop (length self.old) self.new)) }
         ensures err { IfErr result (λ fault. fault ≡ RunFault.Memory) }
     {
         let Ok(seen) = self.client.tell(to) else {
@@ -176,7 +180,8 @@ impl<'a, J: Live> Player<'a, J> {
 
     /// Learns what it was told.
     pub(crate) fn learn<R: Wait>(&mut self, rt: &R, tell: Tell<J>) -> Result<(), RunFault>
-        ensures ok { OnOk result (self.new ≡ learns self.old (record { teller = tell.from; position = tell.position })) }
+        ensures ok { OnOk result
+            (self.new ≡ learns self.old (record { teller = tell.from; position = tell.position })) }
         ensures err { IfErr result (λ fault. fault ≡ RunFault.Memory) }
     {
         let Tell { to: _, from, seen } = tell;
@@ -202,8 +207,8 @@ fn is_logged<T>(answer: &Result<T, ClientError>) -> bool
     !matches!(answer, Err(ClientError::Memory))
 }
 
-/// What an answer leaves to be done: nothing, but where memory was refused, which is also why a proxy closes its desk
-/// while rounds are played.
+/// What an answer leaves to be done: nothing, but where memory was refused,
+/// which is also why a proxy closes its desk while rounds are played.
 fn settled<T: Drop>(answer: Result<T, ClientError>) -> Result<(), RunFault>
     ensures ok { OnOk result (answer ≢ Err ClientError.Memory) }
     ensures err { IfErr result (λ fault. fault ≡ RunFault.Memory) }

@@ -29,10 +29,12 @@ pub enum ReplayFault {
     Write,
 }
 
-/// Reads a script, plays it, and writes the replies, the audit line and, where it is wanted, the history.
+/// Reads a script, plays it, and writes the replies, the
+/// audit line and, where it is wanted, the history.
 ///
-/// Refuses bytes that stand for no script, then a run that fails, then a writer that fails. There are 1 to 16 GRV proxies.
-/// Nothing is written before the run is done, and nothing after a write that failed.
+/// Refuses bytes that stand for no script, then a run that fails, then a
+/// writer that fails. There are 1 to 16 GRV proxies. Nothing is written
+/// before the run is done, and nothing after a write that failed.
 pub fn replay<R: Threads + Wait + Sync, G: Gate, W: Write>(
     rt: &R,
     alloc: Global,
@@ -47,7 +49,8 @@ pub fn replay<R: Threads + Wait + Sync, G: Gate, W: Write>(
     ensures ok { OnOk result ((written : List ℕ) × Replays bytes.now with_history written
         × Appends (W.contents writer.old) (W.contents writer.new) written) }
     ensures err { IfErr result (Refuses bytes.now) }
-    ensures unwritten { IfErr result (λ fault. fault ≢ ReplayFault.Write → writer.new ≡ writer.old) }
+    ensures unwritten { IfErr result
+        (λ fault. fault ≢ ReplayFault.Write → writer.new ≡ writer.old) }
     ensures cut { IfErr result (λ fault. fault ≡ ReplayFault.Write
         → IsCut bytes.now with_history (W.contents writer.old) (W.contents writer.new)) }
 {
@@ -58,7 +61,8 @@ pub fn replay<R: Threads + Wait + Sync, G: Gate, W: Write>(
 /// Writes all of these bytes. A writer that fails is not called again.
 fn write_whole<W: Write>(writer: &mut W, lines: &[u8]) -> Result<(), ReplayFault>
     ensures ok { OnOk result (Appends (W.contents writer.old) (W.contents writer.new) lines.now) }
-    ensures cut { OnErr result (TakesSome lines.now (W.contents writer.old) (W.contents writer.new)) }
+    ensures cut { OnErr result
+        (TakesSome lines.now (W.contents writer.old) (W.contents writer.new)) }
     ensures err { IfErr result (λ fault. fault ≡ ReplayFault.Write) }
 {
     if lines.is_empty() {
@@ -76,10 +80,12 @@ fn write_whole<W: Write>(writer: &mut W, lines: &[u8]) -> Result<(), ReplayFault
     Err(ReplayFault::Write)
 }
 
-/// Writes once, and answers how many of the bytes the writer took, which is none where it was interrupted.
+/// Writes once, and answers how many of the bytes the writer
+/// took, which is none where it was interrupted.
 fn write_once<W: Write>(writer: &mut W, bytes: &[u8]) -> Result<usize, ReplayFault>
     ensures bound { IfOk result (λ count. count ≤ length bytes.now) }
-    ensures ok { IfOk result (λ count. Appends (W.contents writer.old) (W.contents writer.new) (take count bytes.now)) }
+    ensures ok { IfOk result
+        (λ count. Appends (W.contents writer.old) (W.contents writer.new) (take count bytes.now)) }
     ensures kept { OnErr result (Keeps (W.contents writer.old) (W.contents writer.new)) }
     ensures err { IfErr result (λ fault. fault ≡ ReplayFault.Write) }
 {
@@ -123,7 +129,8 @@ fn run_text<R: Threads + Wait + Sync, G: Gate>(
 ) -> Result<Vec<u8>, ReplayFault>
     requires some_proxy { 0 < proxies }
     requires few_proxies { proxies ≤ 16 }
-    ensures ok { (bytes : List ℕ) → Reads bytes (Ok script.now) → IfOk result (λ lines. Replays bytes with_history lines.items) }
+    ensures ok { (bytes : List ℕ) → Reads bytes (Ok script.now)
+        → IfOk result (λ lines. Replays bytes with_history lines.items) }
     ensures err { (bytes : List ℕ) → Reads bytes (Ok script.now) → IfErr result (Refuses bytes) }
     ensures unwritten { IfErr result (λ fault. fault ≢ ReplayFault.Write) }
 {

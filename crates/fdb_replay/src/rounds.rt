@@ -26,7 +26,8 @@ struct Round<'a> {
     commands: &'a [Command],
     /// Whether the client with this number has a command.
     acts: [bool; CLIENTS],
-    ghost idle: { (client : ℕ) → slice_index_or acts client true ≡ false → commands_of client commands.now ≡ [] },
+    ghost idle: { (client : ℕ) → slice_index_or acts client true ≡ false
+        → commands_of client commands.now ≡ [] },
 }
 
 impl<'a> Round<'a> {
@@ -44,7 +45,8 @@ impl<'a> Round<'a> {
     fn acts_among(&self, first: u32, clients: usize) -> bool
         requires { first + clients ≤ 64 }
         ensures some { result ≡ true → 0 < clients }
-        ensures idle { result ≡ false → (k : ℕ) → k < clients → commands_of (first + k) self.now.commands.now ≡ [] }
+        ensures idle { result ≡ false → (k : ℕ) → k < clients
+            → commands_of (first + k) self.now.commands.now ≡ [] }
     {
         let first = first as usize;
         for number in first..first + clients {
@@ -59,7 +61,8 @@ impl<'a> Round<'a> {
 /// Which clients have one of these commands.
 #[tactic(auto, using(crate::proofs::Acts::one_set, crate::proofs::Acts::none_set))]
 fn acts_in(commands: &[Command]) -> [bool; CLIENTS]
-    ensures { (client : ℕ) → slice_index_or result client true ≡ false → commands_of client commands.now ≡ [] }
+    ensures { (client : ℕ) → slice_index_or result client true ≡ false
+        → commands_of client commands.now ≡ [] }
 {
     let mut acts = [false; CLIENTS];
     for command in commands {
@@ -80,7 +83,8 @@ pub(crate) fn play_rounds<'a, J: Live + Send + Sync, R: Threads + Wait + Sync, G
     rounds: &[Sequence<Command>],
 ) -> Result<Vec<Player<'a, J>>, RunFault>
     requires few { length clients.items ≤ 64 }
-    ensures ok { IfOk result (λ after. FoldsTo AnswersRound (logs_of clients.entry.items) rounds.now (logs_of after.items)) }
+    ensures ok { IfOk result (λ after.
+        FoldsTo AnswersRound (logs_of clients.entry.items) rounds.now (logs_of after.items)) }
     ensures err { IfErr result (λ fault. fault ≡ RunFault.Memory) }
 {
     for commands in rounds {
@@ -98,7 +102,8 @@ fn play_round<'a, J: Live + Send + Sync, R: Threads + Wait + Sync, G: Gate>(
     commands: &[Command],
 ) -> Result<Vec<Player<'a, J>>, RunFault>
     requires few { length clients.items ≤ 64 }
-    ensures ok { IfOk result (λ after. AnswersRound (logs_of clients.entry.items) commands.now (logs_of after.items)) }
+    ensures ok { IfOk result
+        (λ after. AnswersRound (logs_of clients.entry.items) commands.now (logs_of after.items)) }
     ensures few { IfOk result (λ after. length after.items ≡ length clients.entry.items) }
     ensures err { IfErr result (λ fault. fault ≡ RunFault.Memory) }
 {
@@ -116,8 +121,9 @@ struct Part<'a, J: Live> {
     tells: Vec<Tell<J>>,
 }
 
-/// Has these clients, the first of whom has this number, do their commands of a round, each that has any in a thread of its
-/// own, the last of them in this one. Answers what they told, by client and then by command.
+/// Has these clients, the first of whom has this number, do their commands
+/// of a round, each that has any in a thread of its own, the last of them
+/// in this one. Answers what they told, by client and then by command.
 #[cycle(parts)]
 #[tactic(auto, using(crate::proofs::Parts::one_played_at))]
 fn play_part<'a, J: Live + Send + Sync, R: Threads + Wait + Sync, G: Gate>(
@@ -129,7 +135,9 @@ fn play_part<'a, J: Live + Send + Sync, R: Threads + Wait + Sync, G: Gate>(
     mut clients: Vec<Player<'a, J>>,
 ) -> Result<Part<'a, J>, RunFault>
     requires few { first + vec_len clients ≤ 64 }
-    ensures ok { IfOk result (λ part. IsPlayed first round.now.commands.now clients.entry.items part.clients.items part.tells.items) }
+    ensures ok { IfOk result (λ part.
+        IsPlayed first round.now.commands.now
+        clients.entry.items part.clients.items part.tells.items) }
     ensures err { IfErr result (λ fault. fault ≡ RunFault.Memory) }
 {
     if !round.acts_among(first, clients.len()) {
@@ -147,12 +155,20 @@ fn play_part<'a, J: Live + Send + Sync, R: Threads + Wait + Sync, G: Gate>(
     let others = clients.split_off(half)?;
     let both_act = round.acts_among(first, half) && round.acts_among(next, others.len());
     let front = move || -> Result<Part<'_, J>, RunFault>
-        requires { IsSync R.row × IsSync J.row × IsSend J.row × IsSync G.row × (first + vec_len clients ≤ 64) }
-        ensures { IfOk result (λ part. IsPlayed first round.entry.now.commands.now clients.entry.items part.clients.items part.tells.items) × IfErr result (λ fault. fault ≡ RunFault.Memory) }
+        requires { IsSync R.row × IsSync J.row × IsSend J.row × IsSync G.row
+            × (first + vec_len clients ≤ 64) }
+        ensures { IfOk result (λ part.
+            IsPlayed first round.entry.now.commands.now
+            clients.entry.items part.clients.items part.tells.items)
+            × IfErr result (λ fault. fault ≡ RunFault.Memory) }
     { play_part(rt, alloc, world, round, first, clients) };
     let back = move || -> Result<Part<'_, J>, RunFault>
-        requires { IsSync R.row × IsSync J.row × IsSend J.row × IsSync G.row × (next + vec_len others ≤ 64) }
-        ensures { IfOk result (λ part. IsPlayed next round.entry.now.commands.now others.entry.items part.clients.items part.tells.items) × IfErr result (λ fault. fault ≡ RunFault.Memory) }
+        requires { IsSync R.row × IsSync J.row × IsSend J.row × IsSync G.row
+            × (next + vec_len others ≤ 64) }
+        ensures { IfOk result (λ part.
+            IsPlayed next round.entry.now.commands.now
+            others.entry.items part.clients.items part.tells.items)
+            × IfErr result (λ fault. fault ≡ RunFault.Memory) }
     { play_part(rt, alloc, world, round, next, others) };
     let (theirs, ours) = if both_act {
         join(rt, front, back)
@@ -176,8 +192,10 @@ fn play_client<J: Live, R: Wait, G: Gate>(
     number: u32,
     client: &mut Player<'_, J>,
 ) -> Result<Vec<Tell<J>>, RunFault>
-    ensures ok { OnOk result (FoldsTo AnswersCommand client.old (commands_of number commands.now) client.new) }
-    ensures told { IfOk result (λ tells. tells.items ≡ tells_in number (drop (length client.old) client.new)) }
+    ensures ok { OnOk result
+        (FoldsTo AnswersCommand client.old (commands_of number commands.now) client.new) }
+    ensures told { IfOk result
+        (λ tells. tells.items ≡ tells_in number (drop (length client.old) client.new)) }
     ensures err { IfErr result (λ fault. fault ≡ RunFault.Memory) }
 {
     let mut tells = Vec::new(alloc);

@@ -20,15 +20,17 @@ use std::marker::Brand;
 use std::sync::Wait;
 use std::thread::Threads;
 
-/// Plays a script, audits what it leaves, and answers it: the logs of its clients, the chain of commit versions, and
-/// a history that explains them, in the fixed order. It plays the rounds in order. In a round each client that has commands
-/// does them in order, in a thread of its own; what was told in a round is learnt at its end.
+/// Plays a script, audits what it leaves, and answers it: the logs of its clients, the
+/// chain of commit versions, and a history that explains them, in the fixed order. It
+/// plays the rounds in order. In a round each client that has commands does them in
+/// order, in a thread of its own; what was told in a round is learnt at its end.
 ///
-/// There are 1 to 16 GRV proxies, each in a thread of its own for the whole run. A client's reads go to them in turn.
-/// The gate is passed where the sequencer's lock is held, where that of the reports is, and where an answer to a read has come.
+/// There are 1 to 16 GRV proxies, each in a thread of its own for the whole run. A
+/// client's reads go to them in turn. The gate is passed where the sequencer's lock
+/// is held, where that of the reports is, and where an answer to a read has come.
 ///
-/// It fails where memory runs out, or a thread for a proxy cannot be had, or with the fault that the audit finds. A client
-/// for which no thread can be had acts in the calling one.
+/// It fails where memory runs out, or a thread for a proxy cannot be had, or with the fault
+/// that the audit finds. A client for which no thread can be had acts in the calling one.
 pub fn run<R: Threads + Wait + Sync, G: Gate>(
     rt: &R,
     alloc: Global,
@@ -69,7 +71,8 @@ fn run_named<J: Live + Send + Sync, R: Threads + Wait + Sync, G: Gate>(
     gate: &G,
 ) -> Result<Outcome, RunFault>
     requires plan { IsPlan script.now }
-    requires opened { opened ≡ record { table = J.table; start = J.start; reporters = J.reporters } }
+    requires opened { opened
+        ≡ record { table = J.table; start = J.start; reporters = J.reporters } }
     requires clients { J.reporters ≡ script.now.clients }
     requires epoch_end { J.epoch_end ≡ script.now.epoch_end }
     requires recovery { J.recovery ≡ script.now.recovery }
@@ -95,7 +98,8 @@ fn run_named<J: Live + Send + Sync, R: Threads + Wait + Sync, G: Gate>(
     audited(alloc, script, sequencer.close().into_answers(), logs)
 }
 
-/// The logs of a script's clients, once all its rounds are played at a service that nobody has called yet.
+/// The logs of a script's clients, once all its rounds are
+/// played at a service that nobody has called yet.
 fn logs_at<'a, J: Live + Send + Sync, R: Threads + Wait + Sync, G: Gate>(
     rt: &R,
     alloc: Global,
@@ -107,7 +111,8 @@ fn logs_at<'a, J: Live + Send + Sync, R: Threads + Wait + Sync, G: Gate>(
 ) -> Result<Vec<ClientLog>, RunFault>
     requires plan { IsPlan script.now }
     requires count { vec_len tokens ≡ script.now.clients }
-    requires numbered { (k : ℕ) → k < vec_len tokens → slice_get tokens.items k ≡ Some (record { reporter = Some k; raises = [] }) }
+    requires numbered { (k : ℕ) → k < vec_len tokens
+        → slice_get tokens.items k ≡ Some (record { reporter = Some k; raises = [] }) }
     ensures answers { IfOk result (λ logs. Answers script.now logs.items) }
     ensures few { IfOk result (λ logs. length logs.items ≤ 64) }
     ensures err { IfErr result (λ fault. fault ≡ RunFault.Memory) }

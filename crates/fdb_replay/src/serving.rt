@@ -21,8 +21,8 @@ use std::sync::Wait;
 use std::thread;
 use std::thread::{JoinHandle, Scope, Threads};
 
-/// A GRV proxy for each desk, in order: each with a queue of its own, made with what the script says, and with a token that
-/// is split off the first one.
+/// A GRV proxy for each desk, in order: each with a queue of its own, made with
+/// what the script says, and with a token that is split off the first one.
 ///
 /// It fails only where memory runs out.
 pub(crate) fn proxies_of<'a, J: Live>(
@@ -61,11 +61,11 @@ fn proxy_at<'a, J: Live>(
     Ok(GrvProxy::new(alloc, live, desk, queue, script.elapsed(), seen))
 }
 
-/// The logs of the clients, once all rounds are played. Meanwhile each proxy serves its desk in a thread of its own;
-/// however the rounds end, the desks are then closed, and the proxies joined.
+/// The logs of the clients, once all rounds are played. Meanwhile each proxy serves its desk in a
+/// thread of its own; however the rounds end, the desks are then closed, and the proxies joined.
 ///
-/// It fails only where memory runs out: where a proxy cannot be started, which leaves all rounds unplayed, or in a
-/// client or a proxy.
+/// It fails only where memory runs out: where a proxy cannot be started,
+/// which leaves all rounds unplayed, or in a client or a proxy.
 pub(crate) fn served<J: Live + Send + Sync, R: Threads + Wait + Sync, G: Gate>(
     rt: &R,
     alloc: Global,
@@ -75,7 +75,8 @@ pub(crate) fn served<J: Live + Send + Sync, R: Threads + Wait + Sync, G: Gate>(
     rounds: &[Sequence<Command>],
 ) -> Result<Vec<ClientLog>, RunFault>
     requires few { length clients ≤ 64 }
-    ensures ok { IfOk result (λ logs. FoldsTo AnswersRound (logs_of clients.entry) rounds.now logs.items) }
+    ensures ok { IfOk result
+        (λ logs. FoldsTo AnswersRound (logs_of clients.entry) rounds.now logs.items) }
     ensures err { IfErr result (λ fault. fault ≡ RunFault.Memory) }
 {
     thread::scope(
@@ -83,7 +84,8 @@ pub(crate) fn served<J: Live + Send + Sync, R: Threads + Wait + Sync, G: Gate>(
         rt,
         move |scope| -> Result<Vec<ClientLog>, RunFault>
             requires { length clients ≤ 64 }
-            ensures ok { IfOk result (λ logs. FoldsTo AnswersRound (logs_of clients.entry) rounds.entry.now logs.items) }
+            ensures ok { IfOk result
+                (λ logs. FoldsTo AnswersRound (logs_of clients.entry) rounds.entry.now logs.items) }
             ensures err { IfErr result (λ fault. fault ≡ RunFault.Memory) }
         {
             let mut threads = Vec::new(alloc);
@@ -128,7 +130,8 @@ fn played<J: Live + Send + Sync, R: Threads + Wait + Sync, G: Gate>(
     rounds: &[Sequence<Command>],
 ) -> Result<Vec<ClientLog>, RunFault>
     requires few { length clients ≤ 64 }
-    ensures ok { IfOk result (λ logs. FoldsTo AnswersRound (logs_of clients.entry) rounds.now logs.items) }
+    ensures ok { IfOk result
+        (λ logs. FoldsTo AnswersRound (logs_of clients.entry) rounds.now logs.items) }
     ensures err { IfErr result (λ fault. fault ≡ RunFault.Memory) }
 {
     clients.play(rt, alloc, world, rounds)?;

@@ -24,7 +24,8 @@ impl<J: Live> Model for Tell<J> {
 
     ghost Value = { Tell };
 
-    ghost view = { λ tell. record { to = tell.to; from = tell.from; position = length tell.seen.raises } };
+    ghost view = { λ tell.
+        record { to = tell.to; from = tell.from; position = length tell.seen.raises } };
 
     ghost invariant = { λ tell. tell.seen.reporter ≡ None };
 }

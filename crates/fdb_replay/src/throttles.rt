@@ -13,8 +13,8 @@ use fdb_queue::{GrvQueue, QueueConfig, QueueError};
 use fdb_script::Throttle;
 use std::alloc::Global;
 
-/// A queue in which nothing waits, with no budget yet and these throttles. Of two throttles for one priority and tag, the
-/// later counts.
+/// A queue in which nothing waits, with no budget yet and these throttles.
+/// Of two throttles for one priority and tag, the later counts.
 ///
 /// It fails only where memory runs out.
 pub(crate) fn throttled_queue<T: Drop>(
@@ -24,8 +24,10 @@ pub(crate) fn throttled_queue<T: Drop>(
 ) -> Result<GrvQueue<T>, RunFault>
     requires config { IsConfig config }
     requires tagged { AllByRecursion (λ throttle. IsTrue (is_tag throttle.tag)) throttles.now }
-    ensures throttles { IfOk result (λ queue. SameThrottles queue.throttles (throttles_of throttles.now)) }
-    ensures rest { IfOk result (λ queue. queue ≡ record (new_queue {T = T.row.Denot} config) { throttles = queue.throttles }) }
+    ensures throttles { IfOk result
+        (λ queue. SameThrottles queue.throttles (throttles_of throttles.now)) }
+    ensures rest { IfOk result (λ queue.
+        queue ≡ record (new_queue {T = T.row.Denot} config) { throttles = queue.throttles }) }
     ensures err { IfErr result (λ fault. fault ≡ RunFault.Memory) }
 {
     let Ok(mut queue) = GrvQueue::new(alloc, config) else {
@@ -40,7 +42,8 @@ pub(crate) fn throttled_queue<T: Drop>(
 /// Sets a throttle.
 fn set_throttle<T>(queue: &mut GrvQueue<T>, throttle: &Throttle) -> Result<(), RunFault>
     requires { IsTrue (is_tag throttle.now.tag) }
-    ensures set { OnOk result (SameThrottles queue.new.throttles (throttle_of throttle.now ∷ queue.old.throttles)) }
+    ensures set { OnOk result
+        (SameThrottles queue.new.throttles (throttle_of throttle.now ∷ queue.old.throttles)) }
     ensures rest { OnOk result (queue.new ≡ record queue.old { throttles = queue.new.throttles }) }
     ensures err { IfErr result (λ fault. fault ≡ RunFault.Memory) }
 {

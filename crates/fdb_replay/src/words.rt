@@ -52,8 +52,8 @@ pub(crate) enum WordsFault {
     Memory,
 }
 
-/// The words of the command line behind the program's own name. Words that are not UTF-8 are an error, and so
-/// is memory that runs out.
+/// The words of the command line behind the program's own name. Words
+/// that are not UTF-8 are an error, and so is memory that runs out.
 pub fn command_line<R: Env + Alloc<A = Global>>(rt: &R) -> io::Result<Vec<String>> {
     Ok(env::args(rt)?.skip(1).collect(rt.alloc())?)
 }
@@ -61,7 +61,8 @@ pub fn command_line<R: Env + Alloc<A = Global>>(rt: &R) -> io::Result<Vec<String
 /// What the words ask for, the program's own name left out.
 pub(crate) fn parse<'a>(alloc: Global, words: &'a [String]) -> Result<Request<'a>, WordsFault>
     ensures ok { IfOk result (Ask (map string_bytes words.entry.now)) }
-    ensures err { IfErr result (λ fault. fault ≡ WordsFault.Refused → AreWrong (map string_bytes words.entry.now)) }
+    ensures err { IfErr result
+        (λ fault. fault ≡ WordsFault.Refused → AreWrong (map string_bytes words.entry.now)) }
 {
     let Ok(command) = command(alloc) else {
         return Err(WordsFault::Memory);
@@ -78,8 +79,10 @@ pub(crate) fn parse<'a>(alloc: Global, words: &'a [String]) -> Result<Request<'a
 
 /// What a replay is asked for, by the matches of the words.
 fn words_of<'a>(matches: &ArgMatches<'a>) -> Words<'a>
-    ensures { (old : Command) (words : List Text) → IsParsedFrom old matches.now → app_of old ≡ command_read
-        → rows_of (found_of matches.now) ≡ matches_of command_read words → faults words ≡ [] → AskReplay words result }
+    ensures { (old : Command) (words : List Text) → IsParsedFrom old matches.now
+        → app_of old ≡ command_read
+        → rows_of (found_of matches.now) ≡ matches_of command_read words → faults words ≡ []
+        → AskReplay words result }
 {
     Words {
         script: matches.get_str("script"),

@@ -1,4 +1,5 @@
-//! The calls whose contracts are long, each in one place: what the other tests are proved to do needs nearly none of it.
+//! The calls whose contracts are long, each in one place: what
+//! the other tests are proved to do needs nearly none of it.
 
 ghost use Rattle.std.specs.Prelude.{◌<◌, ◌≤◌, IfOk};
 ghost use Rattle.fdb_script.specs.Answering.{Answers};
@@ -14,7 +15,7 @@ use std::sync::Wait;
 use std::thread::Threads;
 
 /// A script, by a second call where memory is refused to the first.
-pub fn script_of(alloc: Global, text: &str) -> Result<Script, ScriptError> {
+pub(crate) fn script_of(alloc: Global, text: &str) -> Result<Script, ScriptError> {
     match read_script(alloc, text.as_bytes()) {
         Err(ScriptError::Memory) => read_script(alloc, text.as_bytes()),
         result => result,
@@ -22,7 +23,7 @@ pub fn script_of(alloc: Global, text: &str) -> Result<Script, ScriptError> {
 }
 
 /// What a run leaves, by a second call where memory is refused to the first.
-pub fn outcome_of<R: Threads + Wait + Sync>(
+pub(crate) fn outcome_of<R: Threads + Wait + Sync>(
     rt: &R,
     alloc: Global,
     script: &Script,
@@ -36,7 +37,11 @@ pub fn outcome_of<R: Threads + Wait + Sync>(
 }
 
 /// The text of a run with its history, by a second call where memory is refused to the first.
-pub fn text_of(alloc: Global, script: &Script, outcome: &Outcome) -> Result<Vec<u8>, ScriptError>
+pub(crate) fn text_of(
+    alloc: Global,
+    script: &Script,
+    outcome: &Outcome,
+) -> Result<Vec<u8>, ScriptError>
     requires { Answers script.now outcome.now.logs.items }
 {
     match text(alloc, script, outcome, true) {
@@ -46,7 +51,7 @@ pub fn text_of(alloc: Global, script: &Script, outcome: &Outcome) -> Result<Vec<
 }
 
 /// Replays a script.
-pub fn replays<R: Threads + Wait + Sync, W: Write>(
+pub(crate) fn replays<R: Threads + Wait + Sync, W: Write>(
     rt: &R,
     alloc: Global,
     script: &str,
@@ -69,7 +74,7 @@ pub fn replays<R: Threads + Wait + Sync, W: Write>(
 }
 
 /// Drives the program, and answers its status.
-pub fn drives<R: Threads + Wait + Sync + Files, I: Read, O: Write, E: Write>(
+pub(crate) fn drives<R: Threads + Wait + Sync + Files, I: Read, O: Write, E: Write>(
     rt: &R,
     alloc: Global,
     words: io::Result<Vec<String>>,
@@ -81,7 +86,7 @@ pub fn drives<R: Threads + Wait + Sync + Files, I: Read, O: Write, E: Write>(
 }
 
 /// Whether a run through a gate leaves an outcome.
-pub fn runs_through<R: Threads + Wait + Sync, G: Gate>(
+pub(crate) fn runs_through<R: Threads + Wait + Sync, G: Gate>(
     rt: &R,
     alloc: Global,
     script: &Script,

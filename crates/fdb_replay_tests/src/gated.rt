@@ -1,5 +1,5 @@
-//! Runs whose threads are held at gates: that they run side by side, that a lock is held where its gate is passed, and that a
-//! read waits for none of them. No clause says these.
+//! Runs whose threads are held at gates: that they run side by side, that a lock is held
+//! where its gate is passed, and that a read waits for none of them. No clause says these.
 
 mod alone;
 mod crossing;

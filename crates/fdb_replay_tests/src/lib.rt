@@ -1,4 +1,5 @@
-//! The tests of `fdb_replay`: runs of scripts, and the program. Without its tests this crate is empty.
+//! The tests of `fdb_replay`: runs of scripts, and the
+//! program. Without its tests this crate is empty.
 #![tactic(auto)]
 
 #[cfg(test)]

@@ -18,7 +18,7 @@ use std::sync::Wait;
 use std::test::Fail;
 use std::thread::Threads;
 
-pub const SCRIPT: &str = r#"{"epoch_end":0,"recovery":100,"clients":1,"rounds":[[
+pub(crate) const SCRIPT: &str = r#"{"epoch_end":0,"recovery":100,"clients":1,"rounds":[[
 {"do":"grv","client":0},
 {"do":"ask","client":0,"at":1000},
 {"do":"report","client":0,"num":1},
@@ -26,7 +26,7 @@ pub const SCRIPT: &str = r#"{"epoch_end":0,"recovery":100,"clients":1,"rounds":[
 {"do":"report","client":0,"num":2},
 {"do":"grv","client":0}]]}"#;
 
-pub const REPLIES: &str = "\
+pub(crate) const REPLIES: &str = "\
 0 0 0 grv 100 unlocked none pos 0
 0 0 1 ask prev 0 version 100 ordinal 0 fresh
 0 0 2 report 100 not raised pos 0
@@ -36,7 +36,7 @@ pub const REPLIES: &str = "\
 audit ok events 4 raised 1 versions 2
 ";
 
-pub const HISTORY: &str = "\
+pub(crate) const HISTORY: &str = "\
 history 0 client 0 call 0 read 100 unlocked none
 history 1 client 0 call 2 report 100 unlocked none not raised
 history 2 client 0 call 4 report 2100 unlocked none raised

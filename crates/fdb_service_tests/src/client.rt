@@ -1,4 +1,5 @@
-//! Clients. Each line of a text is a call of one of two clients; the test itself serves the desk at which they read.
+//! Clients. Each line of a text is a call of one of two
+//! clients; the test itself serves the desk at which they read.
 
 ghost use Rattle.std.specs.Prelude.{◌≡◌};
 
@@ -23,23 +24,23 @@ use std::thread::Threads;
 
 /// What clients call.
 #[derive(Drop)]
-pub struct Service<J: Live> {
-    pub live: LiveRecord<J>,
-    pub sequencer: Sequencer<J>,
-    pub desk: Desk<J>,
-    pub other: Desk<J>,
+pub(crate) struct Service<J: Live> {
+    pub(crate) live: LiveRecord<J>,
+    pub(crate) sequencer: Sequencer<J>,
+    pub(crate) desk: Desk<J>,
+    pub(crate) other: Desk<J>,
 }
 
 /// Two clients with what they call.
 #[derive(Drop)]
-pub struct Stand<'a, J: Live> {
-    pub alloc: Global,
-    pub service: &'a Service<J>,
+pub(crate) struct Stand<'a, J: Live> {
+    pub(crate) alloc: Global,
+    pub(crate) service: &'a Service<J>,
     /// What the server of the desk has seen.
-    pub served: Seen<J>,
-    pub clients: Vec<Client<'a, J>>,
+    pub(crate) served: Seen<J>,
+    pub(crate) clients: Vec<Client<'a, J>>,
     /// What was told and not learnt yet.
-    pub told: Vec<Seen<J>>,
+    pub(crate) told: Vec<Seen<J>>,
 }
 
 /// What is done with two clients.
@@ -71,7 +72,8 @@ fn play_named<J: Live + Send + Sync, R: Threads + Wait + Abort + Sync>(
     core: ChainCore,
     case: Case,
 ) -> Result<(), Fail>
-    requires opened { opened ≡ record { table = J.table; start = J.start; reporters = J.reporters } }
+    requires opened { opened
+        ≡ record { table = J.table; start = J.start; reporters = J.reporters } }
     requires epoch_end { core.epoch_end ≡ J.epoch_end }
     requires recovery { core.recovery ≡ J.recovery }
 {

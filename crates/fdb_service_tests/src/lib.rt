@@ -1,4 +1,5 @@
-//! The tests of `fdb_live`, `fdb_proxy` and `fdb_client`, whose calls meet in threads. Without its tests this crate is empty.
+//! The tests of `fdb_live`, `fdb_proxy` and `fdb_client`, whose
+//! calls meet in threads. Without its tests this crate is empty.
 #![tactic(auto)]
 
 #[cfg(test)]

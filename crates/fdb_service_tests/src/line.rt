@@ -1,4 +1,5 @@
-//! A line of a test's text, word by word. Where it is not what it should be, the test fails and shows the line.
+//! A line of a test's text, word by word. Where it is not
+//! what it should be, the test fails and shows the line.
 
 use crate::same::same_text;
 use fdb_history::{Priority, Tag};
@@ -8,14 +9,14 @@ use std::str::SplitWhitespace;
 
 /// A line, and the words of it that are still to be read.
 #[derive(Drop)]
-pub struct Line<'a> {
+pub(crate) struct Line<'a> {
     /// The whole line.
-    pub text: &'a str,
+    pub(crate) text: &'a str,
     words: SplitWhitespace<'a>,
 }
 
 impl<'a> Line<'a> {
-    pub fn new(text: &'a str) -> Line<'a> {
+    pub(crate) fn new(text: &'a str) -> Line<'a> {
         Line {
             text,
             words: text.split_whitespace(),
@@ -23,19 +24,19 @@ impl<'a> Line<'a> {
     }
 
     /// The next word, if there is one.
-    pub fn next_word(&mut self) -> Option<&'a str> {
+    pub(crate) fn next_word(&mut self) -> Option<&'a str> {
         self.words.next()
     }
 
     /// The next word.
-    pub fn word(&mut self, rt: &impl Abort) -> &'a str {
+    pub(crate) fn word(&mut self, rt: &impl Abort) -> &'a str {
         let word = self.words.next();
         assert!(rt; word.is_some(), "a word is missing: {}", self.text);
         word.unwrap_or_default()
     }
 
     /// The next word as a number.
-    pub fn number(&mut self, rt: &impl Abort) -> u64 {
+    pub(crate) fn number(&mut self, rt: &impl Abort) -> u64 {
         match self.word(rt).parse() {
             Ok(number) => number,
             Err(_) => self.fails(rt, "no number"),
@@ -43,7 +44,7 @@ impl<'a> Line<'a> {
     }
 
     /// The next word as the number of a client or a proxy.
-    pub fn who(&mut self, rt: &impl Abort) -> u32 {
+    pub(crate) fn who(&mut self, rt: &impl Abort) -> u32 {
         match self.word(rt).parse() {
             Ok(who) => who,
             Err(_) => self.fails(rt, "no client's number"),
@@ -51,7 +52,7 @@ impl<'a> Line<'a> {
     }
 
     /// The next word as a priority.
-    pub fn priority(&mut self, rt: &impl Abort) -> Priority {
+    pub(crate) fn priority(&mut self, rt: &impl Abort) -> Priority {
         match self.word(rt) {
             "system" => Priority::System,
             "default" => Priority::Default,
@@ -61,18 +62,18 @@ impl<'a> Line<'a> {
     }
 
     /// Compares what was found with what the line wants behind its `=>`.
-    pub fn wants(&self, rt: &impl Abort, found: &str) {
+    pub(crate) fn wants(&self, rt: &impl Abort, found: &str) {
         let wanted = self.text.split_once("=>").map(|parts| parts.1.trim());
         same_text(rt, found, wanted.unwrap_or("no arrow"), self.text);
     }
 
     /// Fails the test.
-    pub fn fails(&self, rt: &impl Abort, why: &str) -> ! {
+    pub(crate) fn fails(&self, rt: &impl Abort, why: &str) -> ! {
         panic!(rt; "{why}: {}", self.text)
     }
 }
 
 /// The tag of a word's bytes.
-pub fn tag(alloc: Global, word: &str) -> Result<Tag, AllocError> {
+pub(crate) fn tag(alloc: Global, word: &str) -> Result<Tag, AllocError> {
     Ok(Tag::from(Vec::from_slice(alloc, word.as_bytes())?))
 }

@@ -1,4 +1,5 @@
-//! The live record and its tokens. Each case is played on a record that was opened with version 100.
+//! The live record and its tokens. Each case is played on a
+//! record that was opened with version 100.
 
 ghost use Rattle.std.specs.Prelude.{◌≡◌};
 
@@ -20,7 +21,7 @@ use std::thread::Threads;
 
 /// What a test does with a live record and its tokens.
 #[derive(Clone, Copy)]
-pub enum Case {
+pub(crate) enum Case {
     /// Reads and reports of one thread.
     Worked,
     /// Two tokens learn of one another.
@@ -33,7 +34,7 @@ pub enum Case {
 
 /// The live record of a service, with its tokens.
 #[derive(Drop)]
-pub struct Parts<J: Live> {
+pub(crate) struct Parts<J: Live> {
     live: LiveRecord<J>,
     /// The token with no number.
     first: Seen<J>,
@@ -49,7 +50,7 @@ impl<J: Live> Parts<J> {
 }
 
 /// Plays a case. It fails where memory is refused, and passes else.
-pub fn play<R: Threads + Wait + Abort + Sync>(
+pub(crate) fn play<R: Threads + Wait + Abort + Sync>(
     rt: &R,
     alloc: Global,
     reporters: u32,

@@ -1,4 +1,5 @@
-//! Desks, the batch server and proxies. Each case is played on a live record that was opened with version 100.
+//! Desks, the batch server and proxies. Each case is played
+//! on a live record that was opened with version 100.
 
 ghost use Rattle.std.specs.Prelude.{◌≡◌};
 
@@ -26,20 +27,21 @@ const REPORTERS: u32 = 4;
 
 /// What a test does at a desk and with its proxy.
 #[derive(Clone, Copy)]
-pub enum Case {
+pub(crate) enum Case {
     /// The lines of a text, one after another.
     Lines(&'static str),
     /// Four clients ask two proxies, each in a thread of its own.
     Crowd,
     /// A batch is served that may be refused memory.
     ServeRefused,
-    /// A proxy is run that may be refused memory, with a queue that has had requests before or none. Its answers go over
-    /// channels with room for one, or over unbounded ones, to which a send needs memory.
+    /// A proxy is run that may be refused memory, with a queue that has
+    /// had requests before or none. Its answers go over channels with room
+    /// for one, or over unbounded ones, to which a send needs memory.
     RunRefused { used: bool, unbounded: bool },
 }
 
 /// Plays a case. It fails where memory is refused, and passes else.
-pub fn play<R: Threads + Wait + Abort + Sync>(
+pub(crate) fn play<R: Threads + Wait + Abort + Sync>(
     rt: &R,
     alloc: Global,
     case: Case,

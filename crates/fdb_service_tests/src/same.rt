@@ -1,5 +1,5 @@
-//! Comparisons. What shows two values that differ is carried through the proof of the function in which it stands, so it
-//! stands here, once for all.
+//! Comparisons. What shows two values that differ is carried through the
+//! proof of the function in which it stands, so it stands here, once for all.
 
 use std::alloc::Global;
 use std::fmt::{Debug, Display};
@@ -7,22 +7,27 @@ use std::process::Abort;
 use std::test::Fail;
 
 /// Fails the test where what was found is not what was wanted, and shows both, and the case.
-pub fn same<T: PartialEq + Debug>(rt: &impl Abort, found: &T, wanted: &T, case: &impl Display) {
+pub(crate) fn same<T: PartialEq + Debug>(
+    rt: &impl Abort,
+    found: &T,
+    wanted: &T,
+    case: &impl Display,
+) {
     assert_eq!(rt; found, wanted, "{case}");
 }
 
 /// Compares two texts.
-pub fn same_text(rt: &impl Abort, found: &str, wanted: &str, case: &str) {
+pub(crate) fn same_text(rt: &impl Abort, found: &str, wanted: &str, case: &str) {
     assert_eq!(rt; found, wanted, "{case}");
 }
 
 /// Fails the test where something does not hold.
-pub fn holds(rt: &impl Abort, condition: bool, case: &impl Display) {
+pub(crate) fn holds(rt: &impl Abort, condition: bool, case: &impl Display) {
     assert!(rt; condition, "{case}");
 }
 
 /// Compares what is shown of a value, for which memory is asked once more where it is refused.
-pub fn says(
+pub(crate) fn says(
     rt: &impl Abort,
     alloc: Global,
     shown: &impl Display,

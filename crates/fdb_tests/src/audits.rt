@@ -1,14 +1,15 @@
 //! Audits. A text has items, which stand in lines of their own or between semicolons.
 //!
-//! `entry` is one of the chain (its ordinal, proxy, number, what was processed, the version before and its own, the moment,
-//! and `fresh` or `kept`), and `log` begins the log of the next client. `=>` audits all that, wants the fault that
-//! follows, or `ok`, and ends the case; before it, `event` wants an event of the history, or none at that place. Calls go
-//! to the last log:
+//! `entry` is one of the chain (its ordinal, proxy, number, what was processed, the version
+//! before and its own, the moment, and `fresh` or `kept`), and `log` begins the log of the next
+//! client. `=>` audits all that, wants the fault that follows, or `ok`, and ends the case; before
+//! it, `event` wants an event of the history, or none at that place. Calls go to the last log:
 //!
 //! - `call` has the client's position before and after, the input and the answer;
 //! - `reads` has these positions and the version of a plain record that was read;
 //! - `raises` and `stays` have these positions, and the number and the version of a report;
-//! - `draws` has the client's position, and the entry that was answered to a request with its members.
+//! - `draws` has the client's position, and the entry that
+//! was answered to a request with its members.
 
 mod faults;
 mod histories;
@@ -32,11 +33,11 @@ const START: Record = Record {
 
 /// A chain and logs to be audited.
 #[derive(Drop)]
-pub struct Case {
+pub(crate) struct Case {
     /// The entries of the chain.
-    pub chain: Vec<Issued>,
+    pub(crate) chain: Vec<Issued>,
     /// The logs of the clients.
-    pub logs: Vec<ClientLog>,
+    pub(crate) logs: Vec<ClientLog>,
 }
 
 /// Plays the cases of a text, each of which begins with the same items.
@@ -60,7 +61,7 @@ fn audits_each(rt: &impl Abort, alloc: Global, texts: &[&str]) -> Result<(), Fai
 }
 
 /// A case of these items, of which none ends it.
-pub fn begun(rt: &impl Abort, alloc: Global, begin: &str) -> Result<Case, AllocError> {
+pub(crate) fn begun(rt: &impl Abort, alloc: Global, begin: &str) -> Result<Case, AllocError> {
     let mut case = Case {
         chain: Vec::new(alloc),
         logs: Vec::new(alloc),
@@ -117,7 +118,7 @@ fn plays(rt: &impl Abort, alloc: Global, case: &mut Case, text: &str) -> Result<
 }
 
 /// The audit of a case.
-pub fn audited(rt: &impl Abort, alloc: Global, case: &Case) -> Result<History, AuditFault> {
+pub(crate) fn audited(rt: &impl Abort, alloc: Global, case: &Case) -> Result<History, AuditFault> {
     assert!(rt; case.logs.len() <= 64, "more logs than an audit takes");
     audit(alloc, START, &case.chain, &case.logs)
 }
@@ -133,7 +134,7 @@ fn finds(rt: &impl Abort, alloc: Global, case: &Case, text: &str, item: &str) ->
 }
 
 /// Compares each event that a text wants with that of a history.
-pub fn explained(
+pub(crate) fn explained(
     rt: &impl Abort,
     alloc: Global,
     history: &History,

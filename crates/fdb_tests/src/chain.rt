@@ -1,8 +1,9 @@
 //! Chains of commit versions. Each line of a text is a call, and behind `=>` what it is answered.
 //!
-//! `new` opens a chain (the end of the epoch before, the recovery version, the number of proxies), which the lines after it
-//! ask. `ask` has the members of a request (the proxy, the number, what was processed, the moment). Its answer is how many
-//! answers stand after it, and the members of the one that was given, or why there is none.
+//! `new` opens a chain (the end of the epoch before, the recovery version, the number
+//! of proxies), which the lines after it ask. `ask` has the members of a request (the
+//! proxy, the number, what was processed, the moment). Its answer is how many answers
+//! stand after it, and the members of the one that was given, or why there is none.
 
 use crate::line::Line;
 use crate::same::{same, says};
@@ -46,7 +47,7 @@ fn opened(
 }
 
 /// The members of a request.
-pub fn ask_of(rt: &impl Abort, line: &mut Line<'_>) -> Ask {
+pub(crate) fn ask_of(rt: &impl Abort, line: &mut Line<'_>) -> Ask {
     Ask {
         proxy: line.who(rt),
         num: line.number(rt),
@@ -74,7 +75,7 @@ fn answered(chain: &mut ChainCore, ask: Ask) -> Result<Issued, ChainError> {
 }
 
 /// The members of an answer, or why there is none.
-pub fn answer_text(
+pub(crate) fn answer_text(
     alloc: Global,
     answer: Result<Issued, ChainError>,
 ) -> Result<String, AllocError> {

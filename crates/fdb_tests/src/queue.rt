@@ -1,14 +1,17 @@
 //! Queues. Each line of a text is a call, and behind `=>` what it is answered.
 //!
-//! `new` opens a queue (its normal and its batch limit, and its room), which the lines after it call:
+//! `new` opens a queue (its normal and its batch limit, and
+//! its room), which the lines after it call:
 //!
 //! - `offer` has a priority, a count and a payload: `in`, or the payload that was pushed `out`;
 //! - `window` has a time: the payloads that start, and behind a bar the budgets after it;
 //! - `waits` has a time: a number, or `none`;
-//! - `skip` has a time: how many idle windows were held at once, and behind a bar the budgets after them;
+//! - `skip` has a time: how many idle windows were held at
+//! once, and behind a bar the budgets after them;
 //! - `lengths` has nothing: how many system, default and batch requests wait;
 //! - `throttle` has a priority, a tag, a rate and an expiry;
-//! - `limits` has a priority, a moment and tags: how many limits there are, and each with its tag, rate and expiry.
+//! - `limits` has a priority, a moment and tags: how many
+//! limits there are, and each with its tag, rate and expiry.
 //!
 //! What is refused is answered by its cause.
 
@@ -26,7 +29,7 @@ use std::str::from_utf8;
 use std::test::Fail;
 
 /// A queue of these limits and this room.
-pub fn queue(
+pub(crate) fn queue(
     alloc: Global,
     normal: u64,
     batch: u64,

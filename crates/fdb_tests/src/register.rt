@@ -7,8 +7,9 @@ use std::alloc::Global;
 use std::process::Abort;
 use std::test::Fail;
 
-/// In each line the record before, the events (`read` with its call and record, `report` with these and whether it claims
-/// to have raised the register), and the record after them. The flag is not believed.
+/// In each line the record before, the events (`read` with its call and
+/// record, `report` with these and whether it claims to have raised the
+/// register), and the record after them. The flag is not believed.
 const CASES: &str = "\
 100 unlocked none => 100 unlocked none
 100 unlocked none read 0 100 unlocked none report 2 100 unlocked none unraised => 100 unlocked none

@@ -9,7 +9,7 @@ use std::str::from_utf8;
 use std::test::Fail;
 
 /// A script, by a second call where memory is refused to the first.
-pub fn script_of(alloc: Global, text: &str) -> Result<Script, ScriptError> {
+pub(crate) fn script_of(alloc: Global, text: &str) -> Result<Script, ScriptError> {
     match read_script(alloc, text.as_bytes()) {
         Err(ScriptError::Memory) => read_script(alloc, text.as_bytes()),
         result => result,
@@ -134,7 +134,7 @@ from 9223372036854775806 9223372036854775807 of 64 with 1000 500 1000 each 10000
 ";
 
 /// A script with all members, one of them twice.
-pub const FULL: &str =
+pub(crate) const FULL: &str =
     r#" {"clients":1,"clients":2,"normal":3,"batch":0,"room":100000,"elapsed":10000000,"other":[{}],
 "throttles":[{"priority":"system","tag":"!bcdefghijklmno~","rate":0,"expires":5000},
 {"expires":18446744073709551615,"rate":5,"tag":"t","priority":"batch"}],

@@ -1,5 +1,5 @@
-//! The sequencer. Each line of a text is a request that goes through its lock, as in the tests of chains, but that what
-//! stands is looked at once the sequencer is closed.
+//! The sequencer. Each line of a text is a request that goes through its lock, as in
+//! the tests of chains, but that what stands is looked at once the sequencer is closed.
 
 use crate::chain::{answer_text, ask_of};
 use crate::line::Line;
@@ -15,7 +15,7 @@ use std::thread;
 use std::thread::Threads;
 
 /// A service whose epoch begins with version 100, after one that ended with 0.
-pub struct FromHundred;
+pub(crate) struct FromHundred;
 
 impl Service for FromHundred {
     ghost use Rattle.std.specs.Prelude.{None, false};
@@ -122,7 +122,7 @@ fn answered<S: Service, R: Wait>(
 }
 
 /// A sequencer of the service that begins with version 100, for 4 proxies.
-pub fn from_hundred(alloc: Global) -> Result<Sequencer<FromHundred>, ChainError> {
+pub(crate) fn from_hundred(alloc: Global) -> Result<Sequencer<FromHundred>, ChainError> {
     Ok(Sequencer::new(ChainCore::new(alloc, 0, 100, 4)?))
 }
 

@@ -51,7 +51,8 @@ fn serve<J: Live + Send + Sync, R: Print + Threads + Wait + Sync>(
     opened: Opened,
     core: ChainCore,
 ) -> Result<()>
-    requires opened { opened ≡ record { table = J.table; start = J.start; reporters = J.reporters } }
+    requires opened { opened
+        ≡ record { table = J.table; start = J.start; reporters = J.reporters } }
     requires epoch_end { core.epoch_end ≡ J.epoch_end }
     requires recovery { core.recovery ≡ J.recovery }
 {

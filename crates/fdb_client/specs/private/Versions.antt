@@ -17,7 +17,8 @@ version_in_turn in_turn num = if num == 0 then None else slice_get in_turn (num 
 
 -- what is kept under a number: in turn, or among the answers out of turn
 abbrev pub version_under : List ℕ → List Issued → ℕ → Option ℕ
-version_under in_turn others num = option_or (version_in_turn in_turn num) (version_among others num)
+version_under in_turn others num =
+    option_or (version_in_turn in_turn num) (version_among others num)
 
 -- the version that one answer has under a number
 abbrev pub version_of : Issued → ℕ → Option ℕ

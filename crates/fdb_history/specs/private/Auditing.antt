@@ -23,7 +23,8 @@ IsFirstCall Stands (Some name) = IsFirst Stands name.client name.call
 -- the calls of a log before a place have no such fault
 abbrev pub NoneBefore : (List Call → Call → Type 0) → List Call → ℕ → Type 0
 NoneBefore Fault calls place =
-    (p : ℕ) (call : Call) → p < place → slice_get calls p ≡ Some call → Fault (take p calls) call → ⊥
+    (p : ℕ) (call : Call) → p < place → slice_get calls p ≡ Some call → Fault (take p calls) call
+    → ⊥
 
 -- the first of a log's calls that has a fault, if one has
 abbrev pub IsFirstOf : (List Call → Call → Type 0) → List Call → Option ℕ → Type 0
@@ -89,7 +90,8 @@ IsWithin logs =
     (placed_in 0 logs)
 
 -- the marks of the chain's entries are the answers of this test
-pub record AreMarks (chain : List Issued) (marks : List Bool) (test : ℕ → Issued → Bool) : Type 0 where
+pub record AreMarks
+    (chain : List Issued) (marks : List Bool) (test : ℕ → Issued → Bool) : Type 0 where
   pub count : length marks ≡ length chain
   pub each : (place : ℕ) (entry : Issued) → slice_get chain place ≡ Some entry
       → slice_index_or marks place false ≡ test place entry

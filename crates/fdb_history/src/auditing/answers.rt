@@ -1,4 +1,5 @@
-//! Answers that the register would not have given, and commit versions that are not above what their askers had seen.
+//! Answers that the register would not have given, and commit
+//! versions that are not above what their askers had seen.
 
 ghost use Rattle.std.specs.Prelude.{◌≤◌, length};
 ghost use Rattle.fdb_history.specs.Audit.{Low};
@@ -38,7 +39,8 @@ impl<'a> CallFault for Wrong<'a> {
     ghost use Rattle.fdb_history.specs.private.Auditing.{by_table};
     ghost use Rattle.fdb_history.specs.Faults.{IsWrongBy};
 
-    ghost Stands = { λ fault before call. IsWrongBy (by_table fault.registers.now) call.position call.answer };
+    ghost Stands = { λ fault before call. IsWrongBy
+        (by_table fault.registers.now) call.position call.answer };
 
     fn stands_at(&self, _before: &[Call], call: &Call) -> bool {
         match &call.answer {
@@ -54,8 +56,8 @@ impl<'a> CallFault for Wrong<'a> {
     }
 }
 
-/// The fault of a commit version that is not above what its asker had seen. The first of a chain is exempt, since a
-/// register may begin with that very version.
+/// The fault of a commit version that is not above what its asker had seen. The
+/// first of a chain is exempt, since a register may begin with that very version.
 #[derive(Drop)]
 struct NotAbove<'a> {
     registers: &'a Registers,
@@ -65,7 +67,8 @@ impl<'a> CallFault for NotAbove<'a> {
     ghost use Rattle.fdb_history.specs.Audit.{IsNotAbove};
     ghost use Rattle.fdb_history.specs.private.Auditing.{by_table};
 
-    ghost Stands = { λ fault before call. IsNotAbove (by_table fault.registers.now) call.asked call.answer };
+    ghost Stands = { λ fault before call. IsNotAbove
+        (by_table fault.registers.now) call.asked call.answer };
 
     fn stands_at(&self, _before: &[Call], call: &Call) -> bool {
         match &call.answer {

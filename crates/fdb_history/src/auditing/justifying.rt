@@ -76,8 +76,8 @@ fn is_rightly_locked_out(input: &Input, answer: &CallAnswer) -> bool
     }
 }
 
-/// Whether a commit version is the client's own, under the number asked for, and the chain's entry at its ordinal, in
-/// all but `fresh`.
+/// Whether a commit version is the client's own, under the number asked
+/// for, and the chain's entry at its ordinal, in all but `fresh`.
 fn is_of_chain(chain: &[Issued], client: u32, input: &Input, answer: &CallAnswer) -> bool
     ensures { result ≡ is_of_chain chain.now client input.now answer.now }
 {
@@ -91,7 +91,8 @@ fn is_of_chain(chain: &[Issued], client: u32, input: &Input, answer: &CallAnswer
 
 /// Whether the chain's entry at an answer's ordinal is the answer, in all but `fresh`.
 fn is_in_chain(chain: &[Issued], issued: &Issued) -> bool
-    ensures { result ≡ option_map_or (λ entry. is_same issued.now (record entry { fresh = issued.now.fresh }))
+    ensures { result ≡ option_map_or
+        (λ entry. is_same issued.now (record entry { fresh = issued.now.fresh }))
         (slice_get chain.now issued.now.ordinal) false }
 {
     match chain.get(issued.ordinal as usize) {
@@ -151,7 +152,8 @@ fn is_again(found: Option<Issued>, answer: &CallAnswer) -> bool
     }
 }
 
-/// Whether the answer to the next request is fresh and has its members, or there is no version left.
+/// Whether the answer to the next request is fresh and has
+/// its members, or there is no version left.
 fn is_fresh_answer(chain: &[Issued], processed: u64, at: u64, answer: &CallAnswer) -> bool
     ensures { result ≡ is_fresh_answer chain.now processed at answer.now }
 {
@@ -174,10 +176,11 @@ fn is_near_the_end(chain: &[Issued]) -> bool
     }
 }
 
-/// Whether a report is of the version that was drawn under its number, with the flags that it was told; and whether it
-/// is refused only where none was.
+/// Whether a report is of the version that was drawn under its number, with
+/// the flags that it was told; and whether it is refused only where none was.
 fn is_of_issued(chain: &[Issued], own: &Replies, input: &Input, answer: &CallAnswer) -> bool
-    ensures { result ≡ is_of_issued (drawn_version chain.now own.now (number_of input.now)) input.now answer.now }
+    ensures { result ≡ is_of_issued
+        (drawn_version chain.now own.now (number_of input.now)) input.now answer.now }
 {
     let Input::Report {
         num,

@@ -10,8 +10,8 @@ use crate::event::{Event, Placed};
 use crate::log::{Call, CallAnswer, ClientLog};
 use std::alloc::{AllocError, Global};
 
-/// The register's events in the logs: position by position, at each the raise and then the others, by client and then
-/// by call.
+/// The register's events in the logs: position by position, at
+/// each the raise and then the others, by client and then by call.
 ///
 /// Linear in the calls up to one sort of the events. An error only where memory is refused.
 pub(crate) fn events_by_position(
@@ -21,10 +21,12 @@ pub(crate) fn events_by_position(
     requires { length logs.now ≤ 64 }
     ensures sorted { IfOk result (λ events. AreEventsByPosition events.items) }
     ensures raises { IfOk result (λ events. AreRaisesOf logs.now (raises_of events.items)) }
-    ensures history { IfOk result (λ events. IsWithin logs.now → map (λ p. p.event) events.items ≡ explained logs.now) }
+    ensures history { IfOk result
+        (λ events. IsWithin logs.now → map (λ p. p.event) events.items ≡ explained logs.now) }
 {
     let mut all = placed_in(alloc, logs)?;
-    // At each position the raise comes first, and the sort is stable: the others stay by client and by call.
+    // At each position the raise comes first, and the sort
+    // is stable: the others stay by client and by call.
     all.sort_by_key(|p| (p.position, !p.event.is_raise()))?;
     Ok(all)
 }

@@ -52,7 +52,8 @@ pub(crate) fn first_clash(raises: &[Raise]) -> Option<u64>
     None
 }
 
-/// The least position, from 1 on, that no raise has. The raises before it have each position in turn.
+/// The least position, from 1 on, that no raise has. The
+/// raises before it have each position in turn.
 pub(crate) fn first_missing(raises: &[Raise]) -> u64
     requires sorted { AreByPosition raises.now }
     requires from_one { at_position 0 raises.now ≡ [] }

@@ -32,8 +32,8 @@ impl Registers {
     }
 }
 
-/// The register at each position that a call has reached, or the first fault of the raises: two at one position, or
-/// none where one is owed. `raises` are those of the logs, by position.
+/// The register at each position that a call has reached, or the first fault of the raises: two
+/// at one position, or none where one is owed. `raises` are those of the logs, by position.
 pub(crate) fn registers_of(
     alloc: Global,
     start: Record,
@@ -77,7 +77,8 @@ fn table_of(alloc: Global, start: Record, raises: &[Raise]) -> Result<Vec<Record
 /// The greatest position of a call, or 0 where there is no call.
 fn greatest_position(logs: &[ClientLog]) -> u64
     ensures above { (position : ℕ) → IsReached logs.now position → position ≤ result }
-    ensures reached { (position : ℕ) → 1 ≤ position → position ≤ result → IsReached logs.now position }
+    ensures reached { (position : ℕ) → 1 ≤ position → position ≤ result
+        → IsReached logs.now position }
 {
     let mut greatest = 0;
     for log in logs {
@@ -88,7 +89,8 @@ fn greatest_position(logs: &[ClientLog]) -> u64
 
 /// The greatest position of a log's calls, or 0 where there is none.
 fn greatest_in(calls: &[Call]) -> u64
-    ensures above { (place : ℕ) (call : Call) → slice_get calls.now place ≡ Some call → call.position ≤ result }
+    ensures above { (place : ℕ) (call : Call) → slice_get calls.now place ≡ Some call
+        → call.position ≤ result }
     ensures reached { 1 ≤ result → (place : ℕ) × (call : Call)
         × (slice_get calls.now place ≡ Some call) × (result ≤ call.position) }
 {

@@ -15,11 +15,11 @@ use crate::log::{Call, CallAnswer, ClientLog};
 use crate::replies::Replies;
 use std::alloc::{AllocError, Global};
 
-/// The first call whose answer is not justified, or the end of the calls of the first client that has an entry of the chain
-/// that none of its calls drew. A client that has no log has no calls.
+/// The first call whose answer is not justified, or the end of the calls of the first client that
+/// has an entry of the chain that none of its calls drew. A client that has no log has no calls.
 ///
-/// It takes time in proportion to the calls and the chain's entries, and memory for a mark for each entry and a number
-/// for each version that a client drew.
+/// It takes time in proportion to the calls and the chain's entries, and memory
+/// for a mark for each entry and a number for each version that a client drew.
 pub(crate) fn first_stray(
     alloc: Global,
     chain: &[Issued],
@@ -69,7 +69,8 @@ fn first_of(
     client: u32,
     calls: &[Call],
 ) -> Result<Option<u64>, AllocError>
-    ensures { IfOk result (IsFirstOf (λ before call. is_justified chain.now client before call ≡ false) calls.now) }
+    ensures { IfOk result
+        (IsFirstOf (λ before call. is_justified chain.now client before call ≡ false) calls.now) }
 {
     let mut own = Replies::new(alloc);
     for (place, call) in calls.iter().enumerate() {
@@ -129,7 +130,8 @@ fn mark(drawn: &mut [bool], chain: &[Issued], client: u32, issued: &Issued)
     requires { length drawn.old ≡ length chain.now }
     ensures { (was : ℕ → Issued → Bool) → AreMarks chain.now drawn.old was
         → AreMarks chain.now drawn.new (λ place entry. was place entry
-        || is_same issued.now (record entry { ordinal = place; fresh = true }) && (entry.proxy == client)) }
+        || is_same issued.now (record entry { ordinal = place; fresh = true })
+        && (entry.proxy == client)) }
 {
     if draws(chain, client, issued) {
         drawn[issued.ordinal as usize] = true;
@@ -139,7 +141,8 @@ fn mark(drawn: &mut [bool], chain: &[Issued], client: u32, issued: &Issued)
 /// Whether an answer of a client, fresh, is the chain's entry at its ordinal, and the client's own.
 fn draws(chain: &[Issued], client: u32, issued: &Issued) -> bool
     ensures value { result ≡ option_map_or (λ entry.
-        is_same issued.now (record entry { ordinal = issued.now.ordinal; fresh = true }) && (entry.proxy == client))
+        is_same issued.now (record entry { ordinal = issued.now.ordinal; fresh = true })
+        && (entry.proxy == client))
         (slice_get chain.now issued.now.ordinal) false }
     ensures within { IsTrue result → issued.now.ordinal < length chain.now }
 {

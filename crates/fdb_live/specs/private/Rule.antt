@@ -118,7 +118,8 @@ pub record Settles (v : View) (before after : Fetched) (w : View) : Type 0 where
 
 -- A report of this record by the pass with the right, under its lowest number.
 abbrev pub Adds : Record → View → Fetched → Fetched → View → Type 0
-Adds rec v before after w = w ≡ having_seen v (v.seen ++ record { reporter = v.low; rec = rec } ∷ [])
+Adds rec v before after w = w
+    ≡ having_seen v (v.seen ++ record { reporter = v.low; rec = rec } ∷ [])
 
 -- The service is opened with what is then written, and with this many reporters.
 abbrev pub Opens : ℕ → View → Fetched → Fetched → View → Type 0

@@ -18,33 +18,42 @@ pub record Offering (T : Type 0) : Type 0 where
 
 -- a request was refused, and the queue is as it was
 abbrev pub refusing : {T : Type 0} → Offering T → QueueError → Req T → Offering T
-refusing before cause request = record before { turned_away = before.turned_away ++ record { cause = cause; request = request } ∷ [] }
+refusing before cause request =
+    record before {
+      turned_away = before.turned_away ++ record { cause = cause; request = request } ∷ [];
+    }
 
 -- a request was let in, and whoever it pushed out was turned away as `Full`
 abbrev pub admitting : {T : Type 0} → Offering T → Req T → Offering T
 admitting before request = record {
   queue = admitted before.queue request;
-  turned_away = before.turned_away ++ map (λ out. record { cause = Full; request = out }) (option_to_list (pushed_out before.queue request));
+  turned_away = before.turned_away
+      ++ map (λ out. record { cause = Full; request = out })
+      (option_to_list (pushed_out before.queue request));
 }
 
 -- What an offer may come to: the request is refused for what the queue has against it. Where it has
 -- nothing, the request is let in, or memory was refused.
 abbrev pub IsOutcome : {T : Type 0} → Option QueueError → Offering T → Req T → Offering T → Type 0
 IsOutcome (Some due) before request after = after ≡ refusing before due request
-IsOutcome None before request after = (after ≡ admitting before request) ⊎ (after ≡ refusing before Memory request)
+IsOutcome None before request after =
+    (after ≡ admitting before request)
+    ⊎ (after ≡ refusing before Memory request)
 
 abbrev pub Offers : {T : Type 0} → Offering T → Req T → Offering T → Type 0
 Offers before request after = IsOutcome (refusal_of before.queue request) before request after
 
 -- Each of some requests is offered to a queue, in order: whom that turns away, and the queue then.
-abbrev pub AreOffered : {T : Type 0} → Queue T → List (Req T) → List (TurnedAway T) → Queue T → Type 0
+abbrev pub AreOffered : {T : Type 0} → Queue T → List (Req T) → List (TurnedAway T) → Queue T
+    → Type 0
 AreOffered before offered turned_away filled =
     FoldsTo Offers (record { queue = before; turned_away = [] }) offered
     (record { queue = filled; turned_away = turned_away })
 
 -- What a turn comes to before its window: each of some requests is offered to the queue, in order.
 -- Where there is none, windows that start nothing pass at once. (this product's own)
-pub record IsReady {T : Type 0} (elapsed : ℕ) (before : Queue T) (offered : List (Req T)) (turned_away : List (TurnedAway T)) (ready : Queue T) : Type 0 where
+pub record IsReady {T : Type 0} (elapsed : ℕ) (before : Queue T)
+    (offered : List (Req T)) (turned_away : List (TurnedAway T)) (ready : Queue T) : Type 0 where
   pub filled : Queue T
   pub idle : ℕ
   pub offers : AreOffered before offered turned_away filled
@@ -53,7 +62,8 @@ pub record IsReady {T : Type 0} (elapsed : ℕ) (before : Queue T) (offered : Li
   pub passed : ready ≡ after_windows elapsed idle filled
 
 -- A turn came to a queue whose window starts something.
-pub record HasReady {T : Type 0} (elapsed : ℕ) (before : Queue T) (offered : List (Req T)) (after : Queue T) : Type 0 where
+pub record HasReady {T : Type 0}
+    (elapsed : ℕ) (before : Queue T) (offered : List (Req T)) (after : Queue T) : Type 0 where
   pub turned_away : List (TurnedAway T)
   pub ready : IsReady elapsed before offered turned_away after
   pub starts : 0 < length (window after)
@@ -64,11 +74,13 @@ StartsSure before offered started = offered ≡ []
     → IfSome (first (row before.waiting))
     (λ head. IsSure before.config head.priority head.count → 0 < started)
 
--- A turn of a proxy: each of some requests is offered to its queue, in order, and then one window
--- is held; where nobody is offered, the windows before that start nothing pass at once. It gives what the window starts, and whom the offers turned away. (`transactionStarter`
--- and `queueGetReadVersionRequests` of GrvProxyServer; that one turn follows the other with this
--- time between them is this product's own)
-pub record IsTurn {T : Type 0} (elapsed : ℕ) (before : Queue T) (offered started : List (Req T)) (turned_away : List (TurnedAway T)) (after : Queue T) : Type 0 where
+-- A turn of a proxy: each of some requests is offered to its queue, in order, and
+-- then one window is held; where nobody is offered, the windows before that start
+-- nothing pass at once. It gives what the window starts, and whom the offers turned
+-- away. (`transactionStarter` and `queueGetReadVersionRequests` of GrvProxyServer;
+-- that one turn follows the other with this time between them is this product's own)
+pub record IsTurn {T : Type 0} (elapsed : ℕ) (before : Queue T) (offered started : List (Req T))
+    (turned_away : List (TurnedAway T)) (after : Queue T) : Type 0 where
   pub ready : Queue T
   pub comes_to : IsReady elapsed before offered turned_away ready
   pub starts : started ≡ window ready
@@ -76,14 +88,16 @@ pub record IsTurn {T : Type 0} (elapsed : ℕ) (before : Queue T) (offered start
 
 -- One turn with some requests leads from one queue to another.
 abbrev pub HasTurn : {T : Type 0} → ℕ → Queue T → List (Req T) → Queue T → Type 0
-HasTurn {T} elapsed before offered after = (started : List (Req T)) × (turned_away : List (TurnedAway T)) × IsTurn elapsed before offered started turned_away after
+HasTurn {T} elapsed before offered after =
+    (started : List (Req T)) × (turned_away : List (TurnedAway T))
+    × IsTurn elapsed before offered started turned_away after
 
 -- a queue that all have left
 abbrev pub emptied : {T : Type 0} → Queue T → Queue T
 emptied queue = record queue { waiting = nothing }
 
--- One turn with some requests leads from one queue to another; after the last one, all that are left
--- leave the queue, and nothing else is done there.
+-- One turn with some requests leads from one queue to another; after the last
+-- one, all that are left leave the queue, and nothing else is done there.
 abbrev pub HasTurnOrLast : {T : Type 0} → Bool → ℕ → Queue T → List (Req T) → Queue T → Type 0
 HasTurnOrLast false elapsed before offered after = HasTurn elapsed before offered after
 HasTurnOrLast {T} true elapsed before offered after =

@@ -10,7 +10,9 @@ use Rattle.fdb_replay.specs.declared.words.Words.{Words}
 
 -- the number of GRV proxies, which is 1 unless it is said
 abbrev pub proxies_named : List Text → ℕ
-proxies_named words = option_map_or (λ digits. digits_value 10 (without_leading_plus digits)) (one_of (codes "proxies") (matches_of command words)) 1
+proxies_named words =
+    option_map_or (λ digits. digits_value 10 (without_leading_plus digits))
+    (one_of (codes "proxies") (matches_of command words)) 1
 
 -- the words ask for a replay, with these
 pub record AskReplay (words : List Text) (asked : Words) : Type 0 where

@@ -22,7 +22,9 @@ logs_of calls = map (λ own. record { calls = own }) calls
 -- each client, from this one on, has done its commands
 abbrev pub PerformsFrom : ℕ → List Command → List (List Call) → List (List Call) → Type 0
 PerformsFrom client commands [] [] = Unit {0}
-PerformsFrom client commands (calls ∷ before) (more ∷ after) = FoldsTo AnswersCommand calls (commands_of client commands) more × PerformsFrom (client + 1) commands before after
+PerformsFrom client commands (calls ∷ before) (more ∷ after) =
+    FoldsTo AnswersCommand calls (commands_of client commands) more
+    × PerformsFrom (client + 1) commands before after
 PerformsFrom client commands _ _ = ⊥
 
 -- what a client tells by a call with this input
@@ -40,13 +42,17 @@ tells_in from calls = flat_map (λ call. tells_by from call.position call.input)
 abbrev pub all_tells : ℕ → List (List Call) → List (List Call) → List Tell
 all_tells from [] after = []
 all_tells from (calls ∷ before) [] = []
-all_tells from (calls ∷ before) (more ∷ after) = tells_in from (drop (length calls) more) ++ all_tells (from + 1) before after
+all_tells from (calls ∷ before) (more ∷ after) =
+    tells_in from (drop (length calls) more) ++ all_tells (from + 1) before after
 
 -- the calls of all clients, once what was told is learnt
 abbrev pub teach : List (List Call) → Tell → List (List Call)
-teach calls tell = set calls tell.to (learns (get_or calls tell.to []) (record { teller = tell.from; position = tell.position }))
+teach calls tell = set calls tell.to
+    (learns (get_or calls tell.to []) (record { teller = tell.from; position = tell.position }))
 
--- These clients, the first of whom has this number, have done their commands of a round, and told this by it.
-pub record IsPlayed (first : ℕ) (commands : List Command) (before after : List (List Call)) (tells : List Tell) : Type 0 where
+-- These clients, the first of whom has this number, have
+-- done their commands of a round, and told this by it.
+pub record IsPlayed (first : ℕ) (commands : List Command)
+    (before after : List (List Call)) (tells : List Tell) : Type 0 where
   pub performed : PerformsFrom first commands before after
   pub told : tells ≡ all_tells first before after

@@ -4,7 +4,8 @@ use Rattle.fdb_history.specs.declared.log.Call.{Call}
 use Rattle.fdb_history.specs.declared.log.Input.{Input}
 use Rattle.fdb_history.specs.declared.log.Input.TheVariants.{Grv}
 
--- Of so many proxies, that to which a client's read goes, where it has made so many reads before. (this product's own)
+-- Of so many proxies, that to which a client's read goes,
+-- where it has made so many reads before. (this product's own)
 abbrev pub desk_for : ℕ → ℕ → ℕ → ℕ
 desk_for proxies client reads = (client + reads) % proxies
 

@@ -13,8 +13,8 @@ throttle_of throttle =
       limit = record { tag = throttle.tag; rate = throttle.rate; expires = throttle.expires };
     }
 
--- Those of a script, set one after another: the newest first, so that of two for one priority and tag the later counts.
--- (this product's own)
+-- Those of a script, set one after another: the newest first, so that of
+-- two for one priority and tag the later counts. (this product's own)
 abbrev pub throttles_of : List Throttle → List queue.Throttle
 throttles_of throttles = reverse (map throttle_of throttles)
 

@@ -9,7 +9,7 @@ const LOOKS: u32 = 100;
 
 /// Notes whether client 0 or 1 ever sees the other in the lock where it is itself.
 #[derive(Drop)]
-pub struct Alone {
+pub(crate) struct Alone {
     sequencer: Pair,
     reports: Pair,
     met: AtomicBool,
@@ -41,7 +41,7 @@ impl Pair {
 }
 
 impl Alone {
-    pub fn new() -> Alone {
+    pub(crate) fn new() -> Alone {
         Alone {
             sequencer: Pair::new(),
             reports: Pair::new(),
@@ -50,7 +50,7 @@ impl Alone {
     }
 
     /// Whether nobody saw another.
-    pub fn is_kept(&self) -> bool {
+    pub(crate) fn is_kept(&self) -> bool {
         !self.met.load(Ordering::SeqCst)
     }
 

@@ -7,9 +7,10 @@ use std::sync::atomic::{AtomicBool, AtomicU64, Ordering};
 /// How often a thread looks whether another has come so far.
 const LOOKS: u32 = 1_000_000;
 
-/// Holds client 1 at its first answer until client 0 is in a lock, and holds that one there until the second answer.
+/// Holds client 1 at its first answer until client 0 is in a
+/// lock, and holds that one there until the second answer.
 #[derive(Drop)]
-pub struct Crossing {
+pub(crate) struct Crossing {
     /// Where client 0 is held.
     at: Place,
     /// It is there.
@@ -23,7 +24,7 @@ pub struct Crossing {
 }
 
 impl Crossing {
-    pub fn new(at: Place) -> Crossing {
+    pub(crate) fn new(at: Place) -> Crossing {
         Crossing {
             at,
             locked: AtomicBool::new(false),
@@ -34,7 +35,7 @@ impl Crossing {
     }
 
     /// Whether both came through, and nobody looked in vain.
-    pub fn is_passed(&self) -> bool {
+    pub(crate) fn is_passed(&self) -> bool {
         self.locked.load(Ordering::SeqCst)
             && self.answered.load(Ordering::SeqCst)
             && !self.failed.load(Ordering::SeqCst)

@@ -21,7 +21,8 @@ fn a_run_bears_it(rt: HostRuntime) -> Result<(), Fail> {
     Ok(())
 }
 
-/// Two clients, of whom the first tells the second. A locked record is given to whoever is aware of locks.
+/// Two clients, of whom the first tells the second. A locked
+/// record is given to whoever is aware of locks.
 const TOLD: &str = r#"{"epoch_end":0,"recovery":100,"clients":2,
 "throttles":[{"priority":"default","tag":"t","rate":5,"expires":5000}],"rounds":[[
 {"do":"ask","client":0,"at":1000},
@@ -62,7 +63,7 @@ fn a_text_bears_it(rt: HostRuntime) -> Result<(), Fail> {
     Ok(())
 }
 
-/// Whether a replay failed for want of memory: of its own, or of the writer.
+/// Whether a replay failed since memory ran out: of its own, or of the writer.
 fn wants_memory(fault: ReplayFault) -> bool {
     matches!(
         fault,
@@ -72,7 +73,8 @@ fn wants_memory(fault: ReplayFault) -> bool {
     )
 }
 
-/// What a replay writes, by a second call where memory is refused to the first, which has then written nothing.
+/// What a replay writes, by a second call where memory is
+/// refused to the first, which has then written nothing.
 fn replayed<R: Threads + Wait + Sync + Abort>(
     rt: &R,
     alloc: Global,

@@ -14,7 +14,8 @@ use std::sync::Wait;
 use std::test::Fail;
 use std::thread::Threads;
 
-/// A reader that gives its bytes in pieces. It may be interrupted before each of them, and may fail at its end.
+/// A reader that gives its bytes in pieces. It may be
+/// interrupted before each of them, and may fail at its end.
 #[derive(Drop)]
 struct Pieces<'a> {
     left: &'a [u8],
@@ -100,7 +101,8 @@ fn a_reader_without_an_end(rt: HostRuntime) -> Result<(), Fail> {
     Ok(())
 }
 
-/// A writer that takes a hundred bytes at a call, and fails at the call with a number, counted from 1.
+/// A writer that takes a hundred bytes at a call, and fails
+/// at the call with a number, counted from 1.
 #[derive(Drop)]
 struct Hundreds {
     taken: Vec<u8>,
@@ -148,7 +150,8 @@ impl Write for Hundreds {
     }
 }
 
-/// How many bytes of the first script's text such a writer has taken then: the text has 265, so that three calls write it.
+/// How many bytes of the first script's text such a writer has
+/// taken then: the text has 265, so that three calls write it.
 fn taken_before(fails_at: usize) -> usize {
     match fails_at {
         1 => 0,

@@ -13,7 +13,7 @@ use std::test::Fail;
 use std::thread::Threads;
 
 /// Plays the lines of a text.
-pub fn play_lines<J: Live + Send + Sync, R: Threads + Wait + Abort + Sync>(
+pub(crate) fn play_lines<J: Live + Send + Sync, R: Threads + Wait + Abort + Sync>(
     rt: &R,
     mut stand: Stand<'_, J>,
     text: &str,
@@ -138,7 +138,7 @@ fn told_apart(alloc: Global, lock_aware: bool) -> Result<GrvOpts, AllocError> {
 }
 
 /// A read of one transaction without tags.
-pub fn opts_of(alloc: Global, lock_aware: bool) -> GrvOpts {
+pub(crate) fn opts_of(alloc: Global, lock_aware: bool) -> GrvOpts {
     GrvOpts {
         priority: Priority::Default,
         count: 1,
@@ -213,7 +213,8 @@ fn read_text(alloc: Global, found: Result<ReadVersion, ClientError>) -> Result<S
     }
 }
 
-/// How many calls a client has logged, and the position that it has come to, by its last call and by its token.
+/// How many calls a client has logged, and the position that
+/// it has come to, by its last call and by its token.
 fn logged<J: Live>(alloc: Global, client: &Client<'_, J>) -> Result<String, AllocError> {
     let position = client.calls().last().map_or(0, |call| call.position);
     if position != client.position() {

@@ -7,7 +7,7 @@ use std::sync::atomic::{AtomicU64, Ordering};
 
 /// Counts how often a client passes where the answer to its read has come, and all other passes.
 #[derive(Drop)]
-pub struct Noting {
+pub(crate) struct Noting {
     client: u32,
     answered: AtomicU64,
     elsewhere: AtomicU64,
@@ -15,7 +15,7 @@ pub struct Noting {
 
 impl Noting {
     /// Has counted nobody yet.
-    pub fn new(client: u32) -> Noting {
+    pub(crate) fn new(client: u32) -> Noting {
         Noting {
             client,
             answered: AtomicU64::new(0),
@@ -24,7 +24,7 @@ impl Noting {
     }
 
     /// Checks that the client has passed so often where an answer has come, and nobody elsewhere.
-    pub fn was_passed(&self, rt: &impl Abort, answers: u64, case: &str) {
+    pub(crate) fn was_passed(&self, rt: &impl Abort, answers: u64, case: &str) {
         let answered = self.answered.load(Ordering::SeqCst);
         let elsewhere = self.elsewhere.load(Ordering::SeqCst);
         same(rt, &(answered, elsewhere), &(answers, 0), &case);

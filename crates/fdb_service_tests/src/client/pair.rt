@@ -16,8 +16,9 @@ use std::test::Fail;
 use std::thread;
 use std::thread::Threads;
 
-/// Both report, tell each other, and read. Each has then come at least as far as the other had told, and their tokens meet.
-pub fn over_two_proxies<J: Live + Send + Sync, R: Threads + Wait + Abort + Sync>(
+/// Both report, tell each other, and read. Each has then come at
+/// least as far as the other had told, and their tokens meet.
+pub(crate) fn over_two_proxies<J: Live + Send + Sync, R: Threads + Wait + Abort + Sync>(
     rt: &R,
     stand: Stand<'_, J>,
 ) -> Result<(), Fail> {

@@ -20,7 +20,7 @@ use std::thread::Threads;
 
 /// How a request is answered.
 #[derive(Clone, Copy)]
-pub enum Way {
+pub(crate) enum Way {
     /// As it should be.
     Served,
     /// As another client's.
@@ -43,11 +43,11 @@ pub enum Way {
 
 /// A read, and how it is answered.
 #[derive(Drop)]
-pub struct Reading {
+pub(crate) struct Reading {
     /// Whether it is at the other desk.
-    pub aside: bool,
-    pub opts: GrvOpts,
-    pub way: Way,
+    pub(crate) aside: bool,
+    pub(crate) opts: GrvOpts,
+    pub(crate) way: Way,
 }
 
 /// What a client's request has to be.
@@ -70,10 +70,10 @@ impl Wanted {
     }
 }
 
-/// A client's read, while its desk is served in another thread. It leaves one request there, under the number of the calls
-/// before it, and with what the client has seen and was told to ask. It passes the gate once where
-/// an answer came, and else not at all.
-pub fn read_served<J: Live + Send + Sync, R: Threads + Wait + Abort + Sync>(
+/// A client's read, while its desk is served in another thread. It leaves one request
+/// there, under the number of the calls before it, and with what the client has seen and
+/// was told to ask. It passes the gate once where an answer came, and else not at all.
+pub(crate) fn read_served<J: Live + Send + Sync, R: Threads + Wait + Abort + Sync>(
     rt: &R,
     alloc: Global,
     service: &Service<J>,

@@ -62,8 +62,9 @@ impl Gate for HoldsReporter {
     }
 }
 
-/// A reader reads while a reporter is held at the gate, with the lock of the reports. It sees nothing of the report.
-pub fn read_beside_report<J: Live + Send + Sync, R: Threads + Wait + Abort + Sync>(
+/// A reader reads while a reporter is held at the gate, with
+/// the lock of the reports. It sees nothing of the report.
+pub(crate) fn read_beside_report<J: Live + Send + Sync, R: Threads + Wait + Abort + Sync>(
     rt: &R,
     mut parts: Parts<J>,
 ) {

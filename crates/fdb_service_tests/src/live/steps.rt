@@ -8,7 +8,7 @@ use std::process::Abort;
 use std::sync::Wait;
 
 /// A record with no lock and no metadata version.
-pub fn unlocked(version: u64) -> Record {
+pub(crate) fn unlocked(version: u64) -> Record {
     Record {
         version,
         locked: false,
@@ -17,7 +17,7 @@ pub fn unlocked(version: u64) -> Record {
 }
 
 /// Reports a version by the token of a reporter.
-pub fn report_at<J: Live, R: Wait + Abort, G: Gate>(
+pub(crate) fn report_at<J: Live, R: Wait + Abort, G: Gate>(
     rt: &R,
     live: &LiveRecord<J>,
     gate: &G,
@@ -42,7 +42,7 @@ fn reports<J: Live, R: Wait + Abort>(
 }
 
 /// Checks what a read answers, and its token's position.
-pub fn reads<J: Live, R: Wait + Abort>(
+pub(crate) fn reads<J: Live, R: Wait + Abort>(
     rt: &R,
     live: &LiveRecord<J>,
     seen: &mut Seen<J>,
@@ -73,7 +73,7 @@ fn refuses<J: Live, R: Wait + Abort>(
 }
 
 /// The reads and reports of two reporters and of the first token, which nobody tells anything.
-pub fn work_through<J: Live, R: Wait + Abort>(rt: &R, mut parts: Parts<J>) {
+pub(crate) fn work_through<J: Live, R: Wait + Abort>(rt: &R, mut parts: Parts<J>) {
     let (mut one, mut zero) = (parts.last(rt), parts.last(rt));
     let Parts {
         live,
@@ -106,8 +106,9 @@ fn are_at<J: Live>(rt: &impl Abort, (zero, at): (&Seen<J>, u64), (one, place): (
     same(rt, &one.position(), &place, &"reporter 1");
 }
 
-/// Each of two reporters raises the record and learns what the other has seen, and keeps its number.
-pub fn learn_crosswise<J: Live, R: Wait + Abort>(rt: &R, mut parts: Parts<J>) {
+/// Each of two reporters raises the record and learns what
+/// the other has seen, and keeps its number.
+pub(crate) fn learn_crosswise<J: Live, R: Wait + Abort>(rt: &R, mut parts: Parts<J>) {
     let (mut one, mut zero) = (parts.last(rt), parts.last(rt));
     let live = parts.live;
     reports(rt, &live, &mut zero, 200, (true, 1));

@@ -36,7 +36,8 @@ impl<J: Live> Worker<J> {
         }
     }
 
-    /// Reports rising versions that no other worker reports, or reads where its token has no number.
+    /// Reports rising versions that no other worker reports,
+    /// or reads where its token has no number.
     fn work<R: Wait>(&mut self, rt: &R, live: &LiveRecord<J>, reporters: u64) {
         for turn in 0..TURNS {
             match self.token.reporter() {
@@ -90,9 +91,9 @@ fn workers_of<J: Live>(
     Ok(workers)
 }
 
-/// Every reporter reports rising versions that no other has, and readers read beside them. Then the greatest version
-/// stands, at the position that counts the raises, and all tokens meet.
-pub fn run_all<J: Live + Send + Sync, R: Threads + Wait + Abort + Sync>(
+/// Every reporter reports rising versions that no other has, and readers read beside them. Then
+/// the greatest version stands, at the position that counts the raises, and all tokens meet.
+pub(crate) fn run_all<J: Live + Send + Sync, R: Threads + Wait + Abort + Sync>(
     rt: &R,
     alloc: Global,
     parts: Parts<J>,

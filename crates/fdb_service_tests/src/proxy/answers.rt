@@ -1,4 +1,5 @@
-//! Answers as text: whom they answer, and then the record with its position and the limits, or why there is none.
+//! Answers as text: whom they answer, and then the record
+//! with its position and the limits, or why there is none.
 
 use crate::proxy::stand::Waiter;
 use fdb_history::{Record, TagLimit};
@@ -8,8 +9,9 @@ use std::alloc::{AllocError, Global};
 use std::str::from_utf8;
 use std::sync::Wait;
 
-/// The answers that come, one for each that waits, in order. Where none comes, or a second one, it says so.
-pub fn awaited<J: Live, R: Wait>(
+/// The answers that come, one for each that waits, in order.
+/// Where none comes, or a second one, it says so.
+pub(crate) fn awaited<J: Live, R: Wait>(
     rt: &R,
     alloc: Global,
     waiters: &[Waiter<J>],
@@ -38,7 +40,10 @@ fn awaited_one<J: Live, R: Wait>(
 }
 
 /// Some answers.
-pub fn answers_text<J: Live>(alloc: Global, answers: &[Answer<J>]) -> Result<String, AllocError> {
+pub(crate) fn answers_text<J: Live>(
+    alloc: Global,
+    answers: &[Answer<J>],
+) -> Result<String, AllocError> {
     let mut text = String::new(alloc);
     for answer in answers {
         let found = answer_text(alloc, answer)?;
@@ -103,7 +108,7 @@ fn cause_text(alloc: Global, cause: Cause) -> Result<String, AllocError> {
 }
 
 /// Whom an answer answers.
-pub fn asker_text(
+pub(crate) fn asker_text(
     alloc: Global,
     client: u32,
     serial: u64,

@@ -148,7 +148,7 @@ fn clients_of<J: Live>(alloc: Global, tokens: Vec<Seen<J>>) -> Result<Vec<Client
 }
 
 /// Four clients ask two proxies, and each of their requests is answered.
-pub fn ask_all<J: Live + Send + Sync, R: Threads + Wait + Abort + Sync>(
+pub(crate) fn ask_all<J: Live + Send + Sync, R: Threads + Wait + Abort + Sync>(
     rt: &R,
     stand: Stand<J>,
 ) -> Result<(), AllocError> {
@@ -187,8 +187,8 @@ fn proxy_of<'a, J: Live>(
     Ok(GrvProxy::new(alloc, live, desk, queue, 10_000_000, token))
 }
 
-/// Runs two proxies, and beside them the clients, each in a thread of its own. Answers whether all could be run, and the
-/// proxies ended because their desks were closed.
+/// Runs two proxies, and beside them the clients, each in a thread of its own. Answers
+/// whether all could be run, and the proxies ended because their desks were closed.
 fn serve_clients<J: Live + Send + Sync, R: Threads + Wait + Abort + Sync>(
     rt: &R,
     service: &Service<J>,

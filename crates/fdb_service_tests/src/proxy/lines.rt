@@ -1,16 +1,20 @@
 //! A text, each line of which is a call, and behind `=>` what it is answered:
 //!
-//! - `report` has a version, `locked` or `unlocked`, and a metadata version or `none`: the position after it;
+//! - `report` has a version, `locked` or `unlocked`, and a
+//! metadata version or `none`: the position after it;
 //! - `see`: the clients see the record, and their position;
-//! - `submit` has a client, a serial number, a priority, a count, a moment and tags: `in`, or what is handed back and why;
+//! - `submit` has a client, a serial number, a priority, a count,
+//! a moment and tags: `in`, or what is handed back and why;
 //! - `leave`: who asked last waits no more;
 //! - `close`: the desk is closed;
 //! - `serve`: the answers to what waits at the desk, as one batch;
-//! - `run` has the limits and the room of a queue: the proxy runs in a thread of its own until its desk is closed;
+//! - `run` has the limits and the room of a queue: the proxy
+//! runs in a thread of its own until its desk is closed;
 //! - `answers`: those that came to each who waits, in order;
 //! - `position`: that of the proxy's token.
 //!
-//! The queues have a throttle of the tag `t` at the default priority: 5 transactions a second until the moment 5000.
+//! The queues have a throttle of the tag `t` at the default
+//! priority: 5 transactions a second until the moment 5000.
 
 use crate::line::{Line, tag};
 use crate::proxy::answers::{answers_text, asker_text, awaited};
@@ -26,7 +30,7 @@ use std::thread;
 use std::thread::Threads;
 
 /// Plays the lines of a text.
-pub fn play_lines<J: Live + Send + Sync, R: Threads + Wait + Abort + Sync>(
+pub(crate) fn play_lines<J: Live + Send + Sync, R: Threads + Wait + Abort + Sync>(
     rt: &R,
     mut stand: Stand<J>,
     text: &str,

@@ -16,8 +16,8 @@ use std::{mem, thread};
 /// How many requests wait at the desk.
 const REQUESTS: u64 = 3;
 
-/// Leaves the requests of client 0 on the desk, with serial numbers from 0 on. One that is refused memory is handed back,
-/// and left once more.
+/// Leaves the requests of client 0 on the desk, with serial numbers from
+/// 0 on. One that is refused memory is handed back, and left once more.
 fn submit_all<J: Live, R: Wait + Abort>(
     rt: &R,
     stand: &mut Stand<J>,
@@ -34,7 +34,8 @@ fn submit_all<J: Live, R: Wait + Abort>(
     Ok(())
 }
 
-/// A request of client 0, whose answer goes over a channel with room for one or over an unbounded one.
+/// A request of client 0, whose answer goes over a channel
+/// with room for one or over an unbounded one.
 fn request_over<J: Live>(
     stand: &mut Stand<J>,
     serial: u64,
@@ -67,9 +68,9 @@ fn submit_again<J: Live, R: Wait + Abort>(
     }
 }
 
-/// Serves a batch, by a second call where memory is refused to the first, which has then changed nothing and hands the
-/// requests back.
-pub fn serve_refused<J: Live, R: Wait + Abort>(
+/// Serves a batch, by a second call where memory is refused to the
+/// first, which has then changed nothing and hands the requests back.
+pub(crate) fn serve_refused<J: Live, R: Wait + Abort>(
     rt: &R,
     mut stand: Stand<J>,
 ) -> Result<(), AllocError> {
@@ -172,9 +173,10 @@ struct Heard {
     dropped: u64,
 }
 
-/// Runs a proxy. Where it ends well, each request has one answer: the reply, or that its offer was refused memory, which it
-/// is not where the queue had as many requests before. Where it ends for want of memory, its desk is closed and empty.
-pub fn run_refused<J: Live + Send + Sync, R: Threads + Wait + Abort + Sync>(
+/// Runs a proxy. Where it ends well, each request has one answer: the reply, or
+/// that its offer was refused memory, which it is not where the queue had as many
+/// requests before. Where it ends out of memory, its desk is closed and empty.
+pub(crate) fn run_refused<J: Live + Send + Sync, R: Threads + Wait + Abort + Sync>(
     rt: &R,
     mut stand: Stand<J>,
     used: bool,

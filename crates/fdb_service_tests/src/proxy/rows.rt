@@ -3,7 +3,8 @@
 use crate::proxy::{Case, play};
 use std::test::Fail;
 
-/// Two requests, the second of a client that has seen a report; and limits by the priority and the moment of each.
+/// Two requests, the second of a client that has seen a
+/// report; and limits by the priority and the moment of each.
 const BATCHES: &str = "
 submit 0 0 default 1 0 => in
 report 2100 unlocked none => 1
@@ -31,8 +32,9 @@ fn batches(rt: HostRuntime) -> Result<(), Fail> {
     Ok(())
 }
 
-/// A desk that is closed refuses, and what waits there has one window, in which a limit of 2 lets a system request of 1
-/// and a default one of 1 start. A second window would start the default one of 2 too.
+/// A desk that is closed refuses, and what waits there has one window,
+/// in which a limit of 2 lets a system request of 1 and a default one
+/// of 1 start. A second window would start the default one of 2 too.
 const CLOSED: &str = "
 submit 0 0 default 1 0 => in
 submit 1 0 default 2 0 => in
@@ -94,7 +96,8 @@ fn whoever_is_not_let_in_or_pushed_out_hears_why(rt: HostRuntime) -> Result<(), 
     Ok(())
 }
 
-/// One that started, one that is pushed out and one that is closed, none of which is waited for, and another.
+/// One that started, one that is pushed out and one that is
+/// closed, none of which is waited for, and another.
 const GONE: &str = "
 submit 0 0 system 1 0 => in
 leave => gone

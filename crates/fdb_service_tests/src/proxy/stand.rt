@@ -10,32 +10,32 @@ use std::process::Abort;
 use std::sync::Wait;
 
 /// The queue of a proxy.
-pub type Queue<J> = GrvQueue<Request<J>>;
+pub(crate) type Queue<J> = GrvQueue<Request<J>>;
 
 /// Where a request's answer comes.
-pub type Waiter<J> = Receiver<Answer<J>>;
+pub(crate) type Waiter<J> = Receiver<Answer<J>>;
 
 /// How a proxy ends.
-pub type Ended<J> = Result<Seen<J>, (ProxyError, Seen<J>)>;
+pub(crate) type Ended<J> = Result<Seen<J>, (ProxyError, Seen<J>)>;
 
 /// A live record and a desk, with the tokens of those who use them.
 #[derive(Drop)]
-pub struct Stand<J: Live> {
-    pub alloc: Global,
-    pub live: LiveRecord<J>,
+pub(crate) struct Stand<J: Live> {
+    pub(crate) alloc: Global,
+    pub(crate) live: LiveRecord<J>,
     /// What the clients have seen.
-    pub seen: Seen<J>,
+    pub(crate) seen: Seen<J>,
     /// What the proxy has seen.
-    pub served: Seen<J>,
-    pub reporters: Vec<Seen<J>>,
-    pub desk: Desk<J>,
+    pub(crate) served: Seen<J>,
+    pub(crate) reporters: Vec<Seen<J>>,
+    pub(crate) desk: Desk<J>,
     /// Where the answers come, in the order of the requests.
-    pub waiters: Vec<Waiter<J>>,
+    pub(crate) waiters: Vec<Waiter<J>>,
 }
 
 impl<J: Live> Stand<J> {
     /// An open desk with no request on it.
-    pub fn new(
+    pub(crate) fn new(
         alloc: Global,
         live: LiveRecord<J>,
         mut seen: Seen<J>,
@@ -54,7 +54,7 @@ impl<J: Live> Stand<J> {
     }
 
     /// A request with what the clients have seen, and where its answer comes.
-    pub fn request(
+    pub(crate) fn request(
         &mut self,
         client: u32,
         serial: u64,
@@ -64,13 +64,13 @@ impl<J: Live> Stand<J> {
     }
 
     /// A proxy of the desk with a queue, and a second between two of its windows.
-    pub fn proxy(&mut self, queue: Queue<J>) -> GrvProxy<'_, J> {
+    pub(crate) fn proxy(&mut self, queue: Queue<J>) -> GrvProxy<'_, J> {
         let token = self.live.split(&mut self.served);
         GrvProxy::new(self.alloc, &self.live, &self.desk, queue, 1_000_000, token)
     }
 
     /// A report by one of the reporters, and the position after it.
-    pub fn report<R: Wait + Abort>(&mut self, rt: &R, rec: Record) -> u64 {
+    pub(crate) fn report<R: Wait + Abort>(&mut self, rt: &R, rec: Record) -> u64 {
         let mut token = self.reporters.pop().expect(rt, "a reporter is left");
         let who = token.reporter().expect(rt, "a reporter's token");
         let acked = self.live.report(rt, &OpenGate, who, &mut token, rec);
@@ -79,7 +79,7 @@ impl<J: Live> Stand<J> {
 }
 
 /// A request with what a token has seen, and where its answer comes.
-pub fn request_of<J: Live>(
+pub(crate) fn request_of<J: Live>(
     alloc: Global,
     live: &LiveRecord<J>,
     seen: &mut Seen<J>,
@@ -100,7 +100,7 @@ pub fn request_of<J: Live>(
 }
 
 /// Leaves a request on a desk.
-pub fn submit<J: Live, R: Wait>(
+pub(crate) fn submit<J: Live, R: Wait>(
     rt: &R,
     desk: &Desk<J>,
     request: Request<J>,
@@ -114,7 +114,7 @@ pub fn submit<J: Live, R: Wait>(
 }
 
 /// What a client asks for at a moment, which has nothing to do with locks.
-pub fn opts_of(priority: Priority, count: u64, tags: Vec<Tag>, at: u64) -> GrvOpts {
+pub(crate) fn opts_of(priority: Priority, count: u64, tags: Vec<Tag>, at: u64) -> GrvOpts {
     GrvOpts {
         priority,
         count,
@@ -125,7 +125,7 @@ pub fn opts_of(priority: Priority, count: u64, tags: Vec<Tag>, at: u64) -> GrvOp
 }
 
 /// A queue of these limits and this room, with no request in it.
-pub fn queue_of<J: Live>(
+pub(crate) fn queue_of<J: Live>(
     alloc: Global,
     normal: u64,
     batch: u64,

@@ -192,7 +192,8 @@ fn play_named<J: Live + Send + Sync, R: Threads + Wait + Abort + Sync>(
     opened: Opened,
     core: ChainCore,
 ) -> Result<(), AllocError>
-    requires opened { opened ≡ record { table = J.table; start = J.start; reporters = J.reporters } }
+    requires opened { opened
+        ≡ record { table = J.table; start = J.start; reporters = J.reporters } }
     requires epoch_end { core.epoch_end ≡ J.epoch_end }
     requires recovery { core.recovery ≡ J.recovery }
 {

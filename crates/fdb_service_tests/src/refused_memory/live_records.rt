@@ -29,8 +29,8 @@ fn a_live_record_bears_it(rt: HostRuntime) -> Result<(), Fail> {
     Ok(())
 }
 
-/// Passes also where every allocation is refused from one on: then the record or its tokens are not to be had, or all
-/// calls on them answer as ever.
+/// Passes also where every allocation is refused from one on: then the record
+/// or its tokens are not to be had, or all calls on them answer as ever.
 #[test]
 fn without_memory(rt: HostRuntime) -> Result<(), Fail> {
     for case in &[Case::Worked, Case::Crosswise] {

@@ -41,7 +41,8 @@ fn a_proxy_that_cannot_send_bears_it(rt: HostRuntime) -> Result<(), Fail> {
     Ok(())
 }
 
-/// Passes also where every allocation is refused from one on: then what was begun ends for want of memory, or as ever.
+/// Passes also where every allocation is refused from one on:
+/// then what was begun ends out of memory, or as ever.
 #[test]
 fn without_memory(rt: HostRuntime) -> Result<(), Fail> {
     let _ended = play(&rt, rt.alloc(), Case::ServeRefused);

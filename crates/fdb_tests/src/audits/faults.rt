@@ -92,8 +92,8 @@ const RAISED: &str = "
 entry 0 0 1 0 0 100 100 fresh; entry 1 0 2 0 100 2100 2100 fresh
 log; draws 0 0 0 1 0 0 100 100 fresh; draws 0 1 0 2 0 100 2100 2100 fresh; raises 0 1 2 2100";
 
-/// What follows it of a client X in whose log one fault stands, and the fault: of each kind, in the order in which audits
-/// look for them. What the client draws is the chain's entry Z.
+/// What follows it of a client X in whose log one fault stands, and the fault: of each kind,
+/// in the order in which audits look for them. What the client draws is the chain's entry Z.
 const KINDS: &[(&str, &str)] = &[
     ("log; reads 0 1 2100; reads 0 1 2100", "Order X 1"),
     (
@@ -109,7 +109,8 @@ const KINDS: &[(&str, &str)] = &[
     ),
 ];
 
-/// Audits the logs of two clients with a fault of these kinds each: the first kind is named, of the first client.
+/// Audits the logs of two clients with a fault of these
+/// kinds each: the first kind is named, of the first client.
 fn two_faults(rt: &impl Abort, alloc: Global, one: usize, other: usize) -> Result<(), Fail> {
     let first = KINDS.get(one).ok_or("no kind")?;
     let second = KINDS.get(other).ok_or("no kind")?;

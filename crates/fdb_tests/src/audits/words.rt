@@ -8,7 +8,7 @@ use std::alloc::Global;
 use std::process::Abort;
 
 /// A call of a kind, by the rest of its words.
-pub fn call(rt: &impl Abort, alloc: Global, kind: &str, line: &mut Line<'_>) -> Call {
+pub(crate) fn call(rt: &impl Abort, alloc: Global, kind: &str, line: &mut Line<'_>) -> Call {
     match kind {
         "draws" => drawn(rt, line),
         "reads" => Call {
@@ -63,7 +63,7 @@ fn reported(rt: &impl Abort, line: &mut Line<'_>, raised: bool) -> Call {
 }
 
 /// A record with no lock and no metadata version.
-pub fn plain(version: u64) -> Record {
+pub(crate) fn plain(version: u64) -> Record {
     Record {
         version,
         locked: false,
@@ -125,7 +125,7 @@ fn version(alloc: Global, rec: Record, locked_out: bool) -> CallAnswer {
 }
 
 /// A record.
-pub fn record(rt: &impl Abort, line: &mut Line<'_>) -> Record {
+pub(crate) fn record(rt: &impl Abort, line: &mut Line<'_>) -> Record {
     Record {
         version: line.number(rt),
         locked: line.is(rt, "locked", "unlocked"),
@@ -144,7 +144,7 @@ fn metadata(rt: &impl Abort, line: &mut Line<'_>) -> Option<u64> {
 }
 
 /// An answer, or an entry of the chain.
-pub fn issued(rt: &impl Abort, line: &mut Line<'_>) -> Issued {
+pub(crate) fn issued(rt: &impl Abort, line: &mut Line<'_>) -> Issued {
     Issued {
         ordinal: line.number(rt),
         proxy: line.who(rt),
@@ -158,7 +158,7 @@ pub fn issued(rt: &impl Abort, line: &mut Line<'_>) -> Issued {
 }
 
 /// A refusal.
-pub fn refusal(rt: &impl Abort, line: &mut Line<'_>) -> Refusal {
+pub(crate) fn refusal(rt: &impl Abort, line: &mut Line<'_>) -> Refusal {
     match line.word(rt) {
         "Early" => Refusal::Early {
             expected: line.number(rt),
@@ -178,7 +178,7 @@ pub fn refusal(rt: &impl Abort, line: &mut Line<'_>) -> Refusal {
 }
 
 /// A fault of an audit, from its words.
-pub fn fault(rt: &impl Abort, line: &mut Line<'_>) -> AuditFault {
+pub(crate) fn fault(rt: &impl Abort, line: &mut Line<'_>) -> AuditFault {
     match line.word(rt) {
         "Clash" => AuditFault::Clash {
             position: line.number(rt),

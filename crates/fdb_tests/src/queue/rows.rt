@@ -17,8 +17,8 @@ window 1000000 => 3 | 3000000 1000000
 window 10000000 => | 20000000 20000000
 ";
 
-/// The head of the row blocks what comes after it, however small that is. The batch budget, for which nothing else pays,
-/// gains as much until the three start.
+/// The head of the row blocks what comes after it, however small that is. The
+/// batch budget, for which nothing else pays, gains as much until the three start.
 const HEAD: &str = "
 new 1 1 100 => ok
 offer default 3 0 => in
@@ -30,7 +30,8 @@ window 1000000 => | 4000000 4000000
 window 1000000 => 0 | 2000000 2000000
 ";
 
-/// The greatest burst bounds what a window starts, whatever the budget, and a budget while somebody waits for it.
+/// The greatest burst bounds what a window starts, whatever
+/// the budget, and a budget while somebody waits for it.
 const BURST: &str = "
 new 100000 100000 3 => ok
 offer system 60000 0 => in

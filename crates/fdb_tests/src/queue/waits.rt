@@ -9,7 +9,8 @@ use std::alloc::Global;
 use std::process::Abort;
 use std::test::Fail;
 
-/// The number is 4 before the first window of the head of count 3, where the bound is 6, and one less after each.
+/// The number is 4 before the first window of the head of
+/// count 3, where the bound is 6, and one less after each.
 const WAITS: &str = "
 new 1 1 100 => ok
 waits 1000000 => none
@@ -35,8 +36,9 @@ offer default 100000 7 => in
 waits 1 => 199998000000
 ";
 
-/// Idle windows at once: 199,998,000,000 bring the budget to what the head lacks. A batch request of
-/// 11 lacks 10 transactions by both rates, of which the normal one keeps no more while it is idle.
+/// Idle windows at once: 199,998,000,000 bring the budget to what the
+/// head lacks. A batch request of 11 lacks 10 transactions by both
+/// rates, of which the normal one keeps no more while it is idle.
 const SKIPPED: &str = "
 new 1 0 1 => ok
 skip 1000000 => 0 | 0 0
@@ -66,7 +68,8 @@ fn the_waiting_is_counted(rt: HostRuntime) -> Result<(), Fail> {
     play(&rt, rt.alloc(), WAITS)
 }
 
-/// The limits, the count of one request, the time between windows, and how many there are before the request comes.
+/// The limits, the count of one request, the time between
+/// windows, and how many there are before the request comes.
 #[derive(Clone, Copy)]
 struct Case {
     normal: u64,

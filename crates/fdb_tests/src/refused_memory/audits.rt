@@ -29,7 +29,8 @@ fn found(
     }
 }
 
-/// The first client has raised the register twice, and the second has read it and then draws a version that is above.
+/// The first client has raised the register twice, and the
+/// second has read it and then draws a version that is above.
 const ABOVE: &str = "
 entry 0 0 1 0 0 200 200 fresh; entry 1 0 2 0 200 300 300 fresh
 entry 2 1 1 0 300 350 350 fresh; entry 3 1 2 0 350 400 400 fresh
@@ -53,7 +54,8 @@ fn an_audit_bears_it(rt: HostRuntime) -> Result<(), Fail> {
     Ok(())
 }
 
-/// The first client raises the register to 200, the second reads it, and the first raises it to 300.
+/// The first client raises the register to 200, the second
+/// reads it, and the first raises it to 300.
 fn are_events(rt: &impl Abort, events: &[Event]) {
     let read = Event::Read {
         client: 1,

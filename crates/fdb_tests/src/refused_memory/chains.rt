@@ -15,7 +15,8 @@ fn open(alloc: Global) -> Result<ChainCore, ChainError> {
     }
 }
 
-/// An answer, by a second call where memory is refused to the first, which has then changed nothing.
+/// An answer, by a second call where memory is refused to
+/// the first, which has then changed nothing.
 fn answer(rt: &impl Abort, chain: &mut ChainCore, ask: Ask) -> Result<Issued, ChainError> {
     let before = chain.answers().len();
     match chain.ask(ask) {

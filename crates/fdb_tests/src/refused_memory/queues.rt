@@ -7,8 +7,8 @@ use fdb_queue::{GrvQueue, QueueError, Req};
 use std::process::Abort;
 use std::test::Fail;
 
-/// Offers a request, by a second call where memory is refused to the first, which has then changed nothing and hands
-/// the request back. Answers the payload that is pushed out.
+/// Offers a request, by a second call where memory is refused to the first, which has then
+/// changed nothing and hands the request back. Answers the payload that is pushed out.
 fn offer(
     rt: &impl Abort,
     queue: &mut GrvQueue<u32>,
@@ -34,7 +34,8 @@ fn offer(
     }
 }
 
-/// Holds a window, by a second call where memory is refused to the first, which has then changed nothing.
+/// Holds a window, by a second call where memory is refused
+/// to the first, which has then changed nothing.
 fn window(rt: &impl Abort, queue: &mut GrvQueue<u32>) -> Result<Vec<Req<u32>>, QueueError> {
     let (lengths, budgets) = (queue.lengths(), queue.budgets());
     match queue.window(1) {
@@ -47,8 +48,8 @@ fn window(rt: &impl Abort, queue: &mut GrvQueue<u32>) -> Result<Vec<Req<u32>>, Q
     }
 }
 
-/// Offers 20 requests of each priority to an empty queue with room for 60, and then one more that pushes out the oldest batch
-/// request.
+/// Offers 20 requests of each priority to an empty queue with room for
+/// 60, and then one more that pushes out the oldest batch request.
 fn overfill(rt: &impl Abort, queue: &mut GrvQueue<u32>) -> Result<(), QueueError> {
     for payload in 0..20 {
         for priority in [Priority::Batch, Priority::Default, Priority::System] {
@@ -61,8 +62,8 @@ fn overfill(rt: &impl Abort, queue: &mut GrvQueue<u32>) -> Result<(), QueueError
     Ok(())
 }
 
-/// The priority and the payload of what starts at a place: 21 system requests, 20 default ones, and 19 batch ones from
-/// number 1 on.
+/// The priority and the payload of what starts at a place: 21 system
+/// requests, 20 default ones, and 19 batch ones from number 1 on.
 fn wanted_at(place: usize) -> (Priority, usize) {
     match place {
         0..21 => (Priority::System, place),

@@ -8,7 +8,8 @@ use std::alloc::AllocError;
 use std::process::Abort;
 use std::test::Fail;
 
-/// Pushes, and once more where memory was refused: then nothing had changed, and the item was handed back.
+/// Pushes, and once more where memory was refused: then
+/// nothing had changed, and the item was handed back.
 fn push(rt: &impl Abort, items: &mut Sequence<u64>, item: u64) -> Result<(), Fail> {
     let before = items.len();
     if let Err(failed) = items.push(item) {

@@ -29,7 +29,8 @@ fn answer<R: Wait>(
     }
 }
 
-/// Asks for the next number of a proxy. So many answers were given before, and a refused one has drawn no version.
+/// Asks for the next number of a proxy. So many answers were
+/// given before, and a refused one has drawn no version.
 fn next<R: Wait + Abort>(
     rt: &R,
     sequencer: &Sequencer<FromHundred>,
