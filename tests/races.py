@@ -124,12 +124,13 @@ def limits():
     yield "10,000 reads of 64 clients through one proxy of room 1", 1, reads(64), {"clients": 64, "room": 1, "normal": 1}
     yield "10,000 reads of 64 clients through 16 proxies of room 1", 16, reads(64), {"clients": 64, "room": 1, "normal": 1}
     yield "commits and reads of 64 clients in one round", 16, [[third(who, at) for at in range(150) for who in range(64)]], {"clients": 64}
-    # A read starts at once only where its count fits the budget, which grows by `normal` in a second of windows.
+    # Reads that wait for very many windows: each adds `elapsed` times `normal` millionths of two transactions to a budget.
     slow, many = {"normal": 1, "elapsed": 1}, lambda count: [[do("grv", count=count)] * MOST_COMMANDS]
     yield "a read of 100,000 transactions for which windows of a microsecond save", 1, [[do("grv", count=100_000)]], slow
     yield "a batch read of 11 for which windows of a microsecond save", 1, [[do("grv", priority="batch", count=11)]], {**slow, "batch": 1}
     yield "10,000 reads of one transaction at a limit of one", 1, many(1), {"normal": 1}
     yield "10,000 reads of 1,000 transactions at a limit of one", 1, many(1000), {"normal": 1}
+    yield "10,000 reads of 100,000 transactions for which windows of a microsecond save", 1, many(100_000), slow
 
 
 def at_limits(program):
