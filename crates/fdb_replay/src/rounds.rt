@@ -123,8 +123,8 @@ struct Part<'a, J: Live> {
     tells: Vec<Tell<J>>,
 }
 
-/// What a thread promises: these clients, the first of whom has
-/// this number, do their commands of a round, or memory is wanting.
+/// What a thread promises: that these clients, the first of whom has
+/// this number, do their commands of a round, or that memory is wanting.
 #[derive(Drop)]
 struct Plays<'a, 'c, J: Live> {
     first: u32,
@@ -147,8 +147,8 @@ impl<'a, 'c, J: Live> Promise<Result<Part<'a, J>, RunFault>> for Plays<'a, 'c, J
 /// of a round, each that has any in a thread of its own, the last of them
 /// in this one. Answers what they told, by client and then by command.
 ///
-/// It fails only where memory runs out in a client, or a thread for
-/// one cannot be had. Either way it is done once all threads are.
+/// It fails only where memory runs out, or where a thread cannot be
+/// had. However it ends, each thread that it started has been joined.
 #[cycle(parts)]
 #[tactic(auto, using(crate::proofs::Parts::one_played_at))]
 fn play_part<'a, J: Live + Send + Sync, R: Threads + Wait + Sync, G: Gate>(
@@ -215,7 +215,8 @@ fn play_halves<'a, J: Live + Send + Sync, R: Threads + Wait + Sync, G: Gate>(
     Ok((front, back))
 }
 
-/// Has two halves of the clients do their commands of a round, the front one in a new thread.
+/// Has two halves of the clients do their commands of a round, the front one
+/// in a new thread. Where that cannot be had, neither half begins.
 #[cycle(parts)]
 fn play_apart<'a, J: Live + Send + Sync, R: Threads + Wait + Sync, G: Gate>(
     rt: &R,
@@ -259,7 +260,7 @@ fn play_apart<'a, J: Live + Send + Sync, R: Threads + Wait + Sync, G: Gate>(
                 commands: round.commands,
                 clients: Snapshot::of(&front),
             };
-            let part = move || -> Result<Part<'_, J>, RunFault>
+            let play_front = move || -> Result<Part<'_, J>, RunFault>
                 requires { IsSync R.row × IsSync J.row × IsSend J.row × IsSync G.row
                     × (first + vec_len front ≤ 64) }
                 ensures { IfOk result (λ part.
@@ -267,7 +268,7 @@ fn play_apart<'a, J: Live + Send + Sync, R: Threads + Wait + Sync, G: Gate>(
                     front.entry.items part.clients.items part.tells.items)
                     × IfErr result (λ fault. fault ≡ RunFault.Memory) }
             { play_part(rt, alloc, world, round, first, front) };
-            let Ok(thread) = scope.spawn_with(promise, part) else {
+            let Ok(thread) = scope.spawn_with(promise, play_front) else {
                 return Err(RunFault::Memory);
             };
             let ours = play_part(rt, alloc, world, round, next, back);

@@ -13,5 +13,5 @@ decreases-play_apart g l = 8 * (l.front.len + l.back.len) - 2
 abbrev pub decreases-play_apart-scope : goal.decreases-play_apart-scope
 decreases-play_apart-scope g l = 8 * (l.front.len + l.back.len) - 3
 
-abbrev pub decreases-play_apart-scope-part : goal.decreases-play_apart-scope-part
-decreases-play_apart-scope-part g l = 8 * l.front.len + 1
+abbrev pub decreases-play_apart-scope-play_front : goal.decreases-play_apart-scope-play_front
+decreases-play_apart-scope-play_front g l = 8 * l.front.len + 1
