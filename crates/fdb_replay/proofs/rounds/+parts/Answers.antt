@@ -1,4 +1,4 @@
-use Rattle.std.proofs.Common.{◌≡◌, ◌+◌, ◌/◌, ◌++◌, length, map, sym, subst, rules}
+use Rattle.std.proofs.Common.{◌≡◌, ◌+◌, ◌/◌, ◌++◌, length, subst, rules}
 use Rattle.std.proofs.lemmas.List.{take-append-drop}
 use Rattle.fdb_replay.specs.private.Rounds.{IsPlayed}
 use Rattle.fdb_replay.proofs.Parts.{both_played, none_played}
