@@ -7,7 +7,7 @@ import tempfile
 from typing import NamedTuple
 
 from answers import do
-from harness import DONE, EXAMPLES, NO_MEMORY, NOT_ENDED, OUT_OF_MEMORY, READING_FAILED, ROOT, WORDS_REFUSED, done, fault_of, first_output, first_script, refused as refused_script, run, written
+from harness import EXAMPLES, NOT_ENDED, OUT_OF_MEMORY, READING_FAILED, ROOT, WORDS_REFUSED, done, fault_of, first_output, first_script, refused as refused_script, run, written
 from judge import Lawful
 from model import expected
 from races import commit
@@ -35,11 +35,10 @@ THREAD = b"t"
 
 
 class Refused(NamedTuple):
-    """A run with something refused: the number of that, what it was, how the run ended, and what was wrong or None."""
+    """A run with something refused: the number of that, what it was, and what was wrong or None."""
 
     number: int
     what: bytes
-    status: int
     fault: str
 
 
@@ -65,8 +64,8 @@ def run_refused(words, preloaded, number, goes_on, given):
 def swept(words, preloaded, given, without, fault_of_ran, goes_on, step):
     """Refuses allocations and starts of threads until runs end without one; `step` gives the next number.
 
-    A run is to end as `fault_of_ran` asks, or as `without` where something was refused that it could not do without, as a
-    sort can do without its buffer, and a client without a thread. Threads do not allocate in the same order in each run, so
+    A run is to end as `without` where a thread was refused, and else as `fault_of_ran` asks, or as `without` where it could
+    not do without the memory, as a sort can do without its buffer. Threads do not allocate in the same order in each run, so
     that a run may end before an allocation that another one comes to. Where a run does not end in time there are no further
     ones.
     """
@@ -74,12 +73,12 @@ def swept(words, preloaded, given, without, fault_of_ran, goes_on, step):
     for _ in range(MOST_RUNS):
         ran, what = run_refused(words, preloaded, number, goes_on, given)
         fault = fault_of_ran(ran)
-        yield Refused(number, what, ran.status, fault_of(ran, without) if fault and what else fault)
+        yield Refused(number, what, fault_of(ran, without) if what == THREAD or fault and what else fault)
         missed = 0 if what else missed + 1
         if missed == MISSED or ran.status == NOT_ENDED:
             return
         number = step(number)
-    yield Refused(number, what, ran.status, f"memory is still asked for after {MOST_RUNS} runs")
+    yield Refused(number, what, f"memory is still asked for after {MOST_RUNS} runs")
 
 
 def exactly(wanted):
@@ -87,7 +86,7 @@ def exactly(wanted):
 
 
 def refused(program):
-    """A run that is refused memory or a thread ends with status 3 and its line, or as ever where it can do without."""
+    """A run that is refused a thread or memory ends with status 3 and its line, or as ever where it can do without the memory."""
     each, further = lambda at: at + 1, lambda at: at + 1 + at // 12
     first, two, large = first_script(), written(TWO, clients=2, throttles=THROTTLES), written(LARGE)
     crowd = written(CROWD, clients=3, throttles=THROTTLES, room=1)
@@ -107,16 +106,16 @@ def refused(program):
         ("help", ["--help"], b"", exactly(done(run([program, "--help"]).out)), each),
     ]
     with tempfile.TemporaryDirectory(prefix="refuse-") as folder:
-        preloaded, without_thread = built(folder), set()
+        preloaded, most_threads = built(folder), 0
         for name, words, given, fault_of_ran, step in sweeps:
             for goes_on in (False, True):
-                begun = f"{name}, {'from ' if goes_on else ''}allocation or thread"
+                begun, threads = f"{name}, {'from ' if goes_on else ''}allocation or thread", 0
                 for it in swept([program, *words], preloaded, given, OUT_OF_MEMORY, fault_of_ran, goes_on, step):
-                    without_thread |= {it.status} if it.what == THREAD else set()
+                    threads += it.what == THREAD
                     yield f"{begun} {it.number}", it.fault
-    # A run without a proxy ends, and one without a thread for its clients goes on.
-    both = {DONE, NO_MEMORY}
-    yield "starts of threads", None if without_thread == both else f"without one, runs ended with {without_thread}, and not {both}"
+                most_threads = max(most_threads, threads)
+    # No run of these has more than two proxies, so that the others were threads of clients.
+    yield "starts of clients' threads", None if most_threads > 2 else f"at most {most_threads} threads were refused in a sweep"
 
 
 def bearing_tests(tests, pattern):

@@ -14,8 +14,10 @@ use fdb_history::{Gate, Sequence};
 use fdb_live::Live;
 use fdb_script::{Command, MAX_CLIENTS};
 use std::alloc::Global;
+use std::snapshot::Snapshot;
 use std::sync::Wait;
-use std::thread::{Threads, join};
+use std::thread;
+use std::thread::{Promise, Scope, Threads};
 
 /// The most clients of a run.
 const CLIENTS: usize = MAX_CLIENTS as usize;
@@ -108,7 +110,7 @@ fn play_round<'a, J: Live + Send + Sync, R: Threads + Wait + Sync, G: Gate>(
     ensures err { IfErr result (λ fault. fault ≡ RunFault.Memory) }
 {
     let round = Round::new(commands);
-    let part = play_part(rt, alloc, world, &round, 0, clients)?;
+    let part = play_all(rt, alloc, world, &round, clients)?;
     let Part { mut clients, tells } = part;
     learn_all(rt, &mut clients, tells)?;
     Ok(clients)
@@ -121,16 +123,69 @@ struct Part<'a, J: Live> {
     tells: Vec<Tell<J>>,
 }
 
-/// Has these clients, the first of whom has this number, do their commands
-/// of a round, each that has any in a thread of its own, the last of them
-/// in this one. Answers what they told, by client and then by command.
-#[cycle(parts)]
-#[tactic(auto, using(crate::proofs::Parts::one_played_at))]
-fn play_part<'a, J: Live + Send + Sync, R: Threads + Wait + Sync, G: Gate>(
+/// What a thread promises: that these clients, the first of whom has
+/// this number, do their commands of a round, or that memory is wanting.
+#[derive(Drop)]
+struct Plays<'a, 'c, J: Live> {
+    first: u32,
+    commands: &'c [Command],
+    clients: Snapshot<Vec<Player<'a, J>>>,
+}
+
+impl<'a, 'c, J: Live> Promise<Result<Part<'a, J>, RunFault>> for Plays<'a, 'c, J> {
+    ghost use Rattle.std.specs.Prelude.{◌≡◌, IfErr, IfOk};
+    ghost use Rattle.fdb_replay.specs.declared.fault.RunFault.TheVariants.{Memory};
+    ghost use Rattle.fdb_replay.specs.private.Rounds.{IsPlayed};
+
+    ghost kept_by = { λ promise result. IfOk result (λ part.
+        IsPlayed promise.first promise.commands.now
+        promise.clients.value.items part.clients.items part.tells.items)
+        × IfErr result (λ fault. fault ≡ Memory) };
+}
+
+/// Has all clients do their commands of a round. Answers what they told, by client
+/// and then by command. However it ends, each thread of the round has ended.
+fn play_all<'a, J: Live + Send + Sync, R: Threads + Wait + Sync, G: Gate>(
     rt: &R,
     alloc: Global,
     world: &World<'_, J, G>,
     round: &Round<'_>,
+    clients: Vec<Player<'a, J>>,
+) -> Result<Part<'a, J>, RunFault>
+    requires few { vec_len clients ≤ 64 }
+    ensures ok { IfOk result (λ part.
+        IsPlayed 0 round.now.commands.now
+        clients.entry.items part.clients.items part.tells.items) }
+    ensures err { IfErr result (λ fault. fault ≡ RunFault.Memory) }
+{
+    thread::scope(
+        thread::scope_env(),
+        rt,
+        move |scope| -> Result<Part<'_, J>, RunFault>
+            requires { IsSync R.row × IsSync J.row × IsSend J.row × IsSync G.row
+                × (vec_len clients ≤ 64) }
+            ensures ok { IfOk result (λ part.
+                IsPlayed 0 round.entry.now.commands.now
+                clients.entry.items part.clients.items part.tells.items) }
+            ensures err { IfErr result (λ fault. fault ≡ RunFault.Memory) }
+        { play_part(scope, rt, alloc, world, round, 0, clients) },
+    )
+}
+
+/// Has these clients, the first of whom has this number, do their commands
+/// of a round, each that has any in a thread of its own, the last of them
+/// in this one. Answers what they told, by client and then by command.
+///
+/// It fails only where memory runs out, or where a thread cannot be
+/// had. However it ends, each thread that it started has been joined.
+#[cycle(parts)]
+#[tactic(auto, using(crate::proofs::Parts::one_played_at))]
+fn play_part<'s, 'a: 's, E, J: Live + Send + Sync, R: Threads + Wait + Sync, G: Gate>(
+    scope: &'s Scope<'s, E>,
+    rt: &'s R,
+    alloc: Global,
+    world: &'s World<'_, J, G>,
+    round: &'s Round<'_>,
     first: u32,
     mut clients: Vec<Player<'a, J>>,
 ) -> Result<Part<'a, J>, RunFault>
@@ -151,35 +206,90 @@ fn play_part<'a, J: Live + Send + Sync, R: Threads + Wait + Sync, G: Gate>(
         return Ok(Part { clients, tells });
     }
     let half = clients.len() / 2;
-    let next = first + half as u32;
     let others = clients.split_off(half)?;
-    let both_act = round.acts_among(first, half) && round.acts_among(next, others.len());
-    let front = move || -> Result<Part<'_, J>, RunFault>
-        requires { IsSync R.row × IsSync J.row × IsSend J.row × IsSync G.row
-            × (first + vec_len clients ≤ 64) }
-        ensures { IfOk result (λ part.
-            IsPlayed first round.entry.now.commands.now
-            clients.entry.items part.clients.items part.tells.items)
-            × IfErr result (λ fault. fault ≡ RunFault.Memory) }
-    { play_part(rt, alloc, world, round, first, clients) };
-    let back = move || -> Result<Part<'_, J>, RunFault>
-        requires { IsSync R.row × IsSync J.row × IsSend J.row × IsSync G.row
-            × (next + vec_len others ≤ 64) }
-        ensures { IfOk result (λ part.
-            IsPlayed next round.entry.now.commands.now
-            others.entry.items part.clients.items part.tells.items)
-            × IfErr result (λ fault. fault ≡ RunFault.Memory) }
-    { play_part(rt, alloc, world, round, next, others) };
-    let (theirs, ours) = if both_act {
-        join(rt, front, back)
-    } else {
-        (front(), back())
-    };
-    let mut part = theirs?;
-    let mut rest = ours?;
+    let (mut part, mut rest) = play_halves(scope, rt, alloc, world, round, first, clients, others)?;
     part.clients.append(&mut rest.clients)?;
     part.tells.append(&mut rest.tells)?;
     Ok(part)
+}
+
+/// Has two halves of the clients do their commands of a round: where both
+/// have a client that acts, the front one in a new thread.
+#[cycle(parts)]
+fn play_halves<'s, 'a: 's, E, J: Live + Send + Sync, R: Threads + Wait + Sync, G: Gate>(
+    scope: &'s Scope<'s, E>,
+    rt: &'s R,
+    alloc: Global,
+    world: &'s World<'_, J, G>,
+    round: &'s Round<'_>,
+    first: u32,
+    front: Vec<Player<'a, J>>,
+    back: Vec<Player<'a, J>>,
+) -> Result<(Part<'a, J>, Part<'a, J>), RunFault>
+    requires some_front { 0 < vec_len front }
+    requires some_back { 0 < vec_len back }
+    requires few { first + (vec_len front + vec_len back) ≤ 64 }
+    ensures front { IfOk result (λ parts.
+        IsPlayed first round.now.commands.now
+        front.entry.items parts.0.clients.items parts.0.tells.items) }
+    ensures back { IfOk result (λ parts.
+        IsPlayed (first + vec_len front.entry) round.now.commands.now
+        back.entry.items parts.1.clients.items parts.1.tells.items) }
+    ensures err { IfErr result (λ fault. fault ≡ RunFault.Memory) }
+{
+    let next = first + front.len() as u32;
+    if round.acts_among(first, front.len()) && round.acts_among(next, back.len()) {
+        return play_apart(scope, rt, alloc, world, round, first, front, back);
+    }
+    let front = play_part(scope, rt, alloc, world, round, first, front)?;
+    let back = play_part(scope, rt, alloc, world, round, next, back)?;
+    Ok((front, back))
+}
+
+/// Has two halves of the clients do their commands of a round, the front one
+/// in a new thread. Where that cannot be had, neither half begins.
+#[cycle(parts)]
+fn play_apart<'s, 'a: 's, E, J: Live + Send + Sync, R: Threads + Wait + Sync, G: Gate>(
+    scope: &'s Scope<'s, E>,
+    rt: &'s R,
+    alloc: Global,
+    world: &'s World<'_, J, G>,
+    round: &'s Round<'_>,
+    first: u32,
+    front: Vec<Player<'a, J>>,
+    back: Vec<Player<'a, J>>,
+) -> Result<(Part<'a, J>, Part<'a, J>), RunFault>
+    requires some_front { 0 < vec_len front }
+    requires some_back { 0 < vec_len back }
+    requires few { first + (vec_len front + vec_len back) ≤ 64 }
+    ensures front { IfOk result (λ parts.
+        IsPlayed first round.now.commands.now
+        front.entry.items parts.0.clients.items parts.0.tells.items) }
+    ensures back { IfOk result (λ parts.
+        IsPlayed (first + vec_len front.entry) round.now.commands.now
+        back.entry.items parts.1.clients.items parts.1.tells.items) }
+    ensures err { IfErr result (λ fault. fault ≡ RunFault.Memory) }
+{
+    let next = first + front.len() as u32;
+    let promise = Plays {
+        first,
+        commands: round.commands,
+        clients: Snapshot::of(&front),
+    };
+    let play_front = move || -> Result<Part<'_, J>, RunFault>
+        requires { IsSync R.row × IsSync J.row × IsSend J.row × IsSync G.row
+            × (first + vec_len front ≤ 64) }
+        ensures { IfOk result (λ part.
+            IsPlayed first round.entry.now.commands.now
+            front.entry.items part.clients.items part.tells.items)
+            × IfErr result (λ fault. fault ≡ RunFault.Memory) }
+    { play_part(scope, rt, alloc, world, round, first, front) };
+    let Ok(thread) = scope.spawn_with(promise, play_front) else {
+        return Err(RunFault::Memory);
+    };
+    let ours = play_part(scope, rt, alloc, world, round, next, back);
+    let theirs = thread.join(rt);
+    Ok((theirs?, ours?))
 }
 
 /// Has a client do its commands of a round.

@@ -29,8 +29,8 @@ use std::thread::Threads;
 /// client's reads go to them in turn. The gate is passed where the sequencer's lock
 /// is held, where that of the reports is, and where an answer to a read has come.
 ///
-/// It fails where memory runs out, or a thread for a proxy cannot be had, or with the fault
-/// that the audit finds. A client for which no thread can be had acts in the calling one.
+/// It fails where memory runs out, or a thread for a proxy or a client cannot be had,
+/// or with the fault that the audit finds. Each thread has been joined by then.
 pub fn run<R: Threads + Wait + Sync, G: Gate>(
     rt: &R,
     alloc: Global,

@@ -1,11 +1,14 @@
-use Rattle.std.proofs.Common.{◌+◌, ◌*◌}
+use Rattle.std.proofs.Common.{◌+◌, ◌-◌, ◌*◌}
 use Rattle.fdb_replay.proofs.rounds.+parts.Given as goal
 
 abbrev pub decreases-play_part : goal.decreases-play_part
-decreases-play_part g l = 2 * l.clients.len
+decreases-play_part g l = 4 * l.clients.len
 
-abbrev pub decreases-front : goal.decreases-front
-decreases-front g l = 2 * l.clients.len + 1
+abbrev pub decreases-play_halves : goal.decreases-play_halves
+decreases-play_halves g l = 4 * (l.front.len + l.back.len) - 1
 
-abbrev pub decreases-back : goal.decreases-back
-decreases-back g l = 2 * l.others.len + 1
+abbrev pub decreases-play_apart : goal.decreases-play_apart
+decreases-play_apart g l = 4 * (l.front.len + l.back.len) - 2
+
+abbrev pub decreases-play_apart-play_front : goal.decreases-play_apart-play_front
+decreases-play_apart-play_front g l = 4 * l.front.len + 1
