@@ -1,12 +1,9 @@
 //! Audits of the logs of many clients.
 
-ghost use Rattle.std.specs.Prelude.{◌≤◌, length};
-
-use crate::asking::empty_chain;
+use crate::asking::{MANY, RECOVERY};
 use crate::checksum::Checksum;
 use crate::fault::Fault;
-use crate::measured::Measured;
-use crate::stopwatch::Stopwatch;
+use crate::measured::{Measured, Stopwatch};
 use fdb_chain::ChainCore;
 use fdb_history::{
     Ask, Call, CallAnswer, ClientLog, Event, GrvOpts, Input, Issued, Priority, Record, Sequence,
@@ -14,11 +11,6 @@ use fdb_history::{
 };
 use std::alloc::Global;
 use std::time::CpuClock;
-
-/// How many clients there are, and how many logs an audit may have.
-const CLIENTS: u32 = 64;
-
-const RECOVERY: u64 = 100;
 
 /// How many times the logs are audited.
 const AUDITS: u32 = 10;
@@ -33,42 +25,23 @@ const OPENING: Record = Record {
 /// Audits the logs of 64 clients with so many calls in all, a few times.
 pub(crate) fn audits(clock: &impl CpuClock, alloc: Global, size: u32) -> Result<Measured, Fault> {
     let run = Run::of(alloc, size)?;
-    let logs = run.logs.as_slice();
-    if logs.len() > 64 {
-        return Err(Fault::Audit);
-    }
     let watch = Stopwatch::start(clock);
-    let checksum = audit_each_time(alloc, run.chain.answers(), logs)?;
-    Ok(Measured {
-        operations: u64::from(size) * u64::from(AUDITS),
-        time: watch.stop(clock),
-        checksum,
-    })
-}
-
-/// Audits the same logs a few times.
-fn audit_each_time(alloc: Global, chain: &[Issued], logs: &[ClientLog]) -> Result<Checksum, Fault>
-    requires { length logs.now ≤ 64 }
-{
     let mut checksum = Checksum::EMPTY;
     for _ in 0..AUDITS {
-        checksum = audit_once(alloc, chain, logs, checksum)?;
+        checksum = audit_once(alloc, run.chain.answers(), run.logs.as_slice(), checksum);
     }
-    Ok(checksum)
+    let operations = u64::from(size) * u64::from(AUDITS);
+    watch.stop(clock, operations, checksum)
 }
 
-/// Audits the logs, and adds the history.
-fn audit_once(
-    alloc: Global,
-    chain: &[Issued],
-    logs: &[ClientLog],
-    before: Checksum,
-) -> Result<Checksum, Fault>
-    requires { length logs.now ≤ 64 }
-{
+/// Audits some logs, and adds the history.
+fn audit_once(alloc: Global, chain: &[Issued], logs: &[ClientLog], before: Checksum) -> Checksum {
+    if logs.len() > 64 {
+        return before.with_failure();
+    }
     match audit(alloc, OPENING, chain, logs) {
-        Ok(history) => Ok(with_events(before, history.events.as_slice())),
-        Err(_) => Err(Fault::Audit),
+        Ok(history) => with_events(before, history.events.as_slice()),
+        Err(_) => before.with_failure(),
     }
 }
 
@@ -118,7 +91,7 @@ impl Run {
     /// version, raises the register with it and reads it.
     fn of(alloc: Global, size: u32) -> Result<Run, Fault> {
         let mut run = Run {
-            chain: empty_chain(alloc, CLIENTS)?,
+            chain: ChainCore::new(alloc, 0, RECOVERY, MANY)?,
             live: OPENING,
             position: 0,
             logs: empty_logs(alloc)?,
@@ -132,7 +105,7 @@ impl Run {
     /// The call at a place.
     fn play(&mut self, alloc: Global, place: u32) -> Result<(), Fault> {
         let turn = place / 3;
-        let (client, num) = (turn % CLIENTS, u64::from(turn / CLIENTS) + 1);
+        let (client, num) = (turn % MANY, u64::from(turn / MANY) + 1);
         let call = match place % 3 {
             0 => self.ask(client, num)?,
             1 => self.report(num),
@@ -237,7 +210,7 @@ fn last_position(log: &ClientLog) -> u64 {
 /// A log without calls for each client.
 fn empty_logs(alloc: Global) -> Result<Vec<ClientLog>, Fault> {
     let mut logs = Vec::new(alloc);
-    for _ in 0..CLIENTS {
+    for _ in 0..MANY {
         logs.push(ClientLog {
             calls: Sequence::new(alloc),
         })?;

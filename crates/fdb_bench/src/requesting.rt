@@ -24,7 +24,7 @@ pub(crate) fn queue<J: Live>(alloc: Global) -> Result<GrvQueue<Request<J>>, Faul
         batch: MOST,
         room: MOST,
     };
-    GrvQueue::new(alloc, config).map_err(|_| Fault::Queue)
+    Ok(GrvQueue::new(alloc, config)?)
 }
 
 /// A default request for one transaction, by the client 0 and
