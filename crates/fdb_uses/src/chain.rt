@@ -9,22 +9,17 @@ use std::alloc::Global;
 /// for its number.
 pub(crate) fn commit_versions(rt: &impl Print, alloc: Global) -> Result<()> {
     let mut chain = ChainCore::new(alloc, 0, 100, 1)?;
-    ask(rt, &mut chain, 1, 1_000)?;
-    ask(rt, &mut chain, 2, 3_000)?;
-    ask(rt, &mut chain, 1, 9_000)
-}
-
-/// Asks for a commit version under a number, at a moment in microseconds, and tells the answer.
-fn ask(rt: &impl Print, chain: &mut ChainCore, num: u64, at: u64) -> Result<()> {
-    let issued = chain.ask(Ask {
-        proxy: 0,
-        num,
-        processed: 0,
-        at,
-    })?;
-    println!(rt;
-        "request {num}: version {} after {}, fresh {}",
-        issued.version, issued.prev, issued.fresh
-    )?;
+    for (num, at) in [(1, 1_000), (2, 3_000), (1, 9_000)] {
+        let issued = chain.ask(Ask {
+            proxy: 0,
+            num,
+            processed: 0,
+            at,
+        })?;
+        println!(rt;
+            "request {num}: version {} after {}, fresh {}",
+            issued.version, issued.prev, issued.fresh
+        )?;
+    }
     Ok(())
 }

@@ -21,7 +21,8 @@ struct TwoReporters;
 impl<R: Print + Wait> UnderName<R> for TwoReporters {
     type Output = Result<()>;
 
-    /// Hands out the token of a reader, which has no number, and those of the two reporters.
+    /// Has both reporters report, the greater version first. Then the tokens meet: what the first
+    /// one has seen is a part of what the second one has.
     fn run<J: Live + Send + Sync>(
         self,
         rt: &R,
@@ -30,31 +31,18 @@ impl<R: Print + Wait> UnderName<R> for TwoReporters {
         _recovery: u64,
     ) -> Result<()> {
         let (live, mut reader, mut reporters) = opened.parts::<J>()?;
-        match reporters.as_mut_slice() {
-            [first, second] => report_and_read(rt, &live, first, second, &mut reader),
-            _ => Err(anyhow!("not two reporters")),
-        }
+        let mut second = reporters.pop().ok_or(anyhow!("no reporter"))?;
+        let mut first = reporters.pop().ok_or(anyhow!("no reporter"))?;
+        report(rt, &live, &mut first, 300)?;
+        report(rt, &live, &mut second, 200)?;
+        live.meet(rt, &mut first, &mut second);
+        let read = live.read(rt, &mut reader);
+        println!(rt;
+            "read version {} at position {}",
+            read.rec.version, read.position
+        )?;
+        Ok(())
     }
-}
-
-/// Has both reporters report, the greater version first. Then the tokens meet: what the first one
-/// has seen is a part of what the second one has.
-fn report_and_read<J: Live, R: Print + Wait>(
-    rt: &R,
-    live: &LiveRecord<J>,
-    first: &mut Seen<J>,
-    second: &mut Seen<J>,
-    reader: &mut Seen<J>,
-) -> Result<()> {
-    report(rt, live, first, 300)?;
-    report(rt, live, second, 200)?;
-    live.meet(rt, first, second);
-    let read = live.read(rt, reader);
-    println!(rt;
-        "read version {} at position {}",
-        read.rec.version, read.position
-    )?;
-    Ok(())
 }
 
 /// Reports a version, and tells what came of it.

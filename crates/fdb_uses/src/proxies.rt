@@ -1,6 +1,6 @@
 //! Clients that read through GRV proxies, each in a thread of its own.
 
-ghost use Rattle.std.specs.Prelude.{◌≡◌};
+ghost use Rattle.std.specs.Prelude.{◌≡◌, None};
 
 use anyhow::{Result, anyhow};
 use fdb_chain::{ChainCore, Sequencer};
@@ -22,14 +22,19 @@ const START: Record = Record {
     metadata: None,
 };
 
+/// What a read is answered.
+type Read = std::result::Result<ReadVersion, ClientError>;
+
 /// The time between two windows of a proxy, in microseconds.
 const ELAPSED: u64 = 1_000_000;
 
-/// What the clients use: a sequencer and a live record.
+/// What serves the clients: a sequencer, a live record, and the desks of two proxies that read it.
 #[derive(Drop)]
 struct Service<J: Live> {
     sequencer: Sequencer<J>,
     live: LiveRecord<J>,
+    near: Desk<J>,
+    far: Desk<J>,
 }
 
 /// Opens a service for two clients, and has them work.
@@ -55,11 +60,13 @@ fn serve<J: Live + Send + Sync, R: Print + Threads + Wait + Sync>(
     let service = Service {
         sequencer: Sequencer::new(core),
         live,
+        near: Desk::new(alloc),
+        far: Desk::new(alloc),
     };
     work(rt, alloc, &service, &mut seen, tokens.pop(), tokens.pop())
 }
 
-/// Makes two clients of the tokens of two reporters, and has them work.
+/// Has one client commit and tell the other, and both read.
 fn work<J: Live + Send + Sync, R: Print + Threads + Wait + Sync>(
     rt: &R,
     alloc: Global,
@@ -70,12 +77,15 @@ fn work<J: Live + Send + Sync, R: Print + Threads + Wait + Sync>(
 ) -> Result<()> {
     let mut reader = client_of(alloc, service, one)?;
     let mut writer = client_of(alloc, service, other)?;
-    commit_and_read(rt, alloc, service, seen, &mut writer, &mut reader)
+    commit(rt, &service.sequencer, &mut writer)?;
+    let told = writer.tell(reader.number())?;
+    learn(rt, &mut reader, writer.number(), told)?;
+    read_both(rt, alloc, service, seen, &mut writer, &mut reader)
 }
 
-/// Has one client commit and tell the other, and both read. None reads less than it has seen
+/// Has both clients read, each through a proxy of its own. None reads less than it has seen
 /// committed.
-fn commit_and_read<J: Live + Send + Sync, R: Print + Threads + Wait + Sync>(
+fn read_both<J: Live + Send + Sync, R: Print + Threads + Wait + Sync>(
     rt: &R,
     alloc: Global,
     service: &Service<J>,
@@ -83,10 +93,49 @@ fn commit_and_read<J: Live + Send + Sync, R: Print + Threads + Wait + Sync>(
     writer: &mut Client<'_, J>,
     reader: &mut Client<'_, J>,
 ) -> Result<()> {
-    commit(rt, &service.sequencer, writer)?;
-    tell(rt, writer, reader)?;
-    read(rt, alloc, &service.live, seen, writer)?;
-    read(rt, alloc, &service.live, seen, reader)
+    let first = proxy_of(alloc, service, &service.near, seen)?;
+    let second = proxy_of(alloc, service, &service.far, seen)?;
+    let (write, read) = served(rt, alloc, service, first, second, writer, reader);
+    tell_read(rt, write)?;
+    tell_read(rt, read)
+}
+
+/// What both clients read while two proxies serve.
+fn served<J: Live + Send + Sync, R: Threads + Wait + Sync>(
+    rt: &R,
+    alloc: Global,
+    service: &Service<J>,
+    first: GrvProxy<'_, J>,
+    second: GrvProxy<'_, J>,
+    writer: &mut Client<'_, J>,
+    reader: &mut Client<'_, J>,
+) -> (Read, Read) {
+    thread::scope(thread::scope_env(), rt, |scope| {
+        let first = scope.spawn(move || first.run(rt).is_ok());
+        let second = scope.spawn(move || second.run(rt).is_ok());
+        if first.is_err() || second.is_err() {
+            service.near.close(rt);
+            service.far.close(rt);
+        }
+        let found = thread::join(
+            rt,
+            || read(rt, alloc, &service.near, writer),
+            || read(rt, alloc, &service.far, reader),
+        );
+        service.near.close(rt);
+        service.far.close(rt);
+        found
+    })
+}
+
+/// Tells what was read.
+fn tell_read(rt: &impl Print, found: Read) -> Result<()> {
+    let read = found?;
+    println!(rt;
+        "read version {} at position {}",
+        read.rec.version, read.position
+    )?;
+    Ok(())
 }
 
 /// The client whose token it is.
@@ -95,9 +144,7 @@ fn client_of<'a, J: Live>(
     service: &'a Service<J>,
     token: Option<Seen<J>>,
 ) -> Result<Client<'a, J>> {
-    let Some(token) = token else {
-        return Err(anyhow!("no token"));
-    };
+    let token = token.ok_or(anyhow!("no token"))?;
     match token.reporter() {
         Some(number) if token.position() == 0 => Ok(Client::new(
             alloc,
@@ -125,43 +172,27 @@ fn commit<J: Live, R: Print + Wait>(
     Ok(())
 }
 
-/// Has one client tell another what it has seen.
-fn tell<J: Live, R: Wait>(
+/// Learns what another client has seen.
+fn learn<J: Live, R: Wait>(
     rt: &R,
-    from: &mut Client<'_, J>,
-    to: &mut Client<'_, J>,
-) -> Result<()> {
-    let told = from.tell(to.number())?;
-    match to.learn(rt, from.number(), told) {
-        Ok(()) => Ok(()),
-        Err((cause, _)) => Err(cause.into()),
-    }
-}
-
-/// Has a client read through a proxy of its own, with the token of a reader.
-fn read<J: Live + Send + Sync, R: Print + Threads + Wait + Sync>(
-    rt: &R,
-    alloc: Global,
-    live: &LiveRecord<J>,
-    seen: &mut Seen<J>,
     client: &mut Client<'_, J>,
-) -> Result<()> {
-    let desk = Desk::new(alloc);
-    let proxy = proxy_of(alloc, live, &desk, live.split(seen))?;
-    let read = served(rt, proxy, &desk, client, transaction(alloc))?;
-    println!(rt;
-        "read version {} at position {}",
-        read.rec.version, read.position
-    )?;
-    Ok(())
+    from: u32,
+    told: Seen<J>,
+) -> Result<()>
+    requires { told.reporter ≡ None }
+{
+    match client.learn(rt, from, told) {
+        Ok(()) => Ok(()),
+        Err((cause, _)) => Err(anyhow!("{cause}")),
+    }
 }
 
 /// A proxy of a desk.
 fn proxy_of<'a, J: Live>(
     alloc: Global,
-    live: &'a LiveRecord<J>,
+    service: &'a Service<J>,
     desk: &'a Desk<J>,
-    token: Seen<J>,
+    seen: &mut Seen<J>,
 ) -> Result<GrvProxy<'a, J>> {
     let config = QueueConfig {
         normal: 1_000,
@@ -169,35 +200,23 @@ fn proxy_of<'a, J: Live>(
         room: 1_000,
     };
     let queue = GrvQueue::new(alloc, config)?;
-    Ok(GrvProxy::new(alloc, live, desk, queue, ELAPSED, token))
+    let token = service.live.split(seen);
+    Ok(GrvProxy::new(alloc, &service.live, desk, queue, ELAPSED, token))
 }
 
-/// One transaction, of default priority.
-fn transaction(alloc: Global) -> GrvOpts {
-    GrvOpts {
+/// A read of one transaction.
+fn read<J: Live, R: Wait>(
+    rt: &R,
+    alloc: Global,
+    desk: &Desk<J>,
+    client: &mut Client<'_, J>,
+) -> Read {
+    let opts = GrvOpts {
         priority: Priority::Default,
         count: 1,
         tags: Sequence::new(alloc),
         lock_aware: false,
         at: 0,
-    }
-}
-
-/// What a client reads while a proxy serves in a thread of its own. Where that has no thread, the
-/// desk is closed before the read, which is then refused.
-fn served<J: Live + Send + Sync, R: Threads + Wait + Sync>(
-    rt: &R,
-    proxy: GrvProxy<'_, J>,
-    desk: &Desk<J>,
-    client: &mut Client<'_, J>,
-    opts: GrvOpts,
-) -> std::result::Result<ReadVersion, ClientError> {
-    thread::scope(thread::scope_env(), rt, |scope| {
-        if scope.spawn(move || proxy.run(rt).is_ok()).is_err() {
-            desk.close(rt);
-        }
-        let read = client.read_version(rt, &OpenGate, desk, opts);
-        desk.close(rt);
-        read
-    })
+    };
+    client.read_version(rt, &OpenGate, desk, opts)
 }

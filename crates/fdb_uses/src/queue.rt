@@ -1,6 +1,6 @@
 //! The queue of a GRV proxy.
 
-use anyhow::Result;
+use anyhow::{Result, anyhow};
 use fdb_history::Priority;
 use fdb_queue::{GrvQueue, QueueConfig, Req};
 use std::alloc::Global;
@@ -9,7 +9,7 @@ use std::alloc::Global;
 const ELAPSED: u64 = 1_000_000;
 
 /// Has two requests wait, of which one window starts the first. The second has more transactions
-/// than a window grants.
+/// than a window grants; the queue tells how many windows it still waits.
 pub(crate) fn one_window(rt: &impl Print, alloc: Global) -> Result<()> {
     let config = QueueConfig {
         normal: 10,
@@ -17,27 +17,17 @@ pub(crate) fn one_window(rt: &impl Print, alloc: Global) -> Result<()> {
         room: 100,
     };
     let mut queue = GrvQueue::new(alloc, config)?;
-    offer(&mut queue, "first", 8)?;
-    offer(&mut queue, "second", 30)?;
-    window(rt, &mut queue)
-}
-
-/// Has a request for so many transactions wait.
-fn offer(queue: &mut GrvQueue<&'static str>, payload: &'static str, count: u64) -> Result<()> {
-    let request = Req {
-        priority: Priority::Default,
-        count,
-        payload,
-    };
-    match queue.offer(request) {
-        Ok(_) => Ok(()),
-        Err((cause, _)) => Err(cause.into()),
+    for (payload, count) in [("first", 8), ("second", 30)] {
+        let request = Req {
+            priority: Priority::Default,
+            count,
+            payload,
+        };
+        if let Err((cause, _request)) = queue.offer(request) {
+            return Err(anyhow!("{cause}"));
+        }
     }
-}
-
-/// Holds a window, and tells what starts, and how many windows the next request still waits.
-fn window(rt: &impl Print, queue: &mut GrvQueue<&'static str>) -> Result<()> {
-    for request in &queue.window(ELAPSED)? {
+    for request in queue.window(ELAPSED)? {
         println!(rt; "started the {} request", request.payload)?;
     }
     if let Some(windows) = queue.waits(ELAPSED) {

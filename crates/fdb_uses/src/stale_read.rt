@@ -28,17 +28,12 @@ const COMMIT: Issued = Issued {
 /// Client 0 commits at 200, and client 1 comes to know of it: it has seen position 1, the first
 /// raise. Then it reads 100.
 pub(crate) fn caught(rt: &impl Print, alloc: Global) -> Result<()> {
-    let logs = logs(alloc)?;
+    let logs = vec![in alloc; writer(alloc)?, reader(alloc)?]?;
     match audit(alloc, START, &[COMMIT], &logs) {
         Ok(history) => println!(rt; "explained by {} events", history.events.len())?,
         Err(fault) => println!(rt; "fault: {fault}")?,
     }
     Ok(())
-}
-
-/// The logs of both clients.
-fn logs(alloc: Global) -> Result<Vec<ClientLog>, AllocError> {
-    vec![in alloc; writer(alloc)?, reader(alloc)?]
 }
 
 /// The log of client 0, which draws a commit version and reports it.
