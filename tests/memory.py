@@ -26,7 +26,7 @@ CROWD = [[it for who in range(3) for it in (*commit(who, num), do("grv", who, ta
 # The most runs of a sweep, how many end without the allocation before it is over, and the seconds after which a run hangs.
 MOST_RUNS, MISSED, HANGS = 2_000, 3, 10
 # The tests that pass whichever single allocation is refused: of each crate those whose names match.
-BEARING = {crate: r"^refused_memory::" for crate in ("fdb_tests", "fdb_service_tests", "fdb_replay_tests")}
+BEARING = {crate: r"^refused_memory::" for crate in ("fdb_tests", "fdb_service_tests", "fdb_client_tests", "fdb_replay_tests")}
 # Those of them that pass also where all are refused from any one on.
 WITHOUT = r"::without_memory$"
 PASSED = done(b"\ntest result: ok\n")

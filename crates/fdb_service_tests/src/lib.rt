@@ -1,9 +1,7 @@
-//! The tests of `fdb_live`, `fdb_proxy` and `fdb_client`, whose
-//! calls meet in threads. Without its tests this crate is empty.
+//! The tests of `fdb_live` and `fdb_proxy`, whose calls
+//! meet in threads. Without its tests this crate is empty.
 #![tactic(auto)]
 
-#[cfg(test)]
-mod client;
 #[cfg(test)]
 mod line;
 #[cfg(test)]

@@ -12,7 +12,7 @@ use crate::live::steps::{learn_crosswise, unlocked, work_through};
 use crate::live::threads::run_all;
 use crate::same::{same, says};
 use fdb_live::{Live, LiveError, LiveRecord, Opened, Seen};
-use std::alloc::Global;
+use std::alloc::{AllocError, Global};
 use std::marker::Brand;
 use std::process::Abort;
 use std::sync::Wait;
@@ -71,16 +71,27 @@ fn play_named<J: Live + Send + Sync, R: Threads + Wait + Abort + Sync>(
     requires { opened ≡ record { table = J.table; start = J.start; reporters = J.reporters } }
 {
     let (live, first, tokens) = opened.parts::<J>()?;
-    let parts = Parts {
+    let mut parts = Parts {
         live,
         first,
         tokens,
     };
+    play_at(rt, alloc, &mut parts, case)?;
+    Ok(())
+}
+
+/// Plays a case on a record.
+fn play_at<J: Live + Send + Sync, R: Threads + Wait + Abort + Sync>(
+    rt: &R,
+    alloc: Global,
+    parts: &mut Parts<J>,
+    case: Case,
+) -> Result<(), AllocError> {
     match case {
         Case::Worked => work_through(rt, parts),
         Case::Crosswise => learn_crosswise(rt, parts),
         Case::ReadBesideReport => read_beside_report(rt, parts),
-        Case::Threads { readers } => run_all(rt, alloc, parts, readers)?,
+        Case::Threads { readers } => return run_all(rt, alloc, parts, readers),
     }
     Ok(())
 }

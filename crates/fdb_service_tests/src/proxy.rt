@@ -64,7 +64,16 @@ fn play_named<J: Live + Send + Sync, R: Threads + Wait + Abort + Sync>(
     let Ok((live, seen, reporters)) = opened.parts::<J>() else {
         return Err(AllocError);
     };
-    let stand = Stand::new(alloc, live, seen, reporters);
+    let mut stand = Stand::new(alloc, live, seen, reporters);
+    play_at(rt, &mut stand, case)
+}
+
+/// Plays a case at a desk.
+fn play_at<J: Live + Send + Sync, R: Threads + Wait + Abort + Sync>(
+    rt: &R,
+    stand: &mut Stand<J>,
+    case: Case,
+) -> Result<(), AllocError> {
     match case {
         Case::Lines(text) => play_lines(rt, stand, text),
         Case::Crowd => ask_all(rt, stand),

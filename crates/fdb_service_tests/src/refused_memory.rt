@@ -2,6 +2,5 @@
 //! allocation is refused. `tests/run` refuses each in turn, so they ask for little
 //! memory of their own. What refuses is asked once more, and has changed nothing before.
 
-mod clients;
 mod live_records;
 mod proxies;

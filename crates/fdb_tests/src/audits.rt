@@ -89,11 +89,23 @@ fn add(rt: &impl Abort, alloc: Global, case: &mut Case, item: &str) -> Result<()
         Some("log") => case.logs.push(ClientLog {
             calls: Sequence::new(alloc),
         })?,
-        Some(kind) => match case.logs.last_mut() {
-            Some(log) => log.calls.push(words::call(rt, alloc, kind, &mut line))?,
-            None => line.fails(rt, "no log"),
-        },
+        Some(kind) => add_call(rt, alloc, case, kind, &mut line)?,
     }
+    Ok(())
+}
+
+/// Adds a call to the last log.
+fn add_call(
+    rt: &impl Abort,
+    alloc: Global,
+    case: &mut Case,
+    kind: &str,
+    line: &mut Line<'_>,
+) -> Result<(), AllocError> {
+    let Some(log) = case.logs.last_mut() else {
+        line.fails(rt, "no log")
+    };
+    log.calls.push(words::call(rt, alloc, kind, line))?;
     Ok(())
 }
 
@@ -101,20 +113,29 @@ fn add(rt: &impl Abort, alloc: Global, case: &mut Case, item: &str) -> Result<()
 fn plays(rt: &impl Abort, alloc: Global, case: &mut Case, text: &str) -> Result<bool, Fail> {
     let mut ended = false;
     for item in text.split(';') {
-        let mut line = Line::new(item);
-        match line.next_word() {
-            Some("=>") => {
-                ended = true;
-                finds(rt, alloc, case, text, item)?;
-            }
-            Some("event") => {
-                let history = audited(rt, alloc, case)?;
-                explains(rt, alloc, &history, &mut line)?;
-            }
-            _ => add(rt, alloc, case, item)?,
-        }
+        ended |= plays_item(rt, alloc, case, text, item)?;
     }
     Ok(ended)
+}
+
+/// Plays an item of a line, and says whether it ends a case.
+fn plays_item(
+    rt: &impl Abort,
+    alloc: Global,
+    case: &mut Case,
+    text: &str,
+    item: &str,
+) -> Result<bool, Fail> {
+    let mut line = Line::new(item);
+    match line.next_word() {
+        Some("=>") => {
+            finds(rt, alloc, case, text, item)?;
+            return Ok(true);
+        }
+        Some("event") => explains(rt, alloc, &audited(rt, alloc, case)?, &mut line)?,
+        _ => add(rt, alloc, case, item)?,
+    }
+    Ok(false)
 }
 
 /// The audit of a case.
@@ -124,28 +145,24 @@ pub(crate) fn audited(rt: &impl Abort, alloc: Global, case: &Case) -> Result<His
 }
 
 /// Audits a case, and compares the fault.
-fn finds(rt: &impl Abort, alloc: Global, case: &Case, text: &str, item: &str) -> Result<(), Fail> {
-    let found = match audited(rt, alloc, case) {
-        Ok(_) => format!(in alloc; "=> ok")?,
-        Err(fault) => format!(in alloc; "=> {fault}")?,
-    };
-    same_text(rt, found.as_str(), item.trim(), text);
+fn finds(
+    rt: &impl Abort,
+    alloc: Global,
+    case: &Case,
+    text: &str,
+    item: &str,
+) -> Result<(), AllocError> {
+    let found = found_text(alloc, audited(rt, alloc, case).err())?;
+    same_text(rt, &found, item.trim(), text);
     Ok(())
 }
 
-/// Compares each event that a text wants with that of a history.
-pub(crate) fn explained(
-    rt: &impl Abort,
-    alloc: Global,
-    history: &History,
-    text: &str,
-) -> Result<(), Fail> {
-    for it in text.lines() {
-        let mut line = Line::new(it);
-        line.word(rt);
-        explains(rt, alloc, history, &mut line)?;
+/// What an audit finds, as the item that ends a case.
+fn found_text(alloc: Global, found: Option<AuditFault>) -> Result<String, AllocError> {
+    match found {
+        None => String::from_str(alloc, "=> ok"),
+        Some(fault) => format!(in alloc; "=> {fault}"),
     }
-    Ok(())
 }
 
 /// Compares an event of a history.
@@ -154,14 +171,15 @@ fn explains(
     alloc: Global,
     history: &History,
     line: &mut Line<'_>,
-) -> Result<(), Fail> {
+) -> Result<(), AllocError> {
     let place = line.number(rt);
-    let shown = match history.events.as_slice().get(place as usize) {
-        None => format!(in alloc; "none")?,
+    let event = history.events.as_slice().get(place as usize);
+    let shown = match event {
+        None => String::from_str(alloc, "none")?,
         Some(event) => event_text(alloc, event)?,
     };
     let wanted = format!(in alloc; "event {place} {shown}")?;
-    same_text(rt, line.text.trim(), wanted.as_str(), "an event");
+    same_text(rt, line.text.trim(), &wanted, "an event");
     Ok(())
 }
 

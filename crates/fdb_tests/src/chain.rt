@@ -16,16 +16,26 @@ use std::test::Fail;
 /// Plays the lines of a text.
 fn play(rt: &impl Abort, alloc: Global, text: &str) -> Result<(), Fail> {
     let mut chain = ChainCore::new(alloc, 0, 1, 1)?;
-    for it in text.lines() {
-        let mut line = Line::new(it);
-        let found = match line.next_word() {
-            None | Some("#") => continue,
-            Some("new") => opened(rt, alloc, &mut chain, &mut line)?,
-            Some("ask") => asked(rt, alloc, &mut chain, &mut line)?,
-            Some(_) => line.fails(rt, "no call"),
-        };
-        line.wants(rt, &found);
+    for line in text.lines() {
+        play_line(rt, alloc, &mut chain, Line::new(line))?;
     }
+    Ok(())
+}
+
+/// Plays a line, if it is no comment.
+fn play_line(
+    rt: &impl Abort,
+    alloc: Global,
+    chain: &mut ChainCore,
+    mut line: Line<'_>,
+) -> Result<(), AllocError> {
+    let found = match line.next_word() {
+        None | Some("#") => return Ok(()),
+        Some("new") => opened(rt, alloc, chain, &mut line)?,
+        Some("ask") => asked(rt, alloc, chain, &mut line)?,
+        Some(_) => line.fails(rt, "no call"),
+    };
+    line.wants(rt, &found);
     Ok(())
 }
 
@@ -88,14 +98,19 @@ pub(crate) fn answer_text(
 /// The members of an answer.
 fn issued_text(alloc: Global, issued: Issued) -> Result<String, AllocError> {
     let mut text = issued.ordinal.to_string(alloc)?;
-    push_number(alloc, &mut text, u64::from(issued.proxy))?;
-    push_number(alloc, &mut text, issued.num)?;
-    push_number(alloc, &mut text, issued.processed)?;
-    push_number(alloc, &mut text, issued.prev)?;
-    push_number(alloc, &mut text, issued.version)?;
-    push_number(alloc, &mut text, issued.at)?;
+    push_numbers(alloc, &mut text, issued)?;
     text.push_str(if issued.fresh { " fresh" } else { " kept" })?;
     Ok(text)
+}
+
+/// Pushes the numbers of an answer behind its ordinal.
+fn push_numbers(alloc: Global, text: &mut String, issued: Issued) -> Result<(), AllocError> {
+    push_number(alloc, text, u64::from(issued.proxy))?;
+    push_number(alloc, text, issued.num)?;
+    push_number(alloc, text, issued.processed)?;
+    push_number(alloc, text, issued.prev)?;
+    push_number(alloc, text, issued.version)?;
+    push_number(alloc, text, issued.at)
 }
 
 /// Pushes a space and a number.

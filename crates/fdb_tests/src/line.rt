@@ -74,8 +74,11 @@ impl<'a> Line<'a> {
 
     /// Compares what was found with what the line wants behind its `=>`.
     pub(crate) fn wants(&self, rt: &impl Abort, found: &str) {
-        let wanted = self.text.split_once("=>").map(|parts| parts.1.trim());
-        same_text(rt, found, wanted.unwrap_or("no arrow"), self.text);
+        let wanted = match self.text.split_once("=>") {
+            Some((_, wanted)) => wanted.trim(),
+            None => "no arrow",
+        };
+        same_text(rt, found, wanted, self.text);
     }
 
     /// Fails the test.

@@ -48,16 +48,27 @@ pub(crate) fn queue(
 /// Plays the lines of a text.
 fn play(rt: &impl Abort, alloc: Global, text: &str) -> Result<(), Fail> {
     let mut queue = queue(alloc, 1, 1, 1)?;
-    for it in text.lines() {
-        let mut line = Line::new(it);
-        let found = match line.next_word() {
-            None | Some("#") => continue,
-            Some("new") => opened(rt, alloc, &mut queue, &mut line)?,
-            Some(call) => called(rt, alloc, &mut queue, call, &mut line)?,
-        };
-        line.wants(rt, &found);
+    for line in text.lines() {
+        play_line(rt, alloc, &mut queue, Line::new(line))?;
     }
     Ok(())
+}
+
+/// Plays a line, if it is no comment.
+fn play_line(
+    rt: &impl Abort,
+    alloc: Global,
+    queue: &mut GrvQueue<u32>,
+    mut line: Line<'_>,
+) -> Result<(), AllocError> {
+    match line.next_word() {
+        None | Some("#") => Ok(()),
+        Some(call) => {
+            let found = called(rt, alloc, queue, call, &mut line)?;
+            line.wants(rt, &found);
+            Ok(())
+        }
+    }
 }
 
 /// Opens a queue in the place of another.
@@ -85,12 +96,10 @@ fn called(
     line: &mut Line<'_>,
 ) -> Result<String, AllocError> {
     match call {
+        "new" => opened(rt, alloc, queue, line),
         "offer" => offered(rt, alloc, queue, line),
         "window" => held(rt, alloc, queue, line),
-        "waits" => match queue.waits(line.number(rt)) {
-            None => String::from_str(alloc, "none"),
-            Some(windows) => windows.to_string(alloc),
-        },
+        "waits" => waited(rt, alloc, queue, line),
         "skip" => skipped(rt, alloc, queue, line),
         "lengths" => lengths_text(alloc, queue),
         "throttle" => throttled(rt, alloc, queue, line),
@@ -129,6 +138,18 @@ fn held(
     };
     let (normal, batch) = (queue.budgets().normal, queue.budgets().batch);
     format!(in alloc; "{started}| {normal} {batch}")
+}
+
+fn waited(
+    rt: &impl Abort,
+    alloc: Global,
+    queue: &GrvQueue<u32>,
+    line: &mut Line<'_>,
+) -> Result<String, AllocError> {
+    match queue.waits(line.number(rt)) {
+        None => String::from_str(alloc, "none"),
+        Some(windows) => windows.to_string(alloc),
+    }
 }
 
 fn skipped(

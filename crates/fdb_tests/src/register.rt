@@ -57,16 +57,24 @@ fn after_each(start: Record, events: &[Event]) -> Record {
     current
 }
 
+/// The record after the events of a line, at once and one by one.
+fn plays(rt: &impl Abort, alloc: Global, mut line: Line<'_>) -> Result<(), Fail> {
+    let start = record(rt, &mut line);
+    let events = events(rt, alloc, &mut line)?;
+    wants(rt, alloc, &line, register_after(start, &events))?;
+    wants(rt, alloc, &line, after_each(start, &events))
+}
+
+/// Compares a record with the one that the line wants.
+fn wants(rt: &impl Abort, alloc: Global, line: &Line<'_>, rec: Record) -> Result<(), Fail> {
+    line.wants(rt, &rec.to_string(alloc)?);
+    Ok(())
+}
+
 #[test]
 fn the_register_after_reports(rt: HostRuntime) -> Result<(), Fail> {
     for text in CASES.lines() {
-        let mut line = Line::new(text);
-        let start = record(&rt, &mut line);
-        let events = events(&rt, rt.alloc(), &mut line)?;
-        let after = register_after(start, &events).to_string(rt.alloc())?;
-        line.wants(&rt, &after);
-        let each = after_each(start, &events).to_string(rt.alloc())?;
-        line.wants(&rt, &each);
+        plays(&rt, rt.alloc(), Line::new(text))?;
     }
     Ok(())
 }

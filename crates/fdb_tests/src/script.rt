@@ -2,6 +2,7 @@
 
 use crate::same::same_text;
 use fdb_history::{GrvOpts, Tag};
+use fdb_queue::QueueConfig;
 use fdb_script::{Act, Command, Script, ScriptError, Throttle, read_script};
 use std::alloc::{AllocError, Global};
 use std::process::Abort;
@@ -32,11 +33,12 @@ fn script_text(alloc: Global, script: &Script) -> Result<String, AllocError> {
 fn numbers_text(alloc: Global, script: &Script) -> Result<String, AllocError> {
     let (epoch_end, recovery) = (script.epoch_end(), script.recovery());
     let (clients, elapsed) = (script.clients(), script.elapsed());
-    let config = script.config();
-    let (normal, batch, room) = (config.normal, config.batch, config.room);
-    format!(in alloc;
-        "from {epoch_end} {recovery} of {clients} with {normal} {batch} {room} each {elapsed}\n"
-    )
+    let config = config_text(alloc, script.config())?;
+    format!(in alloc; "from {epoch_end} {recovery} of {clients} with {config} each {elapsed}\n")
+}
+
+fn config_text(alloc: Global, config: QueueConfig) -> Result<String, AllocError> {
+    format!(in alloc; "{} {} {}", config.normal, config.batch, config.room)
 }
 
 fn throttle_text(alloc: Global, throttle: &Throttle) -> Result<String, AllocError> {

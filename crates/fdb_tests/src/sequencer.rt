@@ -6,7 +6,7 @@ use crate::line::Line;
 use crate::same::same;
 use fdb_chain::{ChainCore, ChainError, Sequencer};
 use fdb_history::{Ask, Gate, Issued, OpenGate, Place, Service};
-use std::alloc::Global;
+use std::alloc::{AllocError, Global};
 use std::process::Abort;
 use std::sync::Wait;
 use std::sync::atomic::{AtomicU64, Ordering};
@@ -93,21 +93,31 @@ fn play<S: Service, R: Wait + Abort>(
     standing: usize,
 ) -> Result<(), Fail> {
     let gate = Noting::new();
-    let mut requests = 0u32;
-    for it in text.lines() {
-        let mut line = Line::new(it);
-        match line.next_word() {
-            None | Some("#") => continue,
-            Some("ask") => {}
-            Some(_) => line.fails(rt, "no request"),
-        }
-        let ask = ask_of(rt, &mut line);
-        let found = answer_text(alloc, answered(rt, &sequencer, &gate, ask))?;
-        line.wants(rt, &found);
-        requests = requests.saturating_add(1);
-        gate.was_passed(rt, requests as u64, ask.proxy);
+    for line in text.lines() {
+        play_line(rt, alloc, &sequencer, &gate, Line::new(line))?;
     }
     same(rt, &sequencer.close().answers().len(), &standing, &text);
+    Ok(())
+}
+
+/// Plays a line, if it is no comment. The request passes the gate once.
+fn play_line<S: Service, R: Wait + Abort>(
+    rt: &R,
+    alloc: Global,
+    sequencer: &Sequencer<S>,
+    gate: &Noting,
+    mut line: Line<'_>,
+) -> Result<(), AllocError> {
+    match line.next_word() {
+        None | Some("#") => return Ok(()),
+        Some("ask") => {}
+        Some(_) => line.fails(rt, "no request"),
+    }
+    let ask = ask_of(rt, &mut line);
+    let before = gate.held.load(Ordering::SeqCst);
+    let found = answer_text(alloc, answered(rt, sequencer, gate, ask))?;
+    line.wants(rt, &found);
+    gate.was_passed(rt, before.saturating_add(1), ask.proxy);
     Ok(())
 }
 
@@ -228,16 +238,23 @@ fn two_threads<R: Threads + Wait + Abort + Sync>(rt: &R, alloc: Global) -> Resul
     );
     first?;
     second?;
-    let answers = sequencer.close().into_answers();
-    same(rt, &answers.len(), &200, &"all answers");
-    // a version for each request, since no time passes
-    let last = answers.last().map(|last| last.version);
-    same(rt, &last, &Some(299), &"the last version");
-    let ordinal = answers.last().map(|last| last.ordinal);
-    same(rt, &ordinal, &Some(199), &"the last ordinal");
-    same(rt, &counted(rt, answers.as_slice(), 0), &100, &"of 0");
-    same(rt, &counted(rt, answers.as_slice(), 1), &100, &"of 1");
+    are_of_both(rt, &sequencer.close().into_answers());
     Ok(())
+}
+
+/// Checks that these are 100 answers for each of two proxies,
+/// with a version for each request, since no time passes.
+fn are_of_both(rt: &impl Abort, answers: &[Issued]) {
+    same(rt, &answers.len(), &200, &"all answers");
+    let last = answers.last().map(|last| (last.version, last.ordinal));
+    same(
+        rt,
+        &last,
+        &Some((299, 199)),
+        &"the last version and ordinal",
+    );
+    same(rt, &counted(rt, answers, 0), &100, &"of 0");
+    same(rt, &counted(rt, answers, 1), &100, &"of 1");
 }
 
 #[test]

@@ -5,7 +5,7 @@ use crate::live::steps::{report_at, unlocked};
 use crate::same::{holds, same};
 use crossbeam_utils::Backoff;
 use fdb_history::{Gate, Place};
-use fdb_live::{Ack, Fetched, Live};
+use fdb_live::{Ack, Fetched, Live, LiveRecord, Seen};
 use std::process::Abort;
 use std::sync::Wait;
 use std::sync::atomic::{AtomicBool, Ordering};
@@ -66,20 +66,15 @@ impl Gate for HoldsReporter {
 /// the lock of the reports. It sees nothing of the report.
 pub(crate) fn read_beside_report<J: Live + Send + Sync, R: Threads + Wait + Abort + Sync>(
     rt: &R,
-    mut parts: Parts<J>,
+    parts: &mut Parts<J>,
 ) {
     let (_one, mut zero) = (parts.last(rt), parts.last(rt));
-    let (live, mut first) = (parts.live, parts.first);
+    let (live, first) = (&parts.live, &mut parts.first);
     let gate = HoldsReporter::new();
     let (acked, fetched) = thread::join(
         rt,
-        || report_at(rt, &live, &gate, &mut zero, 200),
-        || {
-            gate.waits_for(&gate.held);
-            let fetched = live.read(rt, &mut first);
-            gate.read.store(true, Ordering::SeqCst);
-            fetched
-        },
+        || report_at(rt, live, &gate, &mut zero, 200),
+        || read_while_held(rt, live, first, &gate),
     );
     holds(rt, !gate.failed.load(Ordering::SeqCst), &"waited in vain");
     let begun = Fetched {
@@ -92,4 +87,17 @@ pub(crate) fn read_beside_report<J: Live + Send + Sync, R: Threads + Wait + Abor
         position: 1,
     };
     same(rt, &acked, &Ok(raised), &"the report");
+}
+
+/// Reads once a reporter is held at the gate, and lets it go on.
+fn read_while_held<J: Live, R: Wait>(
+    rt: &R,
+    live: &LiveRecord<J>,
+    seen: &mut Seen<J>,
+    gate: &HoldsReporter,
+) -> Fetched {
+    gate.waits_for(&gate.held);
+    let fetched = live.read(rt, seen);
+    gate.read.store(true, Ordering::SeqCst);
+    fetched
 }

@@ -73,25 +73,21 @@ fn refuses<J: Live, R: Wait + Abort>(
 }
 
 /// The reads and reports of two reporters and of the first token, which nobody tells anything.
-pub(crate) fn work_through<J: Live, R: Wait + Abort>(rt: &R, mut parts: Parts<J>) {
+pub(crate) fn work_through<J: Live, R: Wait + Abort>(rt: &R, parts: &mut Parts<J>) {
     let (mut one, mut zero) = (parts.last(rt), parts.last(rt));
-    let Parts {
-        live,
-        mut first,
-        tokens,
-    } = parts;
-    holds(rt, tokens.is_empty(), &"two reporters");
-    same(rt, &first.reporter(), &None, &"the first token");
+    holds(rt, parts.tokens.is_empty(), &"two reporters");
     are_numbered(rt, &zero, &one);
-    reads(rt, &live, &mut zero, 100, 0);
-    refuses(rt, &live, &mut zero, 100, 0);
-    reports(rt, &live, &mut zero, 200, (true, 1));
-    reports(rt, &live, &mut zero, 200, (false, 1));
-    reads(rt, &live, &mut first, 200, 1);
-    reports(rt, &live, &mut one, 150, (false, 1));
-    reports(rt, &live, &mut one, 300, (true, 2));
+    let (live, first) = (&parts.live, &mut parts.first);
+    same(rt, &first.reporter(), &None, &"the first token");
+    reads(rt, live, &mut zero, 100, 0);
+    refuses(rt, live, &mut zero, 100, 0);
+    reports(rt, live, &mut zero, 200, (true, 1));
+    reports(rt, live, &mut zero, 200, (false, 1));
+    reads(rt, live, first, 200, 1);
+    reports(rt, live, &mut one, 150, (false, 1));
+    reports(rt, live, &mut one, 300, (true, 2));
     // its token has seen a version as great, and nothing of the raise since
-    reports(rt, &live, &mut zero, 200, (false, 2));
+    reports(rt, live, &mut zero, 200, (false, 2));
 }
 
 /// Checks that two tokens are those of the reporters 0 and 1.
@@ -108,21 +104,21 @@ fn are_at<J: Live>(rt: &impl Abort, (zero, at): (&Seen<J>, u64), (one, place): (
 
 /// Each of two reporters raises the record and learns what
 /// the other has seen, and keeps its number.
-pub(crate) fn learn_crosswise<J: Live, R: Wait + Abort>(rt: &R, mut parts: Parts<J>) {
+pub(crate) fn learn_crosswise<J: Live, R: Wait + Abort>(rt: &R, parts: &mut Parts<J>) {
     let (mut one, mut zero) = (parts.last(rt), parts.last(rt));
-    let live = parts.live;
-    reports(rt, &live, &mut zero, 200, (true, 1));
+    let live = &parts.live;
+    reports(rt, live, &mut zero, 200, (true, 1));
     let early = live.split(&mut zero);
-    reports(rt, &live, &mut one, 300, (true, 2));
+    reports(rt, live, &mut one, 300, (true, 2));
     are_at(rt, (&zero, 1), (&one, 2));
-    exchange(rt, &live, &mut zero, &mut one);
+    exchange(rt, live, &mut zero, &mut one);
     are_at(rt, (&zero, 2), (&one, 2));
     are_numbered(rt, &zero, &one);
     // told of less
     live.learn(rt, &mut zero, early);
     are_at(rt, (&zero, 2), (&one, 2));
     live.meet(rt, &mut zero, &mut one);
-    reports(rt, &live, &mut zero, 400, (true, 3));
+    reports(rt, live, &mut zero, 400, (true, 3));
 }
 
 /// Each of two holders learns what the other has seen.

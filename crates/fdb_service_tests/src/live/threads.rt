@@ -8,8 +8,8 @@ use fdb_live::{Live, LiveRecord, Seen};
 use std::alloc::{AllocError, Global};
 use std::process::Abort;
 use std::sync::Wait;
-use std::thread;
 use std::thread::Threads;
+use std::{mem, thread};
 
 /// How many reports or reads each thread makes.
 const TURNS: u64 = 1000;
@@ -76,17 +76,15 @@ impl<J: Live> Worker<J> {
 /// A worker for each reporter and for each reader.
 fn workers_of<J: Live>(
     alloc: Global,
-    live: &LiveRecord<J>,
-    first: &mut Seen<J>,
-    tokens: Vec<Seen<J>>,
+    parts: &mut Parts<J>,
     readers: u32,
 ) -> Result<Vec<Worker<J>>, AllocError> {
     let mut workers = Vec::new(alloc);
-    for token in tokens {
+    for token in mem::replace(&mut parts.tokens, Vec::new(alloc)) {
         workers.push(Worker::new(token))?;
     }
     for _ in 0..readers {
-        workers.push(Worker::new(live.split(first)))?;
+        workers.push(Worker::new(parts.live.split(&mut parts.first)))?;
     }
     Ok(workers)
 }
@@ -96,29 +94,35 @@ fn workers_of<J: Live>(
 pub(crate) fn run_all<J: Live + Send + Sync, R: Threads + Wait + Abort + Sync>(
     rt: &R,
     alloc: Global,
-    parts: Parts<J>,
+    parts: &mut Parts<J>,
     readers: u32,
 ) -> Result<(), AllocError> {
-    let Parts {
-        live,
-        mut first,
-        tokens,
-    } = parts;
-    let reporters = tokens.len() as u64;
-    let mut workers = workers_of(alloc, &live, &mut first, tokens, readers)?;
+    let reporters = parts.tokens.len() as u64;
+    let mut workers = workers_of(alloc, parts, readers)?;
+    let (live, first) = (&parts.live, &mut parts.first);
+    work_side_by_side(rt, live, workers.as_mut_slice(), reporters);
+    let greatest = TURNS.saturating_mul(reporters).saturating_add(100);
+    reads(rt, live, first, greatest, raises_of(rt, &workers));
+    all_meet(rt, live, first, workers);
+    Ok(())
+}
+
+/// Lets each worker work in a thread of its own.
+fn work_side_by_side<J: Live + Send + Sync, R: Threads + Wait + Sync>(
+    rt: &R,
+    live: &LiveRecord<J>,
+    workers: &mut [Worker<J>],
+    reporters: u64,
+) {
     let threads = workers.len().max(1);
     thread::for_each_mut(
         rt,
-        workers.as_mut_slice(),
+        workers,
         threads,
         &|_, worker| {
-            worker.work(rt, &live, reporters);
+            worker.work(rt, live, reporters);
         },
     );
-    let greatest = TURNS.saturating_mul(reporters).saturating_add(100);
-    reads(rt, &live, &mut first, greatest, raises_of(rt, &workers));
-    all_meet(rt, &live, &mut first, workers);
-    Ok(())
 }
 
 /// How many reports raised the record. No worker failed.

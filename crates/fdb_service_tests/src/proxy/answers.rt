@@ -18,25 +18,24 @@ pub(crate) fn awaited<J: Live, R: Wait>(
 ) -> Result<String, AllocError> {
     let mut text = String::new(alloc);
     for waiter in waiters {
-        let found = awaited_one(rt, alloc, waiter)?;
-        add(alloc, &mut text, &found)?;
+        part(&mut text)?;
+        add_awaited(rt, alloc, &mut text, waiter)?;
     }
     Ok(text)
 }
 
-/// The answer that comes.
-fn awaited_one<J: Live, R: Wait>(
+/// Adds the answer that comes.
+fn add_awaited<J: Live, R: Wait>(
     rt: &R,
     alloc: Global,
+    text: &mut String,
     waiter: &Waiter<J>,
-) -> Result<String, AllocError> {
-    let Ok(answer) = waiter.recv(rt) else {
-        return String::from_str(alloc, "none");
-    };
-    if waiter.recv(rt).is_ok() {
-        return String::from_str(alloc, "several");
+) -> Result<(), AllocError> {
+    match waiter.recv(rt) {
+        Err(_) => text.push_str("none"),
+        Ok(_) if waiter.recv(rt).is_ok() => text.push_str("several"),
+        Ok(answer) => add_answer(alloc, text, &answer),
     }
-    answer_text(alloc, &answer)
 }
 
 /// Some answers.
@@ -46,73 +45,82 @@ pub(crate) fn answers_text<J: Live>(
 ) -> Result<String, AllocError> {
     let mut text = String::new(alloc);
     for answer in answers {
-        let found = answer_text(alloc, answer)?;
-        add(alloc, &mut text, &found)?;
+        part(&mut text)?;
+        add_answer(alloc, &mut text, answer)?;
     }
     Ok(text)
 }
 
-/// Adds the text of an answer, behind a semicolon where it is not the first.
-fn add(alloc: Global, text: &mut String, found: &str) -> Result<(), AllocError> {
-    if !text.is_empty() {
-        text.push_str("; ")?;
-    }
-    text.push_str(found)
+/// Parts what comes from what stands before it, if something does.
+fn part(text: &mut String) -> Result<(), AllocError> {
+    text.push_str(if text.is_empty() { "" } else { "; " })
 }
 
-fn answer_text<J: Live>(alloc: Global, answer: &Answer<J>) -> Result<String, AllocError> {
+fn add_answer<J: Live>(
+    alloc: Global,
+    text: &mut String,
+    answer: &Answer<J>,
+) -> Result<(), AllocError> {
     match answer {
-        Answer::Reply(reply) => reply_text(alloc, reply),
-        Answer::Refused(refused) => refused_text(alloc, refused),
+        Answer::Reply(reply) => add_reply(alloc, text, reply),
+        Answer::Refused(refused) => add_refused(alloc, text, refused),
     }
 }
 
-fn reply_text<J: Live>(alloc: Global, reply: &Reply<J>) -> Result<String, AllocError> {
-    let mut text = asker_text(alloc, reply.client, reply.serial, reply.asked)?;
-    text.push_str(&record_text(alloc, &reply.rec)?)?;
-    let position = reply.position;
-    text.push_str(&format!(in alloc; " at {position}")?)?;
+fn add_reply<J: Live>(
+    alloc: Global,
+    text: &mut String,
+    reply: &Reply<J>,
+) -> Result<(), AllocError> {
+    add_asker(alloc, text, reply.client, reply.serial, reply.asked)?;
+    add_record(alloc, text, reply.rec, reply.position)?;
     for limit in &reply.limits {
-        text.push_str(&limit_text(alloc, limit)?)?;
+        add_limit(alloc, text, limit)?;
     }
-    Ok(text)
+    Ok(())
 }
 
-/// The version, the lock and the metadata version of a record.
-fn record_text(alloc: Global, rec: &Record) -> Result<String, AllocError> {
+/// Adds the version, the lock and the metadata version of a record, and its position.
+fn add_record(
+    alloc: Global,
+    text: &mut String,
+    rec: Record,
+    position: u64,
+) -> Result<(), AllocError> {
     let version = rec.version;
     let lock = if rec.locked { "locked" } else { "unlocked" };
-    match rec.metadata {
-        Some(metadata) => format!(in alloc; "{version} {lock} {metadata}"),
-        None => format!(in alloc; "{version} {lock} none"),
-    }
+    let found = match rec.metadata {
+        Some(metadata) => format!(in alloc; "{version} {lock} {metadata} at {position}"),
+        None => format!(in alloc; "{version} {lock} none at {position}"),
+    };
+    text.push_str(&found?)
 }
 
-fn limit_text(alloc: Global, limit: &TagLimit) -> Result<String, AllocError> {
+fn add_limit(alloc: Global, text: &mut String, limit: &TagLimit) -> Result<(), AllocError> {
     let tag = from_utf8(limit.tag.as_slice()).unwrap_or("no text");
     let (rate, expires) = (limit.rate, limit.expires);
-    format!(in alloc; ", {tag} {rate} {expires}")
+    text.push_str(&format!(in alloc; ", {tag} {rate} {expires}")?)
 }
 
-fn refused_text<J: Live>(alloc: Global, refused: &Refused<J>) -> Result<String, AllocError> {
-    let mut text = asker_text(alloc, refused.client, refused.serial, refused.asked)?;
-    text.push_str(&cause_text(alloc, refused.cause)?)?;
-    Ok(text)
-}
-
-fn cause_text(alloc: Global, cause: Cause) -> Result<String, AllocError> {
-    match cause {
-        Cause::Queue(cause) => cause.to_string(alloc),
-        Cause::Closed => String::from_str(alloc, "closed"),
+fn add_refused<J: Live>(
+    alloc: Global,
+    text: &mut String,
+    refused: &Refused<J>,
+) -> Result<(), AllocError> {
+    add_asker(alloc, text, refused.client, refused.serial, refused.asked)?;
+    match refused.cause {
+        Cause::Queue(cause) => text.push_str(&cause.to_string(alloc)?),
+        Cause::Closed => text.push_str("closed"),
     }
 }
 
-/// Whom an answer answers.
-pub(crate) fn asker_text(
+/// Adds whom an answer answers.
+pub(crate) fn add_asker(
     alloc: Global,
+    text: &mut String,
     client: u32,
     serial: u64,
     asked: u64,
-) -> Result<String, AllocError> {
-    format!(in alloc; "{client}/{serial} from {asked}: ")
+) -> Result<(), AllocError> {
+    text.push_str(&format!(in alloc; "{client}/{serial} from {asked}: ")?)
 }

@@ -9,8 +9,8 @@ use fdb_proxy::{Answer, Desk, GrvProxy};
 use std::alloc::{AllocError, Global};
 use std::process::Abort;
 use std::sync::Wait;
-use std::thread;
 use std::thread::Threads;
+use std::{mem, thread};
 
 /// How often each client reports and then asks.
 const TURNS: u64 = 100;
@@ -20,11 +20,11 @@ const REQUESTS: u64 = 10;
 
 /// Two desks, and the record that their proxies read.
 #[derive(Drop)]
-struct Service<J: Live> {
+struct Service<'a, J: Live> {
     alloc: Global,
-    live: LiveRecord<J>,
-    one: Desk<J>,
-    other: Desk<J>,
+    live: &'a LiveRecord<J>,
+    one: &'a Desk<J>,
+    other: &'a Desk<J>,
 }
 
 /// One that reports and asks.
@@ -37,14 +37,26 @@ struct Client<J: Live> {
 }
 
 impl<J: Live> Client<J> {
+    /// The client of a reporter's token.
+    fn new(token: Seen<J>) -> Self {
+        Client {
+            number: token.reporter().unwrap_or(0),
+            token,
+            answered: 0,
+        }
+    }
+
     /// Reports versions that no other client reports, and asks. It stops where memory is refused.
-    fn work<R: Wait + Abort>(&mut self, rt: &R, service: &Service<J>) -> Result<(), AllocError> {
+    fn work<R: Wait + Abort>(
+        &mut self,
+        rt: &R,
+        service: &Service<'_, J>,
+    ) -> Result<(), AllocError> {
         for turn in 0..TURNS {
             let version = turn
                 .saturating_mul(4)
                 .saturating_add(u64::from(self.number) + 200);
-            let live = &service.live;
-            let acked = report_at(rt, live, &OpenGate, &mut self.token, version).is_ok();
+            let acked = report_at(rt, service.live, &OpenGate, &mut self.token, version).is_ok();
             holds(rt, acked, &version);
             let first = turn.saturating_mul(REQUESTS);
             let asked = self.token.position();
@@ -58,7 +70,7 @@ impl<J: Live> Client<J> {
     fn ask<R: Wait>(
         &mut self,
         rt: &R,
-        service: &Service<J>,
+        service: &Service<'_, J>,
         first: u64,
     ) -> Result<Vec<Waiter<J>>, AllocError> {
         let mut waiters = Vec::new(service.alloc);
@@ -72,10 +84,10 @@ impl<J: Live> Client<J> {
     fn ask_one<R: Wait>(
         &mut self,
         rt: &R,
-        service: &Service<J>,
+        service: &Service<'_, J>,
         serial: u64,
     ) -> Result<Waiter<J>, AllocError> {
-        let (alloc, live) = (service.alloc, &service.live);
+        let (alloc, live) = (service.alloc, service.live);
         let opts = opts_of(Priority::Default, 1, Vec::new(alloc), 0);
         let (request, waiter) = request_of(
             alloc,
@@ -86,9 +98,9 @@ impl<J: Live> Client<J> {
             opts,
         )?;
         let desk = if serial % 2 == 0 {
-            &service.one
+            service.one
         } else {
-            &service.other
+            service.other
         };
         match submit(rt, desk, request) {
             Ok(()) => Ok(waiter),
@@ -100,7 +112,7 @@ impl<J: Live> Client<J> {
     fn hear<R: Wait>(
         &mut self,
         rt: &R,
-        service: &Service<J>,
+        service: &Service<'_, J>,
         first: u64,
         asked: u64,
         waiters: &[Waiter<J>],
@@ -116,7 +128,7 @@ impl<J: Live> Client<J> {
     fn hear_one<R: Wait>(
         &mut self,
         rt: &R,
-        service: &Service<J>,
+        service: &Service<'_, J>,
         serial: u64,
         asked: u64,
         waiter: &Waiter<J>,
@@ -134,15 +146,10 @@ impl<J: Live> Client<J> {
 }
 
 /// A client for each token.
-fn clients_of<J: Live>(alloc: Global, tokens: Vec<Seen<J>>) -> Result<Vec<Client<J>>, AllocError> {
-    let mut clients = Vec::new(alloc);
-    for token in tokens {
-        let number = token.reporter().unwrap_or(0);
-        clients.push(Client {
-            number,
-            token,
-            answered: 0,
-        })?;
+fn clients_of<J: Live>(stand: &mut Stand<J>) -> Result<Vec<Client<J>>, AllocError> {
+    let mut clients = Vec::new(stand.alloc);
+    for token in mem::replace(&mut stand.reporters, Vec::new(stand.alloc)) {
+        clients.push(Client::new(token))?;
     }
     Ok(clients)
 }
@@ -150,73 +157,55 @@ fn clients_of<J: Live>(alloc: Global, tokens: Vec<Seen<J>>) -> Result<Vec<Client
 /// Four clients ask two proxies, and each of their requests is answered.
 pub(crate) fn ask_all<J: Live + Send + Sync, R: Threads + Wait + Abort + Sync>(
     rt: &R,
-    stand: Stand<J>,
+    stand: &mut Stand<J>,
 ) -> Result<(), AllocError> {
-    let Stand {
-        alloc,
-        live,
-        mut seen,
-        reporters,
-        ..
-    } = stand;
-    let mut clients = clients_of(alloc, reporters)?;
+    let mut clients = clients_of(stand)?;
+    let token = stand.live.split(&mut stand.seen);
+    let other_token = stand.live.split(&mut stand.seen);
     let service = Service {
-        alloc,
-        live,
-        one: Desk::new(alloc),
-        other: Desk::new(alloc),
+        alloc: stand.alloc,
+        live: &stand.live,
+        one: &stand.desk,
+        other: &stand.other,
     };
-    let served = serve_clients(rt, &service, &mut seen, clients.as_mut_slice())?;
-    holds(rt, served, &"a proxy has a thread and memory");
-    let wanted = TURNS.saturating_mul(REQUESTS);
-    for client in &clients {
-        same(rt, &client.answered, &wanted, &client.number);
-    }
+    let first = proxy_of(&service, service.one, token)?;
+    let second = proxy_of(&service, service.other, other_token)?;
+    let (ended, ()) = thread::join(
+        rt,
+        || run_both(rt, first, second),
+        || ask_side_by_side(rt, &service, clients.as_mut_slice()),
+    );
+    holds(rt, ended, &"the proxies have memory");
+    are_answered(rt, clients.as_slice());
     Ok(())
 }
 
 /// A proxy that lets 100,000 transactions start in each window.
 fn proxy_of<'a, J: Live>(
-    service: &'a Service<J>,
+    service: &Service<'a, J>,
     desk: &'a Desk<J>,
-    seen: &mut Seen<J>,
+    token: Seen<J>,
 ) -> Result<GrvProxy<'a, J>, AllocError> {
-    let queue = queue_of(service.alloc, 100_000, 100_000, 100_000)?;
-    let (alloc, live) = (service.alloc, &service.live);
-    let token = live.split(seen);
+    let (alloc, live) = (service.alloc, service.live);
+    let queue = queue_of(alloc, 100_000, 100_000, 100_000)?;
     Ok(GrvProxy::new(alloc, live, desk, queue, 10_000_000, token))
 }
 
-/// Runs two proxies, and beside them the clients, each in a thread of its own. Answers
-/// whether all could be run, and the proxies ended because their desks were closed.
-fn serve_clients<J: Live + Send + Sync, R: Threads + Wait + Abort + Sync>(
+/// Runs two proxies, each in a thread of its own, and answers
+/// whether both ended because their desks were closed.
+fn run_both<J: Live + Send + Sync, R: Threads + Wait + Sync>(
     rt: &R,
-    service: &Service<J>,
-    seen: &mut Seen<J>,
-    clients: &mut [Client<J>],
-) -> Result<bool, AllocError> {
-    let first = proxy_of(service, &service.one, seen)?;
-    let second = proxy_of(service, &service.other, seen)?;
-    let served = thread::scope(thread::scope_env(), rt, |scope| {
-        let first = scope.spawn(move || first.run(rt).is_ok());
-        let second = scope.spawn(move || second.run(rt).is_ok());
-        if first.is_ok() && second.is_ok() {
-            ask_side_by_side(rt, service, clients);
-        }
-        service.one.close(rt);
-        service.other.close(rt);
-        match (first, second) {
-            (Ok(first), Ok(second)) => first.join(rt) && second.join(rt),
-            _ => false,
-        }
-    });
-    Ok(served)
+    first: GrvProxy<'_, J>,
+    second: GrvProxy<'_, J>,
+) -> bool {
+    let (first, second) = thread::join(rt, || first.run(rt).is_ok(), || second.run(rt).is_ok());
+    first && second
 }
 
-/// Lets each client work in a thread of its own.
+/// Lets each client work in a thread of its own, and closes the desks.
 fn ask_side_by_side<J: Live + Send + Sync, R: Threads + Wait + Abort + Sync>(
     rt: &R,
-    service: &Service<J>,
+    service: &Service<'_, J>,
     clients: &mut [Client<J>],
 ) {
     let threads = clients.len().max(1);
@@ -229,4 +218,14 @@ fn ask_side_by_side<J: Live + Send + Sync, R: Threads + Wait + Abort + Sync>(
             holds(rt, worked, &"memory for a client");
         },
     );
+    service.one.close(rt);
+    service.other.close(rt);
+}
+
+/// Checks that each request was answered.
+fn are_answered<J: Live>(rt: &impl Abort, clients: &[Client<J>]) {
+    let wanted = TURNS.saturating_mul(REQUESTS);
+    for client in clients {
+        same(rt, &client.answered, &wanted, &client.number);
+    }
 }

@@ -17,12 +17,11 @@
 //! priority: 5 transactions a second until the moment 5000.
 
 use crate::line::{Line, tag};
-use crate::proxy::answers::{answers_text, asker_text, awaited};
-use crate::proxy::stand::{Ended, Queue, Stand, opts_of, queue_of, submit};
+use crate::proxy::answers::{add_asker, answers_text, awaited};
+use crate::proxy::stand::{Ended, Queue, Stand, Waiter, opts_of, queue_of, submit};
 use fdb_history::{GrvOpts, Priority, Record, Tag};
 use fdb_live::Live;
 use fdb_proxy::{GrvProxy, ProxyError, Request, Taken, serve_batch};
-use fdb_queue::Req;
 use std::alloc::{AllocError, Global};
 use std::process::Abort;
 use std::sync::Wait;
@@ -32,18 +31,29 @@ use std::thread::Threads;
 /// Plays the lines of a text.
 pub(crate) fn play_lines<J: Live + Send + Sync, R: Threads + Wait + Abort + Sync>(
     rt: &R,
-    mut stand: Stand<J>,
+    stand: &mut Stand<J>,
     text: &str,
 ) -> Result<(), AllocError> {
-    for it in text.lines() {
-        let mut line = Line::new(it);
-        let found = match line.next_word() {
-            None | Some("#") => continue,
-            Some(call) => called(rt, &mut stand, call, &mut line)?,
-        };
-        line.wants(rt, &found);
+    for line in text.lines() {
+        play_line(rt, stand, Line::new(line))?;
     }
     Ok(())
+}
+
+/// Plays a line, if it is no comment.
+fn play_line<J: Live + Send + Sync, R: Threads + Wait + Abort + Sync>(
+    rt: &R,
+    stand: &mut Stand<J>,
+    mut line: Line<'_>,
+) -> Result<(), AllocError> {
+    match line.next_word() {
+        None | Some("#") => Ok(()),
+        Some(call) => {
+            let found = called(rt, stand, call, &mut line)?;
+            line.wants(rt, &found);
+            Ok(())
+        }
+    }
 }
 
 /// What a call is answered.
@@ -93,12 +103,15 @@ fn submitted<J: Live, R: Wait + Abort>(
     let opts = opts(rt, stand.alloc, line)?;
     let (request, waiter) = stand.request(client, serial, opts)?;
     match submit(rt, &stand.desk, request) {
-        Ok(()) => {
-            stand.waiters.push(waiter)?;
-            String::from_str(stand.alloc, "in")
-        }
-        Err((cause, back)) => handed_back(stand.alloc, cause, &back),
+        Ok(()) => waits(stand, waiter),
+        Err((cause, back)) => handed_back(stand.alloc, cause, &back.payload),
     }
+}
+
+/// Keeps where an answer comes.
+fn waits<J: Live>(stand: &mut Stand<J>, waiter: Waiter<J>) -> Result<String, AllocError> {
+    stand.waiters.push(waiter)?;
+    String::from_str(stand.alloc, "in")
 }
 
 /// What a client asks for.
@@ -124,10 +137,10 @@ fn tags(alloc: Global, line: &mut Line<'_>) -> Result<Vec<Tag>, AllocError> {
 fn handed_back<J: Live>(
     alloc: Global,
     cause: ProxyError,
-    back: &Req<Request<J>>,
+    back: &Request<J>,
 ) -> Result<String, AllocError> {
-    let request = &back.payload;
-    let mut text = asker_text(alloc, request.client, request.serial, request.asked)?;
+    let mut text = String::new(alloc);
+    add_asker(alloc, &mut text, back.client, back.serial, back.asked)?;
     text.push_str(&cause.to_string(alloc)?)?;
     Ok(text)
 }

@@ -5,33 +5,42 @@ use crate::proxy::stand::{Ended, Queue, Stand, Waiter, opts_of, queue_of, submit
 use crate::same::{holds, same};
 use fdb_history::Priority;
 use fdb_live::Live;
-use fdb_proxy::{Answer, Cause, Desk, GrvProxy, ProxyError, Request, serve_batch};
+use fdb_proxy::{Answer, Cause, GrvProxy, ProxyError, Request, serve_batch};
 use fdb_queue::{QueueError, Req};
 use std::alloc::AllocError;
 use std::process::Abort;
 use std::sync::Wait;
+use std::thread;
 use std::thread::Threads;
-use std::{mem, thread};
 
 /// How many requests wait at the desk.
 const REQUESTS: u64 = 3;
 
-/// Leaves the requests of client 0 on the desk, with serial numbers from
-/// 0 on. One that is refused memory is handed back, and left once more.
+/// Leaves the requests of client 0 on the desk, with serial numbers from 0 on.
 fn submit_all<J: Live, R: Wait + Abort>(
     rt: &R,
     stand: &mut Stand<J>,
     unbounded: bool,
 ) -> Result<(), AllocError> {
     for serial in 0..REQUESTS {
-        let (request, waiter) = request_over(stand, serial, unbounded)?;
-        stand.waiters.push(waiter)?;
-        match submit(rt, &stand.desk, request) {
-            Ok(()) => {}
-            Err((cause, back)) => submit_again(rt, stand, cause, back.payload, serial)?,
-        }
+        submit_one(rt, stand, serial, unbounded)?;
     }
     Ok(())
+}
+
+/// Leaves a request on the desk. If it is refused memory, it is handed back, and left once more.
+fn submit_one<J: Live, R: Wait + Abort>(
+    rt: &R,
+    stand: &mut Stand<J>,
+    serial: u64,
+    unbounded: bool,
+) -> Result<(), AllocError> {
+    let (request, waiter) = request_over(stand, serial, unbounded)?;
+    stand.waiters.push(waiter)?;
+    match submit(rt, &stand.desk, request) {
+        Ok(()) => Ok(()),
+        Err((cause, back)) => submit_again(rt, stand, cause, back.payload, serial),
+    }
 }
 
 /// A request of client 0, whose answer goes over a channel
@@ -68,23 +77,31 @@ fn submit_again<J: Live, R: Wait + Abort>(
     }
 }
 
-/// Serves a batch, by a second call where memory is refused to the
-/// first, which has then changed nothing and hands the requests back.
+/// Serves a batch of requests, whose answers are the replies to them.
 pub(crate) fn serve_refused<J: Live, R: Wait + Abort>(
     rt: &R,
-    mut stand: Stand<J>,
+    stand: &mut Stand<J>,
 ) -> Result<(), AllocError> {
-    submit_all(rt, &mut stand, false)?;
+    submit_all(rt, stand, false)?;
     stand.report(rt, unlocked(2100));
-    let queue = queue_of(stand.alloc, 1, 1, 1)?;
-    let requests = taken(rt, &mut stand);
-    let answers = match serve(rt, &mut stand, &queue, requests) {
-        Err((cause, back)) => serve_again(rt, &mut stand, &queue, cause, back)?,
-        Ok(answers) => answers,
-    };
+    let answers = served(rt, stand)?;
     are_replies(rt, answers.as_slice());
-    is_at(rt, &stand, 1);
+    is_at(rt, stand, 1);
     Ok(())
+}
+
+/// Serves what waits at the desk, by a second call where memory is refused to the
+/// first, which has then changed nothing and hands the requests back.
+fn served<J: Live, R: Wait + Abort>(
+    rt: &R,
+    stand: &mut Stand<J>,
+) -> Result<Vec<Answer<J>>, AllocError> {
+    let queue = queue_of(stand.alloc, 1, 1, 1)?;
+    let requests = taken(rt, stand);
+    match serve(rt, stand, &queue, requests) {
+        Ok(answers) => Ok(answers),
+        Err((cause, back)) => serve_again(rt, stand, &queue, cause, back),
+    }
 }
 
 /// What waits at the desk.
@@ -103,7 +120,7 @@ fn serve_again<J: Live, R: Wait + Abort>(
     same(rt, &cause, &ProxyError::Memory, &"a batch that is refused");
     is_at(rt, stand, 0);
     are_handed_back(rt, back.as_slice());
-    serve(rt, stand, queue, back).map_err(|_| AllocError)
+    serve(rt, stand, queue, back).ok().ok_or(AllocError)
 }
 
 /// Compares the position of the proxy's token.
@@ -173,23 +190,36 @@ struct Heard {
     dropped: u64,
 }
 
-/// Runs a proxy. Where it ends well, each request has one answer: the reply, or
-/// that its offer was refused memory, which it is not where the queue had as many
-/// requests before. Where it ends out of memory, its desk is closed and empty.
+/// How a proxy ended, and what came of the requests at its desk.
+#[derive(Clone, Copy)]
+struct Ran {
+    ended: Result<(), ProxyError>,
+    heard: Heard,
+}
+
+/// Runs a proxy, whose queue has had as many requests before where it is a used one.
 pub(crate) fn run_refused<J: Live + Send + Sync, R: Threads + Wait + Abort + Sync>(
     rt: &R,
-    mut stand: Stand<J>,
+    stand: &mut Stand<J>,
     used: bool,
     unbounded: bool,
 ) -> Result<(), AllocError> {
-    let mut queue = queue_of(stand.alloc, 9, 9, 9)?;
-    if used {
-        fill_and_empty(&mut stand, &mut queue)?;
-    }
-    submit_all(rt, &mut stand, unbounded)?;
+    let queue = queue_for(stand, used)?;
+    submit_all(rt, stand, unbounded)?;
     stand.report(rt, unlocked(2100));
-    let waiters = mem::replace(&mut stand.waiters, Vec::new(stand.alloc));
-    let (ended, heard) = run_and_hear(rt, &mut stand, queue, &waiters)?;
+    let ran = run_and_hear(rt, stand, queue)?;
+    ends_as_it_should(rt, stand, used, ran)
+}
+
+/// Where a proxy ends well, each request has one answer: the reply, or that its offer
+/// was refused memory, which it is not where the queue had as many requests before.
+/// Where it ends out of memory, its desk is closed and empty.
+fn ends_as_it_should<J: Live, R: Wait + Abort>(
+    rt: &R,
+    stand: &Stand<J>,
+    used: bool,
+    Ran { ended, heard }: Ran,
+) -> Result<(), AllocError> {
     match ended {
         Ok(()) => {
             same(rt, &heard.dropped, &0, &"are dropped");
@@ -198,7 +228,7 @@ pub(crate) fn run_refused<J: Live + Send + Sync, R: Threads + Wait + Abort + Syn
         }
         Err(cause) => {
             same(rt, &cause, &ProxyError::Memory, &"a proxy that ended");
-            is_left_closed(rt, &stand);
+            is_left_closed(rt, stand);
             Err(AllocError)
         }
     }
@@ -211,58 +241,86 @@ fn is_left_closed<J: Live, R: Wait + Abort>(rt: &R, stand: &Stand<J>) {
     holds(rt, taken.requests.is_empty(), &"the desk is empty");
 }
 
-/// Lets a queue have as many requests as will come, and none after that.
-fn fill_and_empty<J: Live>(stand: &mut Stand<J>, queue: &mut Queue<J>) -> Result<(), AllocError> {
-    for serial in 0..REQUESTS {
-        let opts = opts_of(Priority::Default, 1, Vec::new(stand.alloc), 0);
-        let (payload, _) = stand.request(1, serial, opts)?;
-        let (priority, count) = (Priority::Default, 1);
-        let offered = queue.offer(Req {
-            priority,
-            count,
-            payload,
-        });
-        offered.map_err(|_| AllocError)?;
+/// The queue of a proxy. A used one has had as many requests as will come, and has none any more.
+fn queue_for<J: Live>(stand: &mut Stand<J>, used: bool) -> Result<Queue<J>, AllocError> {
+    let mut queue = queue_of(stand.alloc, 9, 9, 9)?;
+    if used {
+        for serial in 0..REQUESTS {
+            offer(stand, &mut queue, serial)?;
+        }
+        for _ in 0..REQUESTS {
+            queue.pop();
+        }
     }
-    for _ in 0..REQUESTS {
-        queue.pop();
-    }
-    Ok(())
+    Ok(queue)
 }
 
-/// Runs the proxy in a thread of its own, and closes its desk once all requests are answered.
+/// Offers a request to a queue.
+fn offer<J: Live>(
+    stand: &mut Stand<J>,
+    queue: &mut Queue<J>,
+    serial: u64,
+) -> Result<(), AllocError> {
+    let (payload, _) = request_over(stand, serial, false)?;
+    let (priority, count) = (Priority::Default, 1);
+    let request = Req {
+        priority,
+        count,
+        payload,
+    };
+    match queue.offer(request) {
+        Ok(_) => Ok(()),
+        Err(_) => Err(AllocError),
+    }
+}
+
+/// Runs the proxy in a thread of its own until what waits at its desk is answered.
 fn run_and_hear<J: Live + Send + Sync, R: Threads + Wait + Abort + Sync>(
     rt: &R,
     stand: &mut Stand<J>,
     queue: Queue<J>,
-    waiters: &[Waiter<J>],
-) -> Result<(Result<(), ProxyError>, Heard), AllocError> {
-    let (spare, spare_waiter) = request_over(stand, REQUESTS, false)?;
-    let (alloc, token) = (stand.alloc, stand.live.split(&mut stand.served));
-    let (live, desk) = (&stand.live, &stand.desk);
-    let proxy = GrvProxy::new(alloc, live, desk, queue, 1_000_000, token);
+) -> Result<Ran, AllocError> {
+    let spare = request_over(stand, REQUESTS, false)?;
+    let token = stand.live.split(&mut stand.served);
+    let stand = &*stand;
+    let proxy = GrvProxy::new(
+        stand.alloc,
+        &stand.live,
+        &stand.desk,
+        queue,
+        1_000_000,
+        token,
+    );
     thread::scope(thread::scope_env(), rt, |scope| {
-        let Ok(running) = scope.spawn(move || cause_of(proxy.run(rt))) else {
-            return Err(AllocError);
-        };
-        let heard = hear_all(rt, waiters);
-        if heard.dropped == 0 {
-            desk.close(rt);
-        } else {
-            goes_unserved(rt, desk, spare, &spare_waiter);
-        }
-        Ok((running.join(rt), heard))
+        let running = scope.spawn(move || cause_of(proxy.run(rt)))?;
+        let heard = hear_and_close(rt, stand, spare);
+        let ended = running.join(rt);
+        Ok(Ran { ended, heard })
     })
+}
+
+/// Hears what comes of the requests, and closes the desk once all are answered.
+fn hear_and_close<J: Live, R: Wait + Abort>(
+    rt: &R,
+    stand: &Stand<J>,
+    spare: (Request<J>, Waiter<J>),
+) -> Heard {
+    let heard = hear_all(rt, &stand.waiters);
+    if heard.dropped == 0 {
+        stand.desk.close(rt);
+    } else {
+        goes_unserved(rt, stand, spare);
+    }
+    heard
 }
 
 /// Checks that a proxy that dropped a request serves none that comes later.
 fn goes_unserved<J: Live, R: Wait + Abort>(
     rt: &R,
-    desk: &Desk<J>,
-    request: Request<J>,
-    waiter: &Waiter<J>,
+    stand: &Stand<J>,
+    (request, waiter): (Request<J>, Waiter<J>),
 ) {
-    if submit(rt, desk, request).is_ok() {
+    if submit(rt, &stand.desk, request).is_ok() {
         let unserved = waiter.recv(rt).is_err();
         holds(rt, unserved, &"a proxy that dropped a request has ended");
     }
@@ -291,17 +349,20 @@ fn hear_all<J: Live, R: Wait + Abort>(rt: &R, waiters: &[Waiter<J>]) -> Heard {
 
 /// Waits until a request is answered once, or dropped.
 fn hear<J: Live, R: Wait + Abort>(rt: &R, heard: &mut Heard, serial: u64, waiter: &Waiter<J>) {
-    match waiter.recv(rt) {
-        Ok(answer) => {
-            assert!(rt; waiter.recv(rt).is_err(), "a second answer to {serial}");
-            if is_reply(&answer, serial) {
-                heard.replies = heard.replies.saturating_add(1);
-            } else {
-                assert!(rt; is_refused_memory(&answer, serial), "no answer to {serial}");
-                heard.refused = heard.refused.saturating_add(1);
-            }
-        }
-        Err(_) => heard.dropped = heard.dropped.saturating_add(1),
+    let Ok(answer) = waiter.recv(rt) else {
+        heard.dropped = heard.dropped.saturating_add(1);
+        return;
+    };
+    holds(rt, waiter.recv(rt).is_err(), &"a second answer");
+    if is_reply(&answer, serial) {
+        heard.replies = heard.replies.saturating_add(1);
+    } else {
+        holds(
+            rt,
+            is_refused_memory(&answer, serial),
+            &"an answer that is not due",
+        );
+        heard.refused = heard.refused.saturating_add(1);
     }
 }
 

@@ -29,6 +29,8 @@ pub(crate) struct Stand<J: Live> {
     pub(crate) served: Seen<J>,
     pub(crate) reporters: Vec<Seen<J>>,
     pub(crate) desk: Desk<J>,
+    /// The desk of another proxy.
+    pub(crate) other: Desk<J>,
     /// Where the answers come, in the order of the requests.
     pub(crate) waiters: Vec<Waiter<J>>,
 }
@@ -49,6 +51,7 @@ impl<J: Live> Stand<J> {
             served,
             reporters,
             desk: Desk::new(alloc),
+            other: Desk::new(alloc),
             waiters: Vec::new(alloc),
         }
     }
@@ -73,8 +76,10 @@ impl<J: Live> Stand<J> {
     pub(crate) fn report<R: Wait + Abort>(&mut self, rt: &R, rec: Record) -> u64 {
         let mut token = self.reporters.pop().expect(rt, "a reporter is left");
         let who = token.reporter().expect(rt, "a reporter's token");
-        let acked = self.live.report(rt, &OpenGate, who, &mut token, rec);
-        acked.map_or(0, |ack| ack.position)
+        match self.live.report(rt, &OpenGate, who, &mut token, rec) {
+            Ok(ack) => ack.position,
+            Err(_) => 0,
+        }
     }
 }
 
@@ -136,5 +141,5 @@ pub(crate) fn queue_of<J: Live>(
         batch,
         room,
     };
-    GrvQueue::new(alloc, config).map_err(|_| AllocError)
+    GrvQueue::new(alloc, config).ok().ok_or(AllocError)
 }

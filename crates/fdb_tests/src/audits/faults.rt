@@ -1,8 +1,7 @@
 //! Faults of the history and of versions, and which of two is named.
 
 use super::{audits, audits_each};
-use std::alloc::Global;
-use std::process::Abort;
+use std::alloc::{AllocError, Global};
 use std::test::Fail;
 
 const ORDER: &str = "
@@ -92,9 +91,12 @@ const RAISED: &str = "
 entry 0 0 1 0 0 100 100 fresh; entry 1 0 2 0 100 2100 2100 fresh
 log; draws 0 0 0 1 0 0 100 100 fresh; draws 0 1 0 2 0 100 2100 2100 fresh; raises 0 1 2 2100";
 
-/// What follows it of a client X in whose log one fault stands, and the fault: of each kind,
-/// in the order in which audits look for them. What the client draws is the chain's entry Z.
-const KINDS: &[(&str, &str)] = &[
+/// What follows it of a client X in whose log one fault stands, and the fault.
+/// What the client draws is the chain's entry Z.
+type Kind = (&'static str, &'static str);
+
+/// Each kind, in the order in which audits look for them.
+const KINDS: &[Kind] = &[
     ("log; reads 0 1 2100; reads 0 1 2100", "Order X 1"),
     (
         "entry Z X 1 0 2100 3000 3000 fresh; log; draws 0 Z X 1 0 2100 3000 3000 fresh; raises 0 1 1 3000",
@@ -109,35 +111,48 @@ const KINDS: &[(&str, &str)] = &[
     ),
 ];
 
-/// Audits the logs of two clients with a fault of these
-/// kinds each: the first kind is named, of the first client.
-fn two_faults(rt: &impl Abort, alloc: Global, one: usize, other: usize) -> Result<(), Fail> {
-    let first = KINDS.get(one).ok_or("no kind")?;
-    let second = KINDS.get(other).ok_or("no kind")?;
-    let place = if first.0.starts_with("entry") {
-        "3"
-    } else {
-        "2"
-    };
-    let before = first.0.replace(alloc, 'Z', "2")?.replace(alloc, 'X', "1")?;
-    let after = second
-        .0
-        .replace(alloc, 'Z', place)?
-        .replace(alloc, 'X', "2")?;
-    let named = if one <= other {
-        first.1.replace(alloc, 'X', "1")?
-    } else {
-        second.1.replace(alloc, 'X', "2")?
-    };
-    let case = format!(in alloc; "{before}; {after}; => {named}")?;
-    audits(rt, alloc, RAISED, &case)
+/// A text in which X is the client and Z the place of what it draws.
+fn placed(alloc: Global, text: &str, client: &str, place: &str) -> Result<String, AllocError> {
+    text.replace(alloc, 'Z', place)?.replace(alloc, 'X', client)
 }
 
+/// Pushes a text behind a case, and what stands between them.
+fn push(
+    case: &mut String,
+    between: &str,
+    text: Result<String, AllocError>,
+) -> Result<(), AllocError> {
+    case.push_str(between)?;
+    case.push_str(&text?)
+}
+
+/// The logs of two clients with a fault of these kinds each, of which one is named.
+fn case_of(
+    alloc: Global,
+    first: &Kind,
+    second: &Kind,
+    names_first: bool,
+) -> Result<String, AllocError> {
+    let draws = first.0.starts_with("entry");
+    let place = if draws { "3" } else { "2" };
+    let mut case = placed(alloc, first.0, "1", "2")?;
+    push(&mut case, "; ", placed(alloc, second.0, "2", place))?;
+    let named = if names_first {
+        placed(alloc, first.1, "1", "2")
+    } else {
+        placed(alloc, second.1, "2", place)
+    };
+    push(&mut case, "; => ", named)?;
+    Ok(case)
+}
+
+/// Of two clients with a fault each the first kind is named, of the first client.
 #[test]
 fn the_first_kind_is_named(rt: HostRuntime) -> Result<(), Fail> {
-    for one in 0..KINDS.len() {
-        for other in 0..KINDS.len() {
-            two_faults(&rt, rt.alloc(), one, other)?;
+    for (one, first) in KINDS.iter().enumerate() {
+        for (other, second) in KINDS.iter().enumerate() {
+            let case = case_of(rt.alloc(), first, second, one <= other)?;
+            audits(&rt, rt.alloc(), RAISED, &case)?;
         }
     }
     Ok(())

@@ -33,22 +33,40 @@ fn starts(
     Ok(())
 }
 
+/// Turns so many windows, which start nothing.
+fn start_nothing(
+    rt: &impl Abort,
+    queue: &mut GrvQueue<u32>,
+    windows: u64,
+) -> Result<(), QueueError> {
+    for _ in 0..windows {
+        starts(rt, queue, 2_000_000, 0, None)?;
+    }
+    Ok(())
+}
+
 /// The greatest count starts by the least rate at last, and leaves nothing of the budget.
 #[test]
 fn the_greatest_count_starts(rt: HostRuntime) -> Result<(), Fail> {
     let mut queue = queue(rt.alloc(), 1, 0, 1)?;
     offer(&rt, &mut queue, Priority::Default, 100_000, 7);
-    for _ in 1..100_000 {
-        starts(&rt, &mut queue, 2_000_000, 0, None)?;
-    }
+    start_nothing(&rt, &mut queue, 99_999)?;
     starts(&rt, &mut queue, 2_000_000, 1, Some(7))?;
-    same(
-        &rt,
-        &queue.budgets(),
-        &Budgets::default(),
-        &"nothing is left",
-    );
+    let left = queue.budgets();
+    same(&rt, &left, &Budgets::default(), &"nothing is left");
     Ok(())
+}
+
+/// Offers 10,001 requests, of which so many are system requests, and the others default ones.
+fn offer_each(rt: &impl Abort, queue: &mut GrvQueue<u32>, system: u32) {
+    for payload in 0..10_001 {
+        let priority = if payload < system {
+            Priority::System
+        } else {
+            Priority::Default
+        };
+        offer(rt, queue, priority, 1, payload);
+    }
 }
 
 /// One window starts no more than 10,000 requests, of whatever priorities.
@@ -56,14 +74,7 @@ fn the_greatest_count_starts(rt: HostRuntime) -> Result<(), Fail> {
 fn a_window_has_room_for_ten_thousand(rt: HostRuntime) -> Result<(), Fail> {
     for system in [10_001, 9_999, 1] {
         let mut queue = queue(rt.alloc(), 100_000, 100_000, 100_000)?;
-        for payload in 0..10_001 {
-            let priority = if payload < system {
-                Priority::System
-            } else {
-                Priority::Default
-            };
-            offer(&rt, &mut queue, priority, 1, payload);
-        }
+        offer_each(&rt, &mut queue, system);
         starts(&rt, &mut queue, 1, 10_000, Some(0))?;
         starts(&rt, &mut queue, 1, 1, Some(10_000))?;
     }

@@ -4,7 +4,7 @@ use super::{play, queue};
 use crate::line::Line;
 use crate::same::{holds, same};
 use fdb_history::Priority;
-use fdb_queue::{GrvQueue, QueueError, Req};
+use fdb_queue::{Budgets, GrvQueue, QueueError, Req};
 use std::alloc::Global;
 use std::process::Abort;
 use std::test::Fail;
@@ -88,7 +88,7 @@ fn waiting(
 ) -> Result<GrvQueue<u32>, QueueError> {
     let mut queue = queue(alloc, case.normal, case.batch, 4)?;
     for _ in 0..case.before {
-        queue.window(case.elapsed)?;
+        started(&mut queue, case.elapsed)?;
     }
     let request = Req {
         priority,
@@ -99,17 +99,27 @@ fn waiting(
     Ok(queue)
 }
 
+/// Turns a window, and answers how many requests it starts.
+fn started(queue: &mut GrvQueue<u32>, elapsed: u64) -> Result<usize, QueueError> {
+    Ok(queue.window(elapsed)?.len())
+}
+
 /// How many windows start nothing before one does, by turning them.
 fn turned(queue: &mut GrvQueue<u32>, elapsed: u64) -> Result<Option<u64>, QueueError> {
     for place in 0..1000 {
-        if !queue.window(elapsed)?.is_empty() {
+        if started(queue, elapsed)? > 0 {
             return Ok(Some(place));
         }
     }
     Ok(None)
 }
 
-/// Compares what is answered for one request with what turning the windows of another queue shows.
+/// How many windows start nothing before one does, by what the queue says.
+fn waits(queue: &GrvQueue<u32>, elapsed: u64) -> Option<u64> {
+    queue.waits(elapsed)
+}
+
+/// Compares what is answered for one request with what turning the windows shows.
 fn compare(
     rt: &impl Abort,
     alloc: Global,
@@ -117,13 +127,13 @@ fn compare(
     priority: Priority,
     text: &str,
 ) -> Result<(), QueueError> {
-    let waits = waiting(rt, alloc, case, priority)?.waits(case.elapsed);
-    let mut other = waiting(rt, alloc, case, priority)?;
+    let mut queue = waiting(rt, alloc, case, priority)?;
+    let waits = waits(&queue, case.elapsed);
     // a batch request above the normal limit is let in, and is not sure to start
     let sure = priority == Priority::Default || case.count <= case.normal;
     same(rt, &waits.is_some(), &sure, &text);
     if sure {
-        same(rt, &waits, &turned(&mut other, case.elapsed)?, &text);
+        same(rt, &waits, &turned(&mut queue, case.elapsed)?, &text);
     }
     Ok(())
 }
@@ -138,11 +148,33 @@ fn compare_skipped(
 ) -> Result<(), QueueError> {
     let mut skipped = waiting(rt, alloc, case, priority)?;
     let mut turned = waiting(rt, alloc, case, priority)?;
-    for _ in 0..skipped.skip_idle(case.elapsed) {
-        same(rt, &turned.window(case.elapsed)?.len(), &0, &text);
+    let windows = skip(&mut skipped, case.elapsed);
+    start_nothing(rt, &mut turned, case.elapsed, windows, text)?;
+    same(rt, &budgets(&skipped), &budgets(&turned), &text);
+    same(rt, &started(&mut skipped, case.elapsed)?, &1, &text);
+    Ok(())
+}
+
+/// Holds the idle windows at once, and answers how many they are.
+fn skip(queue: &mut GrvQueue<u32>, elapsed: u64) -> u64 {
+    queue.skip_idle(elapsed)
+}
+
+fn budgets(queue: &GrvQueue<u32>) -> Budgets {
+    queue.budgets()
+}
+
+/// Turns so many windows, which start nothing.
+fn start_nothing(
+    rt: &impl Abort,
+    queue: &mut GrvQueue<u32>,
+    elapsed: u64,
+    windows: u64,
+    text: &str,
+) -> Result<(), QueueError> {
+    for _ in 0..windows {
+        same(rt, &started(queue, elapsed)?, &0, &text);
     }
-    same(rt, &skipped.budgets(), &turned.budgets(), &text);
-    same(rt, &skipped.window(case.elapsed)?.len(), &1, &text);
     Ok(())
 }
 
@@ -158,22 +190,27 @@ const CASES: &str = "\
 40 3 50 1000001 1
 ";
 
+/// The case of a line.
+fn case_of(rt: &impl Abort, text: &str) -> Case {
+    let mut line = Line::new(text);
+    Case {
+        normal: line.number(rt),
+        batch: line.number(rt),
+        count: line.number(rt),
+        elapsed: line.number(rt),
+        before: line.number(rt),
+    }
+}
+
 /// For small limits, counts and times, and some budgets before.
 #[test]
 fn the_waiting_is_what_windows_take(rt: HostRuntime) -> Result<(), Fail> {
     for text in CASES.lines() {
-        let mut line = Line::new(text);
-        let case = Case {
-            normal: line.number(&rt),
-            batch: line.number(&rt),
-            count: line.number(&rt),
-            elapsed: line.number(&rt),
-            before: line.number(&rt),
-        };
-        compare(&rt, rt.alloc(), case, Priority::Default, text)?;
-        compare(&rt, rt.alloc(), case, Priority::Batch, text)?;
-        compare_skipped(&rt, rt.alloc(), case, Priority::Default, text)?;
-        compare_skipped(&rt, rt.alloc(), case, Priority::Batch, text)?;
+        let case = case_of(&rt, text);
+        for priority in [Priority::Default, Priority::Batch] {
+            compare(&rt, rt.alloc(), case, priority, text)?;
+            compare_skipped(&rt, rt.alloc(), case, priority, text)?;
+        }
     }
     Ok(())
 }

@@ -72,20 +72,44 @@ fn wanted_at(place: usize) -> (Priority, usize) {
     }
 }
 
+/// Overfills a queue, and holds a window that starts all that wait.
+fn overfill_and_start(rt: &impl Abort, queue: &mut GrvQueue<u32>) -> Result<(), QueueError> {
+    overfill(rt, queue)?;
+    let started = window(rt, queue)?;
+    same(rt, &started.len(), &60, &"all start");
+    for (place, request) in started.iter().enumerate() {
+        let (priority, payload) = wanted_at(place);
+        same(rt, &request.priority, &priority, &place);
+        same(rt, &(request.payload as usize), &payload, &place);
+    }
+    Ok(())
+}
+
 /// Enough requests that each list grows more than once, and windows that start many.
 #[test]
 fn a_queue_bears_it(rt: HostRuntime) -> Result<(), Fail> {
     let mut queue = queue(rt.alloc(), 100_000, 100_000, 60)?;
-    for round in 0..3 {
-        overfill(&rt, &mut queue)?;
-        let started = window(&rt, &mut queue)?;
-        same(&rt, &started.len(), &60, &round);
-        for (place, request) in started.iter().enumerate() {
-            let (priority, payload) = wanted_at(place);
-            same(&rt, &request.priority, &priority, &place);
-            same(&rt, &(request.payload as usize), &payload, &place);
-        }
+    for _ in 0..3 {
+        overfill_and_start(&rt, &mut queue)?;
     }
+    Ok(())
+}
+
+/// Checks that no tags have no limits.
+fn limits_nothing(
+    rt: &impl Abort,
+    queue: &GrvQueue<u32>,
+    priority: Priority,
+) -> Result<(), QueueError> {
+    let limits = queue.throttles(priority, &[], 0)?;
+    holds(rt, limits.is_empty(), &"no tags");
+    Ok(())
+}
+
+/// Checks that a queue in which nobody waits starts nothing.
+fn is_idle(rt: &impl Abort, queue: &mut GrvQueue<u32>) -> Result<(), QueueError> {
+    holds(rt, queue.window(1)?.is_empty(), &"nothing waits");
+    same(rt, &queue.waits(1), &None, &"nobody waits");
     Ok(())
 }
 
@@ -94,10 +118,8 @@ fn a_queue_bears_it(rt: HostRuntime) -> Result<(), Fail> {
 fn without_memory(rt: HostRuntime) -> Result<(), Fail> {
     let mut queue = queue(rt.alloc(), 1, 1, 1)?;
     for priority in [Priority::System, Priority::Default, Priority::Batch] {
-        let limits = queue.throttles(priority, &[], 0)?;
-        holds(&rt, limits.is_empty(), &"no tags");
+        limits_nothing(&rt, &queue, priority)?;
     }
-    holds(&rt, queue.window(1)?.is_empty(), &"nothing waits");
-    same(&rt, &queue.waits(1), &None, &"nobody waits");
+    is_idle(&rt, &mut queue)?;
     Ok(())
 }

@@ -66,17 +66,27 @@ fn set(rt: &impl Abort, alloc: Global, queue: &mut GrvQueue<u32>, byte: u8) -> R
     Ok(())
 }
 
-/// Enough throttles that a map grows more than once, and enough limits that their list does.
+/// Sets forty throttles, so that a map grows more than once.
+fn set_forty(rt: &impl Abort, alloc: Global, queue: &mut GrvQueue<u32>) -> Result<(), Fail> {
+    for byte in 0..40u8 {
+        set(rt, alloc, queue, byte)?;
+    }
+    Ok(())
+}
+
+/// Looks each of them up twice, beside a tag that has none, so that a list of limits grows too.
+fn look_up_forty(rt: &impl Abort, alloc: Global, queue: &GrvQueue<u32>) -> Result<(), Fail> {
+    for byte in 0..40u8 {
+        let rate = Some(u64::from(byte));
+        are_limited(rt, alloc, queue, &[byte, 40, byte], 2, rate)?;
+    }
+    Ok(())
+}
+
 #[test]
 fn throttles_bear_it(rt: HostRuntime) -> Result<(), Fail> {
     let mut queue = queue(rt.alloc(), 1, 1, 1)?;
-    for byte in 0..40u8 {
-        set(&rt, rt.alloc(), &mut queue, byte)?;
-    }
+    set_forty(&rt, rt.alloc(), &mut queue)?;
     are_limited(&rt, rt.alloc(), &queue, &[40], 0, None)?;
-    for byte in 0..40u8 {
-        let rate = Some(u64::from(byte));
-        are_limited(&rt, rt.alloc(), &queue, &[byte, 40, byte], 2, rate)?;
-    }
-    Ok(())
+    look_up_forty(&rt, rt.alloc(), &queue)
 }

@@ -1,4 +1,4 @@
-use Rattle.fdb_service_tests.proofs.client.play.Given as goal
+use Rattle.fdb_client_tests.proofs.client.play.Given as goal
 
 -- the service that was just opened
 abbrev pub ghosts-play_named-J-Live : goal.ghosts-play_named-J-Live

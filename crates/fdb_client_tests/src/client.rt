@@ -10,12 +10,13 @@ mod served;
 
 use crate::client::lines::play_lines;
 use crate::client::pair::over_two_proxies;
-use crate::live::steps::unlocked;
+use crate::refused_memory::clients::begin_each;
 use fdb_chain::{ChainCore, Sequencer};
 use fdb_client::Client;
+use fdb_history::Record;
 use fdb_live::{Live, LiveRecord, Opened, Seen};
 use fdb_proxy::Desk;
-use std::alloc::Global;
+use std::alloc::{AllocError, Global};
 use std::marker::Brand;
 use std::process::Abort;
 use std::sync::Wait;
@@ -25,6 +26,7 @@ use std::thread::Threads;
 /// What clients call.
 #[derive(Drop)]
 pub(crate) struct Service<J: Live> {
+    pub(crate) alloc: Global,
     pub(crate) live: LiveRecord<J>,
     pub(crate) sequencer: Sequencer<J>,
     pub(crate) desk: Desk<J>,
@@ -34,7 +36,6 @@ pub(crate) struct Service<J: Live> {
 /// Two clients with what they call.
 #[derive(Drop)]
 pub(crate) struct Stand<'a, J: Live> {
-    pub(crate) alloc: Global,
     pub(crate) service: &'a Service<J>,
     /// What the server of the desk has seen.
     pub(crate) served: Seen<J>,
@@ -43,25 +44,43 @@ pub(crate) struct Stand<'a, J: Live> {
     pub(crate) told: Vec<Seen<J>>,
 }
 
-/// What is done with two clients.
+/// What is done with clients.
 #[derive(Clone, Copy)]
-enum Case {
-    /// The lines of a text, one after another.
+pub(crate) enum Case {
+    /// The lines of a text, one after another, of two clients.
     Lines(&'static str),
-    /// They report, tell each other and read, over two proxies.
+    /// Two clients report, tell each other and read, over two proxies.
     OverTwoProxies,
+    /// Each of six clients begins with another call, which may be refused memory.
+    BeginEach,
 }
 
-/// Plays a case, with a sequencer for so many commit proxies.
-fn play<R: Threads + Wait + Abort + Sync>(
+/// A record with no lock and no metadata version.
+pub(crate) fn unlocked(version: u64) -> Record {
+    Record {
+        version,
+        locked: false,
+        metadata: None,
+    }
+}
+
+/// Plays a case with so many clients and a sequencer for so many
+/// commit proxies. It fails where memory is refused, and passes else.
+pub(crate) fn play<R: Threads + Wait + Abort + Sync>(
     rt: &R,
     alloc: Global,
+    clients: u32,
     proxies: u32,
     case: Case,
-) -> Result<(), Fail> {
-    let opened = LiveRecord::<Brand>::open(rt, alloc, unlocked(100), 2)?;
-    let core = ChainCore::new(alloc, 0, 100, proxies)?;
-    play_named::<Brand, R>(rt, alloc, opened, core, case)
+) -> Result<(), AllocError> {
+    assert!(rt; clients > 0 && clients <= 64, "clients in range");
+    let Ok(opened) = LiveRecord::<Brand>::open(rt, alloc, unlocked(100), clients) else {
+        return Err(AllocError);
+    };
+    match ChainCore::new(alloc, 0, 100, proxies) {
+        Ok(core) => play_named::<Brand, R>(rt, alloc, opened, core, case),
+        Err(_) => Err(AllocError),
+    }
 }
 
 /// Plays a case under the name of the service.
@@ -71,69 +90,70 @@ fn play_named<J: Live + Send + Sync, R: Threads + Wait + Abort + Sync>(
     opened: Opened,
     core: ChainCore,
     case: Case,
-) -> Result<(), Fail>
+) -> Result<(), AllocError>
     requires opened { opened
         ≡ record { table = J.table; start = J.start; reporters = J.reporters } }
     requires epoch_end { core.epoch_end ≡ J.epoch_end }
     requires recovery { core.recovery ≡ J.recovery }
 {
-    let (live, served, tokens) = opened.parts::<J>()?;
+    let Ok((live, served, tokens)) = opened.parts::<J>() else {
+        return Err(AllocError);
+    };
     let service = Service {
+        alloc,
         live,
         sequencer: Sequencer::new(core),
         desk: Desk::new(alloc),
         other: Desk::new(alloc),
     };
-    play_at(rt, alloc, &service, served, tokens, case)
+    play_at(rt, &service, served, tokens, case)
 }
 
 /// Plays a case at a service.
 fn play_at<J: Live + Send + Sync, R: Threads + Wait + Abort + Sync>(
     rt: &R,
-    alloc: Global,
     service: &Service<J>,
     served: Seen<J>,
     tokens: Vec<Seen<J>>,
     case: Case,
-) -> Result<(), Fail> {
-    let stand = Stand {
-        alloc,
+) -> Result<(), AllocError> {
+    match case {
+        Case::Lines(text) => play_lines(rt, &mut stand_of(rt, service, served, tokens)?, text),
+        Case::OverTwoProxies => over_two_proxies(rt, &mut stand_of(rt, service, served, tokens)?),
+        Case::BeginEach => begin_each(rt, service, served, tokens),
+    }
+}
+
+/// A client for each token, with what they call.
+fn stand_of<'a, J: Live>(
+    rt: &impl Abort,
+    service: &'a Service<J>,
+    served: Seen<J>,
+    tokens: Vec<Seen<J>>,
+) -> Result<Stand<'a, J>, AllocError> {
+    let mut clients = Vec::new(service.alloc);
+    for token in tokens {
+        clients.push(client_of(rt, service, token))?;
+    }
+    Ok(Stand {
         service,
         served,
-        clients: clients_of(alloc, service, tokens)?,
-        told: Vec::new(alloc),
-    };
-    match case {
-        Case::Lines(text) => play_lines(rt, stand, text),
-        Case::OverTwoProxies => over_two_proxies(rt, stand),
-    }
+        clients,
+        told: Vec::new(service.alloc),
+    })
 }
 
-/// A client for each token.
-fn clients_of<J: Live>(
-    alloc: Global,
-    service: &Service<J>,
-    tokens: Vec<Seen<J>>,
-) -> Result<Vec<Client<'_, J>>, Fail> {
-    let mut clients = Vec::new(alloc);
-    for token in tokens {
-        let client = client_of(alloc, service, token);
-        clients.push(client.ok_or("the token of a reporter that has seen nothing")?)?;
-    }
-    Ok(clients)
-}
-
-/// The client whose token it is, where it has seen nothing.
-fn client_of<J: Live>(
-    alloc: Global,
-    service: &Service<J>,
+/// The client whose token it is, and which has seen nothing.
+pub(crate) fn client_of<'a, J: Live>(
+    rt: &impl Abort,
+    service: &'a Service<J>,
     token: Seen<J>,
-) -> Option<Client<'_, J>> {
+) -> Client<'a, J> {
     match token.reporter() {
         Some(number) if token.position() == 0 => {
-            Some(Client::new(alloc, number, &service.live, token))
+            Client::new(service.alloc, number, &service.live, token)
         }
-        _ => None,
+        _ => panic!(rt; "the token of a reporter that has seen nothing"),
     }
 }
 
@@ -167,7 +187,8 @@ meet => ok
 
 #[test]
 fn calls_without_a_proxy(rt: HostRuntime) -> Result<(), Fail> {
-    play(&rt, rt.alloc(), 1, Case::Lines(CALLS))
+    play(&rt, rt.alloc(), 2, 1, Case::Lines(CALLS))?;
+    Ok(())
 }
 
 /// Reads whose answers are another call's, never come, or are refusals; after each the client goes
@@ -212,10 +233,12 @@ meet => ok
 
 #[test]
 fn reads_at_a_desk(rt: HostRuntime) -> Result<(), Fail> {
-    play(&rt, rt.alloc(), 1, Case::Lines(READS))
+    play(&rt, rt.alloc(), 2, 1, Case::Lines(READS))?;
+    Ok(())
 }
 
 #[test]
 fn two_clients_over_two_proxies(rt: HostRuntime) -> Result<(), Fail> {
-    play(&rt, rt.alloc(), 2, Case::OverTwoProxies)
+    play(&rt, rt.alloc(), 2, 2, Case::OverTwoProxies)?;
+    Ok(())
 }

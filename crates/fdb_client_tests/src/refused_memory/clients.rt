@@ -2,32 +2,22 @@
 
 ghost use Rattle.std.specs.Prelude.{◌≡◌};
 
+use crate::client::{Case, Service, client_of, play, unlocked};
 use crate::line::tag;
-use crate::live::steps::unlocked;
 use crate::same::same;
-use fdb_chain::{ChainCore, ChainError, Sequencer};
+use fdb_chain::ChainError;
 use fdb_client::{Client, ClientError, ReadVersion};
 use fdb_history::{GrvOpts, OpenGate, Priority, Sequence};
-use fdb_live::{Ack, Live, LiveRecord, Opened, Seen};
-use fdb_proxy::{Desk, GrvProxy, Request};
+use fdb_live::{Ack, Live, Seen};
+use fdb_proxy::{GrvProxy, Request};
 use fdb_queue::{GrvQueue, QueueConfig};
 use std::alloc::{AllocError, Global};
 use std::fmt::Debug;
-use std::marker::Brand;
 use std::process::Abort;
 use std::sync::Wait;
 use std::test::Fail;
 use std::thread;
 use std::thread::Threads;
-
-/// What clients call.
-#[derive(Drop)]
-struct Service<J: Live> {
-    alloc: Global,
-    live: LiveRecord<J>,
-    sequencer: Sequencer<J>,
-    desk: Desk<J>,
-}
 
 /// A client, whose calls are repeated where they are refused memory.
 #[derive(Drop)]
@@ -37,14 +27,10 @@ struct Caller<'a, J: Live> {
 }
 
 impl<'a, J: Live> Caller<'a, J> {
-    /// The client of the last of some tokens of reporters that have seen nothing.
+    /// The client of the last of some tokens of reporters.
     fn new(rt: &impl Abort, service: &'a Service<J>, tokens: &mut Vec<Seen<J>>) -> Self {
         let token = tokens.pop().expect(rt, "a token is left");
-        let number = match token.reporter() {
-            Some(number) if token.position() == 0 => number,
-            _ => panic!(rt; "a token that has seen something, or is nobody's"),
-        };
-        let client = Client::new(service.alloc, number, &service.live, token);
+        let client = client_of(rt, service, token);
         Caller { service, client }
     }
 
@@ -106,7 +92,7 @@ impl<'a, J: Live> Caller<'a, J> {
             }
             told => told,
         };
-        told.map_err(|_| AllocError)
+        told.ok().ok_or(AllocError)
     }
 
     /// Learns what another client told. A token that comes back is the one that was told.
@@ -125,7 +111,7 @@ impl<'a, J: Live> Caller<'a, J> {
             Err((_, told)) => {
                 self.is_at(rt, calls, position);
                 same(rt, &told.position(), &at, &"is handed back");
-                self.client.learn(rt, from, told).map_err(|_| AllocError)
+                self.client.learn(rt, from, told).ok().ok_or(AllocError)
             }
         }
     }
@@ -144,19 +130,23 @@ impl<'a, J: Live> Caller<'a, J> {
 
     /// A read of a tag.
     fn read<R: Wait>(&mut self, rt: &R) -> Result<ReadVersion, ClientError> {
-        let mut tags = Vec::new(self.service.alloc);
-        tags.push(tag(self.service.alloc, "t")?)
-            .map_err(|_| AllocError)?;
-        let opts = GrvOpts {
-            priority: Priority::Default,
-            count: 1,
-            tags: Sequence::from(tags),
-            lock_aware: false,
-            at: 0,
-        };
+        let opts = tagged(self.service.alloc)?;
         self.client
             .read_version(rt, &OpenGate, &self.service.desk, opts)
     }
+}
+
+/// A read of one transaction with the tag `t`.
+fn tagged(alloc: Global) -> Result<GrvOpts, AllocError> {
+    let mut tags = Sequence::new(alloc);
+    tags.push(tag(alloc, "t")?)?;
+    Ok(GrvOpts {
+        priority: Priority::Default,
+        count: 1,
+        tags,
+        lock_aware: false,
+        at: 0,
+    })
 }
 
 /// Fails the test where a call did not end as it should, unless it was refused memory again.
@@ -173,68 +163,68 @@ fn is_wanted<T: PartialEq + Debug + Drop>(
     Ok(())
 }
 
-/// Plays all calls. It fails where memory is refused twice to one of them, or once to what stands
-/// round them.
-fn play<R: Threads + Wait + Abort + Sync>(rt: &R, alloc: Global) -> Result<(), AllocError> {
-    let Ok(opened) = LiveRecord::<Brand>::open(rt, alloc, unlocked(100), 6) else {
-        return Err(AllocError);
-    };
-    let Ok(core) = ChainCore::new(alloc, 0, 100, 6) else {
-        return Err(AllocError);
-    };
-    play_named::<Brand, R>(rt, alloc, opened, core)
-}
-
-/// Plays all calls under the name of the service.
-fn play_named<J: Live + Send + Sync, R: Threads + Wait + Abort + Sync>(
+/// Each of six clients begins with another call. It fails where memory is refused twice to one of
+/// them, or once to what stands round them.
+pub(crate) fn begin_each<J: Live + Send + Sync, R: Threads + Wait + Abort + Sync>(
     rt: &R,
-    alloc: Global,
-    opened: Opened,
-    core: ChainCore,
-) -> Result<(), AllocError>
-    requires opened { opened
-        ≡ record { table = J.table; start = J.start; reporters = J.reporters } }
-    requires epoch_end { core.epoch_end ≡ J.epoch_end }
-    requires recovery { core.recovery ≡ J.recovery }
-{
-    let Ok((live, mut served, mut tokens)) = opened.parts::<J>() else {
-        return Err(AllocError);
-    };
-    let token = live.split(&mut served);
-    let service = Service {
-        alloc,
-        live,
-        sequencer: Sequencer::new(core),
-        desk: Desk::new(alloc),
-    };
-    commit_and_tell(rt, &service, &mut tokens)?;
-    ask_again(rt, &service, &mut tokens)?;
-    serve(rt, &service, token, &mut tokens)
+    service: &Service<J>,
+    mut served: Seen<J>,
+    mut tokens: Vec<Seen<J>>,
+) -> Result<(), AllocError> {
+    commit_and_tell(rt, service, &mut tokens)?;
+    begin_otherwise(rt, service, &mut tokens)?;
+    ask_again(rt, service, &mut tokens)?;
+    let mut reader = Caller::new(rt, service, &mut tokens);
+    let token = service.live.split(&mut served);
+    serve(rt, &mut reader, token)
 }
 
-/// One client asks, reports and tells, and another learns. Two more begin with a tell and with a
-/// report.
+/// One client asks, reports and tells, and another learns.
 fn commit_and_tell<J: Live, R: Wait + Abort>(
     rt: &R,
     service: &Service<J>,
     tokens: &mut Vec<Seen<J>>,
 ) -> Result<(), AllocError> {
     let mut first = Caller::new(rt, service, tokens);
-    // a version for each request, since no time passes and a refused one draws none
+    commit(rt, &mut first)?;
+    let mut learner = Caller::new(rt, service, tokens);
+    exchange(rt, &mut first, &mut learner)?;
+    first.is_at(rt, 6, 1);
+    learner.is_at(rt, 1, 1);
+    Ok(())
+}
+
+/// A client draws a version for each request, since no time passes and
+/// a refused one draws none, and reports the last of them.
+fn commit<J: Live, R: Wait + Abort>(rt: &R, client: &mut Caller<'_, J>) -> Result<(), AllocError> {
     for version in 100..104 {
-        first.asks(rt, 0, Ok(version))?;
+        client.asks(rt, 0, Ok(version))?;
     }
     let (raised, position) = (true, 1);
-    first.reports(rt, 4, Ok(Ack { raised, position }))?;
-    let mut learner = Caller::new(rt, service, tokens);
-    let told = first.tells(rt, learner.client.number())?;
-    first.is_at(rt, 6, 1);
+    client.reports(rt, 4, Ok(Ack { raised, position }))
+}
+
+/// One client tells another, which learns.
+fn exchange<J: Live, R: Wait + Abort>(
+    rt: &R,
+    teller: &mut Caller<'_, J>,
+    learner: &mut Caller<'_, J>,
+) -> Result<(), AllocError> {
+    let told = teller.tells(rt, learner.client.number())?;
     if told.reporter().is_none() {
-        learner.learns(rt, first.client.number(), told)?;
+        learner.learns(rt, teller.client.number(), told)?;
     }
-    learner.is_at(rt, 1, 1);
+    Ok(())
+}
+
+/// Two clients begin with a tell and with a report.
+fn begin_otherwise<J: Live, R: Wait + Abort>(
+    rt: &R,
+    service: &Service<J>,
+    tokens: &mut Vec<Seen<J>>,
+) -> Result<(), AllocError> {
     let mut teller = Caller::new(rt, service, tokens);
-    teller.tells(rt, first.client.number())?;
+    teller.tells(rt, 5)?;
     teller.is_at(rt, 1, 0);
     let mut reporter = Caller::new(rt, service, tokens);
     reporter.reports(rt, 1, Err(ClientError::NotIssued))?;
@@ -261,32 +251,35 @@ fn ask_again<J: Live, R: Wait + Abort>(
 /// refused memory.
 fn serve<J: Live + Send + Sync, R: Threads + Wait + Abort + Sync>(
     rt: &R,
-    service: &Service<J>,
+    reader: &mut Caller<'_, J>,
     token: Seen<J>,
-    tokens: &mut Vec<Seen<J>>,
 ) -> Result<(), AllocError> {
-    let mut reader = Caller::new(rt, service, tokens);
-    let (live, desk) = (&service.live, &service.desk);
-    let queue = throttled_queue(service.alloc)?;
-    let proxy = GrvProxy::new(service.alloc, live, desk, queue, 1_000_000, token);
-    let found = thread::scope(thread::scope_env(), rt, |scope| {
-        let Ok(running) = scope.spawn(move || proxy.run(rt).is_ok()) else {
-            return Err(ClientError::Memory);
-        };
+    let service = reader.service;
+    let (alloc, live, desk) = (service.alloc, &service.live, &service.desk);
+    let queue = throttled_queue(alloc)?;
+    let proxy = GrvProxy::new(alloc, live, desk, queue, 1_000_000, token);
+    thread::scope(thread::scope_env(), rt, |scope| {
+        let running = scope.spawn(move || proxy.run(rt).is_ok())?;
         let found = reader.reads(rt);
         desk.close(rt);
         running.join(rt);
-        found
-    });
-    match found {
-        Ok(read) => {
-            same(rt, &(read.rec, read.position), &(unlocked(103), 1), &"read");
-            same(rt, &read.limits.len(), &1, &"limits");
-            reader.is_at(rt, 1, 1);
-            Ok(())
-        }
-        Err(_) => Err(AllocError),
-    }
+        is_read(rt, reader, found)
+    })
+}
+
+/// Checks what was read, unless memory was refused.
+fn is_read<J: Live>(
+    rt: &impl Abort,
+    reader: &Caller<'_, J>,
+    found: Result<ReadVersion, ClientError>,
+) -> Result<(), AllocError> {
+    let Ok(read) = found else {
+        return Err(AllocError);
+    };
+    same(rt, &(read.rec, read.position), &(unlocked(103), 1), &"read");
+    same(rt, &read.limits.len(), &1, &"limits");
+    reader.is_at(rt, 1, 1);
+    Ok(())
 }
 
 /// A queue with a throttle of the tag `t`.
@@ -296,7 +289,7 @@ fn throttled_queue<J: Live>(alloc: Global) -> Result<GrvQueue<Request<J>>, Alloc
         batch: 10,
         room: 10,
     };
-    let mut queue = GrvQueue::new(alloc, config).map_err(|_| AllocError)?;
+    let mut queue = GrvQueue::new(alloc, config).ok().ok_or(AllocError)?;
     match queue.set_throttle(Priority::Default, tag(alloc, "t")?, 5, 5000) {
         Ok(()) => Ok(queue),
         Err(_) => Err(AllocError),
@@ -306,8 +299,8 @@ fn throttled_queue<J: Live>(alloc: Global) -> Result<GrvQueue<Request<J>>, Alloc
 /// What is refused memory in what stands round the calls begins anew.
 #[test]
 fn a_client_bears_it(rt: HostRuntime) -> Result<(), Fail> {
-    match play(&rt, rt.alloc()) {
-        Err(_) => play(&rt, rt.alloc())?,
+    match play(&rt, rt.alloc(), 6, 6, Case::BeginEach) {
+        Err(_) => play(&rt, rt.alloc(), 6, 6, Case::BeginEach)?,
         Ok(()) => {}
     }
     Ok(())
@@ -317,6 +310,6 @@ fn a_client_bears_it(rt: HostRuntime) -> Result<(), Fail> {
 /// memory, or as ever.
 #[test]
 fn without_memory(rt: HostRuntime) -> Result<(), Fail> {
-    let _ended = play(&rt, rt.alloc());
+    let _ended = play(&rt, rt.alloc(), 6, 6, Case::BeginEach);
     Ok(())
 }

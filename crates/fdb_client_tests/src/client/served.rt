@@ -9,10 +9,10 @@ use crate::same::holds;
 use crossbeam_channel::Sender;
 use fdb_client::{Client, ClientError, ReadVersion};
 use fdb_history::{GrvOpts, Sequence};
-use fdb_live::{Live, LiveRecord, Seen};
+use fdb_live::{Live, Seen};
 use fdb_proxy::{Answer, Cause, Desk, Refused, Reply, Request};
 use fdb_queue::QueueError;
-use std::alloc::{AllocError, Global};
+use std::alloc::AllocError;
 use std::process::Abort;
 use std::sync::Wait;
 use std::thread;
@@ -21,13 +21,9 @@ use std::thread::Threads;
 /// How a request is answered.
 #[derive(Clone, Copy)]
 pub(crate) enum Way {
-    /// As it should be.
+    /// With what is read.
     Served,
-    /// As another client's.
-    OfAnotherClient,
-    /// Under a number that is one too high.
-    OfAnotherSerial,
-    /// As if it had been asked one position later.
+    /// With that, as if it had been asked one position later.
     FromAnotherPosition,
     /// It is not.
     Dropped,
@@ -35,10 +31,19 @@ pub(crate) enum Way {
     Closed,
     /// Its queue is full.
     Full,
-    /// Its queue is full, says an answer under a number that is one too high.
-    FullOfAnotherSerial,
     /// Its queue is refused memory.
     OutOfMemory,
+}
+
+/// Whom an answer is for.
+#[derive(Clone, Copy)]
+pub(crate) enum Whom {
+    /// The request that came.
+    Asker,
+    /// Another client's request.
+    AnotherClient,
+    /// The client's next request.
+    AnotherSerial,
 }
 
 /// A read, and how it is answered.
@@ -48,6 +53,7 @@ pub(crate) struct Reading {
     pub(crate) aside: bool,
     pub(crate) opts: GrvOpts,
     pub(crate) way: Way,
+    pub(crate) whom: Whom,
 }
 
 /// What a client's request has to be.
@@ -60,6 +66,16 @@ struct Wanted {
 }
 
 impl Wanted {
+    /// What the next request of a client with these options has to be.
+    fn of<J: Live>(client: &Client<'_, J>, opts: &GrvOpts) -> Result<Wanted, AllocError> {
+        Ok(Wanted {
+            client: client.number(),
+            serial: client.calls().len() as u64,
+            asked: client.position(),
+            opts: opts.clone()?,
+        })
+    }
+
     /// Whether this is such a request.
     fn is_met<J: Live>(&self, request: &Request<J>) -> bool {
         request.client == self.client
@@ -75,25 +91,23 @@ impl Wanted {
 /// was told to ask. It passes the gate once where an answer came, and else not at all.
 pub(crate) fn read_served<J: Live + Send + Sync, R: Threads + Wait + Abort + Sync>(
     rt: &R,
-    alloc: Global,
     service: &Service<J>,
     served: &mut Seen<J>,
     client: &mut Client<'_, J>,
     reading: Reading,
 ) -> Result<ReadVersion, ClientError> {
-    let Reading { aside, opts, way } = reading;
-    let live = &service.live;
+    let wanted = Wanted::of(client, &reading.opts)?;
+    let Reading {
+        aside,
+        opts,
+        way,
+        whom,
+    } = reading;
     let desk = if aside { &service.other } else { &service.desk };
     let gate = Noting::new(client.number());
-    let wanted = Wanted {
-        client: client.number(),
-        serial: client.calls().len() as u64,
-        asked: client.position(),
-        opts: opts.clone()?,
-    };
     let (answered, found) = thread::join(
         rt,
-        || serve(rt, alloc, desk, live, served, &wanted, way),
+        || serve(rt, service, desk, served, &wanted, way, whom),
         || client.read_version(rt, &gate, desk, opts),
     );
     let left = desk.take(rt, false);
@@ -105,12 +119,12 @@ pub(crate) fn read_served<J: Live + Send + Sync, R: Threads + Wait + Abort + Syn
 /// Takes what comes to the desk first, and answers it. Says whether an answer was sent.
 fn serve<J: Live, R: Wait + Abort>(
     rt: &R,
-    alloc: Global,
+    service: &Service<J>,
     desk: &Desk<J>,
-    live: &LiveRecord<J>,
     served: &mut Seen<J>,
     wanted: &Wanted,
     way: Way,
+    whom: Whom,
 ) -> bool {
     let mut taken = desk.take(rt, true);
     let Some(request) = taken.requests.pop() else {
@@ -118,30 +132,50 @@ fn serve<J: Live, R: Wait + Abort>(
     };
     holds(rt, wanted.is_met(&request.payload), &"the request");
     holds(rt, taken.requests.is_empty(), &"one request");
-    answer(rt, alloc, live, served, request.payload, way)
+    answer(rt, service, served, addressed(request.payload, whom), way)
+}
+
+/// A request as its answer has it.
+fn addressed<J: Live>(mut request: Request<J>, whom: Whom) -> Request<J> {
+    let (client, serial) = (request.client, request.serial);
+    (request.client, request.serial) = match whom {
+        Whom::Asker => (client, serial),
+        Whom::AnotherClient => (1 - client.min(1), serial),
+        Whom::AnotherSerial => (client, serial.saturating_add(1)),
+    };
+    request
 }
 
 /// Answers a request. Says whether an answer was sent.
 fn answer<J: Live, R: Wait>(
     rt: &R,
-    alloc: Global,
-    live: &LiveRecord<J>,
+    service: &Service<J>,
     served: &mut Seen<J>,
     request: Request<J>,
     way: Way,
 ) -> bool {
     let reply: Result<Sender<Answer<J>>, AllocError> = request.reply.clone();
-    let answer = match way {
+    match (reply, answer_of(rt, service, served, request, way)) {
+        (Ok(reply), Some(answer)) => reply.send(rt, answer).is_ok(),
+        _ => false,
+    }
+}
+
+/// The answer to a request, if there is one.
+fn answer_of<J: Live, R: Wait>(
+    rt: &R,
+    service: &Service<J>,
+    served: &mut Seen<J>,
+    request: Request<J>,
+    way: Way,
+) -> Option<Answer<J>> {
+    match way {
+        Way::Served => replied(rt, service, served, request, 0),
+        Way::FromAnotherPosition => replied(rt, service, served, request, 1),
         Way::Dropped => None,
         Way::Closed => Some(refused(request, Cause::Closed)),
         Way::Full => Some(refused(request, Cause::Queue(QueueError::Full))),
-        Way::FullOfAnotherSerial => Some(full_of_another(request)),
         Way::OutOfMemory => Some(refused(request, Cause::Queue(QueueError::Memory))),
-        _ => replied(rt, alloc, live, served, request, way),
-    };
-    match (reply, answer) {
-        (Ok(reply), Some(answer)) => reply.send(rt, answer).is_ok(),
-        _ => false,
     }
 }
 
@@ -149,47 +183,27 @@ fn answer<J: Live, R: Wait>(
 fn refused<J: Live>(request: Request<J>, cause: Cause) -> Answer<J>
     requires { is_due cause ≡ true }
 {
-    let Request {
-        client,
-        serial,
-        asked,
-        seen,
-        opts: _,
-        reply: _,
-    } = request;
     Answer::Refused(Refused {
-        client,
-        serial,
-        asked,
-        seen,
+        client: request.client,
+        serial: request.serial,
+        asked: request.asked,
+        seen: request.seen,
         cause,
     })
 }
 
-/// That the request after this one finds a full queue.
-fn full_of_another<J: Live>(mut request: Request<J>) -> Answer<J> {
-    request.serial = request.serial.saturating_add(1);
-    refused(request, Cause::Queue(QueueError::Full))
-}
-
-/// What a read gives, as the answer to this request or to another one.
+/// What a read gives, as if it had been asked so many positions later, if it goes as far.
 fn replied<J: Live, R: Wait>(
     rt: &R,
-    alloc: Global,
-    live: &LiveRecord<J>,
+    service: &Service<J>,
     served: &mut Seen<J>,
     request: Request<J>,
-    way: Way,
+    later: u64,
 ) -> Option<Answer<J>> {
-    live.learn(rt, served, request.seen);
-    let fetched = live.read(rt, served);
-    let (mut client, mut serial, mut asked) = (request.client, request.serial, request.asked);
-    match way {
-        Way::OfAnotherClient => client = 1 - client.min(1),
-        Way::OfAnotherSerial => serial = serial.saturating_add(1),
-        Way::FromAnotherPosition => asked = asked.saturating_add(1),
-        _ => (),
-    }
+    let (client, serial) = (request.client, request.serial);
+    let asked = request.asked.saturating_add(later);
+    service.live.learn(rt, served, request.seen);
+    let fetched = service.live.read(rt, served);
     if fetched.position < asked {
         return None;
     }
@@ -197,9 +211,9 @@ fn replied<J: Live, R: Wait>(
         client,
         serial,
         asked,
-        seen: live.split(served),
+        seen: service.live.split(served),
         rec: fetched.rec,
         position: fetched.position,
-        limits: Sequence::new(alloc),
+        limits: Sequence::new(service.alloc),
     }))
 }

@@ -1,0 +1,304 @@
+//! The lines of a text, each a call, and behind `=>` what comes of it.
+
+use crate::client::Stand;
+use crate::client::served::{Reading, Way, Whom, read_served};
+use crate::line::{Line, tag};
+use fdb_client::{Client, ClientError, ReadVersion};
+use fdb_history::{GrvOpts, Issued, OpenGate, Priority, Sequence};
+use fdb_live::{Ack, Live, Seen};
+use std::alloc::{AllocError, Global};
+use std::process::Abort;
+use std::sync::Wait;
+use std::thread::Threads;
+
+/// Plays the lines of a text.
+pub(crate) fn play_lines<J: Live + Send + Sync, R: Threads + Wait + Abort + Sync>(
+    rt: &R,
+    stand: &mut Stand<'_, J>,
+    text: &str,
+) -> Result<(), AllocError> {
+    for line in text.lines() {
+        play_line(rt, stand, Line::new(line))?;
+    }
+    Ok(())
+}
+
+/// Plays a line, if it is no comment.
+fn play_line<J: Live + Send + Sync, R: Threads + Wait + Abort + Sync>(
+    rt: &R,
+    stand: &mut Stand<'_, J>,
+    mut line: Line<'_>,
+) -> Result<(), AllocError> {
+    match line.next_word() {
+        None | Some("#") => Ok(()),
+        Some(call) => {
+            let found = called(rt, stand, call, &mut line)?;
+            line.wants(rt, &found);
+            Ok(())
+        }
+    }
+}
+
+/// What comes of a call.
+fn called<J: Live + Send + Sync, R: Threads + Wait + Abort + Sync>(
+    rt: &R,
+    stand: &mut Stand<'_, J>,
+    call: &str,
+    line: &mut Line<'_>,
+) -> Result<String, AllocError> {
+    match call {
+        "ask" => asked(rt, stand, line),
+        "reask" => reasked(rt, stand, line),
+        "report" => reported(rt, stand, line, false),
+        "lock" => reported(rt, stand, line, true),
+        "read" | "aware" | "aside" => read(rt, stand, call, line),
+        "tell" => told(rt, stand, line),
+        "learn" => learnt(rt, stand, line),
+        "log" => logged(rt, stand, line),
+        "meet" => meet(rt, stand),
+        "shut" => shut(rt, stand),
+        _ => line.fails(rt, "no call"),
+    }
+}
+
+/// The client of the next word.
+fn client_at<'s, 'a, J: Live>(
+    rt: &impl Abort,
+    stand: &'s mut Stand<'a, J>,
+    line: &mut Line<'_>,
+) -> &'s mut Client<'a, J> {
+    match stand.clients.get_mut(line.who(rt) as usize) {
+        Some(client) => client,
+        None => line.fails(rt, "no client"),
+    }
+}
+
+fn asked<J: Live, R: Wait + Abort>(
+    rt: &R,
+    stand: &mut Stand<'_, J>,
+    line: &mut Line<'_>,
+) -> Result<String, AllocError> {
+    let service = stand.service;
+    let client = client_at(rt, stand, line);
+    let (processed, at) = (line.number(rt), line.number(rt));
+    let found = client.ask(rt, &OpenGate, &service.sequencer, processed, at);
+    issued_text(service.alloc, found)
+}
+
+fn reasked<J: Live, R: Wait + Abort>(
+    rt: &R,
+    stand: &mut Stand<'_, J>,
+    line: &mut Line<'_>,
+) -> Result<String, AllocError> {
+    let service = stand.service;
+    let client = client_at(rt, stand, line);
+    let (num, processed, at) = (line.number(rt), line.number(rt), line.number(rt));
+    let found = client.reask(rt, &OpenGate, &service.sequencer, num, processed, at);
+    issued_text(service.alloc, found)
+}
+
+fn reported<J: Live, R: Wait + Abort>(
+    rt: &R,
+    stand: &mut Stand<'_, J>,
+    line: &mut Line<'_>,
+    locked: bool,
+) -> Result<String, AllocError> {
+    let alloc = stand.service.alloc;
+    let client = client_at(rt, stand, line);
+    let found = client.report(rt, &OpenGate, line.number(rt), locked, None);
+    acked_text(alloc, found)
+}
+
+/// A read at a desk that the test serves.
+fn read<J: Live + Send + Sync, R: Threads + Wait + Abort + Sync>(
+    rt: &R,
+    stand: &mut Stand<'_, J>,
+    call: &str,
+    line: &mut Line<'_>,
+) -> Result<String, AllocError> {
+    let alloc = stand.service.alloc;
+    let place = line.who(rt) as usize;
+    let reading = reading(rt, alloc, call, line)?;
+    let Some(client) = stand.clients.get_mut(place) else {
+        line.fails(rt, "no client")
+    };
+    let found = read_served(rt, stand.service, &mut stand.served, client, reading);
+    read_text(alloc, found)
+}
+
+/// What is read, where, and how that is answered.
+fn reading(
+    rt: &impl Abort,
+    alloc: Global,
+    call: &str,
+    line: &mut Line<'_>,
+) -> Result<Reading, AllocError> {
+    let (way, whom) = answering(rt, line);
+    Ok(Reading {
+        aside: call == "aside",
+        opts: told_apart(alloc, call == "aware")?,
+        way,
+        whom,
+    })
+}
+
+/// How the server of the desk is to answer, and whom.
+fn answering(rt: &impl Abort, line: &mut Line<'_>) -> (Way, Whom) {
+    match line.word(rt) {
+        "served" => (Way::Served, Whom::Asker),
+        "client" => (Way::Served, Whom::AnotherClient),
+        "serial" => (Way::Served, Whom::AnotherSerial),
+        "asked" => (Way::FromAnotherPosition, Whom::Asker),
+        "dropped" => (Way::Dropped, Whom::Asker),
+        "closed" => (Way::Closed, Whom::Asker),
+        "full" => (Way::Full, Whom::Asker),
+        "full_serial" => (Way::Full, Whom::AnotherSerial),
+        "memory" => (Way::OutOfMemory, Whom::Asker),
+        _ => line.fails(rt, "no way to answer"),
+    }
+}
+
+/// A read of which each option is another than that of a plain one.
+fn told_apart(alloc: Global, lock_aware: bool) -> Result<GrvOpts, AllocError> {
+    let mut tags = Sequence::new(alloc);
+    tags.push(tag(alloc, "web")?)?;
+    Ok(GrvOpts {
+        priority: Priority::Batch,
+        count: 7,
+        tags,
+        lock_aware,
+        at: 9,
+    })
+}
+
+fn told<J: Live>(
+    rt: &impl Abort,
+    stand: &mut Stand<'_, J>,
+    line: &mut Line<'_>,
+) -> Result<String, AllocError> {
+    let client = client_at(rt, stand, line);
+    match client.tell(line.who(rt)) {
+        Ok(token) => keeps(stand, token),
+        Err(_) => Err(AllocError),
+    }
+}
+
+/// Keeps what was told.
+fn keeps<J: Live>(stand: &mut Stand<'_, J>, token: Seen<J>) -> Result<String, AllocError> {
+    let position = token.position();
+    stand.told.push(token)?;
+    at(stand.service.alloc, position)
+}
+
+/// A client learns what was told last.
+fn learnt<J: Live, R: Wait + Abort>(
+    rt: &R,
+    stand: &mut Stand<'_, J>,
+    line: &mut Line<'_>,
+) -> Result<String, AllocError> {
+    let alloc = stand.service.alloc;
+    let Some(token) = stand.told.pop() else {
+        return String::from_str(alloc, "nothing was told");
+    };
+    let client = client_at(rt, stand, line);
+    learns(rt, alloc, client, line.who(rt), token)
+}
+
+fn learns<J: Live, R: Wait>(
+    rt: &R,
+    alloc: Global,
+    client: &mut Client<'_, J>,
+    from: u32,
+    token: Seen<J>,
+) -> Result<String, AllocError> {
+    if token.reporter().is_some() {
+        return String::from_str(alloc, "a reporter's token");
+    }
+    match client.learn(rt, from, token) {
+        Ok(()) => at(alloc, client.position()),
+        Err(_) => Err(AllocError),
+    }
+}
+
+/// How many calls a client has logged, and the position that
+/// it has come to, by its last call and by its token.
+fn logged<J: Live>(
+    rt: &impl Abort,
+    stand: &mut Stand<'_, J>,
+    line: &mut Line<'_>,
+) -> Result<String, AllocError> {
+    let alloc = stand.service.alloc;
+    let client = client_at(rt, stand, line);
+    let (calls, position) = (client.calls(), client.position());
+    let last = match calls.last() {
+        Some(call) => call.position,
+        None => 0,
+    };
+    if last != position {
+        return String::from_str(alloc, "the log and the token differ");
+    }
+    format!(in alloc; "{} calls, at {position}", calls.len())
+}
+
+/// The clients finish, and their tokens meet.
+fn meet<J: Live, R: Wait + Abort>(rt: &R, stand: &mut Stand<'_, J>) -> Result<String, AllocError> {
+    let (one, zero) = meet_at_the_end(rt, stand);
+    let own = (one.reporter(), zero.reporter()) == (Some(1), Some(0));
+    let found = if own { "ok" } else { "the tokens of others" };
+    String::from_str(stand.service.alloc, found)
+}
+
+/// Both clients finish. Their tokens, that of client 1 first, meet.
+pub(crate) fn meet_at_the_end<J: Live, R: Wait + Abort>(
+    rt: &R,
+    stand: &mut Stand<'_, J>,
+) -> (Seen<J>, Seen<J>) {
+    let (mut one, mut zero) = (finished(rt, stand), finished(rt, stand));
+    stand.service.live.meet(rt, &mut one, &mut zero);
+    (one, zero)
+}
+
+/// The token of the last client that is left, which finishes.
+fn finished<J: Live>(rt: &impl Abort, stand: &mut Stand<'_, J>) -> Seen<J> {
+    match stand.clients.pop() {
+        Some(client) => client.finish().1,
+        None => panic!(rt; "two clients are wanted"),
+    }
+}
+
+/// Closes the desk.
+fn shut<J: Live, R: Wait>(rt: &R, stand: &Stand<'_, J>) -> Result<String, AllocError> {
+    stand.service.desk.close(rt);
+    String::from_str(stand.service.alloc, "ok")
+}
+
+fn issued_text(alloc: Global, found: Result<Issued, ClientError>) -> Result<String, AllocError> {
+    match found {
+        Ok(issued) => {
+            let fresh = if issued.fresh { "fresh" } else { "kept" };
+            format!(in alloc; "{} after {}, {fresh}", issued.version, issued.prev)
+        }
+        Err(cause) => cause.to_string(alloc),
+    }
+}
+
+fn acked_text(alloc: Global, found: Result<Ack, ClientError>) -> Result<String, AllocError> {
+    match found {
+        Ok(Ack { raised, position }) => {
+            let not = if raised { "" } else { "not " };
+            format!(in alloc; "{not}raised at {position}")
+        }
+        Err(cause) => cause.to_string(alloc),
+    }
+}
+
+fn read_text(alloc: Global, found: Result<ReadVersion, ClientError>) -> Result<String, AllocError> {
+    match found {
+        Ok(read) => format!(in alloc; "{} at {}", read.rec.version, read.position),
+        Err(cause) => cause.to_string(alloc),
+    }
+}
+
+fn at(alloc: Global, position: u64) -> Result<String, AllocError> {
+    format!(in alloc; "at {position}")
+}

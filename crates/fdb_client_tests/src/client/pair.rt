@@ -1,0 +1,188 @@
+//! Two clients over two proxies, each in a thread of its own.
+
+use crate::client::lines::meet_at_the_end;
+use crate::client::{Service, Stand};
+use crate::same::holds;
+use fdb_client::{Client, ClientError, ReadVersion};
+use fdb_history::{GrvOpts, OpenGate, Priority, Sequence};
+use fdb_live::{Live, Seen};
+use fdb_proxy::{Desk, GrvProxy};
+use fdb_queue::{GrvQueue, QueueConfig};
+use std::alloc::{AllocError, Global};
+use std::process::Abort;
+use std::sync::Wait;
+use std::thread;
+use std::thread::Threads;
+
+/// Both report, tell each other, and read. Each has then come at
+/// least as far as the other had told, and their tokens meet.
+pub(crate) fn over_two_proxies<J: Live + Send + Sync, R: Threads + Wait + Abort + Sync>(
+    rt: &R,
+    stand: &mut Stand<'_, J>,
+) -> Result<(), AllocError> {
+    let service = stand.service;
+    let first = proxy_of(service, &service.desk, &mut stand.served)?;
+    let second = proxy_of(service, &service.other, &mut stand.served)?;
+    let (ended, ()) = thread::join(
+        rt,
+        || run_both(rt, first, second),
+        || work_and_close(rt, stand),
+    );
+    holds(rt, ended, &"the proxies have memory");
+    Ok(())
+}
+
+/// A proxy of a desk that lets 1,000 transactions start in each window.
+fn proxy_of<'a, J: Live>(
+    service: &'a Service<J>,
+    desk: &'a Desk<J>,
+    seen: &mut Seen<J>,
+) -> Result<GrvProxy<'a, J>, AllocError> {
+    let config = QueueConfig {
+        normal: 1_000,
+        batch: 1_000,
+        room: 1_000,
+    };
+    let Ok(queue) = GrvQueue::new(service.alloc, config) else {
+        return Err(AllocError);
+    };
+    let (live, token) = (&service.live, service.live.split(seen));
+    Ok(GrvProxy::new(service.alloc, live, desk, queue, 1_000_000, token))
+}
+
+/// Runs two proxies, each in a thread of its own, and answers
+/// whether both ended because their desks were closed.
+fn run_both<J: Live + Send + Sync, R: Threads + Wait + Sync>(
+    rt: &R,
+    first: GrvProxy<'_, J>,
+    second: GrvProxy<'_, J>,
+) -> bool {
+    let (first, second) = thread::join(rt, || first.run(rt).is_ok(), || second.run(rt).is_ok());
+    first && second
+}
+
+/// Has both clients work, each at its own desk, and closes the desks.
+fn work_and_close<J: Live + Send + Sync, R: Threads + Wait + Abort + Sync>(
+    rt: &R,
+    stand: &mut Stand<'_, J>,
+) {
+    let service = stand.service;
+    let Some((zero, others)) = stand.clients.split_first_mut() else {
+        panic!(rt; "two clients are wanted")
+    };
+    let one = others.first_mut().expect(rt, "two clients");
+    let told = work(rt, service, zero, one);
+    service.desk.close(rt);
+    service.other.close(rt);
+    meet(rt, stand, told);
+}
+
+/// Both commit, tell each other what they have seen, and read. Answers the position that was told.
+fn work<J: Live + Send + Sync, R: Threads + Wait + Abort + Sync>(
+    rt: &R,
+    service: &Service<J>,
+    zero: &mut Client<'_, J>,
+    one: &mut Client<'_, J>,
+) -> u64 {
+    thread::join(
+        rt,
+        || commit(rt, service, zero),
+        || commit(rt, service, one),
+    );
+    let told = exchange_both(rt, zero, one);
+    thread::join(
+        rt,
+        || reads(rt, service, &service.desk, zero, told),
+        || reads(rt, service, &service.other, one, told),
+    );
+    told
+}
+
+/// The clients finish, and their tokens meet, which have come as far as was told.
+fn meet<J: Live, R: Wait + Abort>(rt: &R, stand: &mut Stand<'_, J>, told: u64) {
+    let (one, zero) = meet_at_the_end(rt, stand);
+    holds(rt, zero.position() >= told, &"client 0 at the end");
+    holds(rt, one.position() >= told, &"client 1 at the end");
+}
+
+/// Draws a commit version twice, and reports the second one.
+fn commit<J: Live, R: Wait + Abort>(rt: &R, service: &Service<J>, client: &mut Client<'_, J>) {
+    for at in [1_000, 2_000] {
+        let drawn = client.ask(rt, &OpenGate, &service.sequencer, 0, at).is_ok();
+        holds(rt, drawn, &at);
+    }
+    let acked = client.report(rt, &OpenGate, 2, false, None).is_ok();
+    holds(rt, acked, &"a report");
+}
+
+/// Each client tells the other. Answers the position that both have come to then.
+fn exchange_both<J: Live, R: Wait + Abort>(
+    rt: &R,
+    zero: &mut Client<'_, J>,
+    one: &mut Client<'_, J>,
+) -> u64 {
+    let told = exchange(rt, zero, one).max(exchange(rt, one, zero));
+    holds(rt, told == 1 || told == 2, &"one raise is certain");
+    told
+}
+
+/// One client tells another, who learns. Answers the position that was told.
+fn exchange<J: Live, R: Wait + Abort>(
+    rt: &R,
+    teller: &mut Client<'_, J>,
+    other: &mut Client<'_, J>,
+) -> u64 {
+    let token = told(rt, teller, other.number());
+    let position = token.position();
+    learnt(rt, other, teller.number(), token);
+    holds(rt, other.position() >= position, &"as far as was told");
+    position
+}
+
+/// What a client tells another.
+fn told<J: Live>(rt: &impl Abort, teller: &mut Client<'_, J>, to: u32) -> Seen<J> {
+    match teller.tell(to) {
+        Ok(token) => token,
+        Err(_) => panic!(rt; "a tell is refused"),
+    }
+}
+
+/// A client learns what it was told by another.
+fn learnt<J: Live, R: Wait + Abort>(rt: &R, client: &mut Client<'_, J>, from: u32, token: Seen<J>) {
+    if token.reporter().is_none() {
+        let learnt = client.learn(rt, from, token).is_ok();
+        holds(rt, learnt, &"a learn");
+    }
+}
+
+/// Reads at a desk, as far as was told or further.
+fn reads<J: Live, R: Wait + Abort>(
+    rt: &R,
+    service: &Service<J>,
+    desk: &Desk<J>,
+    client: &mut Client<'_, J>,
+    told: u64,
+) {
+    let position = match read(rt, service.alloc, desk, client) {
+        Ok(read) => read.position,
+        Err(_) => 0,
+    };
+    holds(rt, position >= told, &"a read comes as far as was told");
+}
+
+/// A read of one transaction without tags.
+fn read<J: Live, R: Wait>(
+    rt: &R,
+    alloc: Global,
+    desk: &Desk<J>,
+    client: &mut Client<'_, J>,
+) -> Result<ReadVersion, ClientError> {
+    let opts = GrvOpts {
+        priority: Priority::Default,
+        count: 1,
+        tags: Sequence::new(alloc),
+        lock_aware: false,
+        at: 0,
+    };
+    client.read_version(rt, &OpenGate, desk, opts)
+}

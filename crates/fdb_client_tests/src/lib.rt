@@ -1,0 +1,11 @@
+//! The tests of `fdb_client`, whose calls meet in threads. Without its tests this crate is empty.
+#![tactic(auto)]
+
+#[cfg(test)]
+mod client;
+#[cfg(test)]
+mod line;
+#[cfg(test)]
+mod refused_memory;
+#[cfg(test)]
+mod same;
