@@ -32,6 +32,8 @@ WITHOUT = r"::without_memory$"
 PASSED = done(b"\ntest result: ok\n")
 # What tests/refuse.c tells where it refuses the start of a thread.
 THREAD = b"t"
+# The sweep of clients that race for one proxy.
+ONE_PROXY = "three clients that race"
 
 
 class Refused(NamedTuple):
@@ -96,7 +98,7 @@ def refused(program):
         ("the first script", [], first, exactly(done(first_output())), each),
         ("a script that is refused", [], first.replace(b'"num":2', b'"num":-2'), exactly(refused_script("BadField 0 4")), each),
         ("two clients", ["--proxies", "2", "--history"], two, exactly(expected(two, True)), each),
-        ("three clients that race", *of_crowd(1)),
+        (ONE_PROXY, *of_crowd(1)),
         ("three clients that race for two proxies", *of_crowd(2)),
         ("three clients that race for two proxies, again", *of_crowd(2)),
         ("a large script", ["--history"], large, exactly(expected(large, True)), further),
@@ -113,9 +115,9 @@ def refused(program):
                 for it in swept([program, *words], preloaded, given, OUT_OF_MEMORY, fault_of_ran, goes_on, step):
                     threads += it.what == THREAD
                     yield f"{begun} {it.number}", it.fault
-                most_threads = max(most_threads, threads)
-    # No run of these has more than two proxies, so that the others were threads of clients.
-    yield "starts of clients' threads", None if most_threads > 2 else f"at most {most_threads} threads were refused in a sweep"
+                most_threads = max(most_threads, threads if name == ONE_PROXY else 0)
+    # The one proxy of this sweep is started before anything races, so that the others were threads of clients.
+    yield "starts of clients' threads", None if most_threads > 1 else f"{most_threads} threads were refused in a sweep of one proxy"
 
 
 def bearing_tests(tests, pattern):

@@ -1,9 +1,12 @@
 //! Audits of the logs of many clients.
 
-use crate::asking::{MANY, RECOVERY};
+ghost use Rattle.std.specs.Prelude.{◌≤◌, length};
+
+use crate::asking::empty_chain;
 use crate::checksum::Checksum;
 use crate::fault::Fault;
-use crate::measured::{Measured, Stopwatch};
+use crate::measured::Measured;
+use crate::stopwatch::Stopwatch;
 use fdb_chain::ChainCore;
 use fdb_history::{
     Ask, Call, CallAnswer, ClientLog, Event, GrvOpts, Input, Issued, Priority, Record, Sequence,
@@ -11,6 +14,11 @@ use fdb_history::{
 };
 use std::alloc::Global;
 use std::time::CpuClock;
+
+/// How many clients there are, and how many logs an audit may have.
+const CLIENTS: u32 = 64;
+
+const RECOVERY: u64 = 100;
 
 /// How many times the logs are audited.
 const AUDITS: u32 = 10;
@@ -25,23 +33,42 @@ const OPENING: Record = Record {
 /// Audits the logs of 64 clients with so many calls in all, a few times.
 pub(crate) fn audits(clock: &impl CpuClock, alloc: Global, size: u32) -> Result<Measured, Fault> {
     let run = Run::of(alloc, size)?;
-    let watch = Stopwatch::start(clock);
-    let mut checksum = Checksum::EMPTY;
-    for _ in 0..AUDITS {
-        checksum = audit_once(alloc, run.chain.answers(), run.logs.as_slice(), checksum);
+    let logs = run.logs.as_slice();
+    if logs.len() > 64 {
+        return Err(Fault::Audit);
     }
-    let operations = u64::from(size) * u64::from(AUDITS);
-    watch.stop(clock, operations, checksum)
+    let watch = Stopwatch::start(clock);
+    let checksum = audit_each_time(alloc, run.chain.answers(), logs)?;
+    Ok(Measured {
+        operations: u64::from(size) * u64::from(AUDITS),
+        time: watch.stop(clock),
+        checksum,
+    })
 }
 
-/// Audits some logs, and adds the history.
-fn audit_once(alloc: Global, chain: &[Issued], logs: &[ClientLog], before: Checksum) -> Checksum {
-    if logs.len() > 64 {
-        return before.with_failure();
+/// Audits the same logs a few times.
+fn audit_each_time(alloc: Global, chain: &[Issued], logs: &[ClientLog]) -> Result<Checksum, Fault>
+    requires { length logs.now ≤ 64 }
+{
+    let mut checksum = Checksum::EMPTY;
+    for _ in 0..AUDITS {
+        checksum = audit_once(alloc, chain, logs, checksum)?;
     }
+    Ok(checksum)
+}
+
+/// Audits the logs, and adds the history.
+fn audit_once(
+    alloc: Global,
+    chain: &[Issued],
+    logs: &[ClientLog],
+    before: Checksum,
+) -> Result<Checksum, Fault>
+    requires { length logs.now ≤ 64 }
+{
     match audit(alloc, OPENING, chain, logs) {
-        Ok(history) => with_events(before, history.events.as_slice()),
-        Err(_) => before.with_failure(),
+        Ok(history) => Ok(with_events(before, history.events.as_slice())),
+        Err(_) => Err(Fault::Audit),
     }
 }
 
@@ -91,7 +118,7 @@ impl Run {
     /// version, raises the register with it and reads it.
     fn of(alloc: Global, size: u32) -> Result<Run, Fault> {
         let mut run = Run {
-            chain: ChainCore::new(alloc, 0, RECOVERY, MANY)?,
+            chain: empty_chain(alloc, CLIENTS)?,
             live: OPENING,
             position: 0,
             logs: empty_logs(alloc)?,
@@ -105,7 +132,7 @@ impl Run {
     /// The call at a place.
     fn play(&mut self, alloc: Global, place: u32) -> Result<(), Fault> {
         let turn = place / 3;
-        let (client, num) = (turn % MANY, u64::from(turn / MANY) + 1);
+        let (client, num) = (turn % CLIENTS, u64::from(turn / CLIENTS) + 1);
         let call = match place % 3 {
             0 => self.ask(client, num)?,
             1 => self.report(num),
@@ -210,7 +237,7 @@ fn last_position(log: &ClientLog) -> u64 {
 /// A log without calls for each client.
 fn empty_logs(alloc: Global) -> Result<Vec<ClientLog>, Fault> {
     let mut logs = Vec::new(alloc);
-    for _ in 0..MANY {
+    for _ in 0..CLIENTS {
         logs.push(ClientLog {
             calls: Sequence::new(alloc),
         })?;

@@ -2,11 +2,10 @@
 
 use crate::checksum::Checksum;
 use crate::fault::Fault;
-use crate::measured::{Measured, Stopwatch};
-use crate::proxying::ask_bunch;
-use crate::requesting::{answer_word, queue};
-use crate::serving::Service;
-use fdb_live::{Live, Seen};
+use crate::measured::Measured;
+use crate::requesting::{Waiter, answer_word, queue, request};
+use crate::stopwatch::Stopwatch;
+use fdb_live::{Live, LiveRecord, Seen};
 use fdb_proxy::{Answer, Request, serve_batch};
 use fdb_queue::{GrvQueue, Req};
 use std::alloc::Global;
@@ -23,55 +22,64 @@ type Batch<J> = Vec<Req<Request<J>>>;
 pub(crate) fn batches<J: Live, R: CpuClock + Wait>(
     rt: &R,
     alloc: Global,
-    service: &Service<J>,
+    live: &LiveRecord<J>,
     seen: &mut Seen<J>,
     size: u32,
 ) -> Result<Measured, Fault> {
     let times = (REQUESTS / size.max(1)).max(1);
+    let queue = queue(alloc)?;
     let mut waiters = Vec::new(alloc);
     let mut batches = Vec::new(alloc);
     for _ in 0..times {
-        ask_bunch(rt, alloc, service, seen, 0, size, &mut waiters)?;
-        batches.push(service.desk.take(rt, false).requests)?;
+        batches.push(batch(alloc, live, seen, size, &mut waiters)?)?;
     }
-    let operations = u64::from(times) * u64::from(size);
-    time_batches(rt, alloc, service, seen, &mut batches, operations)
+    let stopwatch = Stopwatch::start(rt);
+    let mut checksum = Checksum::EMPTY;
+    for batch in batches {
+        checksum = served(rt, alloc, live, seen, &queue, batch, checksum)?;
+    }
+    Ok(Measured {
+        operations: u64::from(times) * u64::from(size),
+        time: stopwatch.stop(rt),
+        checksum,
+    })
 }
 
-/// Takes the time in which all batches are served, of so many requests in all.
-fn time_batches<J: Live, R: CpuClock + Wait>(
-    rt: &R,
+/// A batch of so many requests. Where their answers come is added to a list.
+fn batch<J: Live>(
     alloc: Global,
-    service: &Service<J>,
+    live: &LiveRecord<J>,
     seen: &mut Seen<J>,
-    batches: &mut Vec<Batch<J>>,
-    operations: u64,
-) -> Result<Measured, Fault> {
-    let queue = queue(alloc)?;
-    let watch = Stopwatch::start(rt);
-    let checksum = serve_each(rt, alloc, service, seen, &queue, batches);
-    watch.stop(rt, operations, checksum)
+    size: u32,
+    waiters: &mut Vec<Waiter<J>>,
+) -> Result<Batch<J>, Fault> {
+    let mut batch = Vec::new(alloc);
+    for serial in 0..size {
+        let (request, waiter) = request(alloc, live, seen, u64::from(serial))?;
+        waiters.push(waiter)?;
+        batch.push(Req {
+            priority: request.opts.priority,
+            count: request.opts.count,
+            payload: request,
+        })?;
+    }
+    Ok(batch)
 }
 
-/// Serves all batches, which are alike, and adds their answers.
-fn serve_each<J: Live, R: Wait>(
+/// Serves a batch, and adds its answers.
+fn served<J: Live, R: Wait>(
     rt: &R,
     alloc: Global,
-    service: &Service<J>,
+    live: &LiveRecord<J>,
     seen: &mut Seen<J>,
     queue: &GrvQueue<Request<J>>,
-    batches: &mut Vec<Batch<J>>,
-) -> Checksum {
-    let mut checksum = Checksum::EMPTY;
-    for _ in 0..batches.len() {
-        if let Some(batch) = batches.pop() {
-            checksum = match serve_batch(rt, alloc, &service.live, seen, queue, batch) {
-                Ok(answers) => with_answers(checksum, answers.as_slice()),
-                Err(_) => checksum.with_failure(),
-            };
-        }
+    batch: Batch<J>,
+    checksum: Checksum,
+) -> Result<Checksum, Fault> {
+    match serve_batch(rt, alloc, live, seen, queue, batch) {
+        Ok(answers) => Ok(with_answers(checksum, answers.as_slice())),
+        Err(_) => Err(Fault::Memory),
     }
-    checksum
 }
 
 /// The checksum with some answers.

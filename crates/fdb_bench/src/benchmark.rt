@@ -1,13 +1,10 @@
 //! The benchmarks by their names, and the sizes that they may have.
 
-use crate::asking::{MANY, Order};
 use crate::fault::Fault;
+use crate::load::Load;
 use crate::measured::Measured;
-use crate::queueing::Queueing;
-use crate::serving::Load::{self, Team};
-use crate::serving::Task;
-use crate::{asking, auditing, queueing, serving};
-use Benchmark::{Ask, Audit, PushOuts, Queue, Serve};
+use crate::team::Team;
+use crate::{asking, auditing, queueing, sequencing, serving, throttling};
 use anyhow::{Context, Result, ensure};
 use std::alloc::Global;
 use std::sync::Wait;
@@ -17,68 +14,135 @@ use std::time::{Clock, CpuClock};
 /// What is measured.
 #[derive(Clone, Copy)]
 pub(crate) enum Benchmark {
-    /// Requests for commit versions. The size is how many there are.
-    Ask(Order),
-    /// What is done with a queue, which says what the size is.
-    Queue(Queueing),
+    /// Fresh requests for commit versions by one proxy. The size is how many there are.
+    FreshOfOne,
+    /// Fresh requests by 64 proxies. The size is how many there are.
+    FreshOfMany,
+    /// Repeats of kept numbers. The size is how many there are, and how many answers are kept.
+    Repeats,
+    /// Requests and repeats by proxies that go on processing
+    /// answers. The size is how many there are.
+    Processed,
+    /// Offers and windows at a queue that is nearly full. The size is its room.
+    Windows,
     /// A flood that pushes out all that may be pushed out. The size is the room of the queue.
     PushOuts,
+    /// Throttles that are set and looked up. The size is how many there are.
+    Throttles,
+    /// Questions how many windows a request waits. The size is how many there are.
+    Waits,
     /// An audit of 64 logs. The size is the number of their calls.
     Audit,
-    /// What is done at a service. The load says what the size is.
-    Serve(Load),
+    /// Requests for commit versions by threads that share a
+    /// sequencer. The size is how many there are.
+    Sequencer(Team),
+    /// Calls on a live record. The load says what the size is.
+    Live(Load),
 }
 
-/// All of them, by their names.
-pub(crate) static ALL: [(&'static str, Benchmark); 26] = [
-    ("fresh_of_one", Ask(Order::Fresh(1))),
-    ("fresh_of_many", Ask(Order::Fresh(MANY))),
-    ("repeats", Ask(Order::Repeats)),
-    ("processed", Ask(Order::Processed)),
-    ("windows", Queue(Queueing::Windows)),
-    ("push_outs", PushOuts),
-    ("throttles", Queue(Queueing::Throttles)),
-    ("waits", Queue(Queueing::Waits)),
-    ("audit", Audit),
-    ("sequencer_of_one", Serve(Team(Task::Asks, 1))),
-    ("sequencer_of_two", Serve(Team(Task::Asks, 2))),
-    ("sequencer_of_four", Serve(Team(Task::Asks, 4))),
-    ("reads_of_one", Serve(Team(Task::Reads, 1))),
-    ("reads_of_two", Serve(Team(Task::Reads, 2))),
-    ("reads_of_four", Serve(Team(Task::Reads, 4))),
-    ("reads_beside_of_one", Serve(Team(Task::ReadsBeside, 1))),
-    ("reads_beside_of_two", Serve(Team(Task::ReadsBeside, 2))),
-    ("reads_beside_of_four", Serve(Team(Task::ReadsBeside, 4))),
-    ("reports_of_one", Serve(Team(Task::Reports, 1))),
-    ("reports_of_two", Serve(Team(Task::Reports, 2))),
-    ("reports_of_four", Serve(Team(Task::Reports, 4))),
-    ("tokens", Serve(Load::Tokens)),
-    ("batches", Serve(Load::Batches)),
-    ("proxies_of_one", Serve(Team(Task::Requests, 1))),
-    ("proxies_of_two", Serve(Team(Task::Requests, 2))),
-    ("proxies_of_four", Serve(Team(Task::Requests, 4))),
-];
-
 impl Benchmark {
-    /// A size at which it takes milliseconds at most, and the greatest one that it may have.
-    fn sizes(self) -> (u32, u32) {
+    /// All of them.
+    pub(crate) const ALL: [Benchmark; 26] = [
+        Benchmark::FreshOfOne,
+        Benchmark::FreshOfMany,
+        Benchmark::Repeats,
+        Benchmark::Processed,
+        Benchmark::Windows,
+        Benchmark::PushOuts,
+        Benchmark::Throttles,
+        Benchmark::Waits,
+        Benchmark::Audit,
+        Benchmark::Sequencer(Team::One),
+        Benchmark::Sequencer(Team::Two),
+        Benchmark::Sequencer(Team::Four),
+        Benchmark::Live(Load::Reads(Team::One)),
+        Benchmark::Live(Load::Reads(Team::Two)),
+        Benchmark::Live(Load::Reads(Team::Four)),
+        Benchmark::Live(Load::ReadsBesideReports(Team::One)),
+        Benchmark::Live(Load::ReadsBesideReports(Team::Two)),
+        Benchmark::Live(Load::ReadsBesideReports(Team::Four)),
+        Benchmark::Live(Load::Reports(Team::One)),
+        Benchmark::Live(Load::Reports(Team::Two)),
+        Benchmark::Live(Load::Reports(Team::Four)),
+        Benchmark::Live(Load::Tokens),
+        Benchmark::Live(Load::Batches),
+        Benchmark::Live(Load::Proxies(Team::One)),
+        Benchmark::Live(Load::Proxies(Team::Two)),
+        Benchmark::Live(Load::Proxies(Team::Four)),
+    ];
+
+    /// Its name.
+    pub(crate) fn name(self) -> &'static str {
         match self {
-            Queue(Queueing::Waits) | Ask(_) | Serve(Team(Task::Asks, _)) => (1_000, 10_000_000),
-            Queue(_) | PushOuts => (100, 100_000),
-            Audit => (300, 10_000_000),
-            Serve(_) => (100, 1_000_000),
+            Benchmark::FreshOfOne => "fresh_of_one",
+            Benchmark::FreshOfMany => "fresh_of_many",
+            Benchmark::Repeats => "repeats",
+            Benchmark::Processed => "processed",
+            Benchmark::Windows => "windows",
+            Benchmark::PushOuts => "push_outs",
+            Benchmark::Throttles => "throttles",
+            Benchmark::Waits => "waits",
+            Benchmark::Audit => "audit",
+            Benchmark::Sequencer(Team::One) => "sequencer_of_one",
+            Benchmark::Sequencer(Team::Two) => "sequencer_of_two",
+            Benchmark::Sequencer(Team::Four) => "sequencer_of_four",
+            Benchmark::Live(load) => load.name(),
         }
     }
 
-    /// The size that a word says, or why it may not be. Without a word it is a small one.
-    pub(crate) fn size_of(self, word: Option<&str>) -> Result<u32> {
-        let (small, greatest) = self.sizes();
-        let Some(word) = word else {
-            return Ok(small);
-        };
+    /// The one of a name.
+    pub(crate) fn of_name(name: &str) -> Option<Benchmark> {
+        for benchmark in Benchmark::ALL {
+            if benchmark.name() == name {
+                return Some(benchmark);
+            }
+        }
+        None
+    }
+
+    /// The clock that its time is of: processor time, or wall time where threads work side by side.
+    pub(crate) fn clock_name(self) -> &'static str {
+        if self.is_shared() {
+            "wall time"
+        } else {
+            "processor time"
+        }
+    }
+
+    /// Whether threads do it side by side.
+    fn is_shared(self) -> bool {
+        match self {
+            Benchmark::Sequencer(_) => true,
+            Benchmark::Live(load) => load.is_shared(),
+            _ => false,
+        }
+    }
+
+    /// A size at which it takes milliseconds at most.
+    pub(crate) fn small_size(self) -> u32 {
+        match self {
+            Benchmark::Windows | Benchmark::PushOuts | Benchmark::Throttles | Benchmark::Live(_) =>
+                100,
+            Benchmark::Audit => 300,
+            _ => 1_000,
+        }
+    }
+
+    /// The greatest size that it may have.
+    fn greatest_size(self) -> u32 {
+        match self {
+            Benchmark::Windows | Benchmark::PushOuts | Benchmark::Throttles => 100_000,
+            Benchmark::Live(_) => 1_000_000,
+            _ => 10_000_000,
+        }
+    }
+
+    /// The size that a word says, or why it may not be.
+    pub(crate) fn size_of(self, word: &str) -> Result<u32> {
         let size = word
             .parse::<u32>()
             .context(format_args!("the size {word:?}"))?;
+        let greatest = self.greatest_size();
         ensure!(
             size > 0 && size <= greatest,
             "the size {size} is not 1 to {greatest}"
@@ -94,11 +158,17 @@ impl Benchmark {
         size: u32,
     ) -> Result<Measured, Fault> {
         match self {
-            Ask(order) => asking::asks(rt, alloc, order, size),
-            Queue(queueing) => queueing.measure(rt, alloc, size),
-            PushOuts => queueing::push_outs(rt, alloc, size),
-            Audit => auditing::audits(rt, alloc, size),
-            Serve(load) => serving::measure(rt, alloc, load, size),
+            Benchmark::FreshOfOne => asking::fresh(rt, alloc, 1, size),
+            Benchmark::FreshOfMany => asking::fresh(rt, alloc, asking::MANY, size),
+            Benchmark::Repeats => asking::repeats(rt, alloc, size),
+            Benchmark::Processed => asking::processed(rt, alloc, size),
+            Benchmark::Windows => queueing::windows(rt, alloc, size),
+            Benchmark::PushOuts => queueing::push_outs(rt, alloc, size),
+            Benchmark::Throttles => throttling::throttles(rt, alloc, size),
+            Benchmark::Waits => queueing::waits(rt, alloc, size),
+            Benchmark::Audit => auditing::audits(rt, alloc, size),
+            Benchmark::Sequencer(team) => sequencing::asks(rt, alloc, team.threads(), size),
+            Benchmark::Live(load) => serving::measure(rt, alloc, load, size),
         }
     }
 }

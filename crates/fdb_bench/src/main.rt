@@ -14,18 +14,26 @@ mod benchmark;
 mod checksum;
 mod draws;
 mod fault;
+mod load;
 mod measured;
 mod proxying;
 mod queueing;
+mod reading;
+mod reporting;
 mod requesting;
+mod sequencing;
 mod serving;
+mod span;
+mod stopwatch;
 mod tally;
+mod team;
+mod telling;
 mod throttling;
 mod working;
 
 use anyhow::{Result, anyhow, ensure};
-use benchmark::{ALL, Benchmark};
-use measured::{Measured, nanos, tenths};
+use benchmark::Benchmark;
+use measured::{nanos, tenths};
 use std::alloc::Global;
 use std::env;
 use std::sync::Wait;
@@ -34,61 +42,61 @@ use std::time::{Clock, CpuClock};
 
 fn main(rt: HostRuntime) -> Result<()> {
     let mut words = env::args(&rt)?.skip(1);
-    let (name, size) = (words.next(), words.next());
+    let Some(name) = words.next() else {
+        return run_each(&rt, rt.alloc());
+    };
+    let Some(benchmark) = Benchmark::of_name(name.as_str()) else {
+        return Err(anyhow!("there is no benchmark {name}"));
+    };
+    let size = match words.next() {
+        None => benchmark.small_size(),
+        Some(word) => benchmark.size_of(word.as_str())?,
+    };
     ensure!(
         words.next().is_none(),
         "more words than a benchmark and its size"
     );
-    run(&rt, rt.alloc(), name.as_deref(), size.as_deref())
+    run_one(&rt, rt.alloc(), benchmark, size)
 }
 
-/// Runs the benchmark of a name, or without a name each. The size is a word, or else a small one.
-fn run<R>(rt: &R, alloc: Global, wanted: Option<&str>, size: Option<&str>) -> Result<()>
+/// Runs each benchmark at its small size.
+fn run_each<R>(rt: &R, alloc: Global) -> Result<()>
 where
     R: Print + Eprint + Clock + CpuClock + Threads + Wait + Sync,
 {
-    let mut found = false;
-    for &(name, benchmark) in &ALL {
-        if wanted.unwrap_or(name) == name {
-            found = true;
-            run_one(rt, alloc, name, benchmark, size)?;
-        }
+    for benchmark in Benchmark::ALL {
+        run_one(rt, alloc, benchmark, benchmark.small_size())?;
     }
-    ensure!(found, "there is no benchmark {}", wanted.unwrap_or(""));
     Ok(())
 }
 
 /// Runs a benchmark, and prints what it computed and what it took.
-fn run_one<R>(
-    rt: &R,
-    alloc: Global,
-    name: &str,
-    benchmark: Benchmark,
-    size: Option<&str>,
-) -> Result<()>
+fn run_one<R>(rt: &R, alloc: Global, benchmark: Benchmark, size: u32) -> Result<()>
 where
     R: Print + Eprint + Clock + CpuClock + Threads + Wait + Sync,
 {
-    let size = benchmark.size_of(size)?;
-    match benchmark.run(rt, alloc, size) {
-        Ok(measured) if measured.checksum.failed => Err(anyhow!("an operation failed")),
-        Ok(measured) => print(rt, name, size, measured),
-        Err(fault) => Err(anyhow!(fault.line())),
-    }
+    let measured = match benchmark.run(rt, alloc, size) {
+        Ok(measured) => measured,
+        Err(fault) => return Err(anyhow!(fault.line())),
+    };
+    let Some(time) = measured.time else {
+        return Err(anyhow!("the clock failed"));
+    };
+    println!(rt; "{} {size} {}", benchmark.name(), measured.checksum.value())?;
+    print_time(rt, benchmark, size, measured.operations, nanos(time))
 }
 
-/// Prints what a benchmark computed and what it took.
-fn print(rt: &(impl Print + Eprint), name: &str, size: u32, measured: Measured) -> Result<()> {
-    let Measured {
-        operations,
-        time,
-        clock,
-        checksum,
-    } = measured;
-    let nanos = nanos(time);
+/// Prints what a benchmark took, in nanoseconds.
+fn print_time(
+    rt: &impl Eprint,
+    benchmark: Benchmark,
+    size: u32,
+    operations: u64,
+    nanos: u64,
+) -> Result<()> {
     let tenths = tenths(nanos, operations);
     let (whole, tenth) = (tenths / 10, tenths % 10);
-    println!(rt; "{name} {size} {}", checksum.value)?;
+    let (name, clock) = (benchmark.name(), benchmark.clock_name());
     eprintln!(rt;
         "{name} {size}: {operations} operations, {nanos} ns of {clock}, {whole}.{tenth} ns each"
     )?;

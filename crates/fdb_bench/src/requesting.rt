@@ -24,7 +24,7 @@ pub(crate) fn queue<J: Live>(alloc: Global) -> Result<GrvQueue<Request<J>>, Faul
         batch: MOST,
         room: MOST,
     };
-    Ok(GrvQueue::new(alloc, config)?)
+    GrvQueue::new(alloc, config).map_err(|_| Fault::Queue)
 }
 
 /// A default request for one transaction, by the client 0 and

@@ -1,35 +1,27 @@
-//! A service under a name, and what is measured at it.
+//! A live record under a name, and what is measured at it.
 
 ghost use Rattle.std.specs.Prelude.{◌≡◌};
 
 use crate::checksum::Checksum;
 use crate::fault::Fault;
-use crate::measured::{Measured, Stopwatch};
-use crate::tally::Timed;
-use crate::working::{Role, Worker, report_in_turn, work_side_by_side};
-use crate::{batching, proxying};
-use fdb_chain::{ChainCore, Sequencer};
-use fdb_history::{Ask, OpenGate, Record};
+use crate::load::Load;
+use crate::measured::Measured;
+use crate::tally::Tally;
+use crate::working::{Role, Worker, work_side_by_side};
+use crate::{batching, proxying, reporting, telling};
+use fdb_history::Record;
 use fdb_live::{Live, LiveRecord, Opened, Seen};
-use fdb_proxy::Desk;
 use std::alloc::Global;
 use std::marker::Brand;
 use std::sync::Wait;
-use std::sync::atomic::AtomicU64;
 use std::thread::Threads;
 use std::time::{Clock, CpuClock};
 
 /// How many reporters the record has.
 const REPORTERS: u32 = 4;
 
-/// How many commit proxies the sequencer knows: one for each thread, and one that asks last.
-const PROXIES: u32 = 5;
-
 /// How many reads each reader makes for each raise before.
 const READS_PER_RAISE: u64 = 100;
-
-/// How many calls one telling is.
-const CALLS_PER_TELLING: u64 = 3;
 
 /// The record before any report.
 const START: Record = Record {
@@ -38,113 +30,170 @@ const START: Record = Record {
     metadata: None,
 };
 
-/// The version of the first report.
-const FIRST_VERSION: u64 = 101;
-
-/// What is measured at a service.
-#[derive(Clone, Copy)]
-pub(crate) enum Load {
-    /// Batches of requests for a read version. The size is how many requests a batch has.
-    Batches,
-    /// Tokens that are split off, learned and met. The size
-    /// is how many times, and the number of raises before.
-    Tokens,
-    /// A task of so many threads.
-    Team(Task, u32),
-}
-
-/// What threads do side by side.
-#[derive(Clone, Copy)]
-pub(crate) enum Task {
-    /// They read, with nothing written. The size is the number of raises before.
-    Reads,
-    /// They read, beside a thread that reports all the
-    /// time. The size is the number of raises before.
-    ReadsBeside,
-    /// They report. The size is how many reports each of them makes.
-    Reports,
-    /// They make requests at a proxy. The size is how many each of them makes.
-    Requests,
-    /// They ask a sequencer, each for a commit proxy of its own. The size is how often in all.
-    Asks,
-}
-
-/// A service: its sequencer, its live record, and the desk of a proxy that reads it.
+/// A live record, the token of a reader, and those of the reporters.
 #[derive(Drop)]
-pub(crate) struct Service<J: Live> {
-    pub(crate) sequencer: Sequencer<J>,
-    pub(crate) live: LiveRecord<J>,
-    pub(crate) desk: Desk<J>,
-    /// How many threads work at it.
-    pub(crate) working: AtomicU64,
-}
-
-/// A service, the token of a reader, and those of its reporters.
-#[derive(Drop)]
-struct Rig<J: Live> {
-    service: Service<J>,
+struct Served<J: Live> {
+    live: LiveRecord<J>,
     reader: Seen<J>,
     reporters: Vec<Seen<J>>,
 }
 
-/// Opens a service, and measures it under a load.
+/// Opens a live record, and measures it under a load.
 pub(crate) fn measure<R: Clock + CpuClock + Threads + Wait + Sync>(
     rt: &R,
     alloc: Global,
     load: Load,
     size: u32,
 ) -> Result<Measured, Fault> {
-    let opened = LiveRecord::<Brand>::open(rt, alloc, START, REPORTERS)?;
-    let core = ChainCore::new(alloc, 0, START.version, PROXIES)?;
-    measure_named::<Brand, R>(rt, alloc, opened, core, load, size)
+    match LiveRecord::<Brand>::open(rt, alloc, START, REPORTERS) {
+        Ok(opened) => measure_named::<Brand, R>(rt, alloc, opened, load, size),
+        Err(_) => Err(Fault::Live),
+    }
 }
 
-/// Measures a service under a name that stands for it.
+/// Measures a live record under a name that stands for it.
 fn measure_named<J: Live + Send + Sync, R: Clock + CpuClock + Threads + Wait + Sync>(
     rt: &R,
     alloc: Global,
     opened: Opened,
-    core: ChainCore,
     load: Load,
     size: u32,
 ) -> Result<Measured, Fault>
-    requires opened { opened
-        ≡ record { table = J.table; start = J.start; reporters = J.reporters } }
-    requires epoch_end { core.epoch_end ≡ J.epoch_end }
-    requires recovery { core.recovery ≡ J.recovery }
+    requires { opened ≡ record { table = J.table; start = J.start; reporters = J.reporters } }
 {
-    let (live, reader, reporters) = opened.parts::<J>()?;
-    let service = Service {
-        sequencer: Sequencer::new(core),
-        live,
-        desk: Desk::new(alloc),
-        working: AtomicU64::new(0),
-    };
-    let mut rig = Rig {
-        service,
-        reader,
-        reporters,
-    };
-    rig.measure(rt, alloc, load, size)
+    match opened.parts::<J>() {
+        Ok((live, reader, reporters)) => {
+            let served = Served {
+                live,
+                reader,
+                reporters,
+            };
+            served.measure(rt, alloc, load, size)
+        }
+        Err(_) => Err(Fault::Live),
+    }
 }
 
-impl<J: Live + Send + Sync> Rig<J> {
+impl<J: Live + Send + Sync> Served<J> {
     /// Measures it under a load.
     fn measure<R: Clock + CpuClock + Threads + Wait + Sync>(
-        &mut self,
+        mut self,
         rt: &R,
         alloc: Global,
         load: Load,
         size: u32,
     ) -> Result<Measured, Fault> {
-        if let Load::Tokens | Load::Team(Task::Reads | Task::ReadsBeside, _) = load {
-            self.raise(rt, size)?;
-        }
         match load {
-            Load::Batches => batching::batches(rt, alloc, &self.service, &mut self.reader, size),
+            Load::Reads(team) => self.reads(rt, alloc, team.threads(), size),
+            Load::ReadsBesideReports(team) => self.reads_beside(rt, alloc, team.threads(), size),
+            Load::Reports(team) => self.reports(rt, alloc, team.threads(), size),
+            Load::Batches => batching::batches(rt, alloc, &self.live, &mut self.reader, size),
+            Load::Proxies(team) => self.proxies(rt, alloc, team.threads(), size),
             Load::Tokens => self.tokens(rt, size),
-            Load::Team(task, threads) => self.work(rt, alloc, task, threads, size),
         }
+    }
+
+    /// Reads by so many threads, after so many raises.
+    fn reads<R: Clock + Threads + Wait + Sync>(
+        mut self,
+        rt: &R,
+        alloc: Global,
+        threads: u32,
+        raises: u32,
+    ) -> Result<Measured, Fault> {
+        self.raise(rt, raises)?;
+        let mut workers = self.readers(alloc, threads)?;
+        let all = work_side_by_side(
+            rt,
+            &self.live,
+            workers.as_mut_slice(),
+            threads,
+            reads_after(raises),
+        )?;
+        Ok(all.measured(of_tally(all.tally).with(all.tally.sum)))
+    }
+
+    /// Reads by so many threads, after so many raises, beside a thread
+    /// that reports for as long as they read. Which records they find
+    /// is a matter of the schedule, and that no position falls is not.
+    fn reads_beside<R: Clock + Threads + Wait + Sync>(
+        mut self,
+        rt: &R,
+        alloc: Global,
+        threads: u32,
+        raises: u32,
+    ) -> Result<Measured, Fault> {
+        self.raise(rt, raises)?;
+        let mut workers = self.readers(alloc, threads)?;
+        let first = first_version().saturating_add(u64::from(raises));
+        push_reporter(
+            &mut workers,
+            self.reporters.pop(),
+            Role::ReportsBesideReads { first },
+        )?;
+        let all = work_side_by_side(
+            rt,
+            &self.live,
+            workers.as_mut_slice(),
+            threads,
+            reads_after(raises),
+        )?;
+        Ok(all.measured(of_tally(all.tally)))
+    }
+
+    /// So many reports by each of so many threads. How many of them raise the record is a matter
+    /// of the schedule; that the last position is their number is not, nor is the last version.
+    fn reports<R: Clock + Threads + Wait + Sync>(
+        mut self,
+        rt: &R,
+        alloc: Global,
+        threads: u32,
+        reports: u32,
+    ) -> Result<Measured, Fault> {
+        let mut workers = Vec::new(alloc);
+        for place in 0..threads {
+            let role = Role::Reports {
+                first: first_version().saturating_add(u64::from(place)),
+                step: u64::from(threads),
+            };
+            push_reporter(&mut workers, self.reporters.pop(), role)?;
+        }
+        let all = work_side_by_side(
+            rt,
+            &self.live,
+            workers.as_mut_slice(),
+            0,
+            u64::from(reports),
+        )?;
+        let last = self.live.read(rt, &mut self.reader);
+        let checksum = Checksum::EMPTY
+            .with(all.tally.calls)
+            .with(last.rec.version)
+            .with(u64::from(all.tally.marked == last.position));
+        Ok(all.measured(checksum))
+    }
+
+    /// So many requests by each of so many threads at a proxy of the record.
+    fn proxies<R: Clock + Threads + Wait + Sync>(
+        mut self,
+        rt: &R,
+        alloc: Global,
+        threads: u32,
+        requests: u32,
+    ) -> Result<Measured, Fault> {
+        let all = proxying::asks(rt, alloc, &self.live, &mut self.reader, threads, requests)?;
+        Ok(all.measured(of_tally(all.tally).with(all.tally.sum)))
+    }
+
+    /// So many times a token that has seen as many raises is
+    /// split off another, learned by a third one, and met by it.
+    fn tokens<R: CpuClock + Wait>(mut self, rt: &R, size: u32) -> Result<Measured, Fault> {
+        self.raise(rt, size)?;
+        let Some(mut teller) = self.reporters.pop() else {
+            return Err(Fault::Live);
+        };
+        let _ = self.live.read(rt, &mut teller);
+        Ok(telling::tokens(rt, &self.live, &mut teller, &mut self.reader, size))
     }
 
     /// Raises the record so many times.
@@ -152,168 +201,44 @@ impl<J: Live + Send + Sync> Rig<J> {
         let Some(token) = self.reporters.first_mut() else {
             return Err(Fault::Live);
         };
-        let raised = report_in_turn(
-            rt,
-            &self.service.live,
-            token,
-            FIRST_VERSION,
-            1,
-            u64::from(raises),
-        );
-        if raised.failed {
-            return Err(Fault::Live);
-        }
+        reporting::report_in_turn(rt, &self.live, token, first_version(), 1, u64::from(raises))?;
         Ok(())
     }
 
-    /// So many times a token that has seen as many raises is
-    /// split off another, learned by a third one, and met by it.
-    fn tokens<R: CpuClock + Wait>(&mut self, rt: &R, times: u32) -> Result<Measured, Fault> {
-        let Some(teller) = self.reporters.first_mut() else {
-            return Err(Fault::Live);
-        };
-        let watch = Stopwatch::start(rt);
-        let checksum = tell_in_turn(rt, &self.service.live, teller, &mut self.reader, times);
-        watch.stop(rt, u64::from(times) * CALLS_PER_TELLING, checksum)
-    }
-
-    /// Has so many threads do a task.
-    fn work<R: Clock + Threads + Wait + Sync>(
-        &mut self,
-        rt: &R,
-        alloc: Global,
-        task: Task,
-        threads: u32,
-        size: u32,
-    ) -> Result<Measured, Fault> {
-        let mut workers = self.workers(alloc, task, threads, size)?;
-        let all = self.perform(rt, alloc, task, workers.as_mut_slice())?;
-        all.measured(self.checksum(rt, task, all))
-    }
-
-    /// Those that do a task: one for each thread, and one that reports all the time.
-    fn workers(
-        &mut self,
-        alloc: Global,
-        task: Task,
-        threads: u32,
-        size: u32,
-    ) -> Result<Vec<Worker<J>>, Fault> {
-        let beside = u32::from(matches!(task, Task::ReadsBeside));
+    /// So many readers.
+    fn readers(&mut self, alloc: Global, readers: u32) -> Result<Vec<Worker<J>>, Fault> {
         let mut workers = Vec::new(alloc);
-        for place in 0..threads.saturating_add(beside) {
-            let role = role(task, place, threads, size);
-            workers.push(Worker::new(self.token(role), role))?;
+        for _ in 0..readers {
+            let token = self.live.split(&mut self.reader);
+            workers.push(Worker::new(token, Role::Reads))?;
         }
         Ok(workers)
     }
+}
 
-    /// A token for a role.
-    fn token(&mut self, role: Role) -> Option<Seen<J>> {
-        match role {
-            Role::Reports { .. } | Role::ReportsBeside { .. } => self.reporters.pop(),
-            _ => Some(self.service.live.split(&mut self.reader)),
-        }
-    }
-
-    /// Has some threads do a task, if they make requests beside a proxy.
-    fn perform<R: Clock + Threads + Wait + Sync>(
-        &mut self,
-        rt: &R,
-        alloc: Global,
-        task: Task,
-        workers: &mut [Worker<J>],
-    ) -> Result<Timed, Fault> {
-        match task {
-            Task::Requests => {
-                let token = self.service.live.split(&mut self.reader);
-                proxying::work_beside_proxy(rt, alloc, &self.service, token, workers)
-            }
-            _ => Ok(work_side_by_side(rt, alloc, &self.service, workers)),
-        }
-    }
-
-    /// The checksum over what came of a task. Which records are found beside reports is a matter of
-    /// the schedule, and that no position falls is not; nor how many reports raise the record, but
-    /// that the last position is their number, and the last version.
-    fn checksum<R: Wait>(&mut self, rt: &R, task: Task, all: Timed) -> Checksum {
-        let calls = all.tally.checksum();
-        let marked = calls.with(all.tally.marked);
-        match task {
-            Task::ReadsBeside => marked,
-            Task::Reads | Task::Requests => marked.with(all.tally.sum),
-            Task::Reports => {
-                let last = self.service.live.read(rt, &mut self.reader);
-                let are_all = all.tally.marked == last.position;
-                calls.with(last.rec.version).with(u64::from(are_all))
-            }
-            Task::Asks if all.tally.calls == 0 => marked.with(all.tally.sum),
-            Task::Asks => with_last(rt, &self.service.sequencer, marked.with(all.tally.sum)),
-        }
+/// Adds a reporter whose token it is.
+fn push_reporter<J: Live>(
+    workers: &mut Vec<Worker<J>>,
+    token: Option<Seen<J>>,
+    role: Role,
+) -> Result<(), Fault> {
+    match token {
+        Some(token) => Ok(workers.push(Worker::new(token, role))?),
+        None => Err(Fault::Live),
     }
 }
 
-/// What the thread at a place does.
-fn role(task: Task, place: u32, threads: u32, size: u32) -> Role {
-    match task {
-        Task::ReadsBeside if place == threads => Role::ReportsBeside {
-            first: FIRST_VERSION.saturating_add(u64::from(size)),
-        },
-        Task::Reads | Task::ReadsBeside => Role::Reads {
-            reads: u64::from(size) * READS_PER_RAISE,
-        },
-        Task::Reports => Role::Reports {
-            first: FIRST_VERSION.saturating_add(u64::from(place)),
-            step: u64::from(threads),
-            reports: u64::from(size),
-        },
-        Task::Requests => Role::Requests { requests: size },
-        Task::Asks => Role::Asks {
-            proxy: place,
-            asks: u64::from(size / threads.max(1)),
-        },
-    }
+/// The version of the first report.
+fn first_version() -> u64 {
+    START.version + 1
 }
 
-/// The checksum with the last answer of a sequencer, which the
-/// first answer of a commit proxy that has not asked yet comes after.
-fn with_last<J: Live, R: Wait>(rt: &R, sequencer: &Sequencer<J>, before: Checksum) -> Checksum {
-    let ask = Ask {
-        proxy: PROXIES - 1,
-        num: 1,
-        processed: 0,
-        at: 0,
-    };
-    match sequencer.ask(rt, &OpenGate, ask) {
-        Ok(next) => before.with(next.ordinal.wrapping_sub(1)).with(next.prev),
-        Err(_) => before.with_failure(),
-    }
+/// How many reads each reader makes after so many raises.
+fn reads_after(raises: u32) -> u64 {
+    u64::from(raises) * READS_PER_RAISE
 }
 
-/// Tells so many times, and adds the hearer's position each time.
-fn tell_in_turn<J: Live, R: Wait>(
-    rt: &R,
-    live: &LiveRecord<J>,
-    teller: &mut Seen<J>,
-    hearer: &mut Seen<J>,
-    times: u32,
-) -> Checksum {
-    let mut checksum = Checksum::EMPTY;
-    for _ in 0..times {
-        tell(rt, live, teller, hearer);
-        checksum = checksum.with(hearer.position());
-    }
-    checksum
-}
-
-/// A token is split off the first one, learned by the second, and met.
-fn tell<J: Live, R: Wait>(
-    rt: &R,
-    live: &LiveRecord<J>,
-    teller: &mut Seen<J>,
-    hearer: &mut Seen<J>,
-) {
-    let told = live.split(teller);
-    live.learn(rt, hearer, told);
-    live.meet(rt, teller, hearer);
+/// The checksum over the number of calls, and how many were marked.
+fn of_tally(all: Tally) -> Checksum {
+    Checksum::EMPTY.with(all.calls).with(all.marked)
 }

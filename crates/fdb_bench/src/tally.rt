@@ -1,9 +1,8 @@
 //! What came of the calls of threads that work side by side, and the wall time that they took.
 
 use crate::checksum::Checksum;
-use crate::fault::Fault;
 use crate::measured::Measured;
-use std::time::Duration;
+use crate::span::Span;
 
 /// What came of some calls.
 #[derive(Clone, Copy)]
@@ -14,8 +13,6 @@ pub(crate) struct Tally {
     pub(crate) sum: u64,
     /// How many of them did what not every call does: each caller says what.
     pub(crate) marked: u64,
-    /// Whether one failed, which is not counted.
-    pub(crate) failed: bool,
 }
 
 impl Tally {
@@ -24,43 +21,23 @@ impl Tally {
         calls: 0,
         sum: 0,
         marked: 0,
-        failed: false,
     };
 
-    /// Of a call that failed.
-    pub(crate) const FAILED: Tally = Tally {
-        calls: 0,
-        sum: 0,
-        marked: 0,
-        failed: true,
-    };
-
-    /// Of one call.
-    pub(crate) fn of_call(answer: u64, marked: bool) -> Tally {
+    /// With one more call.
+    pub(crate) fn with_call(self, answer: u64, marked: bool) -> Tally {
         Tally {
-            calls: 1,
-            sum: answer,
-            marked: u64::from(marked),
-            failed: false,
+            calls: self.calls.wrapping_add(1),
+            sum: self.sum.wrapping_add(answer),
+            marked: self.marked.wrapping_add(u64::from(marked)),
         }
     }
 
-    /// The checksum over their number.
-    pub(crate) fn checksum(self) -> Checksum {
-        let start = Checksum {
-            value: 0,
-            failed: self.failed,
-        };
-        start.with(self.calls)
-    }
-
-    /// With other calls.
-    pub(crate) fn with(self, other: Tally) -> Tally {
+    /// With the calls of another thread.
+    fn with(self, other: Tally) -> Tally {
         Tally {
             calls: self.calls.wrapping_add(other.calls),
             sum: self.sum.wrapping_add(other.sum),
             marked: self.marked.wrapping_add(other.marked),
-            failed: self.failed || other.failed,
         }
     }
 }
@@ -70,42 +47,36 @@ impl Tally {
 pub(crate) struct Timed {
     /// What came of them.
     pub(crate) tally: Tally,
-    /// When the first one began.
-    pub(crate) begun: Duration,
-    /// When the last one ended.
-    pub(crate) ended: Duration,
+    /// From when to when they were made, if the clock said it.
+    pub(crate) span: Option<Span>,
 }
 
 impl Timed {
-    /// Calls at no time.
-    pub(crate) fn untimed(tally: Tally) -> Timed {
-        Timed {
-            tally,
-            begun: Duration::MAX,
-            ended: Duration::ZERO,
-        }
-    }
+    /// Of no calls.
+    pub(crate) const EMPTY: Timed = Timed {
+        tally: Tally::EMPTY,
+        span: Some(Span::EMPTY),
+    };
 
     /// With the calls of another thread.
     pub(crate) fn with(self, other: Timed) -> Timed {
+        let span = match (self.span, other.span) {
+            (Some(one), Some(two)) => Some(one.with(two)),
+            _ => None,
+        };
         Timed {
             tally: self.tally.with(other.tally),
-            begun: self.begun.min(other.begun),
-            ended: self.ended.max(other.ended),
+            span,
         }
     }
 
-    /// What it is as a benchmark's outcome with a checksum. The time is that from the
-    /// first thread's begin to the last one's end, if the clock said all moments.
-    pub(crate) fn measured(self, checksum: Checksum) -> Result<Measured, Fault> {
-        if self.ended == Duration::MAX {
-            return Err(Fault::Clock);
-        }
-        Ok(Measured {
+    /// What it is as a benchmark's outcome with a checksum. The time
+    /// is that from the first thread's begin to the last one's end.
+    pub(crate) fn measured(self, checksum: Checksum) -> Measured {
+        Measured {
             operations: self.tally.calls,
-            time: self.ended.saturating_sub(self.begun),
-            clock: "wall time",
+            time: self.span.map(Span::length),
             checksum,
-        })
+        }
     }
 }

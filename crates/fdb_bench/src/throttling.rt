@@ -3,7 +3,9 @@
 use crate::checksum::Checksum;
 use crate::draws::Draws;
 use crate::fault::Fault;
-use crate::measured::{Measured, Stopwatch};
+use crate::measured::Measured;
+use crate::queueing::empty_queue;
+use crate::stopwatch::Stopwatch;
 use fdb_history::{Priority, Sequence, Tag, TagLimit};
 use fdb_queue::GrvQueue;
 use std::alloc::Global;
@@ -23,16 +25,40 @@ const LAST_MOMENT: u64 = 1_000;
 pub(crate) fn throttles(
     clock: &impl CpuClock,
     alloc: Global,
-    queue: &mut GrvQueue<u64>,
     size: u32,
 ) -> Result<Measured, Fault> {
     let tags = tags(alloc, size)?;
-    let given = self::tags(alloc, size)?;
+    set_and_look_up(clock, alloc, size, tags.as_slice())
+}
+
+/// Sets and looks up these throttles.
+fn set_and_look_up(
+    clock: &impl CpuClock,
+    alloc: Global,
+    size: u32,
+    tags: &[Tag],
+) -> Result<Measured, Fault> {
+    let mut queue = empty_queue(alloc, 1, 1, 1)?;
+    time_throttles(clock, alloc, &mut queue, size, tags)
+}
+
+/// Takes the time that the throttles take.
+fn time_throttles(
+    clock: &impl CpuClock,
+    alloc: Global,
+    queue: &mut GrvQueue<u64>,
+    size: u32,
+    tags: &[Tag],
+) -> Result<Measured, Fault> {
+    let given = copies(alloc, tags)?;
     let watch = Stopwatch::start(clock);
-    let set = set_each(queue, given);
-    let checksum = look_up(queue, tags.as_slice(), set);
-    let operations = u64::from(size) * u64::from(PASSES + 1);
-    watch.stop(clock, operations, checksum)
+    set_each(queue, given)?;
+    let checksum = look_up(queue, tags)?;
+    Ok(Measured {
+        operations: u64::from(size) * u64::from(PASSES + 1),
+        time: watch.stop(clock),
+        checksum,
+    })
 }
 
 /// So many tags of eight bytes, without an order.
@@ -41,48 +67,86 @@ fn tags(alloc: Global, size: u32) -> Result<Vec<Tag>, Fault> {
     let mut draws = Draws::START;
     for place in 0..size {
         let number = draws.next_number() << 32 | u64::from(place);
-        let bytes = Vec::from_slice(alloc, &number.to_be_bytes())?;
-        tags.push(Sequence::from(bytes))?;
+        push_tag(alloc, &mut tags, number)?;
     }
     Ok(tags)
 }
 
+/// Adds the tag of a number's eight bytes.
+fn push_tag(alloc: Global, tags: &mut Vec<Tag>, number: u64) -> Result<(), Fault> {
+    let bytes = Vec::from_slice(alloc, &number.to_be_bytes())?;
+    Ok(tags.push(Sequence::from(bytes))?)
+}
+
+/// A copy of each tag.
+fn copies(alloc: Global, tags: &[Tag]) -> Result<Vec<Tag>, Fault> {
+    let mut copies = Vec::new(alloc);
+    for tag in tags {
+        push_copy(&mut copies, tag)?;
+    }
+    Ok(copies)
+}
+
+/// Adds a copy of a tag.
+fn push_copy(copies: &mut Vec<Tag>, tag: &Tag) -> Result<(), Fault> {
+    let copy = tag.clone()?;
+    Ok(copies.push(copy)?)
+}
+
 /// Sets a throttle for each tag.
-fn set_each(queue: &mut GrvQueue<u64>, tags: Vec<Tag>) -> Checksum {
-    let mut checksum = Checksum::EMPTY;
+fn set_each(queue: &mut GrvQueue<u64>, tags: Vec<Tag>) -> Result<(), Fault> {
     let mut draws = Draws::START;
     for tag in tags {
-        checksum = set_one(queue, draws.next_number(), tag, checksum);
+        let drawn = draws.next_number();
+        set_one(queue, drawn, tag)?;
     }
-    checksum
+    Ok(())
 }
 
 /// Sets a throttle for a tag, as a drawn number says.
-fn set_one(queue: &mut GrvQueue<u64>, drawn: u64, tag: Tag, checksum: Checksum) -> Checksum {
+fn set_one(queue: &mut GrvQueue<u64>, drawn: u64, tag: Tag) -> Result<(), Fault> {
     let (rate, expires) = (drawn % 100, drawn / 100 % LAST_MOMENT);
     match queue.set_throttle(priority_of(drawn), tag, rate, expires) {
-        Ok(()) => checksum,
-        Err(_) => checksum.with_failure(),
+        Ok(()) => Ok(()),
+        Err(_) => Err(Fault::Queue),
     }
 }
 
 /// Looks up all tags, some at a time, over and over.
-fn look_up(queue: &GrvQueue<u64>, tags: &[Tag], before: Checksum) -> Checksum {
-    let mut checksum = before;
+fn look_up(queue: &GrvQueue<u64>, tags: &[Tag]) -> Result<Checksum, Fault> {
+    let mut checksum = Checksum::EMPTY;
     let mut draws = Draws::START;
     for _ in 0..PASSES {
-        for some in tags.chunks(TAGS_PER_REQUEST) {
-            checksum = look_up_some(queue, some, draws.next_number(), checksum);
-        }
+        checksum = look_up_once(queue, tags, &mut draws, checksum)?;
     }
-    checksum
+    Ok(checksum)
+}
+
+/// Looks up all tags, some at a time.
+fn look_up_once(
+    queue: &GrvQueue<u64>,
+    tags: &[Tag],
+    draws: &mut Draws,
+    before: Checksum,
+) -> Result<Checksum, Fault> {
+    let mut checksum = before;
+    for some in tags.chunks(TAGS_PER_REQUEST) {
+        let drawn = draws.next_number();
+        checksum = look_up_some(queue, some, drawn, checksum)?;
+    }
+    Ok(checksum)
 }
 
 /// Looks up some tags, as a drawn number says.
-fn look_up_some(queue: &GrvQueue<u64>, tags: &[Tag], drawn: u64, before: Checksum) -> Checksum {
+fn look_up_some(
+    queue: &GrvQueue<u64>,
+    tags: &[Tag],
+    drawn: u64,
+    before: Checksum,
+) -> Result<Checksum, Fault> {
     match queue.throttles(priority_of(drawn), tags, drawn / 100 % LAST_MOMENT) {
-        Ok(limits) => with_limits(before, &limits),
-        Err(_) => before.with_failure(),
+        Ok(limits) => Ok(with_limits(before, &limits)),
+        Err(_) => Err(Fault::Queue),
     }
 }
 

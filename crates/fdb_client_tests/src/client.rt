@@ -1,5 +1,5 @@
-//! Clients. Each line of a text is a call of one of two
-//! clients; the test itself serves the desk at which they read.
+//! Clients. Each line of a text is a call of a client; where
+//! clients read, the test serves the desk itself, or proxies do.
 
 ghost use Rattle.std.specs.Prelude.{◌≡◌};
 
@@ -153,7 +153,7 @@ pub(crate) fn client_of<'a, J: Live>(
         Some(number) if token.position() == 0 => {
             Client::new(service.alloc, number, &service.live, token)
         }
-        _ => panic!(rt; "the token of a reporter that has seen nothing"),
+        _ => panic!(rt; "the token has seen something, or is nobody's"),
     }
 }
 

@@ -57,7 +57,7 @@ fn after_each(start: Record, events: &[Event]) -> Record {
     current
 }
 
-/// The record after the events of a line, at once and one by one.
+/// Compares the record after the events of a line, taken at once and one by one, with its end.
 fn plays(rt: &impl Abort, alloc: Global, mut line: Line<'_>) -> Result<(), Fail> {
     let start = record(rt, &mut line);
     let events = events(rt, alloc, &mut line)?;

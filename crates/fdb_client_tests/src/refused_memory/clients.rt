@@ -194,8 +194,8 @@ fn commit_and_tell<J: Live, R: Wait + Abort>(
     Ok(())
 }
 
-/// A client draws a version for each request, since no time passes and
-/// a refused one draws none, and reports the last of them.
+/// A client asks for four versions and reports the last one. No time passes, so that each is one
+/// above the one before; a request that is refused draws none.
 fn commit<J: Live, R: Wait + Abort>(rt: &R, client: &mut Caller<'_, J>) -> Result<(), AllocError> {
     for version in 100..104 {
         client.asks(rt, 0, Ok(version))?;

@@ -197,7 +197,7 @@ struct Ran {
     heard: Heard,
 }
 
-/// Runs a proxy, whose queue has had as many requests before where it is a used one.
+/// Runs a proxy. A used queue has had as many requests before.
 pub(crate) fn run_refused<J: Live + Send + Sync, R: Threads + Wait + Abort + Sync>(
     rt: &R,
     stand: &mut Stand<J>,

@@ -18,7 +18,7 @@ pub(crate) type Waiter<J> = Receiver<Answer<J>>;
 /// How a proxy ends.
 pub(crate) type Ended<J> = Result<Seen<J>, (ProxyError, Seen<J>)>;
 
-/// A live record and a desk, with the tokens of those who use them.
+/// A live record and two desks, with the tokens of those who use them.
 #[derive(Drop)]
 pub(crate) struct Stand<J: Live> {
     pub(crate) alloc: Global,
@@ -28,15 +28,16 @@ pub(crate) struct Stand<J: Live> {
     /// What the proxy has seen.
     pub(crate) served: Seen<J>,
     pub(crate) reporters: Vec<Seen<J>>,
+    /// The desk of the proxy.
     pub(crate) desk: Desk<J>,
-    /// The desk of another proxy.
+    /// That of a second one, where there are two.
     pub(crate) other: Desk<J>,
     /// Where the answers come, in the order of the requests.
     pub(crate) waiters: Vec<Waiter<J>>,
 }
 
 impl<J: Live> Stand<J> {
-    /// An open desk with no request on it.
+    /// Open desks with no request on them.
     pub(crate) fn new(
         alloc: Global,
         live: LiveRecord<J>,

@@ -91,8 +91,8 @@ const RAISED: &str = "
 entry 0 0 1 0 0 100 100 fresh; entry 1 0 2 0 100 2100 2100 fresh
 log; draws 0 0 0 1 0 0 100 100 fresh; draws 0 1 0 2 0 100 2100 2100 fresh; raises 0 1 2 2100";
 
-/// What follows it of a client X in whose log one fault stands, and the fault.
-/// What the client draws is the chain's entry Z.
+/// The log of a client X in which one fault stands, to follow on client 0's, and
+/// the fault. What the client draws is the chain's entry Z.
 type Kind = (&'static str, &'static str);
 
 /// Each kind, in the order in which audits look for them.

@@ -95,7 +95,7 @@ fn a_queue_bears_it(rt: HostRuntime) -> Result<(), Fail> {
     Ok(())
 }
 
-/// Checks that no tags have no limits.
+/// Checks that without tags there are no limits.
 fn limits_nothing(
     rt: &impl Abort,
     queue: &GrvQueue<u32>,

@@ -5,4 +5,4 @@ abbrev pub ghosts-measure_named-J-Live : goal.ghosts-measure_named-J-Live
 ghosts-measure_named-J-Live g a = record { table = a.opened.table }
 
 abbrev pub ghosts-measure_named-J-Service : goal.ghosts-measure_named-J-Service
-ghosts-measure_named-J-Service g a = record { epoch_end = a.core.epoch_end; recovery = a.core.recovery; start = a.opened.start; reporters = a.opened.reporters }
+ghosts-measure_named-J-Service g a = record { epoch_end = 0; recovery = 0; start = a.opened.start; reporters = a.opened.reporters }
