@@ -92,9 +92,14 @@ def seen_fault(program, proxies):
     return None if read >= reported and other_read >= other_reported else f"a read is below its client's report in {ran.out!r}"
 
 
-# Scripts that have one text in each schedule, though threads run. The first read of a client goes to the proxy of its number.
+# Client 0 reads, and then in each round it and client 2.
+AHEAD = [[do("grv", count=50)], *[[do("grv", count=50), do("grv", 2, count=50)]] * 20]
+# Scripts that have one text in each schedule, though threads run. The first read of a client goes to the proxy of its number,
+# and each further one to the next proxy.
+TIGHT = {"room": 1, "normal": 1, "elapsed": 1000}
 SURE = [
-    ("two clients and two proxies with room for one", 2, [both(do("grv", count=50))], {"clients": 2, "room": 1, "normal": 1, "elapsed": 1000}),
+    ("a read ahead, then each round one of each to two proxies with room for one", 2, AHEAD, {"clients": 3, **TIGHT}),
+    ("two clients and two proxies with room for one", 2, [both(do("grv", count=50))], {"clients": 2, **TIGHT}),
     ("16 clients and proxies with room for one", 16, [turns(16, 1, lambda who, _: do("grv", who, count=9))], {"clients": 16, "room": 1, "normal": 3}),
     ("64 clients and a proxy with room for them", 1, [turns(64, 3, lambda who, _: do("grv", who))], {"clients": 64, "room": 64, "normal": 1}),
 ]

@@ -1,6 +1,7 @@
 // Refuses one allocation or start of a thread of the program that it is preloaded into, the one with the number REFUSE,
 // both counted from 1, and with REFUSE_ON=1 also each later one. At the first it writes a byte to the descriptor
-// REFUSE_TELLS, so that the test knows that the run got that far: m for memory, t for a thread.
+// REFUSE_TELLS, so that the test knows that the run got that far: m for memory, t for a thread. Where REFUSE is 0 it
+// refuses nothing, and writes an s there for each start of a thread.
 typedef unsigned long size_t;
 
 char *getenv(const char *name);
@@ -53,6 +54,9 @@ typedef int start_thread(unsigned long *thread, const void *attributes, void *(*
 
 int pthread_create(unsigned long *thread, const void *attributes, void *(*body)(void *), void *with) {
     if (refuses('t')) {
+        return try_again;
+    }
+    if (refused == 0 && write(tells, "s", 1) != 1) {
         return try_again;
     }
     // That of the C library, which is the next after this one.

@@ -1,8 +1,9 @@
 """Streams that are closed, full, broken, endless, or as large as they may be."""
 import os
+import resource
 import subprocess
 
-from answers import MOST_COMMANDS, crowd_at_all_limits
+from answers import MOST_COMMANDS, crowd_at_all_limits, large
 from harness import DONE, NO_STREAM, READING_FAILED, REFUSED, WRITING_FAILED, Ran
 from harness import done, fault_of, first_output, first_script, refused, run, script, under, written
 from model import expected
@@ -10,6 +11,8 @@ from model import expected
 MOST_BYTES = 16_777_216
 # What a pipe holds at most of bytes that nobody has taken.
 PIPE_BYTES = 65_536
+# How much processor time a script may take, in seconds: several times what it does on a machine with nothing else to do.
+WORK_SECONDS = 4
 
 
 def sizes(program):
@@ -52,6 +55,35 @@ def with_note(size):
     """Writes a script of this many bytes, nearly all of them in a text that is ignored."""
     empty = script(note='""').encode()
     return script(note='"?"').encode().replace(b"?", b"a" * (size - len(empty)))
+
+
+def with_values(size, value):
+    """Writes a script of about this many bytes, nearly all of them in a list of one value that is ignored."""
+    empty = script(note="[]").encode()
+    times = (size - len(empty) + 1) // (len(value) + 1)
+    return script(note=f"[{','.join([value] * times)}]").encode()
+
+
+def largest():
+    """Names scripts that are as large as may be in one way or another, with the words that they are run with."""
+    whole = ["--history", "--proxies", "16"]
+    yield "all its limits", crowd_at_all_limits(MOST_BYTES), whole
+    yield "bytes, in one text", with_note(MOST_BYTES), []
+    for value in ("0", '""', "[]", "{}", '{"a":0}', '"aaaaaaaa"', "0.5", "[[0]]"):
+        yield f"bytes, in values {value}", with_values(MOST_BYTES, value), []
+    for name, rounds, top in large():
+        yield f"commands: {name}", written(rounds, **top), whole
+
+
+def work(program):
+    """The largest scripts take a bounded time of the processor, the starts of their threads included."""
+    for name, given, words in largest():
+        before = resource.getrusage(resource.RUSAGE_CHILDREN)
+        ran = run([program, *words], given)
+        after = resource.getrusage(resource.RUSAGE_CHILDREN)
+        spent = after.ru_utime + after.ru_stime - before.ru_utime - before.ru_stime
+        fault = f"it took {spent:.1f} s" if spent > WORK_SECONDS else None
+        yield name, f"status {ran.status}" if ran.status else fault
 
 
 def broken(program):

@@ -12,7 +12,7 @@ use fdb_queue::{QueueError, Req};
 use std::sync::Wait;
 
 /// What tells the answer to a request from others.
-#[derive(Clone, Copy, Debug, PartialEq, Eq)]
+#[derive(Clone, Copy, PartialEq, Eq)]
 pub(crate) struct Mark {
     /// The client that asked.
     pub(crate) client: u32,
@@ -23,7 +23,7 @@ pub(crate) struct Mark {
 }
 
 /// Why a request got no reply.
-#[derive(Clone, Copy, Debug, PartialEq, Eq)]
+#[derive(Clone, Copy)]
 pub(crate) enum NoReply {
     /// Memory was refused, to the desk or to the proxy's queue.
     Memory,

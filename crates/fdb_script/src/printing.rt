@@ -30,20 +30,6 @@ pub fn text(
     ensures ok { IfOk result (λ bytes. bytes.items ≡ text script.now outcome.now with_history) }
     ensures err { IfErr result (λ e. e ≡ ScriptError.Memory) }
 {
-    let printed = printed_text(alloc, script, outcome, with_history)?;
-    Ok(printed.into_bytes())
-}
-
-/// The text of a script and an outcome, whether or not the outcome's logs answer the script.
-pub(crate) fn printed_text(
-    alloc: Global,
-    script: &Script,
-    outcome: &Outcome,
-    with_history: bool,
-) -> Result<String, AllocError>
-    ensures { IfOk result
-        (λ printed. string_bytes printed ≡ text script.now outcome.now with_history) }
-{
     let mut printed = String::new(alloc);
     let mut left = logged_calls(alloc, &outcome.logs)?;
     push_replies(&mut printed, script.rounds(), &mut left)?;
@@ -51,7 +37,7 @@ pub(crate) fn printed_text(
     if with_history {
         push_history(&mut printed, outcome.history.events.as_slice())?;
     }
-    Ok(printed)
+    Ok(printed.into_bytes())
 }
 
 /// The calls of each log.

@@ -232,7 +232,7 @@ fn logged<J: Live>(
     let (calls, position) = (client.calls(), client.position());
     let last = match calls.last() {
         Some(call) => call.position,
-        None => 0,
+        None => client.begun(),
     };
     if last != position {
         return String::from_str(alloc, "the log and the token differ");
