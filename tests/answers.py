@@ -14,19 +14,19 @@ MOST_ROUNDS, MOST_COMMANDS, MOST_THROTTLES = 10_000, 10_000, 1_000
 
 
 class Example:
-    """A script of examples/: NAME.json prints NAME.out, with the words of NAME.args and the status of NAME.status."""
+    """A script of examples/: NAME.json prints NAME.out, with the arguments of NAME.args and the status of NAME.status."""
 
     def __init__(self, name):
         beside = lambda ending: f"{EXAMPLES}/{name}.{ending}"
         self.name, self.given = name, read(beside("json"))
-        self.words = read(beside("args")).decode().split() if os.path.isfile(beside("args")) else []
+        self.arguments = read(beside("args")).decode().split() if os.path.isfile(beside("args")) else []
         status = int(read(beside("status"))) if os.path.isfile(beside("status")) else 0
         self.wanted = Ran(status, read(beside("out")), None if status else b"")
 
-    def words_for(self, proxies):
-        """Returns the words with this number of proxies in the place of the one that they say."""
-        at = self.words.index("--proxies") if "--proxies" in self.words else len(self.words)
-        return [*self.words[:at], "--proxies", str(proxies), *self.words[at + 2 :]]
+    def arguments_for(self, proxies):
+        """Returns the arguments with this number of proxies in the place of the one that they say."""
+        at = self.arguments.index("--proxies") if "--proxies" in self.arguments else len(self.arguments)
+        return [*self.arguments[:at], "--proxies", str(proxies), *self.arguments[at + 2 :]]
 
 
 def all_examples():
@@ -36,22 +36,22 @@ def all_examples():
 def examples(program):
     """The program prints the worked scripts' outputs, and so does the model, which the other scripts are compared with."""
     for it in all_examples():
-        yield it.name, fault_of(run([program, *it.words], it.given), it.wanted)
-        yield f"{it.name} by the model", fault_of(expected(it.given, "--history" in it.words), it.wanted)
+        yield it.name, fault_of(run([program, *it.arguments], it.given), it.wanted)
+        yield f"{it.name} by the model", fault_of(expected(it.given, "--history" in it.arguments), it.wanted)
 
 
 def worked(program):
     """The program prints what a hand calculation gives for each script of worked.txt, and so does the model.
 
-    There, a line `# NAME` stands before a script, a line `=> WORDS` parts it from what it prints with these words.
+    There, a line `# NAME` stands before a script, a line `=> ARGUMENTS` parts it from what it prints with these arguments.
     """
     for case in read(f"{ROOT}/tests/worked.txt").decode().split("# ")[1:]:
         name, _, rest = case.partition("\n")
         given, _, rest = rest.partition("\n=>")
-        words, _, wanted = rest.partition("\n")
-        words, ends = words.split(), done(f"{wanted.rstrip()}\n".encode())
-        yield name, fault_of(run([program, *words], given.encode()), ends)
-        yield f"{name}, by the model", fault_of(expected(given.encode(), "--history" in words), ends)
+        arguments, _, wanted = rest.partition("\n")
+        arguments, ends = arguments.split(), done(f"{wanted.rstrip()}\n".encode())
+        yield name, fault_of(run([program, *arguments], given.encode()), ends)
+        yield f"{name}, by the model", fault_of(expected(given.encode(), "--history" in arguments), ends)
 
 
 def proxies(program):
@@ -59,7 +59,7 @@ def proxies(program):
     for it in all_examples():
         for count in (1, 2, 4, 16):
             fault = None if is_determined(script_of(it.given), count) else "its clients race"
-            yield f"{it.name} with {count} proxies", fault or fault_of(run([program, *it.words_for(count)], it.given), it.wanted)
+            yield f"{it.name} with {count} proxies", fault or fault_of(run([program, *it.arguments_for(count)], it.given), it.wanted)
 
 
 def replies(*lines, events=0, raised=0, versions=0):
@@ -210,18 +210,18 @@ def stored(program):
         return fault_of(run([program], stdin=it), done(first_output()))
 
 
-def compared(program, given, *words):
-    """Runs a script with these words, and returns how that differs from the model, or from what is lawful where clients race."""
-    proxies = int(words[words.index("--proxies") + 1]) if "--proxies" in words else 1
-    return Lawful(given, proxies).fault_of(run([program, *words], given), "--history" in words)
+def compared(program, given, *arguments):
+    """Runs a script with these arguments, and returns how that differs from the model, or from what is lawful where clients race."""
+    proxies = int(arguments[arguments.index("--proxies") + 1]) if "--proxies" in arguments else 1
+    return Lawful(given, proxies).fault_of(run([program, *arguments], given), "--history" in arguments)
 
 
 def random_scripts(program):
     """Small scripts of 1 to 4 clients with all commands, the same in each run, from the start and near the end of the versions."""
     for seed in range(SMALL):
         given = drawn.lawful(random.Random(seed)).encode()
-        words = [[], ["--history"], ["--proxies", str(seed % 16 + 1), "--history"]][seed % 3]
-        yield f"seed {seed}", compared(program, given, *words)
+        arguments = [[], ["--history"], ["--proxies", str(seed % 16 + 1), "--history"]][seed % 3]
+        yield f"seed {seed}", compared(program, given, *arguments)
 
 
 def spoilt_scripts(program):

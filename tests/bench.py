@@ -1,4 +1,4 @@
-"""The words of the benchmarks: what each run prints, and what is refused."""
+"""The arguments of the benchmarks: what each run prints, and what is refused."""
 import os
 import re
 
@@ -15,7 +15,7 @@ TIMED = [
     ("reports_of_four", "wall"),
 ]
 
-# words, and what standard error has to say
+# arguments, and what standard error has to say
 REFUSALS = [
     (["window"], "there is no benchmark window"),
     ([""], "there is no benchmark "),
@@ -32,9 +32,9 @@ REFUSALS = [
 ]
 
 
-def refusal_fault(words, why):
-    """Returns how a run on words that are to be refused differs from what is wanted, or None."""
-    ran = run([PROGRAM, *words])
+def refusal_fault(arguments, why):
+    """Returns how a run on arguments that are to be refused differs from what is wanted, or None."""
+    ran = run([PROGRAM, *arguments])
     said = ran.err.decode()
     if ran.status != REFUSED or ran.out or why not in said:
         return f"status {ran.status}, {ran.out!r} and {said!r}"
@@ -53,12 +53,12 @@ def timed_fault(name, clock):
     return None
 
 
-def words(_program):
-    """Each run says what it computed; other words are refused, with nothing on standard output."""
+def arguments(_program):
+    """Each run says what it computed; other arguments are refused, with nothing on standard output."""
     if not os.access(PROGRAM, os.X_OK):
         yield "the program", f"{PROGRAM} is not there: rt ci builds it"
         return
     for name, clock in TIMED:
         yield f"the benchmark {name} of a size", timed_fault(name, clock)
     for given, why in REFUSALS:
-        yield f"the words {given}", refusal_fault(given, why)
+        yield f"the arguments {given}", refusal_fault(given, why)

@@ -167,7 +167,7 @@ def shown(program):
     for document, block in blocks():
         first, _, rest = block.partition("\n")
         if first.startswith("$ ./fdb_replay "):
-            words = first.split()[2:]
-            yield f"{document}: {first}", fault_of(run([program, *words], cwd=ROOT), done(rest.encode()))
+            arguments = first.split()[2:]
+            yield f"{document}: {first}", fault_of(run([program, *arguments], cwd=ROOT), done(rest.encode()))
         elif first.startswith("{"):
             yield f"{document}: {first}", None if block.strip() in scripts else "it is no script of examples/"

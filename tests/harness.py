@@ -9,7 +9,7 @@ EXAMPLES = f"{ROOT}/examples"
 SECONDS = 20
 NOT_ENDED = -1000
 
-DONE, REFUSED, OTHER_WORDS, NO_MEMORY, NO_STREAM = 0, 1, 2, 3, 5
+DONE, REFUSED, OTHER_ARGUMENTS, NO_MEMORY, NO_STREAM = 0, 1, 2, 3, 5
 
 
 class Ran(NamedTuple):
@@ -30,7 +30,7 @@ def first_script():
 
 
 def first_output():
-    """What the first script prints without words."""
+    """What the first script prints without arguments."""
     return without_history(read(f"{EXAMPLES}/first.out"))
 
 
@@ -50,9 +50,9 @@ def run(words, given=b"", seconds=SECONDS, **how):
     return Ran(ran.returncode, ran.stdout or b"", ran.stderr or b"")
 
 
-def under(redirections, program, given=b"", words=(), **how):
-    """Runs the program with these words and the shell's redirections, as '>&-'."""
-    return run(["sh", "-c", f'exec "$0" "$@" {redirections}', program, *words], given, **how)
+def under(redirections, program, given=b"", arguments=(), **how):
+    """Runs the program with these arguments and the shell's redirections, as '>&-'."""
+    return run(["sh", "-c", f'exec "$0" "$@" {redirections}', program, *arguments], given, **how)
 
 
 def fault_of(ran, wanted):
@@ -90,7 +90,7 @@ def refused(why):
 READING_FAILED = faulted(NO_STREAM, "reading failed")
 WRITING_FAILED = faulted(NO_STREAM, "writing failed")
 OUT_OF_MEMORY = faulted(NO_MEMORY, "want of memory")
-WORDS_REFUSED = faulted(OTHER_WORDS, "words refused")
+ARGUMENTS_REFUSED = faulted(OTHER_ARGUMENTS, "words refused")
 
 
 def members(**texts):

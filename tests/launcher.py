@@ -44,7 +44,7 @@ esac
 """
 PROGRAM = """#!/bin/sh
 pwd
-for word in "$@"; do echo "word $word"; done
+for argument in "$@"; do echo "argument $argument"; done
 cat
 echo "fdb_replay: said" >&2
 exit ${STATUS-0}
@@ -94,9 +94,9 @@ class Room:
             it.write(text)
         os.chmod(file, 0o755)
 
-    def launch(self, *words, given=b"bytes\n", by=None, status=0):
+    def launch(self, *arguments, given=b"bytes\n", by=None, status=0):
         env = {"PATH": self.bin, "ROOM": self.folder, "STATUS": str(status)}
-        return run([by or f"{self.top}/fdb_replay", *words], given, cwd=self.away, env=env)
+        return run([by or f"{self.top}/fdb_replay", *arguments], given, cwd=self.away, env=env)
 
     def launch_on_terminal(self, slow):
         """Launches with a terminal as standard error, and returns how that ended and what the terminal was written."""
@@ -118,8 +118,8 @@ class Room:
         found = self.builds()
         return fault_of(ran, wanted) or (f"{found} builds in place of {builds}" if found != builds else None)
 
-    def wanted(self, *words, given=b"bytes\n", status=0, err=SAID):
-        lines = [self.away, *(f"word {it}" for it in words)]
+    def wanted(self, *arguments, given=b"bytes\n", status=0, err=SAID):
+        lines = [self.away, *(f"argument {it}" for it in arguments)]
         return Ran(status, "".join(f"{it}\n" for it in lines).encode() + given, err)
 
 
@@ -160,8 +160,8 @@ def first_launches(room):
 
 def later_launches(room):
     yield "the second launch adds nothing", room.fault(room.launch(), room.wanted(), 1)
-    words = ["a file.json", "--proxies", "4", "", "*"]
-    yield "words are passed on", room.fault(room.launch(*words), room.wanted(*words), 1)
+    arguments = ["a file.json", "--proxies", "4", "", "*"]
+    yield "arguments are passed on", room.fault(room.launch(*arguments), room.wanted(*arguments), 1)
     yield "the status is passed on", room.fault(room.launch(status=5), room.wanted(status=5), 1)
     yield "an empty input", room.fault(room.launch(given=b""), room.wanted(given=b""), 1)
     yield "through a link", room.fault(room.launch("x", by=f"{room.folder}/link"), room.wanted("x"), 1)

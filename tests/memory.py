@@ -7,7 +7,7 @@ import tempfile
 from typing import NamedTuple
 
 from answers import do
-from harness import EXAMPLES, NOT_ENDED, OUT_OF_MEMORY, READING_FAILED, ROOT, WORDS_REFUSED, done, fault_of, first_output, first_script, refused as refused_script, run, written
+from harness import ARGUMENTS_REFUSED, EXAMPLES, NOT_ENDED, OUT_OF_MEMORY, READING_FAILED, ROOT, done, fault_of, first_output, first_script, refused as refused_script, run, written
 from judge import Lawful
 from model import expected
 from races import commit
@@ -92,7 +92,7 @@ def refused(program):
     each, further = lambda at: at + 1, lambda at: at + 1 + at // 12
     first, two, large = first_script(), written(TWO, clients=2, throttles=THROTTLES), written(LARGE)
     crowd = written(CROWD, clients=3, throttles=THROTTLES, room=1)
-    by_words = ["--history", "--proxies=2", f"{EXAMPLES}/first.json"]
+    by_arguments = ["--history", "--proxies=2", f"{EXAMPLES}/first.json"]
     of_crowd = lambda proxies: (["--proxies", str(proxies), "--history"], crowd, Lawful(crowd, proxies).fault_of, each)
     sweeps = [
         ("the first script", [], first, exactly(done(first_output())), each),
@@ -102,17 +102,17 @@ def refused(program):
         ("three clients that race for two proxies", *of_crowd(2)),
         ("three clients that race for two proxies, again", *of_crowd(2)),
         ("a large script", ["--history"], large, exactly(expected(large, True)), further),
-        ("a file that words name", by_words, b"", exactly(expected(first, True)), each),
+        ("a file that arguments name", by_arguments, b"", exactly(expected(first, True)), each),
         ("a file that is not there", ["/none.json"], b"", exactly(READING_FAILED), each),
-        ("words that are refused", ["--proxies", "17"], first, exactly(WORDS_REFUSED), each),
+        ("arguments that are refused", ["--proxies", "17"], first, exactly(ARGUMENTS_REFUSED), each),
         ("help", ["--help"], b"", exactly(done(run([program, "--help"]).out)), each),
     ]
     with tempfile.TemporaryDirectory(prefix="refuse-") as folder:
         preloaded, most_threads = built(folder), 0
-        for name, words, given, fault_of_ran, step in sweeps:
+        for name, arguments, given, fault_of_ran, step in sweeps:
             for goes_on in (False, True):
                 begun, threads = f"{name}, {'from ' if goes_on else ''}allocation or thread", 0
-                for it in swept([program, *words], preloaded, given, OUT_OF_MEMORY, fault_of_ran, goes_on, step):
+                for it in swept([program, *arguments], preloaded, given, OUT_OF_MEMORY, fault_of_ran, goes_on, step):
                     threads += it.what == THREAD
                     yield f"{begun} {it.number}", it.fault
                 most_threads = max(most_threads, threads if name == ONE_PROXY else 0)

@@ -115,7 +115,7 @@ def sure_texts(program):
     untold = Example("untold")
     for proxies in (1, 4):
         for time in range(AGAIN):
-            yield f"untold, {proxies} proxies, run {time}", fault_of(run([program, *untold.words_for(proxies)], untold.given), untold.wanted)
+            yield f"untold, {proxies} proxies, run {time}", fault_of(run([program, *untold.arguments_for(proxies)], untold.given), untold.wanted)
 
 
 def limits():

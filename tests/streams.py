@@ -130,9 +130,9 @@ def unread(program, given):
         os.close(writer)
 
 
-def half_read(program, given, *words):
+def half_read(program, given, *arguments):
     """Runs the program on a large script with a reader that goes away after one byte."""
-    return run(["bash", "-c", 'set -o pipefail; "$0" "$@" | head -c 1 > /dev/null', program, *words], given)
+    return run(["bash", "-c", 'set -o pipefail; "$0" "$@" | head -c 1 > /dev/null', program, *arguments], given)
 
 
 def byte_by_byte(program, given):

@@ -2,7 +2,7 @@
 
 ghost use Rattle.std.specs.Prelude.{◌≡◌, ◌==◌, IfErr, IfOk, true};
 ghost use Rattle.fdb_client.specs.private.Exchange.{IsOfRead, is_same, judged, mark_of, no_reply_for};
-ghost use Rattle.fdb_proxy.specs.Cause.{is_due};
+ghost use Rattle.fdb_proxy.specs.Cause.{may_be_refused_for};
 
 use crossbeam_channel::Receiver;
 use fdb_history::{Gate, Place, Refusal};
@@ -114,7 +114,7 @@ fn mark_of<J: Live>(answer: &Answer<J>) -> Mark
 
 /// Why there is no reply, where a proxy says this.
 fn no_reply_for(cause: Cause) -> NoReply
-    requires { is_due cause ≡ true }
+    requires { may_be_refused_for cause ≡ true }
     ensures value { result ≡ no_reply_for cause }
     ensures refused { IsOfRead result }
 {

@@ -17,6 +17,6 @@ is_of_an_offer Memory = true
 
 -- Whether a request may be refused for this: for what an offer is refused for, or since the desk
 -- was closed. (this product's own)
-abbrev pub is_due : Cause → Bool
-is_due (Queue cause) = is_of_an_offer cause
-is_due Closed = true
+abbrev pub may_be_refused_for : Cause → Bool
+may_be_refused_for (Queue cause) = is_of_an_offer cause
+may_be_refused_for Closed = true

@@ -2,7 +2,7 @@
 
 ghost use Rattle.std.specs.Prelude.{◌≡◌, ◌≤◌, length, None, true};
 ghost use Rattle.fdb_live.specs.Seen.{last_record};
-ghost use Rattle.fdb_proxy.specs.Cause.{is_due};
+ghost use Rattle.fdb_proxy.specs.Cause.{may_be_refused_for};
 
 use crate::cause::Cause;
 use fdb_history::{Record, Sequence, TagLimit};
@@ -57,5 +57,5 @@ pub struct Refused<J: Live> {
     pub cause: Cause,
     pub ghost unnumbered: { seen.reporter ≡ None },
     pub ghost position: { asked ≡ length seen.raises },
-    pub ghost due: { is_due cause ≡ true },
+    pub ghost due: { may_be_refused_for cause ≡ true },
 }

@@ -14,7 +14,7 @@ use crate::request::Request;
 use fdb_history::{Sequence, TagLimit};
 use fdb_live::{Fetched, Live, LiveRecord, Seen};
 use fdb_queue::{GrvQueue, QueueError, Req};
-use std::alloc::{AllocError, Global};
+use std::alloc::Global;
 use std::collections::VecDeque;
 use std::sync::Wait;
 

@@ -2,7 +2,7 @@
 
 ghost use Rattle.std.specs.Prelude.{◌≡◌, [], All, IfOk, IfErr, OnOk, length, true, vec_len};
 ghost use mathlib.Core.List.{IsPrefix};
-ghost use Rattle.fdb_proxy.specs.Cause.{is_due, is_of_an_offer};
+ghost use Rattle.fdb_proxy.specs.Cause.{is_of_an_offer, may_be_refused_for};
 ghost use Rattle.fdb_proxy.specs.private.Turn.{HasTurn, HasTurnOrLast, emptied};
 ghost use Rattle.fdb_queue.specs.Config.{IsElapsed};
 ghost use Rattle.fdb_queue.specs.Waiting.{row};
@@ -245,7 +245,7 @@ fn close<J: Live, R: Wait>(rt: &R, line: &mut Line<Request<J>>) -> Result<(), Pr
 
 /// Answers a request that does not start.
 fn refuse<J: Live, R: Wait>(rt: &R, request: Request<J>, cause: Cause) -> Result<(), ProxyError>
-    requires { is_due cause ≡ true }
+    requires { may_be_refused_for cause ≡ true }
     ensures { IfErr result (λ cause. cause ≡ ProxyError.Memory) }
 {
     let (reply, refused) = request.refused(cause);

@@ -1,7 +1,7 @@
 //! What a client asks of a proxy.
 
 ghost use Rattle.std.specs.Prelude.{◌≡◌, length, None, true};
-ghost use Rattle.fdb_proxy.specs.Cause.{is_due};
+ghost use Rattle.fdb_proxy.specs.Cause.{may_be_refused_for};
 
 use crate::answer::{Answer, Refused};
 use crate::cause::Cause;
@@ -32,7 +32,7 @@ pub struct Request<J: Live> {
 impl<J: Live> Request<J> {
     /// The answer that it does not start, and where that goes.
     pub(crate) fn refused(self, cause: Cause) -> (Sender<Answer<J>>, Refused<J>)
-        requires { is_due cause ≡ true }
+        requires { may_be_refused_for cause ≡ true }
         ensures client { result.1.client ≡ self.client }
         ensures serial { result.1.serial ≡ self.serial }
         ensures asked { result.1.asked ≡ self.asked }

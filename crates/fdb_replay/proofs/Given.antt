@@ -1,5 +1,5 @@
--- What a parse of this program's words leaves of an argument's text: it passed the argument's parser, and a typed
--- getter reads it as that parser says.
+-- What a parse of this program's command line leaves of an argument's text: it passed the argument's parser, and a
+-- typed getter reads it as that parser says.
 use Rattle.std.proofs.Common.{◌≡◌, ◌∙◌, ◌<◌, ◌≤◌, ◌&&◌, ◌||◌, ap, ℕ, zero, suc, Bool, true, false, List, [], ◌∷◌, map, length, Option, Some, None, Result, Ok, refl, sym, subst, inl, inr, arith, codes, pos, slice_index}
 use Rattle.std.specs.Borrow.{Bor}
 use Rattle.std.specs.List.{All, slice_index_or}
@@ -29,8 +29,8 @@ use Rattle.clap.specs.declared.parser.matches.MatchedArg.{MatchedArg}
 use Rattle.clap.proofs.CallerLemmas.{entry_by_id, same_rules_by_id}
 use Rattle.clap.proofs.CallerReads.{signed_reads}
 use Rattle.fdb_replay.specs.private.Asked.{AskReplay}
-use Rattle.fdb_replay.specs.Words.{ReadsInput, command, script_argument, proxies_argument, history_argument}
-use Rattle.fdb_replay.specs.declared.words.Words.{Words}
+use Rattle.fdb_replay.specs.Arguments.{ReadsInput, command, script_argument, proxies_argument, history_argument}
+use Rattle.fdb_replay.specs.declared.arguments.Arguments.{Arguments}
 
 -- the text t is a value that the parser takes, as a typed getter reads it
 abbrev pub IsRead : ValueParser → List ℕ → Type 0
@@ -245,9 +245,9 @@ count_read E G (Some t) r read absent value only =
     let parsed = only t (Ok number.0) (subst (ReadsOne G t) number.1 (value t refl)) in
     rw number.1 (parsed.1, number.2, number.3)
 
--- where standard input is not to be read, the words of a replay name a file
-pub file_named : (words : List (List ℕ)) (asked : Words) → AskReplay words asked → (ReadsInput words → ⊥) → is_some asked.script ≡ true
-file_named words asked ask unread = go asked.script refl
+-- where standard input is not to be read, the arguments of a replay name a file
+pub file_named : (arguments : List (List ℕ)) (asked : Arguments) → AskReplay arguments asked → (ReadsInput arguments → ⊥) → is_some asked.script ≡ true
+file_named arguments asked ask unread = go asked.script refl
   where
     go : (o : Option (Bor (List ℕ))) → asked.script ≡ o → is_some asked.script ≡ true
     go None e = absurd (unread (ask.taken, sym ask.script ∙ ap (option_map (λ path. path.now)) e))

@@ -5,15 +5,15 @@ use Rattle.std.specs.Io.KnownBytes.{Appends, Keeps}
 use Rattle.std.proofs.KnownBytes.{Appends-kept}
 use Rattle.clap.specs.Words.{Text}
 use Rattle.fdb_replay.specs.Replay.{IsCut, Refuses, Replays}
-use Rattle.fdb_replay.specs.Words.{IsCutShort, MayBeRead, Replayed}
+use Rattle.fdb_replay.specs.Arguments.{IsCutShort, MayBeRead, Replayed}
 use Rattle.fdb_script.specs.declared.script.TheConstants.{MAX_SCRIPT_BYTES}
 use Rattle.fdb_replay.specs.declared.replaying.ReplayFault.{ReplayFault}
 use Rattle.fdb_replay.specs.declared.replaying.ReplayFault.TheVariants.{Write}
 use Rattle.fdb_script.specs.Plan.{Plan}
-use Rattle.fdb_script.specs.Reading.{Reads}
+use Rattle.fdb_script.specs.Reading.{ReadsAs}
 
 -- writing fails only where there is a script
-pub write_refused : {T : Type 0} (written : Result T ReplayFault) (bytes : List ℕ) (plan : Plan) → Reads bytes (Ok plan) → IfErr written (λ fault. fault ≡ Write) → IfErr written (Refuses bytes)
+pub write_refused : {T : Type 0} (written : Result T ReplayFault) (bytes : List ℕ) (plan : Plan) → ReadsAs bytes (Ok plan) → IfErr written (λ fault. fault ≡ Write) → IfErr written (Refuses bytes)
 write_refused (Ok done) bytes plan read is = tt
 write_refused (Err fault) bytes plan read is = subst (Refuses bytes) (sym is) (plan, read)
 

@@ -1,6 +1,6 @@
+pub mod Arguments
 pub mod Outcome
 pub mod Replay
-pub mod Words
 pub use Rattle.fdb_script.specs.Answering
 pub use Rattle.fdb_script.specs.Plan
 pub use Rattle.fdb_script.specs.Reading

@@ -3,7 +3,7 @@ use Rattle.std.specs.Prelude.{◌≡◌, ◌≢◌, ◌<◌, ◌++◌, Bool, Lis
 use Rattle.std.specs.Io.KnownBytes.{Appends}
 use Rattle.fdb_replay.specs.Outcome.{IsRunOf, Fails}
 use Rattle.fdb_script.specs.Plan.{Plan}
-use Rattle.fdb_script.specs.Reading.{Reads}
+use Rattle.fdb_script.specs.Reading.{ReadsAs}
 use Rattle.fdb_script.specs.Text.{text}
 use Rattle.fdb_script.specs.declared.outcome.Outcome.{Outcome}
 use Rattle.fdb_replay.specs.declared.replaying.ReplayFault.{ReplayFault}
@@ -14,7 +14,7 @@ use Rattle.fdb_replay.specs.declared.replaying.ReplayFault.TheVariants.{Script, 
 -- The bytes that are written are the text of a run of the script that these bytes stand for.
 pub record Replays (bytes : List ℕ) (with_history : Bool) (written : List ℕ) : Type 0 where
   pub plan : Plan
-  pub read : Reads bytes (Ok plan)
+  pub read : ReadsAs bytes (Ok plan)
   pub outcome : Outcome
   pub ran : IsRunOf plan outcome
   pub printed : written ≡ text plan outcome with_history
@@ -22,13 +22,13 @@ pub record Replays (bytes : List ℕ) (with_history : Bool) (written : List ℕ)
 -- A script is refused as its bytes demand; a run fails as its
 -- plan says; and writing fails only where there is a script.
 abbrev pub Refuses : List ℕ → ReplayFault → Type 0
-Refuses bytes (Script error) = Reads bytes (Err error)
-Refuses bytes (Run fault) = (plan : Plan) × Reads bytes (Ok plan) × Fails plan fault
-Refuses bytes Write = (plan : Plan) × Reads bytes (Ok plan)
+Refuses bytes (Script error) = ReadsAs bytes (Err error)
+Refuses bytes (Run fault) = (plan : Plan) × ReadsAs bytes (Ok plan) × Fails plan fault
+Refuses bytes Write = (plan : Plan) × ReadsAs bytes (Ok plan)
 
 -- These bytes stand for no script. (that memory was refused says nothing of them)
 abbrev pub IsRefused : List ℕ → Type 0
-IsRefused bytes = (error : ScriptError) × (error ≢ Memory) × Reads bytes (Err error)
+IsRefused bytes = (error : ScriptError) × (error ≢ Memory) × ReadsAs bytes (Err error)
 
 -- A writer took some of these bytes, from the first one on, and not all of them.
 pub record TakesSome (bytes : List ℕ) (before after : Option (List ℕ)) : Type 0 where

@@ -3,14 +3,14 @@
 ghost use Rattle.std.specs.Prelude.{◌≡◌, ◌≢◌, ◌⊎◌, ◌+◌, ◌++◌, ◌<◌, ◌≤◌, ℕ, List, IfOk, IfErr, IfSome, OnOk, OnErr, IsOkAnd, MatchResult, true, false, is_some, length, map, option_map, string_bytes, vec_len};
 ghost use Rattle.std.specs.Io.KnownBytes.{Consumes, IsAtEnd};
 ghost use Rattle.std.specs.IoError.{error_kind};
-ghost use Rattle.fdb_replay.specs.Words.{AreTaken, AreWrong, IsBegun, IsCutShort, IsDone, MayAskFaulty, MayAskInVain, MayBeFaulty, MayBeNoScript, MayBeRead, ReadsInput, Replayed, TakesAtMost};
+ghost use Rattle.fdb_replay.specs.Arguments.{AreTaken, AreWrong, IsBegun, IsCutShort, IsDone, MayAskFaulty, MayAskInVain, MayBeFaulty, MayBeNoScript, MayBeRead, ReadsInput, Replayed, TakesAtMost};
 ghost use Rattle.fdb_history.specs.declared.fault.AuditFault.{AuditFault};
 ghost use Rattle.fdb_script.specs.declared.error.ScriptError.{ScriptError};
 ghost use Rattle.fdb_script.specs.declared.script.TheConstants.{MAX_SCRIPT_BYTES};
 
+use crate::arguments::{Arguments, ArgumentsFault, Request, parse};
 use crate::fault::RunFault;
 use crate::replaying::{ReplayFault, replay};
-use crate::words::{Request, Words, WordsFault, parse};
 use fdb_history::{AuditFault, OpenGate};
 use fdb_script::{MAX_SCRIPT_BYTES, ScriptError};
 use std::alloc::Global;
@@ -31,7 +31,7 @@ pub enum Fault {
     /// The bytes stand for no script.
     #[error("script refused: {0}")]
     Script(ScriptError),
-    /// The words of the command line ask for nothing, or could not be had.
+    /// The command line's arguments (its words) ask for nothing, or could not be had.
     #[error("words refused")]
     Words,
     /// Memory was refused.
@@ -49,11 +49,11 @@ pub enum Fault {
 }
 
 impl Fault {
-    /// Why the words could not be had.
-    fn of_words(error: &io::Error) -> Fault
+    /// Why the arguments could not be had.
+    fn of_arguments(error: &io::Error) -> Fault
         ensures some { result ≢ Fault.Words → result ≡ Fault.Memory }
         ensures writing { result ≢ Fault.Writing }
-        ensures words { result ≡ Fault.Words → error_kind error.now ≢ ErrorKind.OutOfMemory }
+        ensures arguments { result ≡ Fault.Words → error_kind error.now ≢ ErrorKind.OutOfMemory }
     {
         match error.kind() {
             ErrorKind::OutOfMemory => Fault::Memory,
@@ -64,7 +64,7 @@ impl Fault {
     /// Why the script could not be read.
     fn of_reading(error: &io::Error) -> Fault
         ensures script { (error : ScriptError) → result ≢ Fault.Script error }
-        ensures words { result ≢ Fault.Words }
+        ensures arguments { result ≢ Fault.Words }
         ensures audit { (found : AuditFault) → result ≢ Fault.Audit found }
         ensures writing { result ≢ Fault.Writing }
     {
@@ -79,8 +79,8 @@ impl Fault {
         ensures range { (0 < result) × (result ≤ 5) }
         ensures script { (error : ScriptError) → self ≡ Fault.Script error → result ≡ 1 }
         ensures only_script { result ≡ 1 → (error : ScriptError) × (self ≡ Fault.Script error) }
-        ensures words { self ≡ Fault.Words → result ≡ 2 }
-        ensures only_words { result ≡ 2 → self ≡ Fault.Words }
+        ensures arguments { self ≡ Fault.Words → result ≡ 2 }
+        ensures only_arguments { result ≡ 2 → self ≡ Fault.Words }
         ensures memory { self ≡ Fault.Memory → result ≡ 3 }
         ensures only_memory { result ≡ 3 → self ≡ Fault.Memory }
         ensures audit { (found : AuditFault) → self ≡ Fault.Audit found → result ≡ 4 }
@@ -98,18 +98,18 @@ impl Fault {
     }
 }
 
-impl From<WordsFault> for Fault {
+impl From<ArgumentsFault> for Fault {
     ghost use Rattle.std.specs.Prelude.{◌≢◌};
     ghost use Rattle.fdb_replay.specs.declared.driving.Fault.TheVariants.{Memory, Words, Writing};
-    ghost use Rattle.fdb_replay.specs.declared.words.WordsFault.TheVariants as cause;
+    ghost use Rattle.fdb_replay.specs.declared.arguments.ArgumentsFault.TheVariants as cause;
 
     ghost from_gives = { λ fault made. (fault ≡ cause.Refused → made ≡ Words)
         × (fault ≡ cause.Memory → made ≡ Memory) × (made ≢ Writing) };
 
-    fn from(fault: WordsFault) -> Self {
+    fn from(fault: ArgumentsFault) -> Self {
         match fault {
-            WordsFault::Refused => Fault::Words,
-            WordsFault::Memory => Fault::Memory,
+            ArgumentsFault::Refused => Fault::Words,
+            ArgumentsFault::Memory => Fault::Memory,
         }
     }
 }
@@ -146,51 +146,52 @@ impl From<ReplayFault> for Fault {
     }
 }
 
-/// Does what the words of the command line ask for, which are given without the program's own
-/// name, or with why they could not be had. Replays a script, from the file that the words
+/// Does what the arguments of the command line ask for, which are given without the program's own
+/// name, or with why they could not be had. Replays a script, from the file that the arguments
 /// name or else from the input, and writes the lines to `out`; or writes the help there.
 ///
 /// Answers the status of the program: 0 where all of it is done, 1 where the script is
-/// refused, 2 where the words are, 3 where memory ran out, 4 for an audit fault, and 5 where
+/// refused, 2 where the arguments are, 3 where memory ran out, 4 for an audit fault, and 5 where
 /// reading or writing failed, a file that cannot be opened and a script of more than
-/// [`MAX_SCRIPT_BYTES`] included. Faults are looked for in the order words, reading, script,
+/// [`MAX_SCRIPT_BYTES`] included. Faults are looked for in the order arguments, reading, script,
 /// run, writing. Whatever is not 0 is reported by a line to `err`; where that line cannot be
 /// written, the status is the same. At most one byte more than [`MAX_SCRIPT_BYTES`] is taken
 /// from the input, and nothing is written after a write that failed.
 pub fn drive<R: Threads + Wait + Sync + Files, I: Read, O: Write, E: Write>(
     rt: &R,
     alloc: Global,
-    words: io::Result<Vec<String>>,
+    arguments: io::Result<Vec<String>>,
     input: &mut I,
     out: &mut O,
     err: &mut E,
 ) -> u8
     ensures range { result ≤ 5 }
     ensures asked { result ≢ 2 → result ≢ 3
-        → IsOkAnd words (λ list. AreTaken (map string_bytes list.items)) }
-    ensures done { result ≡ 0 → IsOkAnd words (λ list.
+        → IsOkAnd arguments (λ list. AreTaken (map string_bytes list.items)) }
+    ensures done { result ≡ 0 → IsOkAnd arguments (λ list.
         IsDone (map string_bytes list.items)
         (I.remaining input.old) (O.contents out.old) (O.contents out.new)) }
     ensures refused { result ≡ 1
-        → IsOkAnd words (λ list.
+        → IsOkAnd arguments (λ list.
         MayAskInVain (map string_bytes list.items) (I.remaining input.old)) }
     ensures faulty { result ≡ 4
-        → IsOkAnd words (λ list.
+        → IsOkAnd arguments (λ list.
         MayAskFaulty (map string_bytes list.items) (I.remaining input.old)) }
-    ensures wrong { result ≡ 2 → MatchResult words (λ list. AreWrong (map string_bytes list.items))
+    ensures wrong { result ≡ 2 → MatchResult arguments
+        (λ list. AreWrong (map string_bytes list.items))
         (λ error. error_kind error ≢ ErrorKind.OutOfMemory) }
-    ensures unread { OnErr words (input.new ≡ input.old) }
-    ensures left { IfOk words
+    ensures unread { OnErr arguments (input.new ≡ input.old) }
+    ensures left { IfOk arguments
         (λ list. (ReadsInput (map string_bytes list.items) → ⊥) → input.new ≡ input.old) }
     ensures quiet { result ≡ 0 → err.new ≡ err.old }
     ensures unwritten { result ≢ 0 → result ≢ 5 → out.new ≡ out.old }
-    ensures begun { result ≡ 5 → (out.new ≡ out.old) ⊎ IsOkAnd words (λ list.
+    ensures begun { result ≡ 5 → (out.new ≡ out.old) ⊎ IsOkAnd arguments (λ list.
         IsBegun (map string_bytes list.items)
         (I.remaining input.old) (O.contents out.old) (O.contents out.new)) }
     ensures few { TakesAtMost (MAX_SCRIPT_BYTES + 1)
         (I.remaining input.old) (I.remaining input.new) }
 {
-    match answer(rt, alloc, words, input, out) {
+    match answer(rt, alloc, arguments, input, out) {
         Ok(()) => 0,
         Err(fault) => {
             let _ = writeln!(err, "fdb_replay: {fault}");
@@ -199,47 +200,47 @@ pub fn drive<R: Threads + Wait + Sync + Files, I: Read, O: Write, E: Write>(
     }
 }
 
-/// Does what the words ask for, and flushes what was written.
+/// Does what the arguments ask for, and flushes what was written.
 fn answer<R: Threads + Wait + Sync + Files, I: Read, O: Write>(
     rt: &R,
     alloc: Global,
-    words: io::Result<Vec<String>>,
+    arguments: io::Result<Vec<String>>,
     input: &mut I,
     out: &mut O,
 ) -> Result<(), Fault>
     ensures asked { MatchResult result
-        (λ _. IsOkAnd words (λ list. AreTaken (map string_bytes list.items)))
+        (λ _. IsOkAnd arguments (λ list. AreTaken (map string_bytes list.items)))
         (λ fault. fault ≢ Fault.Words → fault ≢ Fault.Memory
-        → IsOkAnd words (λ list. AreTaken (map string_bytes list.items))) }
-    ensures done { OnOk result (IsOkAnd words (λ list.
+        → IsOkAnd arguments (λ list. AreTaken (map string_bytes list.items))) }
+    ensures done { OnOk result (IsOkAnd arguments (λ list.
         IsDone (map string_bytes list.items)
         (I.remaining input.old) (O.contents out.old) (O.contents out.new))) }
     ensures refused { IfErr result (λ fault. (error : ScriptError) → fault ≡ Fault.Script error
-        → IsOkAnd words (λ list.
+        → IsOkAnd arguments (λ list.
         MayAskInVain (map string_bytes list.items) (I.remaining input.old))) }
     ensures faulty { IfErr result (λ fault. (found : AuditFault) → fault ≡ Fault.Audit found
-        → IsOkAnd words (λ list.
+        → IsOkAnd arguments (λ list.
         MayAskFaulty (map string_bytes list.items) (I.remaining input.old))) }
     ensures wrong { IfErr result (λ fault. fault ≡ Fault.Words
-        → MatchResult words (λ list. AreWrong (map string_bytes list.items))
+        → MatchResult arguments (λ list. AreWrong (map string_bytes list.items))
         (λ error. error_kind error ≢ ErrorKind.OutOfMemory)) }
-    ensures unread { OnErr words (input.new ≡ input.old) }
-    ensures left { IfOk words
+    ensures unread { OnErr arguments (input.new ≡ input.old) }
+    ensures left { IfOk arguments
         (λ list. (ReadsInput (map string_bytes list.items) → ⊥) → input.new ≡ input.old) }
     ensures unwritten { IfErr result (λ fault. fault ≢ Fault.Writing → out.new ≡ out.old) }
-    ensures begun { IfErr result (λ fault. fault ≡ Fault.Writing → IsOkAnd words (λ list.
+    ensures begun { IfErr result (λ fault. fault ≡ Fault.Writing → IsOkAnd arguments (λ list.
         IsBegun (map string_bytes list.items)
         (I.remaining input.old) (O.contents out.old) (O.contents out.new))) }
     ensures few { TakesAtMost (MAX_SCRIPT_BYTES + 1)
         (I.remaining input.old) (I.remaining input.new) }
 {
-    let words = match words {
-        Ok(words) => words,
-        Err(error) => return Err(Fault::of_words(&error)),
+    let arguments = match arguments {
+        Ok(arguments) => arguments,
+        Err(error) => return Err(Fault::of_arguments(&error)),
     };
-    match parse(alloc, &words)? {
+    match parse(alloc, &arguments)? {
         Request::Help(help) => show(&help, out),
-        Request::Replay(words) => replay_words(rt, alloc, words, input, out),
+        Request::Replay(arguments) => replay_arguments(rt, alloc, arguments, input, out),
     }
 }
 
@@ -253,42 +254,43 @@ fn show<O: Write>(help: &clap::Error, out: &mut O) -> Result<(), Fault>
     }
 }
 
-/// Replays the script that the words name, or else the input's, and flushes what was written.
-fn replay_words<R: Threads + Wait + Sync + Files, I: Read, O: Write>(
+/// Replays the script that the arguments name, or else the input's, and flushes what was written.
+fn replay_arguments<R: Threads + Wait + Sync + Files, I: Read, O: Write>(
     rt: &R,
     alloc: Global,
-    words: Words<'_>,
+    arguments: Arguments<'_>,
     input: &mut I,
     out: &mut O,
 ) -> Result<(), Fault>
-    requires some_proxy { 1 ≤ words.proxies }
-    requires few_proxies { words.proxies ≤ 16 }
+    requires some_proxy { 1 ≤ arguments.proxies }
+    requires few_proxies { arguments.proxies ≤ 16 }
     ensures ok { OnOk result
-        (Replayed (option_map (λ path. path.now) words.entry.script) words.entry.history
+        (Replayed (option_map (λ path. path.now) arguments.entry.script) arguments.entry.history
         (I.remaining input.old) (O.contents out.old) (O.contents out.new)) }
     ensures refused { IfErr result (λ fault. (error : ScriptError) → fault ≡ Fault.Script error
-        → MayBeNoScript (option_map (λ path. path.now) words.entry.script)
+        → MayBeNoScript (option_map (λ path. path.now) arguments.entry.script)
         (I.remaining input.old)) }
     ensures faulty { IfErr result (λ fault. (found : AuditFault) → fault ≡ Fault.Audit found
-        → MayBeFaulty (option_map (λ path. path.now) words.entry.script) (I.remaining input.old)) }
+        → MayBeFaulty (option_map (λ path. path.now) arguments.entry.script)
+        (I.remaining input.old)) }
     ensures taken { IfErr result (λ fault. fault ≢ Fault.Words) }
     ensures unwritten { IfErr result (λ fault. fault ≢ Fault.Writing → out.new ≡ out.old) }
     ensures begun { IfErr result (λ fault. fault ≡ Fault.Writing
-        → Replayed (option_map (λ path. path.now) words.entry.script) words.entry.history
+        → Replayed (option_map (λ path. path.now) arguments.entry.script) arguments.entry.history
         (I.remaining input.old) (O.contents out.old) (O.contents out.new)
-        ⊎ IsCutShort (option_map (λ path. path.now) words.entry.script) words.entry.history
+        ⊎ IsCutShort (option_map (λ path. path.now) arguments.entry.script) arguments.entry.history
         (I.remaining input.old) (O.contents out.old) (O.contents out.new)) }
-    ensures left { is_some words.entry.script ≡ true → input.new ≡ input.old }
+    ensures left { is_some arguments.entry.script ≡ true → input.new ≡ input.old }
     ensures few { TakesAtMost (MAX_SCRIPT_BYTES + 1)
         (I.remaining input.old) (I.remaining input.new) }
 {
-    let bytes = script_bytes(rt, alloc, words.script, input)?;
+    let bytes = script_bytes(rt, alloc, arguments.script, input)?;
     replay(
         rt,
         alloc,
         &bytes,
-        words.proxies,
-        words.history,
+        arguments.proxies,
+        arguments.history,
         &OpenGate,
         out,
     )?;

@@ -2,6 +2,7 @@
 //! service from the script's bytes to the printed lines.
 #![tactic(auto)]
 
+mod arguments;
 mod clients;
 mod desks;
 mod driving;
@@ -13,12 +14,11 @@ mod running;
 mod serving;
 mod tell;
 mod throttles;
-mod words;
 mod world;
 
+pub use arguments::command_line;
 pub use driving::{Fault, drive};
 pub use fault::RunFault;
 pub use fdb_script::MAX_SCRIPT_BYTES;
 pub use replaying::{ReplayFault, replay};
 pub use running::run;
-pub use words::command_line;

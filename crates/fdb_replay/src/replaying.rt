@@ -3,7 +3,7 @@
 ghost use Rattle.std.specs.Prelude.{◌≡◌, ◌≢◌, ℕ, ◌<◌, ◌≤◌, List, OnOk, OnErr, IfOk, IfErr, Ok, length, take};
 ghost use Rattle.std.specs.Io.KnownBytes.{Appends, Keeps};
 ghost use Rattle.fdb_replay.specs.Replay.{IsCut, Replays, Refuses, TakesSome};
-ghost use Rattle.fdb_script.specs.Reading.{Reads};
+ghost use Rattle.fdb_script.specs.Reading.{ReadsAs};
 
 use crate::fault::RunFault;
 use crate::running::run;
@@ -129,9 +129,9 @@ fn run_text<R: Threads + Wait + Sync, G: Gate>(
 ) -> Result<Vec<u8>, ReplayFault>
     requires some_proxy { 0 < proxies }
     requires few_proxies { proxies ≤ 16 }
-    ensures ok { (bytes : List ℕ) → Reads bytes (Ok script.now)
+    ensures ok { (bytes : List ℕ) → ReadsAs bytes (Ok script.now)
         → IfOk result (λ lines. Replays bytes with_history lines.items) }
-    ensures err { (bytes : List ℕ) → Reads bytes (Ok script.now) → IfErr result (Refuses bytes) }
+    ensures err { (bytes : List ℕ) → ReadsAs bytes (Ok script.now) → IfErr result (Refuses bytes) }
     ensures unwritten { IfErr result (λ fault. fault ≢ ReplayFault.Write) }
 {
     let outcome = match run(rt, alloc, script, proxies, gate) {

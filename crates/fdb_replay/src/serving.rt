@@ -19,7 +19,7 @@ use fdb_script::{Command, Script};
 use std::alloc::Global;
 use std::sync::Wait;
 use std::thread;
-use std::thread::{JoinHandle, Scope, Threads};
+use std::thread::{JoinHandle, Threads};
 
 /// A GRV proxy for each desk, in order: each with a queue of its own, made with
 /// what the script says, and with a token that is split off the first one.

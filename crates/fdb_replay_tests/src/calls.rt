@@ -77,12 +77,12 @@ pub(crate) fn replays<R: Threads + Wait + Sync, W: Write>(
 pub(crate) fn drives<R: Threads + Wait + Sync + Files, I: Read, O: Write, E: Write>(
     rt: &R,
     alloc: Global,
-    words: io::Result<Vec<String>>,
+    arguments: io::Result<Vec<String>>,
     input: &mut I,
     out: &mut O,
     err: &mut E,
 ) -> u8 {
-    drive(rt, alloc, words, input, out, err)
+    drive(rt, alloc, arguments, input, out, err)
 }
 
 /// Whether a run through a gate leaves an outcome.

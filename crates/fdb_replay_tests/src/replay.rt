@@ -51,24 +51,24 @@ struct Ran {
     err: Vec<u8>,
 }
 
-/// The words of a command line, from a text that has them between spaces.
-fn words_of(alloc: Global, words: &str) -> io::Result<Vec<String>> {
+/// The arguments of a command line, from a text that has them between spaces.
+fn arguments_of(alloc: Global, text: &str) -> io::Result<Vec<String>> {
     let mut list = Vec::new(alloc);
-    for word in words.split_whitespace() {
-        list.push(String::from_str(alloc, word)?)?;
+    for argument in text.split_whitespace() {
+        list.push(String::from_str(alloc, argument)?)?;
     }
     Ok(list)
 }
 
-/// Drives the program over its words and what a reader gives.
+/// Drives the program over its arguments and what a reader gives.
 fn driven<R: Threads + Wait + Sync + Files, I: Read>(
     rt: &R,
     alloc: Global,
-    words: io::Result<Vec<String>>,
+    arguments: io::Result<Vec<String>>,
     input: &mut I,
 ) -> Ran {
     let (mut out, mut err) = (Vec::new(alloc), Vec::new(alloc));
-    let status = drives(rt, alloc, words, input, &mut out, &mut err);
+    let status = drives(rt, alloc, arguments, input, &mut out, &mut err);
     Ran { status, out, err }
 }
 

@@ -293,6 +293,6 @@ IsUnlessMemory (Err Memory) exact = Unit {0}
 
 -- What was read of these bytes is the plan that they stand for, unless memory was refused. Bytes
 -- that are no UTF-8 stand for nothing.
-pub record Reads (bytes : List ℕ) (result : Result Plan ScriptError) : Type 0 where
+pub record ReadsAs (bytes : List ℕ) (result : Result Plan ScriptError) : Type 0 where
   pub text : IsUtf8 bytes → IsUnlessMemory result (plan_of (read bytes))
   pub no_text : (IsUtf8 bytes → ⊥) → IsUnlessMemory result (Err NotJson)

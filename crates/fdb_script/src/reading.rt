@@ -2,7 +2,7 @@
 
 ghost use Rattle.std.specs.Prelude.{◌≡◌};
 ghost use Rattle.serde_json.specs.View.{view};
-ghost use Rattle.fdb_script.specs.Reading.{frame_of, framed_plan, IsUnlessMemory, Reads};
+ghost use Rattle.fdb_script.specs.Reading.{frame_of, framed_plan, IsUnlessMemory, ReadsAs};
 
 mod command;
 mod members;
@@ -23,7 +23,7 @@ use whole::frame_of;
 /// memory is refused. It takes time in proportion to the bytes: one pass over the JSON value, in
 /// which the members of an object are looked up by name.
 pub fn read_script(alloc: Global, bytes: &[u8]) -> Result<Script, ScriptError>
-    ensures { Reads bytes.now result }
+    ensures { ReadsAs bytes.now result }
 {
     match Value::from_slice(alloc, bytes) {
         Ok(value) => script_of(alloc, &value),

@@ -1,7 +1,7 @@
 //! Reads at a desk that the test serves.
 
 ghost use Rattle.std.specs.Prelude.{◌≡◌, true};
-ghost use Rattle.fdb_proxy.specs.Cause.{is_due};
+ghost use Rattle.fdb_proxy.specs.Cause.{may_be_refused_for};
 
 use crate::client::Service;
 use crate::client::noting::Noting;
@@ -181,7 +181,7 @@ fn answer_of<J: Live, R: Wait>(
 
 /// That a request does not start.
 fn refused<J: Live>(request: Request<J>, cause: Cause) -> Answer<J>
-    requires { is_due cause ≡ true }
+    requires { may_be_refused_for cause ≡ true }
 {
     Answer::Refused(Refused {
         client: request.client,

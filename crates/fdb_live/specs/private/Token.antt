@@ -11,7 +11,15 @@ use Rattle.fdb_live.specs.declared.view.View.{View}
 -- The table of no cell.
 abbrev pub no_table : TableId
 no_table =
-    record { words = 0; slots = 0; views_name = 0; atom = 0; block = 0; offset = 0; slot_names = [] }
+    record {
+      words = 0;
+      slots = 0;
+      views_name = 0;
+      atom = 0;
+      block = 0;
+      offset = 0;
+      slot_names = [];
+    }
 
 -- The numbers of a token: its own alone, or none.
 abbrev pub HasNumber : Option ℕ → View → Type 0

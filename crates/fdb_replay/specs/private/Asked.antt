@@ -1,29 +1,29 @@
--- What the words of the command line ask for, as the program reads it.
+-- What the arguments of the command line ask for, as the program reads it.
 use Rattle.std.specs.Prelude.{◌≡◌, ◌≤◌, ℕ, List, [], codes, option_map}
 use Rattle.std.specs.Option.{option_map_or}
 use Rattle.std.specs.Str.Parse.{digits_value, without_leading_plus}
 use Rattle.clap.specs.Words.{Text, matches_of, one_of}
-use Rattle.fdb_replay.specs.Words.{AsksHelp, command, faults, script_named, wants_history}
-use Rattle.fdb_replay.specs.declared.words.Request.{Request}
-use Rattle.fdb_replay.specs.declared.words.Request.TheVariants as request
-use Rattle.fdb_replay.specs.declared.words.Words.{Words}
+use Rattle.fdb_replay.specs.Arguments.{AsksHelp, command, faults, script_named, wants_history}
+use Rattle.fdb_replay.specs.declared.arguments.Request.{Request}
+use Rattle.fdb_replay.specs.declared.arguments.Request.TheVariants as request
+use Rattle.fdb_replay.specs.declared.arguments.Arguments.{Arguments}
 
 -- the number of GRV proxies, which is 1 unless it is said
 abbrev pub proxies_named : List Text → ℕ
-proxies_named words =
+proxies_named arguments =
     option_map_or (λ digits. digits_value 10 (without_leading_plus digits))
-    (one_of (codes "proxies") (matches_of command words)) 1
+    (one_of (codes "proxies") (matches_of command arguments)) 1
 
--- the words ask for a replay, with these
-pub record AskReplay (words : List Text) (asked : Words) : Type 0 where
-  pub taken : faults words ≡ []
-  pub script : option_map (λ path. path.now) asked.script ≡ script_named words
-  pub proxies : asked.proxies ≡ proxies_named words
+-- the arguments ask for a replay, with these
+pub record AskReplay (arguments : List Text) (asked : Arguments) : Type 0 where
+  pub taken : faults arguments ≡ []
+  pub script : option_map (λ path. path.now) asked.script ≡ script_named arguments
+  pub proxies : asked.proxies ≡ proxies_named arguments
   pub some_proxy : 1 ≤ asked.proxies
   pub few_proxies : asked.proxies ≤ 16
-  pub history : asked.history ≡ wants_history words
+  pub history : asked.history ≡ wants_history arguments
 
--- the words ask for this
+-- the arguments ask for this
 abbrev pub Ask : List Text → Request → Type 0
-Ask words (request.Replay asked) = AskReplay words asked
-Ask words (request.Help help) = AsksHelp words
+Ask arguments (request.Replay asked) = AskReplay arguments asked
+Ask arguments (request.Help help) = AsksHelp arguments

@@ -1,6 +1,6 @@
 //! Readers and writers that give and take in pieces, and fail.
 
-use super::{REPLIES, SCRIPT, assert_ran, driven, words_of};
+use super::{REPLIES, SCRIPT, arguments_of, assert_ran, driven};
 use crate::calls::{drives, replays};
 use crate::same::{holds, same, same_text};
 use fdb_replay::{MAX_SCRIPT_BYTES, ReplayFault};
@@ -72,7 +72,7 @@ fn in_pieces<R: Threads + Wait + Sync + Files + Abort>(
         interrupted: false,
         fails,
     };
-    let ran = driven(rt, alloc, words_of(alloc, ""), &mut input);
+    let ran = driven(rt, alloc, arguments_of(alloc, ""), &mut input);
     if fails {
         assert_ran(rt, &ran, 5, READING_FAILED, "in pieces that fail")
     } else {
@@ -95,7 +95,7 @@ fn readers_of_every_kind(rt: HostRuntime) -> Result<(), Fail> {
 #[test]
 fn a_reader_without_an_end(rt: HostRuntime) -> Result<(), Fail> {
     let mut input = Endless { taken: 0 };
-    let ran = driven(&rt, rt.alloc(), words_of(rt.alloc(), ""), &mut input);
+    let ran = driven(&rt, rt.alloc(), arguments_of(rt.alloc(), ""), &mut input);
     assert_ran(&rt, &ran, 5, READING_FAILED, "without an end")?;
     holds(&rt, input.taken <= 16_777_217, &input.taken);
     Ok(())
@@ -191,7 +191,7 @@ fn flushed<R: Threads + Wait + Sync + Files + Abort>(
     let status = drives(
         rt,
         alloc,
-        words_of(alloc, ""),
+        arguments_of(alloc, ""),
         &mut input,
         &mut out,
         &mut err,
@@ -220,9 +220,9 @@ fn writers_that_fail(rt: HostRuntime) -> Result<(), Fail> {
 #[test]
 fn a_standard_error_that_fails(rt: HostRuntime) {
     let (mut out, mut err) = (Vec::new(rt.alloc()), Hundreds::new(rt.alloc(), 1));
-    let words = words_of(rt.alloc(), "");
+    let arguments = arguments_of(rt.alloc(), "");
     let mut input = b"{".as_slice();
-    let status = drives(&rt, rt.alloc(), words, &mut input, &mut out, &mut err);
+    let status = drives(&rt, rt.alloc(), arguments, &mut input, &mut out, &mut err);
     same(&rt, &status, &1, &"a fault that cannot be written");
     holds(&rt, out.is_empty(), &"a fault that cannot be written");
 }
@@ -234,8 +234,8 @@ fn helped<R: Threads + Wait + Sync + Files>(
     fails_at: usize,
 ) -> (u8, Hundreds) {
     let (mut out, mut err) = (Hundreds::new(alloc, fails_at), Vec::new(alloc));
-    let words = words_of(alloc, "--help");
-    let status = drives(rt, alloc, words, &mut [].as_slice(), &mut out, &mut err);
+    let arguments = arguments_of(alloc, "--help");
+    let status = drives(rt, alloc, arguments, &mut [].as_slice(), &mut out, &mut err);
     (status, out)
 }
 

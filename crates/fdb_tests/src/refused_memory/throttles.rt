@@ -74,7 +74,8 @@ fn set_forty(rt: &impl Abort, alloc: Global, queue: &mut GrvQueue<u32>) -> Resul
     Ok(())
 }
 
-/// Looks each of these tags up twice, beside a tag that has none, so that a list of limits grows too.
+/// Looks each of these tags up twice, beside a tag that
+/// has none, so that a list of limits grows too.
 fn look_up_forty(rt: &impl Abort, alloc: Global, queue: &GrvQueue<u32>) -> Result<(), Fail> {
     for byte in 0..40u8 {
         let rate = Some(u64::from(byte));

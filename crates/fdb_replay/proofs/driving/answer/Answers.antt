@@ -5,6 +5,6 @@ use Rattle.fdb_replay.proofs.driving.answer.Goals as goal
 
 pub returns-clause-left : goal.returns-clause-left
 returns-clause-left g c =
-    let words = map string_bytes c.in-Ok.words.items in
-    let asked : AskReplay words c.in-Replay.words = rw (c.in-Replay.is, c.deref.ensures.value) at c.in_ok-help.ensures.ok in
-    rw c.in-Ok.is (λ unread. c.replay_words.ensures.left (file_named words c.in-Replay.words asked unread))
+    let arguments = map string_bytes c.in-Ok.arguments.items in
+    let asked : AskReplay arguments c.in-Replay.arguments = rw (c.in-Replay.is, c.deref.ensures.value) at c.in_ok-help.ensures.ok in
+    rw c.in-Ok.is (λ unread. c.replay_arguments.ensures.left (file_named arguments c.in-Replay.arguments asked unread))

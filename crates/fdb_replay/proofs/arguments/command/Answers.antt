@@ -2,8 +2,8 @@ use Rattle.std.proofs.Common.{◌≡◌, ◌∙◌, ap, ap₂, true, codes}
 use Rattle.std.proofs.lemmas.Result.{IfOk-weaker}
 use Rattle.clap.specs.Simple.{app_of_fields, on_top}
 use Rattle.clap.specs.Words.{Shape, app_of, new_app, with_rule}
-use Rattle.fdb_replay.specs.Words.{command as command_read}
-use Rattle.fdb_replay.proofs.words.command.Goals as goal
+use Rattle.fdb_replay.specs.Arguments.{command as command_read}
+use Rattle.fdb_replay.proofs.arguments.command.Goals as goal
 
 pub returns : goal.returns
 returns c =

@@ -1,9 +1,9 @@
-//! The words of the command line, and what they ask for.
+//! The arguments of the command line, and what they ask for.
 
 ghost use Rattle.std.specs.Prelude.{◌≡◌, false, [], List, IfOk, IfErr, map, string_bytes};
 ghost use Rattle.clap.specs.Words.{IsParsedFrom, Text, app_of, found_of, matches_of, rows_of, rule_of};
 ghost use Rattle.clap.specs.declared.builder.command.Command.{Command};
-ghost use Rattle.fdb_replay.specs.Words.{AreWrong, command as command_read, faults, history_argument, proxies_argument, script_argument};
+ghost use Rattle.fdb_replay.specs.Arguments.{AreWrong, command as command_read, faults, history_argument, proxies_argument, script_argument};
 ghost use Rattle.fdb_replay.specs.private.Asked.{Ask, AskReplay};
 
 use clap::error::ErrorKind;
@@ -23,18 +23,18 @@ const AFTER_HELP: &str = "Exit status:
 
 docs/FORMATS.md has the script, what is written, and what each refusal and fault means.";
 
-/// What the words of a command line ask for.
+/// What the arguments of a command line ask for.
 #[derive(Drop)]
 pub(crate) enum Request<'a> {
     /// A replay.
-    Replay(Words<'a>),
+    Replay(Arguments<'a>),
     /// The help, which is this error's text.
     Help(Error),
 }
 
-/// The words of a replay.
+/// The arguments of a replay.
 #[derive(Clone, Copy)]
-pub(crate) struct Words<'a> {
+pub(crate) struct Arguments<'a> {
     /// The file that has the script; where there is none, standard input has it.
     pub(crate) script: Option<&'a str>,
     /// The number of GRV proxies, 1 to 16.
@@ -43,48 +43,51 @@ pub(crate) struct Words<'a> {
     pub(crate) history: bool,
 }
 
-/// Why words ask for nothing.
+/// Why arguments ask for nothing.
 #[derive(Clone, Copy)]
-pub(crate) enum WordsFault {
+pub(crate) enum ArgumentsFault {
     /// They are refused.
     Refused,
     /// There was no memory to read them.
     Memory,
 }
 
-/// The words of the command line behind the program's own name. Words
+/// The arguments of the command line behind the program's own name. Arguments
 /// that are not UTF-8 are an error, and so is memory that runs out.
 pub fn command_line<R: Env + Alloc<A = Global>>(rt: &R) -> io::Result<Vec<String>> {
     Ok(env::args(rt)?.skip(1).collect(rt.alloc())?)
 }
 
-/// What the words ask for, the program's own name left out.
-pub(crate) fn parse<'a>(alloc: Global, words: &'a [String]) -> Result<Request<'a>, WordsFault>
-    ensures ok { IfOk result (Ask (map string_bytes words.entry.now)) }
-    ensures err { IfErr result
-        (λ fault. fault ≡ WordsFault.Refused → AreWrong (map string_bytes words.entry.now)) }
+/// What the arguments ask for, the program's own name left out.
+pub(crate) fn parse<'a>(
+    alloc: Global,
+    arguments: &'a [String],
+) -> Result<Request<'a>, ArgumentsFault>
+    ensures ok { IfOk result (Ask (map string_bytes arguments.entry.now)) }
+    ensures err { IfErr result (λ fault. fault ≡ ArgumentsFault.Refused
+        → AreWrong (map string_bytes arguments.entry.now)) }
 {
     let Ok(command) = command(alloc) else {
-        return Err(WordsFault::Memory);
+        return Err(ArgumentsFault::Memory);
     };
-    match command.try_get_matches_from(words) {
-        Ok(matches) => Ok(Request::Replay(words_of(&matches))),
+    match command.try_get_matches_from(arguments) {
+        Ok(matches) => Ok(Request::Replay(arguments_of(&matches))),
         Err(error) => match error.kind() {
             ErrorKind::DisplayHelp => Ok(Request::Help(error)),
-            ErrorKind::OutOfMemory => Err(WordsFault::Memory),
-            _ => Err(WordsFault::Refused),
+            ErrorKind::OutOfMemory => Err(ArgumentsFault::Memory),
+            _ => Err(ArgumentsFault::Refused),
         },
     }
 }
 
-/// What a replay is asked for, by the matches of the words.
-fn words_of<'a>(matches: &ArgMatches<'a>) -> Words<'a>
-    ensures { (old : Command) (words : List Text) → IsParsedFrom old matches.now
+/// What a replay is asked for, by the matches of the arguments.
+fn arguments_of<'a>(matches: &ArgMatches<'a>) -> Arguments<'a>
+    ensures { (old : Command) (arguments : List Text) → IsParsedFrom old matches.now
         → app_of old ≡ command_read
-        → rows_of (found_of matches.now) ≡ matches_of command_read words → faults words ≡ []
-        → AskReplay words result }
+        → rows_of (found_of matches.now) ≡ matches_of command_read arguments → faults arguments ≡ []
+        → AskReplay arguments result }
 {
-    Words {
+    Arguments {
         script: matches.get_str("script"),
         proxies: matches.get_one::<u32>("proxies").unwrap_or(1),
         history: matches.get_flag("history"),

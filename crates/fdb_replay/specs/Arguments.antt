@@ -1,6 +1,6 @@
--- What the words of the command line ask for. clap reads them, and its definitions say what it
--- makes of words: the matches of a command on them, and the kinds of error that it gives at
--- them. Here stand the command, what is read of its matches, and what the program does then.
+-- What the arguments of the command line ask for. clap reads them, and its definitions say what it
+-- makes of them: the matches of a command on them, and the kinds of error that it gives at them.
+-- Here stand the command, what is read of its matches, and what the program does then.
 use Rattle.std.specs.Prelude.{◌≡◌, ◌≢◌, ◌⊎◌, ◌≤◌, ⊤, ℕ, Bool, true, false, List, [], Option, Some, None, IfSome, Ok, length, codes, pos, option_map}
 use Rattle.std.specs.Io.KnownBytes.{Appends, Consumes}
 use Rattle.std.specs.Option.{option_map_or}
@@ -15,7 +15,7 @@ use Rattle.fdb_replay.specs.Outcome.{IsFaulty}
 use Rattle.fdb_replay.specs.Replay.{IsRefused, Replays, TakesSome}
 use Rattle.fdb_script.specs.declared.script.TheConstants.{MAX_SCRIPT_BYTES}
 use Rattle.fdb_script.specs.Plan.{Plan}
-use Rattle.fdb_script.specs.Reading.{Reads}
+use Rattle.fdb_script.specs.Reading.{ReadsAs}
 
 -- SCRIPT, --proxies N and --history, as clap is given them
 abbrev pub script_argument : Rule
@@ -35,41 +35,41 @@ history_argument = record (new_rule (codes "history")) {
   parser = Some parser.Bool;
 }
 
--- the command: its words come without the program's own name
+-- the command: its arguments come without the program's own name
 abbrev pub command : App
 command = with_rule (with_rule (with_rule
     (on_top (λ top. record top { no_binary_name = true }) (new_app (codes "fdb_replay")))
     script_argument) proxies_argument) history_argument
 
--- the kinds of error that clap gives at the words; none where it takes them
+-- the kinds of error that clap gives at the arguments; none where it takes them
 abbrev pub faults : List Text → Kinds
-faults words = fault_of command words
+faults arguments = fault_of command arguments
 
 -- help is asked for
 abbrev pub AsksHelp : List Text → Type 0
-AsksHelp words = IsAmong DisplayHelp (faults words)
+AsksHelp arguments = IsAmong DisplayHelp (faults arguments)
 
--- the words are refused
+-- the arguments are refused
 abbrev pub AreWrong : List Text → Type 0
-AreWrong words = (kind : _) × (kind ≢ DisplayHelp) × IsAmong kind (faults words)
+AreWrong arguments = (kind : _) × (kind ≢ DisplayHelp) × IsAmong kind (faults arguments)
 
 -- the file that has the script; None where standard input has it
 abbrev pub script_named : List Text → Option Text
-script_named words = first_of (codes "script") (matches_of command words)
+script_named arguments = first_of (codes "script") (matches_of command arguments)
 
 -- the history is written too
 abbrev pub wants_history : List Text → Bool
-wants_history words =
+wants_history arguments =
     option_map_or (λ value. bytes_eq value (codes "true"))
-    (one_of (codes "history") (matches_of command words)) false
+    (one_of (codes "history") (matches_of command arguments)) false
 
--- the words ask for something
+-- the arguments ask for something
 abbrev pub AreTaken : List Text → Type 0
-AreTaken words = (faults words ≡ []) ⊎ AsksHelp words
+AreTaken arguments = (faults arguments ≡ []) ⊎ AsksHelp arguments
 
 -- standard input is to be read
 abbrev pub ReadsInput : List Text → Type 0
-ReadsInput words = (faults words ≡ []) × (script_named words ≡ None)
+ReadsInput arguments = (faults arguments ≡ []) × (script_named arguments ≡ None)
 
 -- these may be the bytes that were read: all that the input has, where no file is
 -- named and they are known; else any, since no clause can know the bytes of a file
@@ -86,7 +86,7 @@ MayBeNoScript script remaining =
 abbrev pub MayBeFaulty : Option Text → Option (List ℕ) → Type 0
 MayBeFaulty script remaining =
     (bytes : List ℕ) × MayBeRead script remaining bytes
-    × (plan : Plan) × Reads bytes (Ok plan) × (found : AuditFault) × IsFaulty plan found
+    × (plan : Plan) × ReadsAs bytes (Ok plan) × (found : AuditFault) × IsFaulty plan found
 
 -- this is the text of a run of a script that may have been
 -- read, with the history where that is wanted
@@ -111,30 +111,32 @@ pub record IsCutShort (script : Option Text) (with_history : Bool)
   pub printed : IsPrinted script with_history remaining written
   pub cut : TakesSome written before after
 
--- what the words ask for is done
+-- what the arguments ask for is done
 abbrev pub IsDone : List Text → Option (List ℕ) → Option (List ℕ) → Option (List ℕ) → Type 0
-IsDone words remaining before after = AsksHelp words
-    ⊎ ((faults words ≡ [])
-    × Replayed (script_named words) (wants_history words) remaining before after)
+IsDone arguments remaining before after = AsksHelp arguments
+    ⊎ ((faults arguments ≡ [])
+    × Replayed (script_named arguments) (wants_history arguments) remaining before after)
 
--- what the words ask for is done, or the text of a replay was written in
+-- what the arguments ask for is done, or the text of a replay was written in
 -- part: what a writer that fails may leave, a flush that fails included
 abbrev pub IsBegun : List Text → Option (List ℕ) → Option (List ℕ) → Option (List ℕ) → Type 0
-IsBegun words remaining before after = IsDone words remaining before after
-    ⊎ ((faults words ≡ [])
-    × IsCutShort (script_named words) (wants_history words) remaining before after)
+IsBegun arguments remaining before after = IsDone arguments remaining before after
+    ⊎ ((faults arguments ≡ [])
+    × IsCutShort (script_named arguments) (wants_history arguments) remaining before after)
 
--- The words ask for a replay, and what may have been read stands for
+-- The arguments ask for a replay, and what may have been read stands for
 -- no script. Where no file is named and the input's bytes are known,
 -- these stand for none; of the bytes of a file this says nothing.
 abbrev pub MayAskInVain : List Text → Option (List ℕ) → Type 0
-MayAskInVain words remaining = (faults words ≡ []) × MayBeNoScript (script_named words) remaining
+MayAskInVain arguments remaining =
+    (faults arguments ≡ []) × MayBeNoScript (script_named arguments) remaining
 
--- The words ask for a replay, and what may have been read is a script of which a run
+-- The arguments ask for a replay, and what may have been read is a script of which a run
 -- has a fault that its audit found. Where no file is named and the input's bytes are
 -- known, these are such a script; of the bytes of a file this says nothing.
 abbrev pub MayAskFaulty : List Text → Option (List ℕ) → Type 0
-MayAskFaulty words remaining = (faults words ≡ []) × MayBeFaulty (script_named words) remaining
+MayAskFaulty arguments remaining =
+    (faults arguments ≡ []) × MayBeFaulty (script_named arguments) remaining
 
 -- at most so many of the input's bytes are gone, where they are known
 abbrev pub TakesAtMost : ℕ → Option (List ℕ) → Option (List ℕ) → Type 0

@@ -1,9 +1,9 @@
-"""The words of the command line: what they ask for, and which are refused."""
+"""The arguments of the command line: what they ask for, and which are refused."""
 import os
 import subprocess
 import tempfile
 
-from harness import NO_STREAM, READING_FAILED, ROOT, WORDS_REFUSED, WRITING_FAILED, Ran
+from harness import ARGUMENTS_REFUSED, NO_STREAM, READING_FAILED, ROOT, WRITING_FAILED, Ran
 from harness import done, fault_of, first_output, first_script, read, refused, run, script, under
 
 # The history of the first script: it reads the recovery record, reports twice, and reads what the second one left.
@@ -27,7 +27,7 @@ HELPING = [
     ("--proxies", "2", "--history", "one.json", "--help"),
 ]
 
-# `+3` and `-3` as clap has them: an integer may have a plus, and a word that begins with a minus is an option's.
+# `+3` and `-3` as clap has them: an integer may have a plus, and an argument that begins with a minus is an option's.
 COUNTS_TAKEN = ["1", "2", "15", "16", "+3", "016"]
 COUNTS_REFUSED = ["0", "17", "-1", "x", "", " 1", "1 ", "1.0", "1e0", "0x1", "4294967297", "18446744073709551617"]
 REFUSED = [
@@ -86,9 +86,9 @@ TAKEN = [
 ]
 
 
-def words(program):
-    """Words ask for a replay or for help, or are refused before anything is read."""
-    with tempfile.TemporaryDirectory(prefix="words-") as folder:
+def arguments(program):
+    """Arguments ask for a replay or for help, or are refused before anything is read."""
+    with tempfile.TemporaryDirectory(prefix="arguments-") as folder:
         file = f"{folder}/script.json"
         with open(file, "wb") as it:
             it.write(first_script())
@@ -99,13 +99,13 @@ def words(program):
 
 
 def asked(program, file):
-    """Words that ask for a replay."""
+    """Arguments that ask for a replay."""
     for given, wanted in TAKEN:
         filled = [file if it == "FILE" else it for it in given]
-        yield f"the words {given}", fault_of(run([program, *filled], script().encode()), done(wanted))
+        yield f"the arguments {given}", fault_of(run([program, *filled], script().encode()), done(wanted))
     for count in COUNTS_TAKEN:
         for given in (["--proxies", count], [f"--proxies={count}"]):
-            yield f"the words {given}", fault_of(run([program, *given], first_script()), done(first_output()))
+            yield f"the arguments {given}", fault_of(run([program, *given], first_script()), done(first_output()))
 
 
 def named(program, folder):
@@ -139,41 +139,41 @@ def named(program, folder):
     for given, wanted in [
         (f"{folder}/script.json", first),
         (f"{folder}/none.json", READING_FAILED),
-        ("--none", WORDS_REFUSED),
+        ("--none", ARGUMENTS_REFUSED),
         ("--help", done(HELP)),
     ]:
         yield f"what is not asked for is not read, with {given}", left_unread(program, given, wanted)
 
 
-def left_unread(program, word, wanted):
-    """Runs the program on a word with a pipe as standard input, and returns what it took from that or did wrong."""
+def left_unread(program, argument, wanted):
+    """Runs the program on an argument with a pipe as standard input, and returns what it took from that or did wrong."""
     reader, writer = os.pipe()
     os.write(writer, b"left")
     os.close(writer)
     with os.fdopen(reader, "rb") as pipe:
-        fault = fault_of(run([program, word], stdin=pipe), wanted)
+        fault = fault_of(run([program, argument], stdin=pipe), wanted)
         return fault or (None if pipe.read() == b"left" else "standard input was read")
 
 
 def unwanted(program, file):
-    """Words that are refused, also where reading, the script or writing would fail."""
+    """Arguments that are refused, also where reading, the script or writing would fail."""
     for given in REFUSED:
         filled = [file if it == "FILE" else it for it in given]
-        yield f"the words {given[:9]}", fault_of(run([program, *filled], first_script()), WORDS_REFUSED)
+        yield f"the arguments {given[:9]}", fault_of(run([program, *filled], first_script()), ARGUMENTS_REFUSED)
     for count in COUNTS_REFUSED:
         for given in (["--proxies", count], [f"--proxies={count}"]):
-            yield f"the words {given}", fault_of(run([program, *given], first_script()), WORDS_REFUSED)
+            yield f"the arguments {given}", fault_of(run([program, *given], first_script()), ARGUMENTS_REFUSED)
     for given in ([b"\xff"], [b"--history", b"script\xc3"], [b"--proxies", b"\xff"], [b"--help", b"\xff"]):
-        yield f"the words {given}", fault_of(run([program, *given], first_script()), WORDS_REFUSED)
-    yield "refused words, input a folder", fault_of(under("--none < /", program), WORDS_REFUSED)
-    yield "refused words, no JSON", fault_of(run([program, "--none"], b"{"), WORDS_REFUSED)
-    yield "refused words, output full", fault_of(under("--none > /dev/full", program), WORDS_REFUSED)
-    yield "refused words, error full", fault_of(under("--none 2> /dev/full", program), Ran(2, b"", b""))
-    yield "no words at all, not even a name", fault_of(nameless(program, first_script()), done(first_output()))
+        yield f"the arguments {given}", fault_of(run([program, *given], first_script()), ARGUMENTS_REFUSED)
+    yield "refused arguments, input a folder", fault_of(under("--none < /", program), ARGUMENTS_REFUSED)
+    yield "refused arguments, no JSON", fault_of(run([program, "--none"], b"{"), ARGUMENTS_REFUSED)
+    yield "refused arguments, output full", fault_of(under("--none > /dev/full", program), ARGUMENTS_REFUSED)
+    yield "refused arguments, error full", fault_of(under("--none 2> /dev/full", program), Ran(2, b"", b""))
+    yield "no arguments at all, not even a name", fault_of(nameless(program, first_script()), done(first_output()))
 
 
 def nameless(program, given):
-    """Runs the program with an empty list of words, where this system allows that."""
+    """Runs the program with an empty list of arguments, where this system allows that."""
     reader, writer = os.pipe()
     os.write(writer, given)
     os.close(writer)
@@ -185,12 +185,12 @@ def nameless(program, given):
 
 
 def helped(program):
-    """Help goes to standard output with status 0, whatever else is asked for by words in front that are taken."""
+    """Help goes to standard output with status 0, whatever else is asked for by arguments in front that are taken."""
     helps = done(HELP)
     for given in HELPING:
-        yield f"the words {given}", fault_of(run([program, *given], b"{"), helps)
-    yield "help behind refused words", fault_of(run([program, "--none", "--help"]), WORDS_REFUSED)
-    yield "help behind five words of which one is refused", fault_of(run([program, "--history", "--proxies", "2", "x", "y", "--help"]), WORDS_REFUSED)
+        yield f"the arguments {given}", fault_of(run([program, *given], b"{"), helps)
+    yield "help behind refused arguments", fault_of(run([program, "--none", "--help"]), ARGUMENTS_REFUSED)
+    yield "help behind five arguments of which one is refused", fault_of(run([program, "--history", "--proxies", "2", "x", "y", "--help"]), ARGUMENTS_REFUSED)
     yield "help behind --", fault_of(run([program, "--", "--help"]), READING_FAILED)
     yield "help, output full", fault_of(under("--help > /dev/full", program), WRITING_FAILED)
     yield "help, output closed", fault_of(under("--help >&-", program), WRITING_FAILED)
