@@ -1,6 +1,6 @@
 """How much a reader has to believe: the definitions that a promise rests on, found by the names that they use.
 
-    python3 tests/believed.py [DEFINITION..]      (without words, what the headline rests on)
+    python3 tests/believed.py [DEFINITION..]      (without any, what the headline rests on)
 """
 import os
 import re
@@ -79,12 +79,12 @@ def counts():
     return {"definitions": len(found), "headline": lines_of(found), **parts, **by_file}
 
 
-def main(words):
+def main(names):
     roots = HEADLINE
-    if words:
+    if names:
         everywhere = [(crate, file[:-5]) for crate in sorted(os.listdir(f"{ROOT}/crates")) if os.path.isdir(f"{ROOT}/crates/{crate}/specs")
                       for file in sorted(os.listdir(f"{ROOT}/crates/{crate}/specs")) if file.endswith(".antt") and file != "Lib.antt"]
-        roots = [(crate, file, word) for crate, file in everywhere for word in words if word in read(crate, file)[0]]
+        roots = [(crate, file, name) for crate, file in everywhere for name in names if name in read(crate, file)[0]]
     found, types = rests_on(roots)
     by_file = {}
     for it in found:

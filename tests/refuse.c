@@ -56,7 +56,7 @@ int pthread_create(unsigned long *thread, const void *attributes, void *(*body)(
     if (refuses('t')) {
         return try_again;
     }
-    if (refused == 0 && write(tells, "s", 1) != 1) {
+    if (refused == 0 && tells > 0 && write(tells, "s", 1) != 1) {
         return try_again;
     }
     // That of the C library, which is the next after this one.

@@ -3,7 +3,7 @@ import os
 import resource
 import subprocess
 
-from answers import MOST_COMMANDS, crowd_at_all_limits, large
+from answers import MOST_COMMANDS, crowd_at_all_limits, do, large
 from harness import DONE, NO_STREAM, READING_FAILED, REFUSED, WRITING_FAILED, Ran
 from harness import done, fault_of, first_output, first_script, refused, run, script, under, written
 from model import expected
@@ -11,8 +11,10 @@ from model import expected
 MOST_BYTES = 16_777_216
 # What a pipe holds at most of bytes that nobody has taken.
 PIPE_BYTES = 65_536
-# How much processor time a script may take, in seconds: several times what it does on a machine with nothing else to do.
-WORK_SECONDS = 4
+# What is printed of a script without rounds.
+NO_REPLIES = b"audit ok events 0 raised 0 versions 0\n"
+# How much processor time a script may take, in seconds: some five times what the slowest of them does on a slow machine.
+WORK_SECONDS = 10
 
 
 def sizes(program):
@@ -24,7 +26,7 @@ def sizes(program):
         ("a script and spaces, one byte less", padded(MOST_BYTES - 1), wanted),
         ("a script and spaces, one byte more", padded(MOST_BYTES + 1), READING_FAILED),
         ("spaces and a script, as large as may be", b"\n" * (MOST_BYTES - len(first)) + first, wanted),
-        ("an ignored text, as large as may be", with_note(MOST_BYTES), done(b"audit ok events 0 raised 0 versions 0\n")),
+        ("an ignored text, as large as may be", with_note(MOST_BYTES), done(NO_REPLIES)),
         ("an ignored text, one byte more", with_note(MOST_BYTES + 1), READING_FAILED),
         ("no JSON, as large as may be", b"x" * MOST_BYTES, refused("NotJson")),
         ("no JSON, one byte more", b"x" * (MOST_BYTES + 1), READING_FAILED),
@@ -65,25 +67,27 @@ def with_values(size, value):
 
 
 def largest():
-    """Names scripts that are as large as may be in one way or another, with the words that they are run with."""
+    """Names scripts that are as large as may be in one way or another, with the arguments to run them with."""
     whole = ["--history", "--proxies", "16"]
     yield "all its limits", crowd_at_all_limits(MOST_BYTES), whole
     yield "bytes, in one text", with_note(MOST_BYTES), []
     for value in ("0", '""', "[]", "{}", '{"a":0}', '"aaaaaaaa"', "0.5", "[[0]]"):
         yield f"bytes, in values {value}", with_values(MOST_BYTES, value), []
-    for name, rounds, top in large():
+    crowds = [[do("grv", who) for who in range(64)]] * (MOST_COMMANDS // 64)
+    for name, rounds, top in [*large(), ("reads of 64 clients in each round", crowds, {"clients": 64})]:
         yield f"commands: {name}", written(rounds, **top), whole
 
 
 def work(program):
     """The largest scripts take a bounded time of the processor, the starts of their threads included."""
-    for name, given, words in largest():
+    for name, given, arguments in largest():
         before = resource.getrusage(resource.RUSAGE_CHILDREN)
-        ran = run([program, *words], given)
+        ran = run([program, *arguments], given)
         after = resource.getrusage(resource.RUSAGE_CHILDREN)
         spent = after.ru_utime + after.ru_stime - before.ru_utime - before.ru_stime
         fault = f"it took {spent:.1f} s" if spent > WORK_SECONDS else None
-        yield name, f"status {ran.status}" if ran.status else fault
+        ends = Ran(DONE, None if arguments else NO_REPLIES, b"")
+        yield name, fault_of(ran, ends) or fault
 
 
 def broken(program):
