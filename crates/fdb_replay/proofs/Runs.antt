@@ -22,9 +22,9 @@ no_calls zero = refl
 no_calls (suc n) = ap (λ others. record { calls = [] } ∷ others) (no_calls n)
 
 -- who plays all rounds from the start answers the script
-pub from_the_start : (plan : Plan) (clients : List (List Call)) (last : List ClientLog) → clients ≡ replicate plan.clients [] → FoldsTo AnswersRound (logs_of clients) plan.rounds last
+pub from_the_start : (plan : Plan) (clients : List (List Call)) (last : List ClientLog) → clients ≡ replicate plan.setup.clients [] → FoldsTo AnswersRound (logs_of clients) plan.rounds last
     → Answers plan last
-from_the_start plan clients last new played = subst (λ logs. FoldsTo AnswersRound logs plan.rounds last) (ap logs_of new ∙ no_calls plan.clients) played
+from_the_start plan clients last new played = subst (λ logs. FoldsTo AnswersRound logs plan.rounds last) (ap logs_of new ∙ no_calls plan.setup.clients) played
 
 -- who plays a round and then those behind it has played those from it on
 pub one_round_more : (rounds : List (List Command)) (round : ℕ) (commands : List Command) (before after : List (List Call)) (last : List ClientLog) → round < length rounds
@@ -46,8 +46,8 @@ rounds_length before (commands ∷ rounds) after (between, answered, rest) =
     rounds_length between rounds after rest ∙ ap length answered.learnt ∙ learnt_length 0 (added_calls before answered.performed) answered.performed ∙ answered.performs.same_clients
 
 -- the logs of a run are as many as the script's clients
-pub same_clients : (plan : Plan) (logs : List ClientLog) → Answers plan logs → length logs ≡ plan.clients
-same_clients plan logs answers = rounds_length (replicate plan.clients (record { calls = [] })) plan.rounds logs answers ∙ length-replicate plan.clients (record { calls = [] })
+pub same_clients : (plan : Plan) (logs : List ClientLog) → Answers plan logs → length logs ≡ plan.setup.clients
+same_clients plan logs answers = rounds_length (replicate plan.setup.clients (record { calls = [] })) plan.rounds logs answers ∙ length-replicate plan.setup.clients (record { calls = [] })
 
 -- ---- the audit
 
@@ -56,8 +56,8 @@ IsOther Memory = ⊥
 IsOther _ = Unit {0}
 
 -- a run fails as its audit says
-pub fails : (plan : Plan) (chain : List Issued) (logs : List ClientLog) (fault : AuditFault) → Answers plan logs → IsChain plan.epoch_end plan.recovery chain
-    → IsFirstFault (opening plan.recovery) chain logs fault → Fails plan (run_fault fault)
+pub fails : (plan : Plan) (chain : List Issued) (logs : List ClientLog) (fault : AuditFault) → Answers plan logs → IsChain plan.setup.epoch_end plan.setup.recovery chain
+    → IsFirstFault (opening plan.setup.recovery) chain logs fault → Fails plan (run_fault fault)
 fails plan chain logs Memory answers one_chain first = tt
 fails plan chain logs (Order client call) answers one_chain first =
     record { chain = chain; logs = logs; answers = answers; one_chain = one_chain; first = first; not_memory = λ same. subst IsOther same tt }

@@ -26,9 +26,9 @@ pub record IsRunOf (plan : Plan) (outcome : Outcome) : Type 0 where
   -- each client did its commands, in their order, learnt what others told it, and did nothing else
   pub answers : Answers plan outcome.logs.items
   -- the commit versions are one chain, without gap or fork
-  pub one_chain : IsChain plan.epoch_end plan.recovery outcome.chain.items
+  pub one_chain : IsChain plan.setup.epoch_end plan.setup.recovery outcome.chain.items
   -- the replies are those of one register that takes reports and reads one at a time
-  pub linear : IsLinear (opening plan.recovery) outcome.logs.items outcome.history.events
+  pub linear : IsLinear (opening plan.setup.recovery) outcome.logs.items outcome.history.events
   -- the history is in the fixed order
   pub in_order : outcome.history.events ≡ explained outcome.logs.items
   -- each answer is justified by its input, the chain and its
@@ -36,7 +36,7 @@ pub record IsRunOf (plan : Plan) (outcome : Outcome) : Type 0 where
   pub none_stray : Nowhere (IsStray outcome.chain.items outcome.logs.items)
   -- each commit version that was drawn, but for the first,
   -- is above the register that its asker had seen
-  pub none_low : Nowhere (Low (opening plan.recovery) outcome.logs.items)
+  pub none_low : Nowhere (Low (opening plan.setup.recovery) outcome.logs.items)
 
 -- how a run fails where its audit does: out of memory is the run's own
 abbrev pub run_fault : AuditFault → RunFault
@@ -49,8 +49,8 @@ pub record IsFaulty (plan : Plan) (fault : AuditFault) : Type 0 where
   pub chain : List Issued
   pub logs : List ClientLog
   pub answers : Answers plan logs
-  pub one_chain : IsChain plan.epoch_end plan.recovery chain
-  pub first : IsFirstFault (opening plan.recovery) chain logs fault
+  pub one_chain : IsChain plan.setup.epoch_end plan.setup.recovery chain
+  pub first : IsFirstFault (opening plan.setup.recovery) chain logs fault
   pub not_memory : fault ≢ audit.Memory
 
 -- A run fails where memory runs out, or with the fault that its audit finds.

@@ -43,10 +43,9 @@ pub fn run<R: Threads + Wait + Sync, G: Gate>(
     ensures ok { IfOk result (IsRunOf script.now) }
     ensures err { IfErr result (Fails script.now) }
 {
-    // The plan of a script is within its limits.
-    let _ = script.epoch_end();
-    let start = opening(script.recovery());
-    match LiveRecord::<Brand>::open(rt, alloc, start, script.clients()) {
+    let setup = script.setup();
+    let start = opening(setup.recovery);
+    match LiveRecord::<Brand>::open(rt, alloc, start, setup.clients) {
         Ok(opened) => run_named::<Brand, R, G>(rt, alloc, opened, script, proxies, gate),
         Err(LiveError::Memory) => Err(RunFault::Memory),
         Err(LiveError::TooLarge) => unreachable!(),
@@ -73,9 +72,9 @@ fn run_named<J: Live + Send + Sync, R: Threads + Wait + Sync, G: Gate>(
     requires plan { IsPlan script.now }
     requires opened { opened
         ≡ record { table = J.table; start = J.start; reporters = J.reporters } }
-    requires clients { J.reporters ≡ script.now.clients }
-    requires epoch_end { J.epoch_end ≡ script.now.epoch_end }
-    requires recovery { J.recovery ≡ script.now.recovery }
+    requires clients { J.reporters ≡ script.now.setup.clients }
+    requires epoch_end { J.epoch_end ≡ script.now.setup.epoch_end }
+    requires recovery { J.recovery ≡ script.now.setup.recovery }
     requires some_proxy { 0 < proxies }
     requires few_proxies { proxies ≤ 16 }
     ensures ok { IfOk result (IsRunOf script.now) }
@@ -110,7 +109,7 @@ fn logs_at<'a, J: Live + Send + Sync, R: Threads + Wait + Sync, G: Gate>(
     tokens: Vec<Seen<J>>,
 ) -> Result<Vec<ClientLog>, RunFault>
     requires plan { IsPlan script.now }
-    requires count { vec_len tokens ≡ script.now.clients }
+    requires count { vec_len tokens ≡ script.now.setup.clients }
     requires numbered { (k : ℕ) → k < vec_len tokens
         → slice_get tokens.items k ≡ Some (record { reporter = Some k; raises = [] }) }
     ensures answers { IfOk result (λ logs. Answers script.now logs.items) }
@@ -135,12 +134,12 @@ fn logs_at<'a, J: Live + Send + Sync, R: Threads + Wait + Sync, G: Gate>(
 
 /// A sequencer of which nobody has asked anything yet. There is a commit proxy for each client.
 fn sequencer_of<J: Live>(alloc: Global, script: &Script) -> Result<Sequencer<J>, RunFault>
-    requires epoch_end { J.epoch_end ≡ script.now.epoch_end }
-    requires recovery { J.recovery ≡ script.now.recovery }
+    requires epoch_end { J.epoch_end ≡ script.now.setup.epoch_end }
+    requires recovery { J.recovery ≡ script.now.setup.recovery }
     ensures { IfErr result (λ fault. fault ≡ RunFault.Memory) }
 {
-    let (epoch_end, recovery) = (script.epoch_end(), script.recovery());
-    match ChainCore::new(alloc, epoch_end, recovery, script.clients()) {
+    let setup = script.setup();
+    match ChainCore::new(alloc, setup.epoch_end, setup.recovery, setup.clients) {
         Ok(core) => Ok(Sequencer::new(core)),
         Err(ChainError::Memory) => Err(RunFault::Memory),
         Err(_) => unreachable!(),
@@ -167,11 +166,11 @@ fn audited(
 ) -> Result<Outcome, RunFault>
     requires few { length logs.items ≤ 64 }
     requires answers { Answers script.now logs.items }
-    requires one_chain { IsChain script.now.epoch_end script.now.recovery chain.items }
+    requires one_chain { IsChain script.now.setup.epoch_end script.now.setup.recovery chain.items }
     ensures ok { IfOk result (IsRunOf script.now) }
     ensures err { IfErr result (Fails script.now) }
 {
-    let start = opening(script.recovery());
+    let start = opening(script.setup().recovery);
     let history = audit(alloc, start, chain.as_slice(), logs.as_slice())?;
     Ok(Outcome {
         chain,

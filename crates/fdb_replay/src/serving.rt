@@ -56,9 +56,10 @@ fn proxy_at<'a, J: Live>(
     ensures made { IfOk result (IsMadeFor script.now) }
     ensures err { IfErr result (λ fault. fault ≡ RunFault.Memory) }
 {
-    let queue = throttled_queue(alloc, script.config(), script.throttles())?;
+    let setup = script.setup();
+    let queue = throttled_queue(alloc, setup.config, setup.throttles.as_slice())?;
     let seen = live.split(first);
-    Ok(GrvProxy::new(alloc, live, desk, queue, script.elapsed(), seen))
+    Ok(GrvProxy::new(alloc, live, desk, queue, setup.elapsed, seen))
 }
 
 /// The logs of the clients, once all rounds are played. Meanwhile each proxy serves its desk in a

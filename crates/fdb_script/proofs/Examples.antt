@@ -28,12 +28,14 @@ second_round = record { client = 1; act = Grv plain_read } ∷ []
 
 abbrev plan : Plan
 plan = record {
-  epoch_end = 0;
-  recovery = 100;
-  clients = 2;
-  config = record { normal = 1000; batch = 500; room = 1000 };
-  elapsed = 1000000;
-  throttles = [];
+  setup = record {
+    epoch_end = 0;
+    recovery = 100;
+    clients = 2;
+    config = record { normal = 1000; batch = 500; room = 1000 };
+    elapsed = 1000000;
+    throttles = [];
+  };
   rounds = first_round ∷ second_round ∷ [];
 }
 

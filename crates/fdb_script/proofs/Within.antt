@@ -237,10 +237,10 @@ rounds_fit clients round (values ∷ more) rounds e =
 
 -- the lists of a frame are those that were read
 listed_in : (throttles : Option (List Throttle)) (rounds : Option (List (List Data))) (epoch_end recovery clients : Option ℕ) (config : Option QueueConfig) (elapsed : Option ℕ) (frame : Frame)
-    → frame_with throttles rounds epoch_end recovery clients config elapsed ≡ Some frame → (throttles ≡ Some frame.throttles) × (rounds ≡ Some frame.rounds)
+    → frame_with throttles rounds epoch_end recovery clients config elapsed ≡ Some frame → (throttles ≡ Some frame.setup.throttles) × (rounds ≡ Some frame.rounds)
 listed_in (Some throttles) (Some rounds) (Some epoch_end) (Some recovery) (Some clients) (Some config) (Some elapsed) frame e =
     let same = same_Some _ frame e in
-    (ap (λ f. Some f.throttles) same, ap (λ f. Some f.rounds) same)
+    (ap (λ f. Some f.setup.throttles) same, ap (λ f. Some f.rounds) same)
 listed_in _ _ _ _ _ _ _ frame e = absurd (none-some frame e)
 
 few_rounds : (value : Data) (rounds : List (List Data)) → member arrays_of (codes "rounds") value ≡ Some rounds → length rounds ≤ MAX_ROUNDS
@@ -249,15 +249,15 @@ few_rounds value rounds e =
     (listed (λ round. Unit {0}) array_of MAX_ROUNDS d rounds (λ v r is. tt) read).1)
 
 -- what is read of a script whose whole is within the limits is within them
-pub IsPlan-read : (value : Data) (frame : Frame) (rounds : List (List Command)) → frame_of value ≡ Some frame → rounds_from frame.clients 0 frame.rounds ≡ Ok rounds
-    → frame.epoch_end < frame.recovery → frame.recovery ≤ MAX_VERSION → 1 ≤ frame.clients → frame.clients ≤ MAX_CLIENTS → IsConfig frame.config → IsElapsed frame.elapsed
-    → IsPlan (record { epoch_end = frame.epoch_end; recovery = frame.recovery; clients = frame.clients; config = frame.config; elapsed = frame.elapsed; throttles = frame.throttles; rounds = rounds })
+pub IsPlan-read : (value : Data) (frame : Frame) (rounds : List (List Command)) → frame_of value ≡ Some frame → rounds_from frame.setup.clients 0 frame.rounds ≡ Ok rounds
+    → frame.setup.epoch_end < frame.setup.recovery → frame.setup.recovery ≤ MAX_VERSION → 1 ≤ frame.setup.clients → frame.setup.clients ≤ MAX_CLIENTS
+    → IsConfig frame.setup.config → IsElapsed frame.setup.elapsed → IsPlan (record { setup = frame.setup; rounds = rounds })
 IsPlan-read value frame rounds framed read ends recovery some few config elapsed =
-    let fit = rounds_fit frame.clients 0 frame.rounds rounds read in
+    let fit = rounds_fit frame.setup.clients 0 frame.rounds rounds read in
     let test = checked_some is_frame _ frame framed in
     let limits = and_parts _ _ test.0 in
     let lists = listed_in _ _ _ _ _ _ _ frame test.1 in
-    let throttles = throttles_fit value frame.throttles lists.0 in
+    let throttles = throttles_fit value frame.setup.throttles lists.0 in
     let in_range : length frame.rounds ≤ MAX_ROUNDS = few_rounds value frame.rounds lists.1 in
     record {
       epoch_ends_before = ends;

@@ -103,4 +103,4 @@ pub record AnswersRound (before : List ClientLog) (commands : List Command)
 -- a log for each client, grown round by round from nothing
 abbrev pub Answers : Plan → List ClientLog → Type 0
 Answers plan logs =
-    FoldsTo AnswersRound (replicate plan.clients (record { calls = [] })) plan.rounds logs
+    FoldsTo AnswersRound (replicate plan.setup.clients (record { calls = [] })) plan.rounds logs

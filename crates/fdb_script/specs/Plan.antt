@@ -3,23 +3,18 @@ use Rattle.std.specs.Prelude.{ℕ, ◌<◌, ◌≤◌, Bool, true, ◌&&◌, ◌
 use Rattle.std.specs.List.{AllByRecursion, list_all}
 use Rattle.fdb_history.specs.declared.register.TheConstants.{MAX_VERSION}
 use Rattle.fdb_queue.specs.Config.{IsConfig, IsElapsed}
-use Rattle.fdb_queue.specs.declared.config.QueueConfig.{QueueConfig}
 use Rattle.fdb_queue.specs.declared.config.TheConstants.{MAX_TAG}
 use Rattle.fdb_script.specs.declared.script.Act.{Act}
 use Rattle.fdb_script.specs.declared.script.Act.TheVariants.{Grv, Ask, Reask, Report, Tell}
 use Rattle.fdb_script.specs.declared.script.Command.{Command}
-use Rattle.fdb_script.specs.declared.script.Throttle.{Throttle}
+use Rattle.fdb_script.specs.declared.script.Setup.{Setup}
 use Rattle.fdb_script.specs.declared.script.TheConstants.{MAX_CLIENTS, MAX_THROTTLES, MAX_ROUNDS, MAX_COMMANDS, MAX_TAGS}
 
--- What contracts see of a script: where the service starts, how many clients there are, what its
--- GRV proxies are made with, and the rounds, each the list of its commands.
+-- What contracts see of a script: what it says besides its rounds (where the service starts, how
+-- many clients there are, what its GRV proxies are made with), and the rounds, each the list of its
+-- commands.
 pub record Plan : Type 0 where
-  pub epoch_end : ℕ
-  pub recovery : ℕ
-  pub clients : ℕ
-  pub config : QueueConfig
-  pub elapsed : ℕ
-  pub throttles : List Throttle
+  pub setup : Setup
   pub rounds : List (List Command)
 
 -- the visible characters of ASCII, `!` to `~`
@@ -46,15 +41,15 @@ is_command clients command =
 
 -- The plan is within the limits.
 pub record IsPlan (plan : Plan) : Type 0 where
-  pub epoch_ends_before : plan.epoch_end < plan.recovery
-  pub recovery_in_range : plan.recovery ≤ MAX_VERSION
-  pub some_client : 1 ≤ plan.clients
-  pub clients_in_range : plan.clients ≤ MAX_CLIENTS
-  pub config_in_range : IsConfig plan.config
-  pub elapsed_in_range : IsElapsed plan.elapsed
-  pub throttles_in_range : length plan.throttles ≤ MAX_THROTTLES
-  pub throttles_tagged : AllByRecursion (λ throttle. IsTrue (is_tag throttle.tag)) plan.throttles
+  pub epoch_ends_before : plan.setup.epoch_end < plan.setup.recovery
+  pub recovery_in_range : plan.setup.recovery ≤ MAX_VERSION
+  pub some_client : 1 ≤ plan.setup.clients
+  pub clients_in_range : plan.setup.clients ≤ MAX_CLIENTS
+  pub config_in_range : IsConfig plan.setup.config
+  pub elapsed_in_range : IsElapsed plan.setup.elapsed
+  pub throttles_in_range : length plan.setup.throttles ≤ MAX_THROTTLES
+  pub throttles_tagged : AllByRecursion (λ throttle. IsTrue (is_tag throttle.tag)) plan.setup.throttles
   pub rounds_in_range : length plan.rounds ≤ MAX_ROUNDS
   pub commands_in_range : sum_by length plan.rounds ≤ MAX_COMMANDS
   pub commands_fit : AllByRecursion
-      (AllByRecursion (λ command. IsTrue (is_command plan.clients command))) plan.rounds
+      (AllByRecursion (λ command. IsTrue (is_command plan.setup.clients command))) plan.rounds

@@ -17,6 +17,7 @@ use Rattle.fdb_script.specs.declared.error.ScriptError.TheVariants.{NotJson, Bad
 use Rattle.fdb_script.specs.declared.script.Act.{Act}
 use Rattle.fdb_script.specs.declared.script.Act.TheVariants.{Grv, Ask, Reask, Report, Tell}
 use Rattle.fdb_script.specs.declared.script.Command.{Command}
+use Rattle.fdb_script.specs.declared.script.Setup.{Setup}
 use Rattle.fdb_script.specs.declared.script.Throttle.{Throttle}
 use Rattle.fdb_script.specs.declared.script.TheConstants.{MAX_CLIENTS, MAX_THROTTLES, MAX_ROUNDS, MAX_COMMANDS, MAX_TAGS}
 
@@ -223,12 +224,7 @@ arrays_of value = option_and_then (every array_of) (array_within MAX_ROUNDS valu
 
 -- a plan whose commands are not read yet
 pub record Frame : Type 0 where
-  pub epoch_end : ℕ
-  pub recovery : ℕ
-  pub clients : ℕ
-  pub config : QueueConfig
-  pub elapsed : ℕ
-  pub throttles : List Throttle
+  pub setup : Setup
   pub rounds : List (List Data)
 
 abbrev pub frame_with : Option (List Throttle) → Option (List (List Data)) → Option ℕ → Option ℕ
@@ -236,12 +232,14 @@ abbrev pub frame_with : Option (List Throttle) → Option (List (List Data)) →
 frame_with (Some throttles) (Some rounds) (Some epoch_end) (Some recovery) (Some clients)
     (Some config) (Some elapsed) =
     Some (record {
-      epoch_end = epoch_end;
-      recovery = recovery;
-      clients = clients;
-      config = config;
-      elapsed = elapsed;
-      throttles = throttles;
+      setup = record {
+        epoch_end = epoch_end;
+        recovery = recovery;
+        clients = clients;
+        config = config;
+        elapsed = elapsed;
+        throttles = throttles;
+      };
       rounds = rounds;
     })
 frame_with _ _ _ _ _ _ _ = None
@@ -249,7 +247,7 @@ frame_with _ _ _ _ _ _ _ = None
 -- the epoch before ends before the recovery version, and there are not too many commands
 abbrev pub is_frame : Frame → Bool
 is_frame frame =
-    nat_lt frame.epoch_end frame.recovery && nat_le (sum_by length frame.rounds) MAX_COMMANDS
+    nat_lt frame.setup.epoch_end frame.setup.recovery && nat_le (sum_by length frame.rounds) MAX_COMMANDS
 
 abbrev pub frame_of : Data → Option Frame
 frame_of value =
@@ -261,22 +259,13 @@ frame_of value =
     (member_or 1000000 (whole_within 1 MAX_ELAPSED) (codes "elapsed") value))
 
 abbrev pub plan_with : Frame → Result (List (List Command)) ScriptError → Result Plan ScriptError
-plan_with frame (Ok rounds) =
-    Ok (record {
-      epoch_end = frame.epoch_end;
-      recovery = frame.recovery;
-      clients = frame.clients;
-      config = frame.config;
-      elapsed = frame.elapsed;
-      throttles = frame.throttles;
-      rounds = rounds;
-    })
+plan_with frame (Ok rounds) = Ok (record { setup = frame.setup; rounds = rounds })
 plan_with frame (Err error) = Err error
 
 -- The plan of a frame: what is wrong with the whole comes before what is wrong with a command.
 abbrev pub framed_plan : Option Frame → Result Plan ScriptError
 framed_plan None = Err BadLimit
-framed_plan (Some frame) = plan_with frame (rounds_from frame.clients 0 frame.rounds)
+framed_plan (Some frame) = plan_with frame (rounds_from frame.setup.clients 0 frame.rounds)
 
 -- the plan of what `serde_json` reads, if it reads anything
 abbrev pub plan_of : Option Data → Result Plan ScriptError

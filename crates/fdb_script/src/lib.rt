@@ -12,7 +12,6 @@ mod outcome;
 mod printing;
 mod reading;
 mod script;
-mod setup;
 
 pub use error::ScriptError;
 pub use outcome::Outcome;
@@ -20,5 +19,5 @@ pub use printing::text;
 pub use reading::read_script;
 pub use script::{
     Act, Command, MAX_CLIENTS, MAX_COMMANDS, MAX_ROUNDS, MAX_SCRIPT_BYTES, MAX_TAGS, MAX_THROTTLES,
-    Script, Throttle,
+    Script, Setup, Throttle,
 };

@@ -2,7 +2,6 @@
 
 ghost use Rattle.std.specs.Prelude.{◌≡◌};
 
-use crate::setup::Setup;
 use fdb_history::{GrvOpts, Priority, Sequence, Tag};
 use fdb_queue::QueueConfig;
 use std::marker::Model;
@@ -85,8 +84,25 @@ pub struct Command {
     pub act: Act,
 }
 
-/// A script: from where the service starts, what its GRV proxies are made with, and what its
-/// clients do in each round.
+/// What a script says besides its rounds: from where the service starts, how many clients there are,
+/// and what its GRV proxies are made with.
+#[derive(Debug, Drop)]
+pub struct Setup {
+    /// The end of the epoch before: the version before the first commit version.
+    pub epoch_end: u64,
+    /// The version at which the service starts.
+    pub recovery: u64,
+    /// How many clients there are.
+    pub clients: u32,
+    /// What the queue of each GRV proxy is made with.
+    pub config: QueueConfig,
+    /// The time between two windows of a GRV proxy, in microseconds.
+    pub elapsed: u64,
+    /// The throttles that each GRV proxy is given, in order.
+    pub throttles: Sequence<Throttle>,
+}
+
+/// A script: how its run is set up, and what its clients do in each round.
 ///
 /// Contracts see its plan, which is the record of these parts, and know that it is within the
 /// limits (`IsPlan`).
@@ -98,68 +114,31 @@ pub struct Script {
 
 impl Model for Script {
     ghost use Rattle.fdb_script.specs.Plan.{Plan, IsPlan};
-    ghost use Rattle.fdb_script.specs.private.Setup.{with_rounds};
 
     ghost Value = { Plan };
 
-    ghost view = { λ script. with_rounds script.setup script.rounds };
+    ghost view = { λ script. record { setup = script.setup; rounds = script.rounds } };
 
-    ghost invariant = { λ script. IsPlan (with_rounds script.setup script.rounds) };
+    ghost invariant = { λ script. IsPlan (record { setup = script.setup; rounds = script.rounds }) };
 }
 
 impl Script {
-    ghost use Rattle.fdb_script.specs.Plan.{IsPlan};
-    ghost use Rattle.fdb_script.specs.private.Setup.{with_rounds};
+    ghost use Rattle.fdb_script.specs.Plan.{IsPlan, Plan};
 
     /// The script of these parts.
     pub(crate) fn new(setup: Setup, rounds: Sequence<Sequence<Command>>) -> Script
-        requires { IsPlan (with_rounds setup rounds) }
-        ensures { result ≡ with_rounds setup rounds }
+        requires { IsPlan (record { setup = setup; rounds = rounds }) }
+        ensures { result ≡ record { setup = setup; rounds = rounds } }
     {
         Script { setup, rounds }
     }
 
-    /// The end of the epoch before: the version before the first commit version.
-    pub fn epoch_end(&self) -> u64
-        ensures value { result ≡ self.now.epoch_end }
+    /// What it says besides its rounds.
+    pub fn setup(&self) -> &Setup
+        ensures value { result.now ≡ self.now.setup }
         ensures plan { IsPlan self.now }
     {
-        self.setup.epoch_end
-    }
-
-    /// The version at which the service starts.
-    pub fn recovery(&self) -> u64
-        ensures { result ≡ self.now.recovery }
-    {
-        self.setup.recovery
-    }
-
-    /// How many clients there are.
-    pub fn clients(&self) -> u32
-        ensures { result ≡ self.now.clients }
-    {
-        self.setup.clients
-    }
-
-    /// What the queue of each GRV proxy is made with.
-    pub fn config(&self) -> QueueConfig
-        ensures { result ≡ self.now.config }
-    {
-        self.setup.config
-    }
-
-    /// The time between two windows of a GRV proxy, in microseconds.
-    pub fn elapsed(&self) -> u64
-        ensures { result ≡ self.now.elapsed }
-    {
-        self.setup.elapsed
-    }
-
-    /// The throttles that each GRV proxy is given, in order.
-    pub fn throttles(&self) -> &[Throttle]
-        ensures { result.now ≡ self.now.throttles }
-    {
-        self.setup.throttles.as_slice()
+        &self.setup
     }
 
     /// The rounds, each a list of commands.

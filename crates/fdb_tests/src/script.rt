@@ -3,7 +3,7 @@
 use crate::same::same_text;
 use fdb_history::{GrvOpts, Tag};
 use fdb_queue::QueueConfig;
-use fdb_script::{Act, Command, Script, ScriptError, Throttle, read_script};
+use fdb_script::{Act, Command, Script, ScriptError, Setup, Throttle, read_script};
 use std::alloc::{AllocError, Global};
 use std::process::Abort;
 use std::str::from_utf8;
@@ -19,8 +19,8 @@ pub(crate) fn script_of(alloc: Global, text: &str) -> Result<Script, ScriptError
 
 /// The parts of a script: its numbers, its throttles, and its rounds with their commands.
 fn script_text(alloc: Global, script: &Script) -> Result<String, AllocError> {
-    let mut text = numbers_text(alloc, script)?;
-    for throttle in script.throttles() {
+    let mut text = numbers_text(alloc, script.setup())?;
+    for throttle in script.setup().throttles.as_slice() {
         text.push_str(&throttle_text(alloc, throttle)?)?;
     }
     for round in script.rounds() {
@@ -30,10 +30,10 @@ fn script_text(alloc: Global, script: &Script) -> Result<String, AllocError> {
     Ok(text)
 }
 
-fn numbers_text(alloc: Global, script: &Script) -> Result<String, AllocError> {
-    let (epoch_end, recovery) = (script.epoch_end(), script.recovery());
-    let (clients, elapsed) = (script.clients(), script.elapsed());
-    let config = config_text(alloc, script.config())?;
+fn numbers_text(alloc: Global, setup: &Setup) -> Result<String, AllocError> {
+    let (epoch_end, recovery) = (setup.epoch_end, setup.recovery);
+    let (clients, elapsed) = (setup.clients, setup.elapsed);
+    let config = config_text(alloc, setup.config)?;
     format!(in alloc; "from {epoch_end} {recovery} of {clients} with {config} each {elapsed}\n")
 }
 

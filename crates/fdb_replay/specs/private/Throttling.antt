@@ -20,6 +20,6 @@ throttles_of throttles = reverse (map throttle_of throttles)
 
 -- A GRV proxy is made as the plan of a script says.
 pub record IsMadeFor (plan : Plan) (proxy : Proxy) : Type 0 where
-  pub config : proxy.config ≡ plan.config
-  pub throttles : queue.SameThrottles proxy.throttles (throttles_of plan.throttles)
-  pub elapsed : proxy.elapsed ≡ plan.elapsed
+  pub config : proxy.config ≡ plan.setup.config
+  pub throttles : queue.SameThrottles proxy.throttles (throttles_of plan.setup.throttles)
+  pub elapsed : proxy.elapsed ≡ plan.setup.elapsed

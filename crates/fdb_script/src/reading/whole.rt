@@ -1,31 +1,35 @@
 //! A script as a whole: its numbers, its throttles, and its rounds as lists of values.
 
-ghost use Rattle.std.specs.Prelude.{◌≡◌, [], codes, length, map, nat_le, nat_lt, ◌&&◌, sum_by, IfOk, IfSome};
+ghost use Rattle.std.specs.Prelude.{◌≡◌, ◌<◌, ◌≤◌, [], codes, length, map, nat_le, nat_lt, ◌&&◌, sum_by, IfOk, IfSome};
 ghost use Rattle.std.specs.Option.{option_map};
 ghost use Rattle.serde_json.specs.View.{view};
 ghost use Rattle.fdb_history.specs.declared.register.TheConstants.{MAX_VERSION};
 ghost use Rattle.fdb_queue.specs.Config.{IsConfig, IsElapsed};
 ghost use Rattle.fdb_queue.specs.declared.config.TheConstants.{MAX_ELAPSED};
 ghost use Rattle.fdb_script.specs.Reading.{arrays_of, checked, config_of, frame_of, frame_with, is_frame, member, member_or, priority_of, throttle_of, throttle_with, throttles_of, whole, whole_within};
-ghost use Rattle.fdb_script.specs.private.Setup.{with_values};
 ghost use Rattle.fdb_script.specs.declared.script.TheConstants.{MAX_CLIENTS, MAX_COMMANDS};
 
 use crate::reading::members::{items, items_within, member_within, whole_member, within_or};
 use crate::reading::tags::{priority_of, tag_of};
-use crate::script::{MAX_CLIENTS, MAX_COMMANDS, MAX_ROUNDS, MAX_THROTTLES, Throttle};
-use crate::setup::Setup;
+use crate::script::{MAX_CLIENTS, MAX_COMMANDS, MAX_ROUNDS, MAX_THROTTLES, Setup, Throttle};
 use fdb_history::{MAX_VERSION, Sequence, Tag};
 use fdb_queue::{MAX_ELAPSED, MAX_RATE, MAX_ROOM, QueueConfig};
 use serde_json::Value;
 use std::alloc::{AllocError, Global};
 
-/// A script whose commands are not read yet.
+/// A script whose commands are not read yet, its numbers within their limits.
 #[derive(Drop)]
 pub(crate) struct Frame<'a> {
     /// What it says besides its rounds.
     pub(crate) setup: Setup,
     /// The values of each round.
     pub(crate) rounds: Vec<&'a [Value]>,
+    ghost epoch_ends_before: { setup.epoch_end < setup.recovery },
+    ghost recovery_in_range: { setup.recovery ≤ MAX_VERSION },
+    ghost some_client: { 1 ≤ setup.clients },
+    ghost clients_in_range: { setup.clients ≤ MAX_CLIENTS },
+    ghost config_in_range: { IsConfig setup.config },
+    ghost elapsed_in_range: { IsElapsed setup.elapsed },
 }
 
 /// What the queues are made with.
@@ -160,8 +164,10 @@ fn frame_with<'a>(
     rounds: Vec<&'a [Value]>,
 ) -> Option<Frame<'a>>
     ensures { option_map
-        (λ frame. with_values frame.setup
-        (map (λ round. map view round.now) frame.rounds.items)) result
+        (λ frame. record {
+          setup = frame.setup;
+          rounds = map (λ round. map view round.now) frame.rounds.items;
+        }) result
         ≡ checked is_frame
         (frame_with (Some throttles)
         (Some (map (λ round. map view round.now) rounds.entry.items))
@@ -194,8 +200,10 @@ fn frame_with<'a>(
 pub(crate) fn frame_of(alloc: Global, value: &Value) -> Result<Option<Frame<'_>>, AllocError>
     ensures { IfOk result
         (λ found. option_map
-        (λ frame. with_values frame.setup
-        (map (λ round. map view round.now) frame.rounds.items)) found
+        (λ frame. record {
+          setup = frame.setup;
+          rounds = map (λ round. map view round.now) frame.rounds.items;
+        }) found
         ≡ frame_of (view value.now)) }
 {
     let Some(throttles) = throttles_or_none(alloc, value)? else {

@@ -5,4 +5,4 @@ abbrev pub ghosts-run_named-J-Live : goal.ghosts-run_named-J-Live
 ghosts-run_named-J-Live g a = record { table = a.opened.table }
 
 abbrev pub ghosts-run_named-J-Service : goal.ghosts-run_named-J-Service
-ghosts-run_named-J-Service g a = record { epoch_end = a.script.now.epoch_end; recovery = a.script.now.recovery; start = a.opened.start; reporters = a.opened.reporters }
+ghosts-run_named-J-Service g a = record { epoch_end = a.script.now.setup.epoch_end; recovery = a.script.now.setup.recovery; start = a.opened.start; reporters = a.opened.reporters }

@@ -5,6 +5,6 @@ use Rattle.fdb_script.proofs.reading.script_of.Goals as goal
 
 pub new-requires : goal.new-requires
 new-requires c =
-    let setup = c.in-Some.frame.setup in
+    let frame = c.in-Some.frame in
     IsPlan-read (view c.args.value.now) _ c.in_ok-rounds.rounds (sym (rw c.in-Some.is at c.in_ok-frame.ensures)) (rw c.deref.ensures.value at c.in_ok-rounds.ensures)
-    setup.epoch_ends_before setup.recovery_in_range setup.some_client setup.clients_in_range setup.config_in_range setup.elapsed_in_range
+    frame.epoch_ends_before frame.recovery_in_range frame.some_client frame.clients_in_range frame.config_in_range frame.elapsed_in_range
