@@ -28,7 +28,7 @@ REFUSALS = [
     (["waits", "4294967296"], 'the size "4294967296"'),
     (["waits", "1e3"], 'the size "1e3"'),
     (["waits", ""], 'the size ""'),
-    (["waits", "64", "64"], "more words than a benchmark and its size"),
+    (["waits", "64", "64"], "more arguments than a benchmark and its size"),
 ]
 
 

@@ -32,12 +32,23 @@ pub(crate) fn fresh(
     })
 }
 
-/// Repeats of numbers without a pattern, of a chain with as many answers.
+/// Repeats of numbers without a pattern, of a chain in which
+/// each of many proxies has its share of as many answers.
 pub(crate) fn repeats(clock: &impl CpuClock, alloc: Global, size: u32) -> Result<Measured, Fault> {
     let mut chain = empty_chain(alloc, MANY)?;
-    let drawn = ask_fresh(&mut chain, MANY, size)?;
+    let mut checksum = ask_fresh(&mut chain, MANY, size)?;
+    let mut draws = Draws::START;
+    let share = u64::from(size / MANY).max(1);
     let watch = Stopwatch::start(clock);
-    let checksum = ask_again(&mut chain, size, drawn)?;
+    for place in 0..size {
+        let ask = Ask {
+            proxy: place % MANY,
+            num: draws.next_number() % share + 1,
+            processed: 0,
+            at: moment(place),
+        };
+        checksum = asked(&mut chain, ask, checksum)?;
+    }
     Ok(Measured {
         operations: u64::from(size),
         time: watch.stop(clock),
@@ -53,8 +64,12 @@ pub(crate) fn processed(
     size: u32,
 ) -> Result<Measured, Fault> {
     let mut chain = empty_chain(alloc, MANY)?;
+    let mut checksum = Checksum::EMPTY;
+    let mut draws = Draws::START;
     let watch = Stopwatch::start(clock);
-    let checksum = ask_mixed(&mut chain, size)?;
+    for place in 0..size {
+        checksum = asked(&mut chain, mixed(&mut draws, place), checksum)?;
+    }
     Ok(Measured {
         operations: u64::from(size),
         time: watch.stop(clock),
@@ -102,34 +117,6 @@ fn ask_fresh(chain: &mut ChainCore, proxies: u32, size: u32) -> Result<Checksum,
             at: moment(place),
         };
         checksum = asked(chain, ask, checksum)?;
-    }
-    Ok(checksum)
-}
-
-/// Repeats so many requests of a chain in which each of many
-/// proxies has its share of so many answers.
-fn ask_again(chain: &mut ChainCore, size: u32, drawn: Checksum) -> Result<Checksum, Fault> {
-    let mut checksum = drawn;
-    let mut draws = Draws::START;
-    let share = u64::from(size / MANY).max(1);
-    for place in 0..size {
-        let ask = Ask {
-            proxy: place % MANY,
-            num: draws.next_number() % share + 1,
-            processed: 0,
-            at: moment(place),
-        };
-        checksum = asked(chain, ask, checksum)?;
-    }
-    Ok(checksum)
-}
-
-/// Makes so many requests, of which each fourth of a proxy is a repeat.
-fn ask_mixed(chain: &mut ChainCore, size: u32) -> Result<Checksum, Fault> {
-    let mut checksum = Checksum::EMPTY;
-    let mut draws = Draws::START;
-    for place in 0..size {
-        checksum = asked(chain, mixed(&mut draws, place), checksum)?;
     }
     Ok(checksum)
 }

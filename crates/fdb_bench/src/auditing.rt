@@ -38,23 +38,15 @@ pub(crate) fn audits(clock: &impl CpuClock, alloc: Global, size: u32) -> Result<
         return Err(Fault::Audit);
     }
     let watch = Stopwatch::start(clock);
-    let checksum = audit_each_time(alloc, run.chain.answers(), logs)?;
+    let mut checksum = Checksum::EMPTY;
+    for _ in 0..AUDITS {
+        checksum = audit_once(alloc, run.chain.answers(), logs, checksum)?;
+    }
     Ok(Measured {
         operations: u64::from(size) * u64::from(AUDITS),
         time: watch.stop(clock),
         checksum,
     })
-}
-
-/// Audits the same logs a few times.
-fn audit_each_time(alloc: Global, chain: &[Issued], logs: &[ClientLog]) -> Result<Checksum, Fault>
-    requires { length logs.now ≤ 64 }
-{
-    let mut checksum = Checksum::EMPTY;
-    for _ in 0..AUDITS {
-        checksum = audit_once(alloc, chain, logs, checksum)?;
-    }
-    Ok(checksum)
 }
 
 /// Audits the logs, and adds the history.
@@ -133,16 +125,15 @@ impl Run {
     fn play(&mut self, alloc: Global, place: u32) -> Result<(), Fault> {
         let turn = place / 3;
         let (client, num) = (turn % CLIENTS, u64::from(turn / CLIENTS) + 1);
-        let call = match place % 3 {
-            0 => self.ask(client, num)?,
-            1 => self.report(num),
-            _ => self.read(alloc),
-        };
-        self.log(client, call)
+        match place % 3 {
+            0 => self.ask(client, num),
+            1 => self.report(client, num),
+            _ => self.read(alloc, client),
+        }
     }
 
     /// A client's request for a commit version.
-    fn ask(&mut self, client: u32, num: u64) -> Result<Call, Fault> {
+    fn ask(&mut self, client: u32, num: u64) -> Result<(), Fault> {
         let processed = num.saturating_sub(8);
         let at = self.position.wrapping_mul(3);
         let ask = Ask {
@@ -152,16 +143,17 @@ impl Run {
             at,
         };
         match self.chain.ask(ask) {
-            Ok(issued) => Ok(self.call(
+            Ok(issued) => self.log(
+                client,
                 Input::Ask { num, processed, at },
                 CallAnswer::Answered(issued),
-            )),
+            ),
             Err(_) => Err(Fault::Chain),
         }
     }
 
-    /// A report of the newest commit version, under its number.
-    fn report(&mut self, num: u64) -> Call {
+    /// A client's report of the newest commit version, under its number.
+    fn report(&mut self, client: u32, num: u64) -> Result<(), Fault> {
         let version = match self.chain.answers().last() {
             Some(issued) => issued.version,
             None => 0,
@@ -181,11 +173,11 @@ impl Run {
             locked: false,
             metadata: None,
         };
-        self.call(input, CallAnswer::Acked { rec, raised })
+        self.log(client, input, CallAnswer::Acked { rec, raised })
     }
 
-    /// A read of the live record.
-    fn read(&mut self, alloc: Global) -> Call {
+    /// A client's read of the live record.
+    fn read(&mut self, alloc: Global, client: u32) -> Result<(), Fault> {
         let input = Input::Grv(GrvOpts {
             priority: Priority::Default,
             count: 1,
@@ -198,39 +190,28 @@ impl Run {
             limits: Sequence::new(alloc),
             locked_out: false,
         };
-        self.call(input, answer)
+        self.log(client, input, answer)
     }
 
-    /// A call that was answered at the newest position.
-    fn call(&self, input: Input, answer: CallAnswer) -> Call {
-        Call {
-            input,
-            asked: self.position,
-            position: self.position,
-            answer,
-        }
-    }
-
-    /// Adds a call to a client's log, asked at the position that the client had come to.
-    fn log(&mut self, client: u32, call: Call) -> Result<(), Fault> {
-        match self.logs.get_mut(client as usize) {
-            Some(log) => push_call(log, call),
-            None => Ok(()),
-        }
-    }
-}
-
-/// Adds a call to a log, asked at the position that the log has come to.
-fn push_call(log: &mut ClientLog, call: Call) -> Result<(), Fault> {
-    let asked = last_position(log);
-    Ok(log.calls.push(Call { asked, ..call })?)
-}
-
-/// The position that a log has come to.
-fn last_position(log: &ClientLog) -> u64 {
-    match log.calls.as_slice().last() {
-        Some(last) => last.position,
-        None => 0,
+    /// Adds to a client's log a call that was answered at the newest
+    /// position, and asked at the one that the log had come to.
+    fn log(&mut self, client: u32, input: Input, answer: CallAnswer) -> Result<(), Fault> {
+        let position = self.position;
+        let Some(log) = self.logs.get_mut(client as usize) else {
+            return Ok(());
+        };
+        let asked = match log.calls.as_slice().last() {
+            Some(last) => last.position,
+            None => 0,
+        };
+        Ok(
+            log.calls.push(Call {
+                input,
+                asked,
+                position,
+                answer,
+            })?,
+        )
     }
 }
 

@@ -137,11 +137,11 @@ impl Benchmark {
         }
     }
 
-    /// The size that a word says, or why it may not be.
-    pub(crate) fn size_of(self, word: &str) -> Result<u32> {
-        let size = word
+    /// The size that an argument says, or why it may not be.
+    pub(crate) fn size_of(self, argument: &str) -> Result<u32> {
+        let size = argument
             .parse::<u32>()
-            .context(format_args!("the size {word:?}"))?;
+            .context(format_args!("the size {argument:?}"))?;
         let greatest = self.greatest_size();
         ensure!(
             size > 0 && size <= greatest,

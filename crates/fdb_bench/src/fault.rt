@@ -17,7 +17,7 @@ impl Fault {
     /// What is said of it.
     pub(crate) fn line(self) -> &'static str {
         match self {
-            Fault::Memory => "want of memory",
+            Fault::Memory => "out of memory",
             Fault::Chain => "the chain of commit versions failed",
             Fault::Live => "the live record failed",
             Fault::Queue => "the queue failed",

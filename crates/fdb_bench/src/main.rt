@@ -41,20 +41,20 @@ use std::thread::Threads;
 use std::time::{Clock, CpuClock};
 
 fn main(rt: HostRuntime) -> Result<()> {
-    let mut words = env::args(&rt)?.skip(1);
-    let Some(name) = words.next() else {
+    let mut arguments = env::args(&rt)?.skip(1);
+    let Some(name) = arguments.next() else {
         return run_each(&rt, rt.alloc());
     };
     let Some(benchmark) = Benchmark::of_name(name.as_str()) else {
         return Err(anyhow!("there is no benchmark {name}"));
     };
-    let size = match words.next() {
+    let size = match arguments.next() {
         None => benchmark.small_size(),
-        Some(word) => benchmark.size_of(word.as_str())?,
+        Some(size) => benchmark.size_of(size.as_str())?,
     };
     ensure!(
-        words.next().is_none(),
-        "more words than a benchmark and its size"
+        arguments.next().is_none(),
+        "more arguments than a benchmark and its size"
     );
     run_one(&rt, rt.alloc(), benchmark, size)
 }

@@ -28,10 +28,18 @@ const WAITS_PER_WINDOW: u32 = 8;
 /// Offers of all priorities, and windows that start about as
 /// much as is offered, at a queue that is nearly full.
 pub(crate) fn windows(clock: &impl CpuClock, alloc: Global, room: u32) -> Result<Measured, Fault> {
-    let mut queue = nearly_full(alloc, room)?;
+    let mut queue = empty_queue(alloc, 260, 250, room)?;
+    fill(&mut queue, room - room / 10, Checksum::EMPTY)?;
     let offers = room.saturating_mul(OFFERS_PER_ROOM);
+    let mut checksum = Checksum::EMPTY;
+    let mut draws = Draws::START;
     let watch = Stopwatch::start(clock);
-    let checksum = offer_and_start(&mut queue, offers)?;
+    for place in 0..offers {
+        checksum = offered(&mut queue, checksum, mixed(&mut draws, place))?;
+        if place % OFFERS_PER_WINDOW == 0 {
+            checksum = started(&mut queue, checksum, ELAPSED)?;
+        }
+    }
     Ok(Measured {
         operations: u64::from(offers),
         time: watch.stop(clock),
@@ -47,7 +55,10 @@ pub(crate) fn push_outs(
     room: u32,
 ) -> Result<Measured, Fault> {
     let watch = Stopwatch::start(clock);
-    let checksum = flood_each_time(alloc, room)?;
+    let mut checksum = Checksum::EMPTY;
+    for _ in 0..FLOODS {
+        checksum = flood(alloc, room, checksum)?;
+    }
     Ok(Measured {
         operations: u64::from(FLOODS) * u64::from(room) * 3,
         time: watch.stop(clock),
@@ -55,13 +66,24 @@ pub(crate) fn push_outs(
     })
 }
 
-/// Questions how many windows the head of the row waits, with a window after every few.
+/// Questions how many windows the head of the row waits, with a short window after every few.
 pub(crate) fn waits(clock: &impl CpuClock, alloc: Global, size: u32) -> Result<Measured, Fault> {
     let mut queue = empty_queue(alloc, 10, 10, 1)?;
-    let head = request_of(Priority::Default, 100_000, 0);
-    let before = offered(&mut queue, Checksum::EMPTY, head)?;
+    let head = Req {
+        priority: Priority::Default,
+        count: 100_000,
+        payload: 0,
+    };
+    let mut checksum = offered(&mut queue, Checksum::EMPTY, head)?;
+    let mut draws = Draws::START;
     let watch = Stopwatch::start(clock);
-    let checksum = ask_and_wait(&mut queue, size, before)?;
+    for place in 0..size {
+        let elapsed = draws.next_number() % ELAPSED + 1;
+        checksum = checksum.with(queue.waits(elapsed).unwrap_or(0));
+        if place % WAITS_PER_WINDOW == 0 {
+            checksum = started(&mut queue, checksum, 1)?;
+        }
+    }
     Ok(Measured {
         operations: u64::from(size),
         time: watch.stop(clock),
@@ -87,13 +109,6 @@ pub(crate) fn empty_queue(
     }
 }
 
-/// A queue in which nine tenths of the room is taken.
-fn nearly_full(alloc: Global, room: u32) -> Result<GrvQueue<u64>, Fault> {
-    let mut queue = empty_queue(alloc, 260, 250, room)?;
-    fill(&mut queue, room - room / 10, Checksum::EMPTY)?;
-    Ok(queue)
-}
-
 /// Offers so many requests of a filling.
 fn fill(queue: &mut GrvQueue<u64>, offers: u32, before: Checksum) -> Result<Checksum, Fault> {
     let mut checksum = before;
@@ -103,55 +118,17 @@ fn fill(queue: &mut GrvQueue<u64>, offers: u32, before: Checksum) -> Result<Chec
     Ok(checksum)
 }
 
-/// Makes so many offers, and holds a window after every few.
-fn offer_and_start(queue: &mut GrvQueue<u64>, offers: u32) -> Result<Checksum, Fault> {
-    let mut checksum = Checksum::EMPTY;
-    let mut draws = Draws::START;
-    for place in 0..offers {
-        checksum = offered(queue, checksum, mixed(&mut draws, place))?;
-        if place % OFFERS_PER_WINDOW == 0 {
-            checksum = started(queue, checksum, ELAPSED)?;
-        }
-    }
-    Ok(checksum)
-}
-
-/// Floods a few queues, one after another.
-fn flood_each_time(alloc: Global, room: u32) -> Result<Checksum, Fault> {
-    let mut checksum = Checksum::EMPTY;
-    for _ in 0..FLOODS {
-        checksum = flood(alloc, room, checksum)?;
-    }
-    Ok(checksum)
-}
-
 /// Fills a queue, and floods it with twice as many system requests as there is room for.
 fn flood(alloc: Global, room: u32, before: Checksum) -> Result<Checksum, Fault> {
     let mut queue = empty_queue(alloc, 100_000, 100_000, room)?;
-    let filled = fill(&mut queue, room, before)?;
-    push_out(&mut queue, room.saturating_mul(2), filled)
-}
-
-/// Offers so many system requests.
-fn push_out(queue: &mut GrvQueue<u64>, offers: u32, before: Checksum) -> Result<Checksum, Fault> {
-    let mut checksum = before;
-    for place in 0..offers {
-        let request = request_of(Priority::System, 1, u64::from(place));
-        checksum = offered(queue, checksum, request)?;
-    }
-    Ok(checksum)
-}
-
-/// Asks so many times how many windows the head waits, and holds a short window after every few.
-fn ask_and_wait(queue: &mut GrvQueue<u64>, size: u32, before: Checksum) -> Result<Checksum, Fault> {
-    let mut checksum = before;
-    let mut draws = Draws::START;
-    for place in 0..size {
-        let elapsed = draws.next_number() % ELAPSED + 1;
-        checksum = checksum.with(queue.waits(elapsed).unwrap_or(0));
-        if place % WAITS_PER_WINDOW == 0 {
-            checksum = started(queue, checksum, 1)?;
-        }
+    let mut checksum = fill(&mut queue, room, before)?;
+    for place in 0..room.saturating_mul(2) {
+        let request = Req {
+            priority: Priority::System,
+            count: 1,
+            payload: u64::from(place),
+        };
+        checksum = offered(&mut queue, checksum, request)?;
     }
     Ok(checksum)
 }
@@ -196,15 +173,6 @@ fn request_word(request: &Req<u64>) -> u64 {
         .wrapping_add(u64::from(request.priority as u8))
 }
 
-/// A request of a priority and a count, that carries a number.
-fn request_of(priority: Priority, count: u64, payload: u64) -> Req<u64> {
-    Req {
-        priority,
-        count,
-        payload,
-    }
-}
-
 /// The request at a place of a filling: batch and default in turn.
 fn filling(place: u32) -> Req<u64> {
     let priority = if place % 2 == 0 {
@@ -212,7 +180,11 @@ fn filling(place: u32) -> Req<u64> {
     } else {
         Priority::Default
     };
-    request_of(priority, u64::from(place % 4) + 1, u64::from(place))
+    Req {
+        priority,
+        count: u64::from(place % 4) + 1,
+        payload: u64::from(place),
+    }
 }
 
 /// The request at a place of the mix: one in ten a system request, six default, three batch.
@@ -223,5 +195,9 @@ fn mixed(draws: &mut Draws, place: u32) -> Req<u64> {
         1..=6 => Priority::Default,
         _ => Priority::Batch,
     };
-    request_of(priority, drawn / 10 % 4 + 1, u64::from(place))
+    Req {
+        priority,
+        count: drawn / 10 % 4 + 1,
+        payload: u64::from(place),
+    }
 }

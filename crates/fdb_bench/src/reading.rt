@@ -1,7 +1,6 @@
 //! Reads of the live record.
 
 use crate::tally::Tally;
-use fdb_history::Record;
 use fdb_live::{Live, LiveRecord, Seen};
 use std::sync::Wait;
 
@@ -14,21 +13,14 @@ pub(crate) fn read_in_turn<J: Live, R: Wait>(
 ) -> Tally {
     let mut tally = Tally::EMPTY;
     for _ in 0..reads {
-        tally = read(rt, live, seen, tally);
+        let before = seen.position();
+        let fetched = live.read(rt, seen);
+        let word = fetched
+            .rec
+            .version
+            .wrapping_add(u64::from(fetched.rec.locked))
+            .wrapping_add(fetched.rec.metadata.unwrap_or(0));
+        tally = tally.with_call(word, fetched.position < before);
     }
     tally
-}
-
-/// Reads, and adds what was answered.
-fn read<J: Live, R: Wait>(rt: &R, live: &LiveRecord<J>, seen: &mut Seen<J>, tally: Tally) -> Tally {
-    let before = seen.position();
-    let fetched = live.read(rt, seen);
-    tally.with_call(record_word(&fetched.rec), fetched.position < before)
-}
-
-/// A word for a record.
-fn record_word(rec: &Record) -> u64 {
-    rec.version
-        .wrapping_add(u64::from(rec.locked))
-        .wrapping_add(rec.metadata.unwrap_or(0))
 }

@@ -2,10 +2,11 @@
 
 use crate::fault::Fault;
 use crate::tally::Tally;
+use crate::working::Shared;
 use fdb_history::{OpenGate, Record};
 use fdb_live::{Live, LiveRecord, Seen};
 use std::sync::Wait;
-use std::sync::atomic::{AtomicU64, Ordering};
+use std::sync::atomic::Ordering;
 
 /// Reports a version, and so many times in all, each time one that
 /// is greater by so much. A report is marked that raises the record.
@@ -29,18 +30,18 @@ pub(crate) fn report_in_turn<J: Live, R: Wait>(
 /// Reports a version, and the next ones, for as long as a thread reads.
 pub(crate) fn report_beside<J: Live, R: Wait>(
     rt: &R,
-    live: &LiveRecord<J>,
+    shared: &Shared<J>,
     seen: &mut Seen<J>,
     first: u64,
-    reading: &AtomicU64,
-) -> Result<(), Fault> {
+) -> Result<Tally, Fault> {
+    let mut tally = Tally::EMPTY;
     for place in 0..u64::MAX {
-        if reading.load(Ordering::SeqCst) == 0 {
+        if shared.reading.load(Ordering::SeqCst) == 0 {
             break;
         }
-        report(rt, live, seen, first.wrapping_add(place), Tally::EMPTY)?;
+        tally = report(rt, &shared.live, seen, first.wrapping_add(place), tally)?;
     }
-    Ok(())
+    Ok(tally)
 }
 
 /// Reports a version, and adds whether it raised the record.

@@ -24,7 +24,10 @@ pub(crate) fn queue<J: Live>(alloc: Global) -> Result<GrvQueue<Request<J>>, Faul
         batch: MOST,
         room: MOST,
     };
-    GrvQueue::new(alloc, config).map_err(|_| Fault::Queue)
+    match GrvQueue::new(alloc, config) {
+        Ok(queue) => Ok(queue),
+        Err(_) => Err(Fault::Queue),
+    }
 }
 
 /// A default request for one transaction, by the client 0 and
@@ -41,21 +44,16 @@ pub(crate) fn request<J: Live>(
         serial,
         asked: seen.position(),
         seen: live.split(seen),
-        opts: opts(alloc),
+        opts: GrvOpts {
+            priority: Priority::Default,
+            count: 1,
+            tags: Sequence::new(alloc),
+            lock_aware: false,
+            at: 0,
+        },
         reply,
     };
     Ok((request, waiter))
-}
-
-/// What each request asks for.
-fn opts(alloc: Global) -> GrvOpts {
-    GrvOpts {
-        priority: Priority::Default,
-        count: 1,
-        tags: Sequence::new(alloc),
-        lock_aware: false,
-        at: 0,
-    }
 }
 
 /// A word for an answer, if it is a reply.

@@ -43,20 +43,14 @@ pub(crate) fn asks<R: Clock + Threads + Wait + Sync>(
     threads: u32,
     size: u32,
 ) -> Result<Measured, Fault> {
-    let sequencer = open(alloc, threads)?;
+    let sequencer = match ChainCore::new(alloc, 0, 100, threads) {
+        Ok(core) => Sequencer::new(core),
+        Err(_) => return Err(Fault::Chain),
+    };
     let mut askers = askers(alloc, threads)?;
     let each = size / threads.max(1);
-    ask_side_by_side(rt, &sequencer, askers.as_mut_slice(), each);
-    let all = total(askers.as_slice())?;
+    let all = ask_side_by_side(rt, &sequencer, askers.as_mut_slice(), each)?;
     Ok(all.measured(of_answers(sequencer, all.tally)))
-}
-
-/// A sequencer that nobody has asked yet.
-fn open(alloc: Global, proxies: u32) -> Result<Sequencer<Shared>, Fault> {
-    match ChainCore::new(alloc, 0, 100, proxies) {
-        Ok(core) => Ok(Sequencer::new(core)),
-        Err(_) => Err(Fault::Chain),
-    }
 }
 
 /// One for each commit proxy.
@@ -71,13 +65,13 @@ fn askers(alloc: Global, proxies: u32) -> Result<Vec<Asker>, Fault> {
     Ok(askers)
 }
 
-/// Each asks so often, in a thread of its own.
+/// Each asks so often, in a thread of its own. Answers what came of all of it.
 fn ask_side_by_side<R: Clock + Threads + Wait + Sync>(
     rt: &R,
     sequencer: &Sequencer<Shared>,
     askers: &mut [Asker],
     each: u32,
-) {
+) -> Result<Timed, Fault> {
     let threads = askers.len().max(1);
     thread::for_each_mut(
         rt,
@@ -87,6 +81,11 @@ fn ask_side_by_side<R: Clock + Threads + Wait + Sync>(
             asker.outcome = ask_in_turn(rt, sequencer, asker.proxy, each);
         },
     );
+    let mut all = Timed::EMPTY;
+    for asker in askers {
+        all = all.with(asker.outcome?);
+    }
+    Ok(all)
 }
 
 /// Asks so often for one proxy.
@@ -123,15 +122,6 @@ fn asked<R: Wait>(
         Ok(issued) => Ok(tally.with_call(issued.version, issued.fresh)),
         Err(_) => Err(Fault::Chain),
     }
-}
-
-/// What came of all threads' requests.
-fn total(askers: &[Asker]) -> Result<Timed, Fault> {
-    let mut all = Timed::EMPTY;
-    for asker in askers {
-        all = all.with(asker.outcome?);
-    }
-    Ok(all)
 }
 
 /// The checksum over the number of requests, how many were

@@ -6,14 +6,17 @@ use crate::checksum::Checksum;
 use crate::fault::Fault;
 use crate::load::Load;
 use crate::measured::Measured;
-use crate::tally::Tally;
-use crate::working::{Role, Worker, work_side_by_side};
+use crate::requesting::{ELAPSED, queue};
+use crate::tally::{Tally, Timed};
+use crate::working::{Role, Shared, Worker, work_side_by_side};
 use crate::{batching, proxying, reporting, telling};
 use fdb_history::Record;
 use fdb_live::{Live, LiveRecord, Opened, Seen};
+use fdb_proxy::{Desk, GrvProxy};
 use std::alloc::Global;
 use std::marker::Brand;
 use std::sync::Wait;
+use std::sync::atomic::{AtomicU64, Ordering};
 use std::thread::Threads;
 use std::time::{Clock, CpuClock};
 
@@ -23,17 +26,17 @@ const REPORTERS: u32 = 4;
 /// How many reads each reader makes for each raise before.
 const READS_PER_RAISE: u64 = 100;
 
-/// The record before any report.
-const START: Record = Record {
-    version: 100,
-    locked: false,
-    metadata: None,
-};
+/// The version of the record before any report.
+const START: u64 = 100;
 
-/// A live record, the token of a reader, and those of the reporters.
+/// The version of the first report.
+const FIRST: u64 = 101;
+
+/// A live record and what threads share beside it, the token
+/// of a reader, and those of the reporters.
 #[derive(Drop)]
 struct Served<J: Live> {
-    live: LiveRecord<J>,
+    shared: Shared<J>,
     reader: Seen<J>,
     reporters: Vec<Seen<J>>,
 }
@@ -45,7 +48,12 @@ pub(crate) fn measure<R: Clock + CpuClock + Threads + Wait + Sync>(
     load: Load,
     size: u32,
 ) -> Result<Measured, Fault> {
-    match LiveRecord::<Brand>::open(rt, alloc, START, REPORTERS) {
+    let start = Record {
+        version: START,
+        locked: false,
+        metadata: None,
+    };
+    match LiveRecord::<Brand>::open(rt, alloc, start, REPORTERS) {
         Ok(opened) => measure_named::<Brand, R>(rt, alloc, opened, load, size),
         Err(_) => Err(Fault::Live),
     }
@@ -63,8 +71,13 @@ fn measure_named<J: Live + Send + Sync, R: Clock + CpuClock + Threads + Wait + S
 {
     match opened.parts::<J>() {
         Ok((live, reader, reporters)) => {
-            let served = Served {
+            let shared = Shared {
                 live,
+                desk: Desk::new(alloc),
+                reading: AtomicU64::new(0),
+            };
+            let served = Served {
+                shared,
                 reader,
                 reporters,
             };
@@ -87,7 +100,13 @@ impl<J: Live + Send + Sync> Served<J> {
             Load::Reads(team) => self.reads(rt, alloc, team.threads(), size),
             Load::ReadsBesideReports(team) => self.reads_beside(rt, alloc, team.threads(), size),
             Load::Reports(team) => self.reports(rt, alloc, team.threads(), size),
-            Load::Batches => batching::batches(rt, alloc, &self.live, &mut self.reader, size),
+            Load::Batches => batching::batches(
+                rt,
+                alloc,
+                &self.shared.live,
+                &mut self.reader,
+                size,
+            ),
             Load::Proxies(team) => self.proxies(rt, alloc, team.threads(), size),
             Load::Tokens => self.tokens(rt, size),
         }
@@ -102,14 +121,8 @@ impl<J: Live + Send + Sync> Served<J> {
         raises: u32,
     ) -> Result<Measured, Fault> {
         self.raise(rt, raises)?;
-        let mut workers = self.readers(alloc, threads)?;
-        let all = work_side_by_side(
-            rt,
-            &self.live,
-            workers.as_mut_slice(),
-            threads,
-            reads_after(raises),
-        )?;
+        let mut readers = self.workers(alloc, threads, Role::Reads)?;
+        let all = self.read_side_by_side(rt, alloc, readers.as_mut_slice(), threads, raises)?;
         Ok(all.measured(of_tally(all.tally).with(all.tally.sum)))
     }
 
@@ -124,21 +137,27 @@ impl<J: Live + Send + Sync> Served<J> {
         raises: u32,
     ) -> Result<Measured, Fault> {
         self.raise(rt, raises)?;
-        let mut workers = self.readers(alloc, threads)?;
-        let first = first_version().saturating_add(u64::from(raises));
-        push_reporter(
-            &mut workers,
-            self.reporters.pop(),
-            Role::ReportsBesideReads { first },
-        )?;
-        let all = work_side_by_side(
-            rt,
-            &self.live,
-            workers.as_mut_slice(),
-            threads,
-            reads_after(raises),
-        )?;
+        let mut workers = self.workers(alloc, threads, Role::Reads)?;
+        let first = FIRST + u64::from(raises);
+        workers.push(self.reporter(Role::ReportsBesideReads { first })?)?;
+        let all = self.read_side_by_side(rt, alloc, workers.as_mut_slice(), threads, raises)?;
         Ok(all.measured(of_tally(all.tally)))
+    }
+
+    /// So many of the workers read, after so many raises.
+    fn read_side_by_side<R: Clock + Threads + Wait + Sync>(
+        &self,
+        rt: &R,
+        alloc: Global,
+        workers: &mut [Worker<J>],
+        readers: u32,
+        raises: u32,
+    ) -> Result<Timed, Fault> {
+        self.shared
+            .reading
+            .store(u64::from(readers), Ordering::SeqCst);
+        let reads = u64::from(raises) * READS_PER_RAISE;
+        work_side_by_side(rt, alloc, &self.shared, workers, reads)
     }
 
     /// So many reports by each of so many threads. How many of them raise the record is a matter
@@ -150,22 +169,19 @@ impl<J: Live + Send + Sync> Served<J> {
         threads: u32,
         reports: u32,
     ) -> Result<Measured, Fault> {
-        let mut workers = Vec::new(alloc);
+        let mut reporters = Vec::new(alloc);
         for place in 0..threads {
-            let role = Role::Reports {
-                first: first_version().saturating_add(u64::from(place)),
-                step: u64::from(threads),
-            };
-            push_reporter(&mut workers, self.reporters.pop(), role)?;
+            let (first, step) = (FIRST + u64::from(place), u64::from(threads));
+            reporters.push(self.reporter(Role::Reports { first, step })?)?;
         }
         let all = work_side_by_side(
             rt,
-            &self.live,
-            workers.as_mut_slice(),
-            0,
+            alloc,
+            &self.shared,
+            reporters.as_mut_slice(),
             u64::from(reports),
         )?;
-        let last = self.live.read(rt, &mut self.reader);
+        let last = self.shared.live.read(rt, &mut self.reader);
         let checksum = Checksum::EMPTY
             .with(all.tally.calls)
             .with(last.rec.version)
@@ -173,7 +189,8 @@ impl<J: Live + Send + Sync> Served<J> {
         Ok(all.measured(checksum))
     }
 
-    /// So many requests by each of so many threads at a proxy of the record.
+    /// So many requests by each of so many threads at a proxy of the record. Nobody
+    /// reports, so all replies have the record that was opened.
     fn proxies<R: Clock + Threads + Wait + Sync>(
         mut self,
         rt: &R,
@@ -181,7 +198,18 @@ impl<J: Live + Send + Sync> Served<J> {
         threads: u32,
         requests: u32,
     ) -> Result<Measured, Fault> {
-        let all = proxying::asks(rt, alloc, &self.live, &mut self.reader, threads, requests)?;
+        let mut askers = self.workers(alloc, threads, Role::Asks)?;
+        let token = self.shared.live.split(&mut self.reader);
+        let (live, desk) = (&self.shared.live, &self.shared.desk);
+        let proxy = GrvProxy::new(alloc, live, desk, queue(alloc)?, ELAPSED, token);
+        let all = proxying::ask_beside(
+            rt,
+            alloc,
+            &self.shared,
+            proxy,
+            askers.as_mut_slice(),
+            u64::from(requests),
+        )?;
         Ok(all.measured(of_tally(all.tally).with(all.tally.sum)))
     }
 
@@ -192,8 +220,8 @@ impl<J: Live + Send + Sync> Served<J> {
         let Some(mut teller) = self.reporters.pop() else {
             return Err(Fault::Live);
         };
-        let _ = self.live.read(rt, &mut teller);
-        Ok(telling::tokens(rt, &self.live, &mut teller, &mut self.reader, size))
+        let _ = self.shared.live.read(rt, &mut teller);
+        Ok(telling::tokens(rt, &self.shared.live, &mut teller, &mut self.reader, size))
     }
 
     /// Raises the record so many times.
@@ -201,41 +229,32 @@ impl<J: Live + Send + Sync> Served<J> {
         let Some(token) = self.reporters.first_mut() else {
             return Err(Fault::Live);
         };
-        reporting::report_in_turn(rt, &self.live, token, first_version(), 1, u64::from(raises))?;
+        reporting::report_in_turn(rt, &self.shared.live, token, FIRST, 1, u64::from(raises))?;
         Ok(())
     }
 
-    /// So many readers.
-    fn readers(&mut self, alloc: Global, readers: u32) -> Result<Vec<Worker<J>>, Fault> {
-        let mut workers = Vec::new(alloc);
-        for _ in 0..readers {
-            let token = self.live.split(&mut self.reader);
-            workers.push(Worker::new(token, Role::Reads))?;
+    /// So many with a token each that is split off the reader's.
+    fn workers(
+        &mut self,
+        alloc: Global,
+        workers: u32,
+        role: Role,
+    ) -> Result<Vec<Worker<J>>, Fault> {
+        let mut all = Vec::new(alloc);
+        for _ in 0..workers {
+            let token = self.shared.live.split(&mut self.reader);
+            all.push(Worker::new(token, role))?;
         }
-        Ok(workers)
+        Ok(all)
     }
-}
 
-/// Adds a reporter whose token it is.
-fn push_reporter<J: Live>(
-    workers: &mut Vec<Worker<J>>,
-    token: Option<Seen<J>>,
-    role: Role,
-) -> Result<(), Fault> {
-    match token {
-        Some(token) => Ok(workers.push(Worker::new(token, role))?),
-        None => Err(Fault::Live),
+    /// One with the token of the last reporter that is left.
+    fn reporter(&mut self, role: Role) -> Result<Worker<J>, Fault> {
+        match self.reporters.pop() {
+            Some(token) => Ok(Worker::new(token, role)),
+            None => Err(Fault::Live),
+        }
     }
-}
-
-/// The version of the first report.
-fn first_version() -> u64 {
-    START.version + 1
-}
-
-/// How many reads each reader makes after so many raises.
-fn reads_after(raises: u32) -> u64 {
-    u64::from(raises) * READS_PER_RAISE
 }
 
 /// The checksum over the number of calls, and how many were marked.

@@ -10,7 +10,8 @@ use std::time::CpuClock;
 /// How many calls one telling is.
 const CALLS: u64 = 3;
 
-/// So many times one token's holder tells another's what it has seen.
+/// So many times one token's holder tells another's what it has seen: a token is split off the
+/// first one, learned by the second, and met. Each time the hearer's position is added.
 pub(crate) fn tokens<J: Live, R: CpuClock + Wait>(
     rt: &R,
     live: &LiveRecord<J>,
@@ -19,38 +20,16 @@ pub(crate) fn tokens<J: Live, R: CpuClock + Wait>(
     times: u32,
 ) -> Measured {
     let watch = Stopwatch::start(rt);
-    let checksum = tell_in_turn(rt, live, teller, hearer, times);
+    let mut checksum = Checksum::EMPTY;
+    for _ in 0..times {
+        let told = live.split(teller);
+        live.learn(rt, hearer, told);
+        live.meet(rt, teller, hearer);
+        checksum = checksum.with(hearer.position());
+    }
     Measured {
         operations: u64::from(times) * CALLS,
         time: watch.stop(rt),
         checksum,
     }
-}
-
-/// Tells so many times, and adds the hearer's position each time.
-fn tell_in_turn<J: Live, R: Wait>(
-    rt: &R,
-    live: &LiveRecord<J>,
-    teller: &mut Seen<J>,
-    hearer: &mut Seen<J>,
-    times: u32,
-) -> Checksum {
-    let mut checksum = Checksum::EMPTY;
-    for _ in 0..times {
-        tell(rt, live, teller, hearer);
-        checksum = checksum.with(hearer.position());
-    }
-    checksum
-}
-
-/// A token is split off the first one, learned by the second, and met.
-fn tell<J: Live, R: Wait>(
-    rt: &R,
-    live: &LiveRecord<J>,
-    teller: &mut Seen<J>,
-    hearer: &mut Seen<J>,
-) {
-    let told = live.split(teller);
-    live.learn(rt, hearer, told);
-    live.meet(rt, teller, hearer);
 }

@@ -27,33 +27,12 @@ pub(crate) fn throttles(
     alloc: Global,
     size: u32,
 ) -> Result<Measured, Fault> {
-    let tags = tags(alloc, size)?;
-    set_and_look_up(clock, alloc, size, tags.as_slice())
-}
-
-/// Sets and looks up these throttles.
-fn set_and_look_up(
-    clock: &impl CpuClock,
-    alloc: Global,
-    size: u32,
-    tags: &[Tag],
-) -> Result<Measured, Fault> {
     let mut queue = empty_queue(alloc, 1, 1, 1)?;
-    time_throttles(clock, alloc, &mut queue, size, tags)
-}
-
-/// Takes the time that the throttles take.
-fn time_throttles(
-    clock: &impl CpuClock,
-    alloc: Global,
-    queue: &mut GrvQueue<u64>,
-    size: u32,
-    tags: &[Tag],
-) -> Result<Measured, Fault> {
-    let given = copies(alloc, tags)?;
+    let tags = tags(alloc, size)?;
+    let given = copies(alloc, tags.as_slice())?;
     let watch = Stopwatch::start(clock);
-    set_each(queue, given)?;
-    let checksum = look_up(queue, tags)?;
+    set_each(&mut queue, given)?;
+    let checksum = look_up(&queue, tags.as_slice())?;
     Ok(Measured {
         operations: u64::from(size) * u64::from(PASSES + 1),
         time: watch.stop(clock),
@@ -67,49 +46,34 @@ fn tags(alloc: Global, size: u32) -> Result<Vec<Tag>, Fault> {
     let mut draws = Draws::START;
     for place in 0..size {
         let number = draws.next_number() << 32 | u64::from(place);
-        push_tag(alloc, &mut tags, number)?;
+        let bytes = Vec::from_slice(alloc, &number.to_be_bytes())?;
+        tags.push(Sequence::from(bytes))?;
     }
     Ok(tags)
-}
-
-/// Adds the tag of a number's eight bytes.
-fn push_tag(alloc: Global, tags: &mut Vec<Tag>, number: u64) -> Result<(), Fault> {
-    let bytes = Vec::from_slice(alloc, &number.to_be_bytes())?;
-    Ok(tags.push(Sequence::from(bytes))?)
 }
 
 /// A copy of each tag.
 fn copies(alloc: Global, tags: &[Tag]) -> Result<Vec<Tag>, Fault> {
     let mut copies = Vec::new(alloc);
     for tag in tags {
-        push_copy(&mut copies, tag)?;
+        let copy = tag.clone()?;
+        copies.push(copy)?;
     }
     Ok(copies)
 }
 
-/// Adds a copy of a tag.
-fn push_copy(copies: &mut Vec<Tag>, tag: &Tag) -> Result<(), Fault> {
-    let copy = tag.clone()?;
-    Ok(copies.push(copy)?)
-}
-
-/// Sets a throttle for each tag.
+/// Sets a throttle for each tag, as a drawn number says.
 fn set_each(queue: &mut GrvQueue<u64>, tags: Vec<Tag>) -> Result<(), Fault> {
     let mut draws = Draws::START;
     for tag in tags {
         let drawn = draws.next_number();
-        set_one(queue, drawn, tag)?;
+        let (rate, expires) = (drawn % 100, drawn / 100 % LAST_MOMENT);
+        match queue.set_throttle(priority_of(drawn), tag, rate, expires) {
+            Ok(()) => {}
+            Err(_) => return Err(Fault::Queue),
+        }
     }
     Ok(())
-}
-
-/// Sets a throttle for a tag, as a drawn number says.
-fn set_one(queue: &mut GrvQueue<u64>, drawn: u64, tag: Tag) -> Result<(), Fault> {
-    let (rate, expires) = (drawn % 100, drawn / 100 % LAST_MOMENT);
-    match queue.set_throttle(priority_of(drawn), tag, rate, expires) {
-        Ok(()) => Ok(()),
-        Err(_) => Err(Fault::Queue),
-    }
 }
 
 /// Looks up all tags, some at a time, over and over.
@@ -117,22 +81,9 @@ fn look_up(queue: &GrvQueue<u64>, tags: &[Tag]) -> Result<Checksum, Fault> {
     let mut checksum = Checksum::EMPTY;
     let mut draws = Draws::START;
     for _ in 0..PASSES {
-        checksum = look_up_once(queue, tags, &mut draws, checksum)?;
-    }
-    Ok(checksum)
-}
-
-/// Looks up all tags, some at a time.
-fn look_up_once(
-    queue: &GrvQueue<u64>,
-    tags: &[Tag],
-    draws: &mut Draws,
-    before: Checksum,
-) -> Result<Checksum, Fault> {
-    let mut checksum = before;
-    for some in tags.chunks(TAGS_PER_REQUEST) {
-        let drawn = draws.next_number();
-        checksum = look_up_some(queue, some, drawn, checksum)?;
+        for some in tags.chunks(TAGS_PER_REQUEST) {
+            checksum = look_up_some(queue, some, draws.next_number(), checksum)?;
+        }
     }
     Ok(checksum)
 }
@@ -154,7 +105,14 @@ fn look_up_some(
 fn with_limits(before: Checksum, limits: &[TagLimit]) -> Checksum {
     let mut checksum = before;
     for limit in limits {
-        checksum = checksum.with(limit_word(limit));
+        let last = limit.tag.as_slice().last().copied().unwrap_or(0);
+        let word = limit
+            .expires
+            .wrapping_mul(31)
+            .wrapping_add(limit.rate)
+            .wrapping_mul(31)
+            .wrapping_add(u64::from(last));
+        checksum = checksum.with(word);
     }
     checksum
 }
@@ -166,15 +124,4 @@ fn priority_of(drawn: u64) -> Priority {
         1 => Priority::Default,
         _ => Priority::Batch,
     }
-}
-
-/// A word for a limit.
-fn limit_word(limit: &TagLimit) -> u64 {
-    let last = limit.tag.as_slice().last().copied().unwrap_or(0);
-    limit
-        .expires
-        .wrapping_mul(31)
-        .wrapping_add(limit.rate)
-        .wrapping_mul(31)
-        .wrapping_add(u64::from(last))
 }
