@@ -22,13 +22,13 @@ use std::env;
 use std::process::ExitCode;
 
 fn main() -> ExitCode {
-    let words: Vec<String> = env::args().skip(1).collect();
-    if let Some((name, others)) = words.split_first()
+    let arguments: Vec<String> = env::args().skip(1).collect();
+    if let Some((name, others)) = arguments.split_first()
         && name == "replay"
     {
         return program::run(others);
     }
-    let [name, size] = words.as_slice() else {
+    let [name, size] = arguments.as_slice() else {
         eprintln!("peer: a benchmark and its size are wanted");
         return ExitCode::FAILURE;
     };

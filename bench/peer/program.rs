@@ -8,22 +8,22 @@ use std::process::ExitCode;
 const MAX_SCRIPT_BYTES: u64 = 16_777_216;
 const MAX_PROXIES: usize = 16;
 
-struct Words<'a> {
+struct Arguments<'a> {
     script: Option<&'a str>,
     proxies: usize,
     with_history: bool,
 }
 
-pub fn run(words: &[String]) -> ExitCode {
-    let Some(words) = parsed(words) else {
+pub fn run(arguments: &[String]) -> ExitCode {
+    let Some(arguments) = parsed(arguments) else {
         eprintln!("peer: words refused");
         return ExitCode::from(2);
     };
-    let Ok(bytes) = script_bytes(words.script) else {
+    let Ok(bytes) = script_bytes(arguments.script) else {
         eprintln!("peer: reading failed");
         return ExitCode::from(5);
     };
-    match replay(&bytes, words.proxies, words.with_history) {
+    match replay(&bytes, arguments.proxies, arguments.with_history) {
         Ok(text) => match io::stdout().write_all(text.as_bytes()) {
             Ok(()) => ExitCode::SUCCESS,
             Err(_) => {
@@ -38,11 +38,11 @@ pub fn run(words: &[String]) -> ExitCode {
     }
 }
 
-fn parsed(words: &[String]) -> Option<Words<'_>> {
+fn parsed(arguments: &[String]) -> Option<Arguments<'_>> {
     let (mut script, mut proxies, mut with_history) = (None, 1, false);
-    let mut left = words.iter();
-    while let Some(word) = left.next() {
-        match word.as_str() {
+    let mut left = arguments.iter();
+    while let Some(argument) = left.next() {
+        match argument.as_str() {
             "--proxies" => {
                 let said = left.next()?.parse().ok();
                 proxies = said.filter(|number| (1..=MAX_PROXIES).contains(number))?;
@@ -52,7 +52,7 @@ fn parsed(words: &[String]) -> Option<Words<'_>> {
             _ => return None,
         }
     }
-    Some(Words {
+    Some(Arguments {
         script,
         proxies,
         with_history,

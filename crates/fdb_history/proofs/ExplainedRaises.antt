@@ -7,7 +7,7 @@ use Rattle.fdb_history.specs.Faults.{raises_at, after_raises}
 use Rattle.fdb_history.specs.Linear.{IsLinear}
 use Rattle.fdb_history.specs.private.Explaining.{raises_of}
 use Rattle.fdb_history.specs.Register.{raises, after_report}
-use Rattle.fdb_history.specs.declared.auditing.raises.Raise.{Raise}
+use Rattle.fdb_history.specs.declared.auditing.raises.PlacedRaise.{PlacedRaise}
 use Rattle.fdb_history.specs.declared.event.Event.{Event}
 use Rattle.fdb_history.specs.declared.event.Event.TheVariants.{Report, Read}
 use Rattle.fdb_history.specs.declared.log.ClientLog.{ClientLog}
@@ -32,7 +32,7 @@ IsAnsweredBy reg position (Report client call rec false) = rec.version ≤ (reg 
 IsAnsweredBy reg position (Read client call rec) = rec ≡ reg position
 
 -- a register that is made by the raises of legal events answers each of them
-pub answered : (reg : ℕ → Record) (raised : ℕ → List Raise) → ((p : ℕ) → reg (p + 1) ≡ after_raises (reg p) (raised (p + 1)))
+pub answered : (reg : ℕ → Record) (raised : ℕ → List PlacedRaise) → ((p : ℕ) → reg (p + 1) ≡ after_raises (reg p) (raised (p + 1)))
     → (before : ℕ) (current : Record) (events : List Event) → reg before ≡ current → IsLegal current events
     → ((p : ℕ) → before < p → raised p ≡ raises_of (raises_to p (stamped before events)))
     → AllByRecursion (λ p. IsAnsweredBy reg p.position p.event) (stamped before events)

@@ -13,7 +13,7 @@ use Rattle.fdb_history.specs.Event.{is_raise}
 use Rattle.fdb_history.specs.declared.event.Placed.{Placed}
 use Rattle.fdb_history.specs.Explained.{placed_in, explained}
 use Rattle.fdb_history.specs.private.Explaining.{AreEventsByPosition, raise_of_event, raises_of}
-use Rattle.fdb_history.specs.declared.auditing.raises.Raise.{Raise}
+use Rattle.fdb_history.specs.declared.auditing.raises.PlacedRaise.{PlacedRaise}
 use Rattle.fdb_history.specs.declared.event.Event.{Event}
 use Rattle.fdb_history.specs.declared.event.Event.TheVariants.{Report, Read}
 use Rattle.fdb_history.specs.declared.log.ClientLog.{ClientLog}
@@ -118,26 +118,26 @@ sorted_by_position ys sorted = λ i j d before below.
     omega arith
 
 -- what rises from a position rises from each below it
-rises_below : (before later : ℕ) (raises : List Raise) → before ≤ later → Rising (λ (raise : Raise). raise.position) later raises → Rising (λ (raise : Raise). raise.position) before raises
+rises_below : (before later : ℕ) (raises : List PlacedRaise) → before ≤ later → Rising (λ (raise : PlacedRaise). raise.position) later raises → Rising (λ (raise : PlacedRaise). raise.position) before raises
 rises_below before later [] below up = tt
 rises_below before later (raise ∷ raises) below up = (le_trans below up.0, up.1)
 
 -- the raise of an event, and then what rises from its position
-rises_more : (low position : ℕ) (event : Event) (raises : List Raise) → low ≤ position → Rising (λ (raise : Raise). raise.position) position raises
-    → Rising (λ (raise : Raise). raise.position) low (raise_of_event position event ++ raises)
+rises_more : (low position : ℕ) (event : Event) (raises : List PlacedRaise) → low ≤ position → Rising (λ (raise : PlacedRaise). raise.position) position raises
+    → Rising (λ (raise : PlacedRaise). raise.position) low (raise_of_event position event ++ raises)
 rises_more low position (Report client call rec true) raises least up = (least, up)
 rises_more low position (Report client call rec false) raises least up = rises_below low position raises least up
 rises_more low position (Read client call rec) raises least up = rises_below low position raises least up
 
 -- the raises among events that rise do so too
-rises_among : (low : ℕ) (ys : List Placed) → Rising (λ (p : Placed). p.position) low ys → Rising (λ (raise : Raise). raise.position) low (raises_of ys)
+rises_among : (low : ℕ) (ys : List Placed) → Rising (λ (p : Placed). p.position) low ys → Rising (λ (raise : PlacedRaise). raise.position) low (raises_of ys)
 rises_among low [] up = tt
 rises_among low (p ∷ ys) up = rises_more low p.position p.event (raises_of ys) up.0 (rises_among p.position ys up.1)
 
 -- The raises among events by position stand by position.
 pub raises_by_position : (ys : List Placed) → AreEventsByPosition ys → AreByPosition (raises_of ys)
 raises_by_position ys up =
-    from_rising (λ (raise : Raise). raise.position) 0 (raises_of ys) (rises_among 0 ys (rising_from (λ (p : Placed). p.position) 0 ys (λ d some. omega arith) up))
+    from_rising (λ (raise : PlacedRaise). raise.position) 0 (raises_of ys) (rises_among 0 ys (rising_from (λ (p : Placed). p.position) 0 ys (λ d some. omega arith) up))
 
 -- The raises among the sorted events are those of the logs, at each position.
 pub sorted_raises : (logs : List ClientLog) (all ys : List Placed) → all ≡ placed_in 0 logs → IsFrom all ys → AreRaisesOf logs (raises_of ys)

@@ -12,7 +12,7 @@ use Rattle.fdb_history.specs.private.Explaining.{raise_of_event}
 use Rattle.fdb_history.specs.Faults.{raise_in, raises_in, raises_at, IsOutOfOrder, StandsAt, Nowhere}
 use Rattle.fdb_history.specs.Linear.{NeverGoesBack, client_of}
 use Rattle.fdb_history.specs.Log.{event_of_answer, placed_from, calls_of, answer_raises, position_after_calls}
-use Rattle.fdb_history.specs.declared.auditing.raises.Raise.{Raise}
+use Rattle.fdb_history.specs.declared.auditing.raises.PlacedRaise.{PlacedRaise}
 use Rattle.fdb_history.specs.declared.event.Event.{Event}
 use Rattle.fdb_history.specs.declared.event.Event.TheVariants.{Report, Read}
 use Rattle.fdb_history.specs.declared.log.Call.{Call}
@@ -193,7 +193,7 @@ climbing client place before (call ∷ calls) order =
 -- ---- the raises
 
 -- the raise of an event with its position, if it is one
-abbrev pub raise_of : Placed → List Raise
+abbrev pub raise_of : Placed → List PlacedRaise
 raise_of p = raise_of_event p.position p.event
 
 -- a call's raise is that of its event
@@ -223,7 +223,7 @@ raises-in client (log ∷ logs) =
     ∙ sym (flat_map-append raise_of (placed_from client 0 log.calls) (placed_in (client + 1) logs))
 
 -- whether a raise stands at this position
-abbrev stands_at : ℕ → Raise → Bool
+abbrev stands_at : ℕ → PlacedRaise → Bool
 stands_at position raise = raise.position == position
 
 -- one event more: its raise stands at the position where the event does
@@ -231,7 +231,7 @@ filter-raise : (position at : ℕ) (event : Event) (all : List Placed) → filte
     → filter (stands_at position) (raise_of_event at event ++ flat_map raise_of all) ≡ flat_map raise_of (filter (is_raise_at position) (record { event = event; position = at } ∷ all))
 filter-raise position at (Report client call rec true) all rest =
     let p : Placed = record { event = Report client call rec true; position = at } in
-    let raise : Raise = record { position = at; rec = rec } in
+    let raise : PlacedRaise = record { position = at; rec = rec } in
     elim (cases_Bool (at == position)) [
       | inl here ↦ kept (stands_at position) raise (flat_map raise_of all) here ∙ ap (λ l. raise ∷ l) rest
           ∙ sym (ap (flat_map raise_of) (kept (is_raise_at position) p all (and_from (at == position) true here refl)))
@@ -255,7 +255,7 @@ pub raises-at : (logs : List ClientLog) (position : ℕ) → raises_at logs posi
 raises-at logs position = ap (filter (stands_at position)) (raises-in 0 logs) ∙ filter-raises position (placed_in 0 logs)
 
 -- an event that raises has one raise
-length-raise : (at : ℕ) (event : Event) (more : List Raise) → is_raise event ≡ true → length (raise_of_event at event ++ more) ≡ suc (length more)
+length-raise : (at : ℕ) (event : Event) (more : List PlacedRaise) → is_raise event ≡ true → length (raise_of_event at event ++ more) ≡ suc (length more)
 length-raise at (Report client call rec true) more up = refl
 length-raise at (Report client call rec false) more up = absurd (false≢true up)
 length-raise at (Read client call rec) more up = absurd (false≢true up)

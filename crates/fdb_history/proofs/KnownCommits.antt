@@ -7,7 +7,7 @@ use Rattle.fdb_history.specs.Faults.{raise_in, raises_in, raises_at, after_raise
 use Rattle.fdb_history.specs.Linear.{IsLinear, NeverGoesBack}
 use Rattle.fdb_history.specs.Log.{calls_of, answer_raises}
 use Rattle.fdb_history.specs.Register.{after_report}
-use Rattle.fdb_history.specs.declared.auditing.raises.Raise.{Raise}
+use Rattle.fdb_history.specs.declared.auditing.raises.PlacedRaise.{PlacedRaise}
 use Rattle.fdb_history.specs.declared.event.Event.{Event}
 use Rattle.fdb_history.specs.declared.grv.TagLimit.{TagLimit}
 use Rattle.fdb_history.specs.declared.log.Call.{Call}
@@ -38,13 +38,13 @@ all_passing P keep (x ∷ xs) all =
 -- ---- the register at a position
 
 -- raises leave at least the version that they found
-after_raises-at_least : (current : Record) (raises : List Raise) → current.version ≤ (after_raises current raises).version
+after_raises-at_least : (current : Record) (raises : List PlacedRaise) → current.version ≤ (after_raises current raises).version
 after_raises-at_least current [] = le_refl current.version
 after_raises-at_least current (raise ∷ raises) =
     le_trans (after_report-at_least current raise.rec).0 (after_raises-at_least (after_report current raise.rec) raises)
 
 -- and at least the version of each
-each_at_most : (current : Record) (raises : List Raise) → AllByRecursion (λ raise. raise.rec.version ≤ (after_raises current raises).version) raises
+each_at_most : (current : Record) (raises : List PlacedRaise) → AllByRecursion (λ raise. raise.rec.version ≤ (after_raises current raises).version) raises
 each_at_most current [] = tt
 each_at_most current (raise ∷ raises) =
     (le_trans (after_report-at_least current raise.rec).1 (after_raises-at_least (after_report current raise.rec) raises), each_at_most (after_report current raise.rec) raises)
@@ -60,10 +60,10 @@ register_at-in_order start logs earlier (suc later) order =
     ]
 
 -- what holds of each raise at a position holds of each acknowledgement in the logs that raised there
-of_raise : (P : Raise → Type 0) (logs : List ClientLog) (client place : ℕ) (call : Call) (rec : Record) → AllByRecursion P (raises_at logs call.position)
+of_raise : (P : PlacedRaise → Type 0) (logs : List ClientLog) (client place : ℕ) (call : Call) (rec : Record) → AllByRecursion P (raises_at logs call.position)
     → slice_get (calls_of logs client) place ≡ Some call → call.answer ≡ Acked rec true → P (record { position = call.position; rec = rec })
 of_raise P logs client place call rec all at is =
-    let Q : Raise → Type 0 = λ raise. (raise.position == call.position) ≡ true → P raise in
+    let Q : PlacedRaise → Type 0 = λ raise. (raise.position == call.position) ≡ true → P raise in
     let each = all_flat Q (λ log. flat_map (λ c. raise_in c.position c.answer) log.calls) logs (all_passing P (λ raise. raise.position == call.position) (raises_in logs) all) in
     let own = of_client (λ calls. AllByRecursion Q (flat_map (λ c. raise_in c.position c.answer) calls)) tt logs client each in
     let here = all_at (λ c. AllByRecursion Q (raise_in c.position c.answer)) (calls_of logs client) place call (all_flat Q (λ c. raise_in c.position c.answer) (calls_of logs client) own) at in

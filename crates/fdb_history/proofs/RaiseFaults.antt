@@ -6,7 +6,7 @@ use Rattle.std.proofs.lemmas.List.Elements.{filter-append}
 use Rattle.fdb_history.specs.private.Auditing.{AreRaisesOf, AreTwoAt, StandInTurn}
 use Rattle.fdb_history.specs.Faults.{raise_in, raises_in, raises_at, at_position, IsOutOfOrder, IsClash, IsGap, IsReached, IsLeast, StandsAt, Nowhere, AtNoPosition}
 use Rattle.fdb_history.specs.Log.{answer_raises}
-use Rattle.fdb_history.specs.declared.auditing.raises.Raise.{Raise}
+use Rattle.fdb_history.specs.declared.auditing.raises.PlacedRaise.{PlacedRaise}
 use Rattle.fdb_history.specs.declared.log.Call.{Call}
 use Rattle.fdb_history.specs.declared.log.CallAnswer.{CallAnswer}
 use Rattle.fdb_history.specs.declared.log.CallAnswer.TheVariants.{Version, Answered, Acked, Told, Refused}
@@ -26,7 +26,7 @@ zero-call : (position : ℕ) (answer : CallAnswer) → (IsTrue (answer_raises an
 zero-call position (Version rec limits locked_out) least = refl
 zero-call position (Acked rec true) least =
     let above = least refl in
-    left_out (λ (raise : Raise). raise.position == 0) (record { position = position; rec = rec }) [] (ne_eqb position 0 (λ same. absurd (omega arith)))
+    left_out (λ (raise : PlacedRaise). raise.position == 0) (record { position = position; rec = rec }) [] (ne_eqb position 0 (λ same. absurd (omega arith)))
 zero-call position (Acked rec false) least = refl
 zero-call position (Answered issued) least = refl
 zero-call position Told least = refl
@@ -37,7 +37,7 @@ zero-calls : (calls : List Call) → AllByRecursion IsRaised calls → at_positi
 zero-calls [] each = refl
 zero-calls (call ∷ calls) each =
     let rest = flat_map (λ (c : Call). raise_in c.position c.answer) calls in
-    filter-append (λ (raise : Raise). raise.position == 0) (raise_in call.position call.answer) rest
+    filter-append (λ (raise : PlacedRaise). raise.position == 0) (raise_in call.position call.answer) rest
     ∙ ap (λ l. l ++ at_position 0 rest) (zero-call call.position call.answer each.0) ∙ zero-calls calls each.1
 
 -- nor one of all logs
@@ -45,7 +45,7 @@ zero-logs : (logs : List ClientLog) → AllByRecursion (λ log. AllByRecursion I
 zero-logs [] each = refl
 zero-logs (log ∷ logs) each =
     let first = flat_map (λ (c : Call). raise_in c.position c.answer) log.calls in
-    filter-append (λ (raise : Raise). raise.position == 0) first (raises_in logs)
+    filter-append (λ (raise : PlacedRaise). raise.position == 0) first (raises_in logs)
     ∙ ap (λ l. l ++ raises_at logs 0) (zero-calls log.calls each.0) ∙ zero-logs logs each.1
 
 -- Where no call is out of order, no raise stands at 0.
@@ -61,11 +61,11 @@ none-at-zero logs order =
 -- ---- the first gap
 
 -- a list with the raises of the logs has two at one position only where the logs have
-pub no-clash : (logs : List ClientLog) (raises : List Raise) → AreRaisesOf logs raises → AtNoPosition (AreTwoAt raises) → AtNoPosition (IsClash logs)
+pub no-clash : (logs : List ClientLog) (raises : List PlacedRaise) → AreRaisesOf logs raises → AtNoPosition (AreTwoAt raises) → AtNoPosition (IsClash logs)
 no-clash logs raises same once position two = let long = ap length (same position) in once position (omega arith)
 
 -- below the first position that is missing none is
-pub no-gap-below : (logs : List ClientLog) (raises : List Raise) (missing : ℕ) (d : Raise) → AreRaisesOf logs raises → StandInTurn missing raises
+pub no-gap-below : (logs : List ClientLog) (raises : List PlacedRaise) (missing : ℕ) (d : PlacedRaise) → AreRaisesOf logs raises → StandInTurn missing raises
     → (position : ℕ) → position < missing → 1 ≤ position → raises_at logs position ≡ [] → ⊥
 no-gap-below logs raises missing d same turn zero below least none = absurd (omega arith)
 no-gap-below logs raises missing d same turn (suc position) below least none =
@@ -75,7 +75,7 @@ no-gap-below logs raises missing d same turn (suc position) below least none =
     absurd (omega arith)
 
 -- Where a call has reached that position, it is the first gap.
-pub gap-least : (logs : List ClientLog) (raises : List Raise) (missing : ℕ) (d : Raise) → AreRaisesOf logs raises → StandInTurn missing raises
+pub gap-least : (logs : List ClientLog) (raises : List PlacedRaise) (missing : ℕ) (d : PlacedRaise) → AreRaisesOf logs raises → StandInTurn missing raises
     → 1 ≤ missing → at_position missing raises ≡ [] → IsReached logs missing → IsLeast (IsGap logs) missing
 gap-least logs raises missing d same turn least none reached = record {
   stands = (least, sym (same missing) ∙ none, reached);
@@ -83,7 +83,7 @@ gap-least logs raises missing d same turn least none reached = record {
 }
 
 -- Where no call has reached it, there is no gap.
-pub no-gap : (logs : List ClientLog) (raises : List Raise) (missing reached : ℕ) (d : Raise) → AreRaisesOf logs raises → StandInTurn missing raises
+pub no-gap : (logs : List ClientLog) (raises : List PlacedRaise) (missing reached : ℕ) (d : PlacedRaise) → AreRaisesOf logs raises → StandInTurn missing raises
     → ((position : ℕ) → IsReached logs position → position ≤ reached) → reached < missing → AtNoPosition (IsGap logs)
 no-gap logs raises missing reached d same turn most below position gap =
     let within = most position gap.2 in

@@ -5,7 +5,7 @@ use Rattle.std.proofs.lemmas.List.{take_more, get_or_append_left, get_or_push}
 use Rattle.fdb_history.specs.private.Auditing.{AreRaisesOf, StandInTurn, IsTable}
 use Rattle.fdb_history.specs.Faults.{at_position, register_at, after_raises, IsClash, AtNoPosition}
 use Rattle.fdb_history.specs.Register.{after_report}
-use Rattle.fdb_history.specs.declared.auditing.raises.Raise.{Raise}
+use Rattle.fdb_history.specs.declared.auditing.raises.PlacedRaise.{PlacedRaise}
 use Rattle.fdb_history.specs.declared.log.ClientLog.{ClientLog}
 use Rattle.fdb_history.specs.declared.register.Record.{Record}
 use Rattle.fdb_history.proofs.RaisesAt.{at-only}
@@ -13,23 +13,23 @@ use Rattle.fdb_history.proofs.RaisesAt.{at-only}
 -- ---- the table
 
 -- the register after one raise more
-after-push : (start : Record) (raises : List Raise) (raise : Raise) → after_raises start (raises ++ raise ∷ []) ≡ after_report (after_raises start raises) raise.rec
+after-push : (start : Record) (raises : List PlacedRaise) (raise : PlacedRaise) → after_raises start (raises ++ raise ∷ []) ≡ after_report (after_raises start raises) raise.rec
 after-push start [] raise = refl
 after-push start (first ∷ raises) raise = after-push (after_report start first.rec) raises raise
 
 -- the same, at a place
-after-more : (start : Record) (raises : List Raise) (i : ℕ) (d : Raise) → i < length raises
+after-more : (start : Record) (raises : List PlacedRaise) (i : ℕ) (d : PlacedRaise) → i < length raises
     → after_raises start (take (i + 1) raises) ≡ after_report (after_raises start (take i raises)) (get_or raises i d).rec
 after-more start raises i d below = ap (after_raises start) (take_more raises i d below) ∙ after-push start (take i raises) (get_or raises i d)
 
 -- the table has the register after each of so many raises, and the last is the current one
-pub record IsTableUpTo (i : ℕ) (start : Record) (raises : List Raise) (table : List Record) (current : Record) : Type 0 where
+pub record IsTableUpTo (i : ℕ) (start : Record) (raises : List PlacedRaise) (table : List Record) (current : Record) : Type 0 where
   pub long : length table ≡ i + 1
   pub at : (count : ℕ) (d : Record) → count ≤ i → get_or table count d ≡ after_raises start (take count raises)
   pub last : current ≡ after_raises start (take i raises)
 
 -- the table before any raise
-pub table-begins : (start : Record) (raises : List Raise) → IsTableUpTo 0 start raises (start ∷ []) start
+pub table-begins : (start : Record) (raises : List PlacedRaise) → IsTableUpTo 0 start raises (start ∷ []) start
 table-begins start raises = record {
   long = refl;
   at = λ count d within. elim (cases_eq count 0) [
@@ -40,8 +40,8 @@ table-begins start raises = record {
 }
 
 -- one record more
-pub table-more : {i : ℕ} {start : Record} {raises : List Raise} {table : List Record} {current : Record} → IsTableUpTo i start raises table current
-    → (d : Raise) (next : Record) → i < length raises → next ≡ after_report current (get_or raises i d).rec → IsTableUpTo (i + 1) start raises (table ++ next ∷ []) next
+pub table-more : {i : ℕ} {start : Record} {raises : List PlacedRaise} {table : List Record} {current : Record} → IsTableUpTo i start raises table current
+    → (d : PlacedRaise) (next : Record) → i < length raises → next ≡ after_report current (get_or raises i d).rec → IsTableUpTo (i + 1) start raises (table ++ next ∷ []) next
 table-more {i} {start} {raises} {table} {current} so_far d next below is =
     let last = is ∙ ap (λ r. after_report r (get_or raises i d).rec) so_far.last ∙ sym (after-more start raises i d below) in
     let long = so_far.long in
@@ -59,11 +59,11 @@ table-more {i} {start} {raises} {table} {current} so_far d next below is =
 -- ---- the register at a position
 
 -- Up to the first position that is missing, the register is what it is after as many raises.
-pub register-after : (start : Record) (logs : List ClientLog) (raises : List Raise) (missing : ℕ) → AreRaisesOf logs raises
+pub register-after : (start : Record) (logs : List ClientLog) (raises : List PlacedRaise) (missing : ℕ) → AreRaisesOf logs raises
     → AtNoPosition (IsClash logs) → StandInTurn missing raises → (position : ℕ) → position < missing → register_at start logs position ≡ after_raises start (take position raises)
 register-after start logs raises missing same once turn zero below = refl
 register-after start logs raises missing same once turn (suc position) below =
-    let d : Raise = record { position = 0; rec = start } in
+    let d : PlacedRaise = record { position = 0; rec = start } in
     let here = turn position d (omega arith) in
     let most : length (at_position (suc position) raises) ≤ 1 =
     elim (cases_lt 1 (length (at_position (suc position) raises))) [
@@ -78,7 +78,7 @@ register-after start logs raises missing same once turn (suc position) below =
     ∙ sym more ∙ ap (λ k. after_raises start (take k raises)) next
 
 -- So the table has it.
-pub table-right : (start : Record) (logs : List ClientLog) (raises : List Raise) (table : List Record) (missing : ℕ) → AreRaisesOf logs raises
+pub table-right : (start : Record) (logs : List ClientLog) (raises : List PlacedRaise) (table : List Record) (missing : ℕ) → AreRaisesOf logs raises
     → AtNoPosition (IsClash logs) → StandInTurn missing raises → IsTable start raises table → (position : ℕ) → position < missing → get_or table position start ≡ register_at start logs position
 table-right start logs raises table missing same once turn right position below =
     right position start (turn_length position below) ∙ sym (register-after start logs raises missing same once turn position below)

@@ -4,7 +4,7 @@ use Rattle.std.specs.Prelude.{◌≡◌, ◌≢◌, ◌⊎◌, ℕ, zero, suc, �
 use Rattle.std.specs.List.{flat_map}
 use Rattle.fdb_history.specs.Log.{calls_of, position_after_calls, answer_raises}
 use Rattle.fdb_history.specs.Register.{after_report}
-use Rattle.fdb_history.specs.declared.auditing.raises.Raise.{Raise}
+use Rattle.fdb_history.specs.declared.auditing.raises.PlacedRaise.{PlacedRaise}
 use Rattle.fdb_history.specs.declared.log.Call.{Call}
 use Rattle.fdb_history.specs.declared.log.CallAnswer.{CallAnswer}
 use Rattle.fdb_history.specs.declared.log.CallAnswer.TheVariants.{Version, Answered, Acked, Told, Refused}
@@ -13,7 +13,7 @@ use Rattle.fdb_history.specs.declared.register.Record.{Record}
 
 -- ---- the raises
 
-abbrev pub raise_in : ℕ → CallAnswer → List Raise
+abbrev pub raise_in : ℕ → CallAnswer → List PlacedRaise
 raise_in position (Version rec limits locked_out) = []
 raise_in position (Acked rec true) = record { position = position; rec = rec } ∷ []
 raise_in position (Acked rec false) = []
@@ -22,20 +22,20 @@ raise_in position Told = []
 raise_in position (Refused cause) = []
 
 -- the raises in the logs
-abbrev pub raises_in : List ClientLog → List Raise
+abbrev pub raises_in : List ClientLog → List PlacedRaise
 raises_in logs =
     flat_map (λ log. flat_map (λ call. raise_in call.position call.answer) log.calls) logs
 
 -- those at a position
-abbrev pub at_position : ℕ → List Raise → List Raise
+abbrev pub at_position : ℕ → List PlacedRaise → List PlacedRaise
 at_position position raises = filter (λ raise. raise.position == position) raises
 
-abbrev pub raises_at : List ClientLog → ℕ → List Raise
+abbrev pub raises_at : List ClientLog → ℕ → List PlacedRaise
 raises_at logs position = at_position position (raises_in logs)
 
 -- The register at a position: the start, and then each raise up to there in turn, as `after_report`
 -- takes them.
-abbrev pub after_raises : Record → List Raise → Record
+abbrev pub after_raises : Record → List PlacedRaise → Record
 after_raises current [] = current
 after_raises current (raise ∷ raises) = after_raises (after_report current raise.rec) raises
 

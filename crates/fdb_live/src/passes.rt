@@ -131,7 +131,7 @@ pub(crate) fn join(cell: &Cell, pass: &mut Pass, other: Pass)
     ensures { IsSamePass pass.old pass.new
         × (cell_view pass.new ≡ joined (cell_view pass.old) (cell_view other)) }
 {
-    cell.join_pass::<view::Told>(pass, other);
+    cell.join_pass::<view::Joined>(pass, other);
 }
 
 /// The pass with the right to replace takes in another one with its number.

@@ -132,9 +132,9 @@ impl Split<View> for Whole {
 }
 
 /// What the other pass has seen is taken in.
-pub(crate) struct Told;
+pub(crate) struct Joined;
 
-impl Join<View> for Told {
+impl Join<View> for Joined {
     ghost use Rattle.fdb_live.specs.private.Rule.{joined, spent};
 
     ghost both = { joined };

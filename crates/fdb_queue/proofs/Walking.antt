@@ -13,7 +13,7 @@ use Rattle.fdb_queue.specs.declared.request.Req.{Req}
 use Rattle.fdb_queue.specs.declared.turn.Turn.{Turn}
 use Rattle.fdb_queue.specs.Queue.{Queue}
 use Rattle.fdb_queue.specs.private.Reach.{IsReach}
-use Rattle.fdb_queue.specs.private.Turn.{turn_after, IsTurn}
+use Rattle.fdb_queue.specs.private.Turn.{turn_after, IsWithinLimits}
 use Rattle.fdb_queue.specs.Waiting.{row, total}
 use Rattle.fdb_queue.specs.Window.{may_start, prefixes, fits}
 use Rattle.fdb_queue.proofs.Fitting.{total-cons, fits-more, fits-push}
@@ -220,7 +220,7 @@ pub reach_is : {T : Type 0} (queue : Queue T) (system default_ batch : Turn)
     → system ≡ fold (turn_after queue.config queue.budgets) (record { requests = 0; transactions = 0; ended = false }) queue.waiting.system
     → default_ ≡ fold (turn_after queue.config queue.budgets) system queue.waiting.default_
     → batch ≡ fold (turn_after queue.config queue.budgets) default_ queue.waiting.batch
-    → IsTurn default_ → IsTurn batch
+    → IsWithinLimits default_ → IsWithinLimits batch
     → IsReach queue (record {
       counts = record { system = system.requests; default_ = default_.requests - system.requests; batch = batch.requests - default_.requests };
       unbatched = default_.transactions;

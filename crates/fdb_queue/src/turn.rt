@@ -3,7 +3,7 @@
 ghost use Rattle.std.specs.Prelude.{◌≡◌, ◌≤◌, ◌^◌, All, fold};
 ghost use Rattle.fdb_queue.specs.Config.{IsConfig};
 ghost use Rattle.fdb_queue.specs.Kept.{AreBudgets};
-ghost use Rattle.fdb_queue.specs.private.Turn.{turn_after, IsTurn};
+ghost use Rattle.fdb_queue.specs.private.Turn.{turn_after, IsWithinLimits};
 ghost use Rattle.fdb_queue.specs.Window.{may_start};
 ghost use Rattle.fdb_queue.specs.declared.config.TheConstants.{MAX_COUNT};
 
@@ -36,10 +36,10 @@ impl Turn {
     fn after<T>(self, config: &QueueConfig, budgets: &Budgets, request: &Req<T>) -> Turn
         requires config { IsConfig config.now }
         requires budgets { AreBudgets budgets.now }
-        requires turn { IsTurn self }
+        requires turn { IsWithinLimits self }
         requires count { request.now.count ≤ MAX_COUNT }
         ensures value { result ≡ turn_after config.now budgets.now self request.now }
-        ensures turn { IsTurn result }
+        ensures turn { IsWithinLimits result }
     {
         if self.ended {
             return self;
@@ -69,10 +69,10 @@ impl Turn {
     ) -> Turn
         requires config { IsConfig config.now }
         requires budgets { AreBudgets budgets.now }
-        requires turn { IsTurn self }
+        requires turn { IsWithinLimits self }
         requires counts { All (λ request. request.count ≤ MAX_COUNT) list.now.items }
         ensures value { result ≡ fold (turn_after config.now budgets.now) self list.now.items }
-        ensures turn { IsTurn result }
+        ensures turn { IsWithinLimits result }
     {
         let mut turn = self;
         for request in list.iter() {

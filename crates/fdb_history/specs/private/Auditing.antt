@@ -6,7 +6,7 @@ use Rattle.fdb_history.specs.Event.{is_raise}
 use Rattle.fdb_history.specs.Explained.{placed_in}
 use Rattle.fdb_history.specs.Faults.{IsClash, IsGap, IsFirst, IsLeast, IsReached, Nowhere, AtNoPosition, at_position, raises_at, register_at, after_raises}
 use Rattle.fdb_history.specs.declared.auditing.found.CallName.{CallName}
-use Rattle.fdb_history.specs.declared.auditing.raises.Raise.{Raise}
+use Rattle.fdb_history.specs.declared.auditing.raises.PlacedRaise.{PlacedRaise}
 use Rattle.fdb_history.specs.declared.auditing.registers.Registers.{Registers}
 use Rattle.fdb_history.specs.declared.chain.Issued.{Issued}
 use Rattle.fdb_history.specs.declared.fault.AuditFault.{AuditFault}
@@ -40,25 +40,25 @@ IsLeastIfAny Stands None = AtNoPosition Stands
 IsLeastIfAny Stands (Some position) = IsLeast Stands position
 
 -- the raises stand in the order of their positions
-abbrev pub AreByPosition : List Raise → Type 0
-AreByPosition raises = IsNonDecreasingBy (λ (raise : Raise). raise.position) raises
+abbrev pub AreByPosition : List PlacedRaise → Type 0
+AreByPosition raises = IsNonDecreasingBy (λ (raise : PlacedRaise). raise.position) raises
 
 -- the raises of a list are those of the logs, at each position
-abbrev pub AreRaisesOf : List ClientLog → List Raise → Type 0
+abbrev pub AreRaisesOf : List ClientLog → List PlacedRaise → Type 0
 AreRaisesOf logs raises = (position : ℕ) → at_position position raises ≡ raises_at logs position
 
 -- two raises have a position
-abbrev pub AreTwoAt : List Raise → ℕ → Type 0
+abbrev pub AreTwoAt : List PlacedRaise → ℕ → Type 0
 AreTwoAt raises position = 1 < length (at_position position raises)
 
 -- the raises before a position stand at 1, 2 and so on
-abbrev pub StandInTurn : ℕ → List Raise → Type 0
+abbrev pub StandInTurn : ℕ → List PlacedRaise → Type 0
 StandInTurn position raises =
-    (place : ℕ) (d : Raise) → place + 1 < position
+    (place : ℕ) (d : PlacedRaise) → place + 1 < position
     → (place < length raises) × ((slice_index_or raises place d).position ≡ place + 1)
 
 -- the register before any raise, and then after each raise in turn
-abbrev pub IsTable : Record → List Raise → List Record → Type 0
+abbrev pub IsTable : Record → List PlacedRaise → List Record → Type 0
 IsTable start raises table =
     (count : ℕ) (d : Record) → count ≤ length raises
     → slice_index_or table count d ≡ after_raises start (take count raises)

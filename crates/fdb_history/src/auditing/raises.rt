@@ -11,7 +11,7 @@ use std::alloc::{AllocError, Global};
 
 /// A report that raised the register, and its position.
 #[derive(Clone, Copy)]
-pub(crate) struct Raise {
+pub(crate) struct PlacedRaise {
     /// The position.
     pub(crate) position: u64,
     /// What was reported.
@@ -19,7 +19,7 @@ pub(crate) struct Raise {
 }
 
 /// The raises among some events, in their order.
-pub(crate) fn raises_of(alloc: Global, events: &[Placed]) -> Result<Vec<Raise>, AllocError>
+pub(crate) fn raises_of(alloc: Global, events: &[Placed]) -> Result<Vec<PlacedRaise>, AllocError>
     ensures { IfOk result (λ raises. raises.items ≡ raises_of events.now) }
 {
     let mut raises = Vec::new(alloc);
@@ -30,7 +30,7 @@ pub(crate) fn raises_of(alloc: Global, events: &[Placed]) -> Result<Vec<Raise>, 
             ..
         } = &placed.event
         {
-            raises.push(Raise {
+            raises.push(PlacedRaise {
                 position: placed.position,
                 rec: *rec,
             })?;
@@ -40,7 +40,7 @@ pub(crate) fn raises_of(alloc: Global, events: &[Placed]) -> Result<Vec<Raise>, 
 }
 
 /// The least position that two raises have.
-pub(crate) fn first_clash(raises: &[Raise]) -> Option<u64>
+pub(crate) fn first_clash(raises: &[PlacedRaise]) -> Option<u64>
     requires { AreByPosition raises.now }
     ensures { IsLeastIfAny (AreTwoAt raises.now) result }
 {
@@ -54,7 +54,7 @@ pub(crate) fn first_clash(raises: &[Raise]) -> Option<u64>
 
 /// The least position, from 1 on, that no raise has. The
 /// raises before it have each position in turn.
-pub(crate) fn first_missing(raises: &[Raise]) -> u64
+pub(crate) fn first_missing(raises: &[PlacedRaise]) -> u64
     requires sorted { AreByPosition raises.now }
     requires from_one { at_position 0 raises.now ≡ [] }
     requires once { AtNoPosition (AreTwoAt raises.now) }

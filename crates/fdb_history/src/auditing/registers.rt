@@ -5,7 +5,7 @@ ghost use Rattle.fdb_history.specs.private.Auditing.{AreByPosition, AreRaisesOf,
 ghost use Rattle.fdb_history.specs.Faults.{OutOfOrder, IsClash, IsGap, IsReached, AtNoPosition, Nowhere};
 ghost use Rattle.fdb_history.specs.declared.log.Call.{Call};
 
-use crate::auditing::raises::{Raise, first_clash, first_missing};
+use crate::auditing::raises::{PlacedRaise, first_clash, first_missing};
 use crate::fault::AuditFault;
 use crate::log::{Call, ClientLog};
 use crate::register::Record;
@@ -37,7 +37,7 @@ impl Registers {
 pub(crate) fn registers_of(
     alloc: Global,
     start: Record,
-    raises: &[Raise],
+    raises: &[PlacedRaise],
     logs: &[ClientLog],
 ) -> Result<Registers, AuditFault>
     requires order { Nowhere (OutOfOrder logs.now) }
@@ -61,7 +61,7 @@ pub(crate) fn registers_of(
 }
 
 /// The register before any raise, and then after each raise in turn.
-fn table_of(alloc: Global, start: Record, raises: &[Raise]) -> Result<Vec<Record>, AllocError>
+fn table_of(alloc: Global, start: Record, raises: &[PlacedRaise]) -> Result<Vec<Record>, AllocError>
     ensures { IfOk result (λ table. IsTable start raises.now table.items) }
 {
     let mut table = Vec::with_capacity(alloc, raises.len() + 1)?;

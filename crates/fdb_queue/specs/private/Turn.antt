@@ -21,6 +21,6 @@ turn_after config budgets turn request =
     else record turn { ended = true }
 
 -- what a turn has started is within the limits
-pub record IsTurn (turn : Turn) : Type 0 where
+pub record IsWithinLimits (turn : Turn) : Type 0 where
   pub requests : turn.requests ≤ MAX_STARTED
   pub transactions : turn.transactions ≤ turn.requests * MAX_COUNT

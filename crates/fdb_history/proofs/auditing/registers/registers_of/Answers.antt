@@ -1,5 +1,5 @@
 use Rattle.std.proofs.Common.{◌∙◌, arith}
-use Rattle.fdb_history.specs.declared.auditing.raises.Raise.{Raise}
+use Rattle.fdb_history.specs.declared.auditing.raises.PlacedRaise.{PlacedRaise}
 use Rattle.fdb_history.proofs.RaiseFaults.{none-at-zero, no-clash, gap-least, no-gap}
 use Rattle.fdb_history.proofs.RegisterTable.{table-right}
 use Rattle.fdb_history.proofs.auditing.registers.registers_of.Goals as goal
@@ -9,7 +9,7 @@ first_missing-position-requires-clause-from_one c = c.requires.same 0 ∙ none-a
 
 pub returns-then-position-greatest_position-clause-err : goal.returns-then-position-greatest_position-clause-err
 returns-then-position-greatest_position-clause-err c =
-    let d : Raise = record { position = 0; rec = c.args.start } in
+    let d : PlacedRaise = record { position = 0; rec = c.args.start } in
     let missing = c.first_missing-position.ensures.missing in (
       no-clash c.args.logs.now c.args.raises.now c.requires.same c.in_default.ensures,
       gap-least c.args.logs.now c.args.raises.now c.first_missing-position.result d c.requires.same c.first_missing-position.ensures.in_turn missing.0 missing.1
@@ -18,7 +18,7 @@ returns-then-position-greatest_position-clause-err c =
 
 pub returns-clause-no_gap : goal.returns-clause-no_gap
 returns-clause-no_gap c =
-    let d : Raise = record { position = 0; rec = c.args.start } in
+    let d : PlacedRaise = record { position = 0; rec = c.args.start } in
     no-gap c.args.logs.now c.args.raises.now c.first_missing-position.result c.greatest_position.result d c.requires.same c.first_missing-position.ensures.in_turn
     c.greatest_position.ensures.above (omega arith)
 
