@@ -1,7 +1,7 @@
 //! A GRV proxy in a thread of its own, and those that ask it.
 
 use crate::fault::Fault;
-use crate::requesting::{Waiter, answer_word, request};
+use crate::requesting::{ELAPSED, Waiter, answer_word, queue, request};
 use crate::tally::{Tally, Timed};
 use crate::working::{Shared, Worker, work_side_by_side};
 use fdb_live::{Live, Seen};
@@ -16,15 +16,17 @@ use std::time::Clock;
 /// How many requests a thread leaves at the desk before it waits for their answers.
 const BUNCH: u64 = 100;
 
-/// Runs a proxy until all have asked, each so often and in a thread of its own.
+/// Runs a proxy with a token until all have asked, each so often and in a thread of its own.
 pub(crate) fn ask_beside<J: Live + Send + Sync, R: Clock + Threads + Wait + Sync>(
     rt: &R,
     alloc: Global,
     shared: &Shared<J>,
-    proxy: GrvProxy<'_, J>,
+    token: Seen<J>,
     askers: &mut [Worker<J>],
     requests: u64,
 ) -> Result<Timed, Fault> {
+    let (live, desk) = (&shared.live, &shared.desk);
+    let proxy = GrvProxy::new(alloc, live, desk, queue(alloc)?, ELAPSED, token);
     thread::scope(thread::scope_env(), rt, |scope| {
         let Ok(running) = scope.spawn(move || proxy.run(rt).is_ok()) else {
             return Err(Fault::Proxy);

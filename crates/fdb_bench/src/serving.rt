@@ -6,13 +6,12 @@ use crate::checksum::Checksum;
 use crate::fault::Fault;
 use crate::load::Load;
 use crate::measured::Measured;
-use crate::requesting::{ELAPSED, queue};
 use crate::tally::{Tally, Timed};
 use crate::working::{Role, Shared, Worker, work_side_by_side};
 use crate::{batching, proxying, reporting, telling};
 use fdb_history::Record;
 use fdb_live::{Live, LiveRecord, Opened, Seen};
-use fdb_proxy::{Desk, GrvProxy};
+use fdb_proxy::Desk;
 use std::alloc::Global;
 use std::marker::Brand;
 use std::sync::Wait;
@@ -200,13 +199,11 @@ impl<J: Live + Send + Sync> Served<J> {
     ) -> Result<Measured, Fault> {
         let mut askers = self.workers(alloc, threads, Role::Asks)?;
         let token = self.shared.live.split(&mut self.reader);
-        let (live, desk) = (&self.shared.live, &self.shared.desk);
-        let proxy = GrvProxy::new(alloc, live, desk, queue(alloc)?, ELAPSED, token);
         let all = proxying::ask_beside(
             rt,
             alloc,
             &self.shared,
-            proxy,
+            token,
             askers.as_mut_slice(),
             u64::from(requests),
         )?;
