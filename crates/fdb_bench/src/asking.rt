@@ -24,19 +24,26 @@ pub(crate) fn fresh(
 ) -> Result<Measured, Fault> {
     let mut chain = empty_chain(alloc, proxies)?;
     let watch = Stopwatch::start(clock);
-    let checksum = ask_fresh(&mut chain, proxies, size)?;
-    Ok(Measured {
-        operations: u64::from(size),
-        time: watch.stop(clock),
-        checksum,
-    })
+    match ask_fresh(&mut chain, proxies, size) {
+        Ok(checksum) => Ok(watch.measured(clock, u64::from(size), checksum)),
+        Err(fault) => Err(fault),
+    }
 }
 
 /// Repeats of numbers without a pattern, of a chain in which
 /// each of many proxies has its share of as many answers.
 pub(crate) fn repeats(clock: &impl CpuClock, alloc: Global, size: u32) -> Result<Measured, Fault> {
     let mut chain = empty_chain(alloc, MANY)?;
-    let mut checksum = ask_fresh(&mut chain, MANY, size)?;
+    time_repeats(clock, &mut chain, size)
+}
+
+/// Fills a chain, and repeats what it was asked.
+fn time_repeats(
+    clock: &impl CpuClock,
+    chain: &mut ChainCore,
+    size: u32,
+) -> Result<Measured, Fault> {
+    let mut checksum = ask_fresh(chain, MANY, size)?;
     let mut draws = Draws::START;
     let share = u64::from(size / MANY).max(1);
     let watch = Stopwatch::start(clock);
@@ -47,13 +54,9 @@ pub(crate) fn repeats(clock: &impl CpuClock, alloc: Global, size: u32) -> Result
             processed: 0,
             at: moment(place),
         };
-        checksum = asked(&mut chain, ask, checksum)?;
+        checksum = asked(chain, ask, checksum)?;
     }
-    Ok(Measured {
-        operations: u64::from(size),
-        time: watch.stop(clock),
-        checksum,
-    })
+    Ok(watch.measured(clock, u64::from(size), checksum))
 }
 
 /// Three fresh requests and a repeat in turn, by many proxies
@@ -64,17 +67,21 @@ pub(crate) fn processed(
     size: u32,
 ) -> Result<Measured, Fault> {
     let mut chain = empty_chain(alloc, MANY)?;
+    let watch = Stopwatch::start(clock);
+    match ask_mixed(&mut chain, size) {
+        Ok(checksum) => Ok(watch.measured(clock, u64::from(size), checksum)),
+        Err(fault) => Err(fault),
+    }
+}
+
+/// Makes so many requests of the mix.
+fn ask_mixed(chain: &mut ChainCore, size: u32) -> Result<Checksum, Fault> {
     let mut checksum = Checksum::EMPTY;
     let mut draws = Draws::START;
-    let watch = Stopwatch::start(clock);
     for place in 0..size {
-        checksum = asked(&mut chain, mixed(&mut draws, place), checksum)?;
+        checksum = asked(chain, mixed(&mut draws, place), checksum)?;
     }
-    Ok(Measured {
-        operations: u64::from(size),
-        time: watch.stop(clock),
-        checksum,
-    })
+    Ok(checksum)
 }
 
 /// A chain that nobody has asked yet, with so many commit proxies.

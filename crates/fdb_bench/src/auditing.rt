@@ -21,7 +21,7 @@ const CLIENTS: u32 = 64;
 const RECOVERY: u64 = 100;
 
 /// How many times the logs are audited.
-const AUDITS: u32 = 10;
+const AUDITS: u64 = 10;
 
 /// The record before any report.
 const OPENING: Record = Record {
@@ -33,20 +33,23 @@ const OPENING: Record = Record {
 /// Audits the logs of 64 clients with so many calls in all, a few times.
 pub(crate) fn audits(clock: &impl CpuClock, alloc: Global, size: u32) -> Result<Measured, Fault> {
     let run = Run::of(alloc, size)?;
-    let logs = run.logs.as_slice();
+    let watch = Stopwatch::start(clock);
+    match audit_often(alloc, run.chain.answers(), run.logs.as_slice()) {
+        Ok(checksum) => Ok(watch.measured(clock, u64::from(size).saturating_mul(AUDITS), checksum)),
+        Err(fault) => Err(fault),
+    }
+}
+
+/// Audits the logs a few times.
+fn audit_often(alloc: Global, chain: &[Issued], logs: &[ClientLog]) -> Result<Checksum, Fault> {
     if logs.len() > 64 {
         return Err(Fault::Audit);
     }
-    let watch = Stopwatch::start(clock);
     let mut checksum = Checksum::EMPTY;
     for _ in 0..AUDITS {
-        checksum = audit_once(alloc, run.chain.answers(), logs, checksum)?;
+        checksum = audit_once(alloc, chain, logs, checksum)?;
     }
-    Ok(Measured {
-        operations: u64::from(size) * u64::from(AUDITS),
-        time: watch.stop(clock),
-        checksum,
-    })
+    Ok(checksum)
 }
 
 /// Audits the logs, and adds the history.
@@ -115,10 +118,18 @@ impl Run {
             position: 0,
             logs: empty_logs(alloc)?,
         };
-        for place in 0..size {
-            run.play(alloc, place)?;
+        match run.play_all(alloc, size) {
+            Ok(()) => Ok(run),
+            Err(fault) => Err(fault),
         }
-        Ok(run)
+    }
+
+    /// So many calls.
+    fn play_all(&mut self, alloc: Global, size: u32) -> Result<(), Fault> {
+        for place in 0..size {
+            self.play(alloc, place)?;
+        }
+        Ok(())
     }
 
     /// The call at a place.

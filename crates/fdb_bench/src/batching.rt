@@ -27,43 +27,61 @@ pub(crate) fn batches<J: Live, R: CpuClock + Wait>(
     size: u32,
 ) -> Result<Measured, Fault> {
     let times = (REQUESTS / size.max(1)).max(1);
-    let queue = queue(alloc)?;
     let mut waiters = Vec::new(alloc);
     let mut batches = Vec::new(alloc);
     for _ in 0..times {
-        batches.push(batch(alloc, live, seen, size, &mut waiters)?)?;
+        let mut batch = Vec::new(alloc);
+        fill(alloc, live, seen, size, &mut batch, &mut waiters)?;
+        batches.push(batch)?;
     }
-    let stopwatch = Stopwatch::start(rt);
-    let mut checksum = Checksum::EMPTY;
-    for batch in batches {
-        checksum = served(rt, alloc, live, seen, &queue, batch, checksum)?;
-    }
-    Ok(Measured {
-        operations: u64::from(times) * u64::from(size),
-        time: stopwatch.stop(rt),
-        checksum,
-    })
+    let operations = u64::from(times).saturating_mul(u64::from(size));
+    time_batches(rt, alloc, live, seen, batches, operations)
 }
 
-/// A batch of so many requests. Where their answers come is added to a list.
-fn batch<J: Live>(
+/// Adds so many requests to a batch, and where their answers come to a list.
+fn fill<J: Live>(
     alloc: Global,
     live: &LiveRecord<J>,
     seen: &mut Seen<J>,
     size: u32,
+    batch: &mut Batch<J>,
     waiters: &mut Vec<Waiter<J>>,
-) -> Result<Batch<J>, Fault> {
-    let mut batch = Vec::new(alloc);
+) -> Result<(), Fault> {
     for serial in 0..size {
         let (request, waiter) = request(alloc, live, seen, u64::from(serial))?;
         waiters.push(waiter)?;
-        batch.push(Req {
-            priority: request.opts.priority,
-            count: request.opts.count,
-            payload: request,
-        })?;
+        add(request, batch)?;
     }
-    Ok(batch)
+    Ok(())
+}
+
+/// Adds a request to a batch.
+fn add<J: Live>(request: Request<J>, batch: &mut Batch<J>) -> Result<(), Fault> {
+    let request = Req {
+        priority: request.opts.priority,
+        count: request.opts.count,
+        payload: request,
+    };
+    batch.push(request)?;
+    Ok(())
+}
+
+/// Serves batches of so many requests in all.
+fn time_batches<J: Live, R: CpuClock + Wait>(
+    rt: &R,
+    alloc: Global,
+    live: &LiveRecord<J>,
+    seen: &mut Seen<J>,
+    batches: Vec<Batch<J>>,
+    operations: u64,
+) -> Result<Measured, Fault> {
+    let queue = queue(alloc)?;
+    let watch = Stopwatch::start(rt);
+    let mut checksum = Checksum::EMPTY;
+    for batch in batches {
+        checksum = served(rt, alloc, live, seen, &queue, batch, checksum)?;
+    }
+    Ok(watch.measured(rt, operations, checksum))
 }
 
 /// Serves a batch, and adds its answers.

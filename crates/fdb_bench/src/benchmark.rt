@@ -42,7 +42,7 @@ pub(crate) enum Benchmark {
 
 impl Benchmark {
     /// All of them.
-    pub(crate) const ALL: [Benchmark; 26] = [
+    pub(crate) const ALL: &'static [Benchmark] = &[
         Benchmark::FreshOfOne,
         Benchmark::FreshOfMany,
         Benchmark::Repeats,
@@ -92,12 +92,10 @@ impl Benchmark {
 
     /// The one of a name.
     pub(crate) fn of_name(name: &str) -> Option<Benchmark> {
-        for benchmark in Benchmark::ALL {
-            if benchmark.name() == name {
-                return Some(benchmark);
-            }
-        }
-        None
+        Self::ALL
+            .iter()
+            .copied()
+            .find(|benchmark| benchmark.name() == name)
     }
 
     /// The clock that its time is of: processor time, or wall time where threads work side by side.

@@ -65,7 +65,7 @@ where
     R: Print + Eprint + Clock + CpuClock + Threads + Wait + Sync,
 {
     for benchmark in Benchmark::ALL {
-        run_one(rt, alloc, benchmark, benchmark.small_size())?;
+        run_one(rt, alloc, *benchmark, benchmark.small_size())?;
     }
     Ok(())
 }

@@ -17,9 +17,7 @@ pub(crate) struct Measured {
 
 /// A time in nanoseconds.
 pub(crate) fn nanos(time: Duration) -> u64 {
-    time.as_secs()
-        .saturating_mul(1_000_000_000)
-        .saturating_add(u64::from(time.subsec_nanos()))
+    u64::try_from(time.as_nanos()).unwrap_or(u64::MAX)
 }
 
 /// The tenths of a nanosecond that each of some operations

@@ -20,7 +20,10 @@ const OFFERS_PER_WINDOW: u32 = 100;
 const ELAPSED: u64 = 10_000;
 
 /// How many floods there are.
-const FLOODS: u32 = 10;
+const FLOODS: u64 = 10;
+
+/// How many offers all floods make for each request that there is room for.
+const OFFERS_OF_FLOODS: u64 = 30;
 
 /// How many questions there are for each window.
 const WAITS_PER_WINDOW: u32 = 8;
@@ -28,23 +31,35 @@ const WAITS_PER_WINDOW: u32 = 8;
 /// Offers of all priorities, and windows that start about as
 /// much as is offered, at a queue that is nearly full.
 pub(crate) fn windows(clock: &impl CpuClock, alloc: Global, room: u32) -> Result<Measured, Fault> {
-    let mut queue = empty_queue(alloc, 260, 250, room)?;
-    fill(&mut queue, room - room / 10, Checksum::EMPTY)?;
+    let mut queue = nearly_full_queue(alloc, room)?;
     let offers = room.saturating_mul(OFFERS_PER_ROOM);
+    let watch = Stopwatch::start(clock);
+    match offer_mixed(&mut queue, offers) {
+        Ok(checksum) => Ok(watch.measured(clock, u64::from(offers), checksum)),
+        Err(fault) => Err(fault),
+    }
+}
+
+/// A queue in which so many wait that there is room for a tenth more.
+fn nearly_full_queue(alloc: Global, room: u32) -> Result<GrvQueue<u64>, Fault> {
+    let mut queue = empty_queue(alloc, 260, 250, room)?;
+    match fill(&mut queue, room.saturating_sub(room / 10), Checksum::EMPTY) {
+        Ok(_) => Ok(queue),
+        Err(fault) => Err(fault),
+    }
+}
+
+/// Makes so many offers of the mix, and holds a window after every few.
+fn offer_mixed(queue: &mut GrvQueue<u64>, offers: u32) -> Result<Checksum, Fault> {
     let mut checksum = Checksum::EMPTY;
     let mut draws = Draws::START;
-    let watch = Stopwatch::start(clock);
     for place in 0..offers {
-        checksum = offered(&mut queue, checksum, mixed(&mut draws, place))?;
+        checksum = offered(queue, checksum, mixed(&mut draws, place))?;
         if place % OFFERS_PER_WINDOW == 0 {
-            checksum = started(&mut queue, checksum, ELAPSED)?;
+            checksum = started(queue, checksum, ELAPSED)?;
         }
     }
-    Ok(Measured {
-        operations: u64::from(offers),
-        time: watch.stop(clock),
-        checksum,
-    })
+    Ok(checksum)
 }
 
 /// Floods of system requests into a queue that is filled with batch and default
@@ -55,15 +70,19 @@ pub(crate) fn push_outs(
     room: u32,
 ) -> Result<Measured, Fault> {
     let watch = Stopwatch::start(clock);
+    match floods(alloc, room) {
+        Ok(checksum) => Ok(watch.measured(clock, u64::from(room) * OFFERS_OF_FLOODS, checksum)),
+        Err(fault) => Err(fault),
+    }
+}
+
+/// All floods.
+fn floods(alloc: Global, room: u32) -> Result<Checksum, Fault> {
     let mut checksum = Checksum::EMPTY;
     for _ in 0..FLOODS {
         checksum = flood(alloc, room, checksum)?;
     }
-    Ok(Measured {
-        operations: u64::from(FLOODS) * u64::from(room) * 3,
-        time: watch.stop(clock),
-        checksum,
-    })
+    Ok(checksum)
 }
 
 /// Questions how many windows the head of the row waits, with a short window after every few.
@@ -74,21 +93,30 @@ pub(crate) fn waits(clock: &impl CpuClock, alloc: Global, size: u32) -> Result<M
         count: 100_000,
         payload: 0,
     };
-    let mut checksum = offered(&mut queue, Checksum::EMPTY, head)?;
-    let mut draws = Draws::START;
+    let checksum = offered(&mut queue, Checksum::EMPTY, head)?;
     let watch = Stopwatch::start(clock);
-    for place in 0..size {
+    match ask_waits(&mut queue, size, checksum) {
+        Ok(checksum) => Ok(watch.measured(clock, u64::from(size), checksum)),
+        Err(fault) => Err(fault),
+    }
+}
+
+/// Asks so many questions, and holds a short window after every few.
+fn ask_waits(
+    queue: &mut GrvQueue<u64>,
+    questions: u32,
+    before: Checksum,
+) -> Result<Checksum, Fault> {
+    let mut checksum = before;
+    let mut draws = Draws::START;
+    for place in 0..questions {
         let elapsed = draws.next_number() % ELAPSED + 1;
         checksum = checksum.with(queue.waits(elapsed).unwrap_or(0));
         if place % WAITS_PER_WINDOW == 0 {
-            checksum = started(&mut queue, checksum, 1)?;
+            checksum = started(queue, checksum, 1)?;
         }
     }
-    Ok(Measured {
-        operations: u64::from(size),
-        time: watch.stop(clock),
-        checksum,
-    })
+    Ok(checksum)
 }
 
 /// A queue in which nobody waits.

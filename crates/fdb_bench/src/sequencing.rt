@@ -43,14 +43,37 @@ pub(crate) fn asks<R: Clock + Threads + Wait + Sync>(
     threads: u32,
     size: u32,
 ) -> Result<Measured, Fault> {
-    let sequencer = match ChainCore::new(alloc, 0, 100, threads) {
-        Ok(core) => Sequencer::new(core),
-        Err(_) => return Err(Fault::Chain),
-    };
+    let sequencer = sequencer(alloc, threads)?;
+    let all = ask_all(rt, alloc, &sequencer, threads, size / threads.max(1));
+    measured(sequencer, all)
+}
+
+/// What came of all requests to a sequencer.
+fn measured(sequencer: Sequencer<Shared>, all: Result<Timed, Fault>) -> Result<Measured, Fault> {
+    match all {
+        Ok(all) => Ok(all.measured(of_answers(sequencer, all.tally))),
+        Err(fault) => Err(fault),
+    }
+}
+
+/// A sequencer that nobody has asked yet, for so many commit proxies.
+fn sequencer(alloc: Global, proxies: u32) -> Result<Sequencer<Shared>, Fault> {
+    match ChainCore::new(alloc, 0, 100, proxies) {
+        Ok(core) => Ok(Sequencer::new(core)),
+        Err(_) => Err(Fault::Chain),
+    }
+}
+
+/// So many requests by each of so many threads.
+fn ask_all<R: Clock + Threads + Wait + Sync>(
+    rt: &R,
+    alloc: Global,
+    sequencer: &Sequencer<Shared>,
+    threads: u32,
+    each: u32,
+) -> Result<Timed, Fault> {
     let mut askers = askers(alloc, threads)?;
-    let each = size / threads.max(1);
-    let all = ask_side_by_side(rt, &sequencer, askers.as_mut_slice(), each)?;
-    Ok(all.measured(of_answers(sequencer, all.tally)))
+    ask_side_by_side(rt, sequencer, askers.as_mut_slice(), each)
 }
 
 /// One for each commit proxy.

@@ -31,13 +31,14 @@ const START: u64 = 100;
 /// The version of the first report.
 const FIRST: u64 = 101;
 
-/// A live record and what threads share beside it, the token
-/// of a reader, and those of the reporters.
+/// A live record and what threads share beside it, the token of a reader,
+/// those of the reporters that are left, and those who work.
 #[derive(Drop)]
 struct Served<J: Live> {
     shared: Shared<J>,
     reader: Seen<J>,
     reporters: Vec<Seen<J>>,
+    workers: Vec<Worker<J>>,
 }
 
 /// Opens a live record, and measures it under a load.
@@ -75,10 +76,11 @@ fn measure_named<J: Live + Send + Sync, R: Clock + CpuClock + Threads + Wait + S
                 desk: Desk::new(alloc),
                 reading: AtomicU64::new(0),
             };
-            let served = Served {
+            let mut served = Served {
                 shared,
                 reader,
                 reporters,
+                workers: Vec::new(alloc),
             };
             served.measure(rt, alloc, load, size)
         }
@@ -89,7 +91,7 @@ fn measure_named<J: Live + Send + Sync, R: Clock + CpuClock + Threads + Wait + S
 impl<J: Live + Send + Sync> Served<J> {
     /// Measures it under a load.
     fn measure<R: Clock + CpuClock + Threads + Wait + Sync>(
-        mut self,
+        &mut self,
         rt: &R,
         alloc: Global,
         load: Load,
@@ -113,15 +115,15 @@ impl<J: Live + Send + Sync> Served<J> {
 
     /// Reads by so many threads, after so many raises.
     fn reads<R: Clock + Threads + Wait + Sync>(
-        mut self,
+        &mut self,
         rt: &R,
         alloc: Global,
         threads: u32,
         raises: u32,
     ) -> Result<Measured, Fault> {
         self.raise(rt, raises)?;
-        let mut readers = self.workers(alloc, threads, Role::Reads)?;
-        let all = self.read_side_by_side(rt, alloc, readers.as_mut_slice(), threads, raises)?;
+        self.add_workers(threads, Role::Reads)?;
+        let all = self.read_side_by_side(rt, alloc, threads, raises)?;
         Ok(all.measured(of_tally(all.tally).with(all.tally.sum)))
     }
 
@@ -129,57 +131,50 @@ impl<J: Live + Send + Sync> Served<J> {
     /// that reports for as long as they read. Which records they find
     /// is a matter of the schedule, and that no position falls is not.
     fn reads_beside<R: Clock + Threads + Wait + Sync>(
-        mut self,
+        &mut self,
         rt: &R,
         alloc: Global,
         threads: u32,
         raises: u32,
     ) -> Result<Measured, Fault> {
         self.raise(rt, raises)?;
-        let mut workers = self.workers(alloc, threads, Role::Reads)?;
+        self.add_workers(threads, Role::Reads)?;
         let first = FIRST + u64::from(raises);
-        workers.push(self.reporter(Role::ReportsBesideReads { first })?)?;
-        let all = self.read_side_by_side(rt, alloc, workers.as_mut_slice(), threads, raises)?;
+        self.add_reporter(Role::ReportsBesideReads { first })?;
+        let all = self.read_side_by_side(rt, alloc, threads, raises)?;
         Ok(all.measured(of_tally(all.tally)))
     }
 
     /// So many of the workers read, after so many raises.
     fn read_side_by_side<R: Clock + Threads + Wait + Sync>(
-        &self,
+        &mut self,
         rt: &R,
         alloc: Global,
-        workers: &mut [Worker<J>],
         readers: u32,
         raises: u32,
     ) -> Result<Timed, Fault> {
         self.shared
             .reading
             .store(u64::from(readers), Ordering::SeqCst);
-        let reads = u64::from(raises) * READS_PER_RAISE;
-        work_side_by_side(rt, alloc, &self.shared, workers, reads)
+        let reads = u64::from(raises).saturating_mul(READS_PER_RAISE);
+        work_side_by_side(rt, alloc, &self.shared, self.workers.as_mut_slice(), reads)
     }
 
     /// So many reports by each of so many threads. How many of them raise the record is a matter
     /// of the schedule; that the last position is their number is not, nor is the last version.
     fn reports<R: Clock + Threads + Wait + Sync>(
-        mut self,
+        &mut self,
         rt: &R,
         alloc: Global,
         threads: u32,
         reports: u32,
     ) -> Result<Measured, Fault> {
-        let mut reporters = Vec::new(alloc);
         for place in 0..threads {
             let (first, step) = (FIRST + u64::from(place), u64::from(threads));
-            reporters.push(self.reporter(Role::Reports { first, step })?)?;
+            self.add_reporter(Role::Reports { first, step })?;
         }
-        let all = work_side_by_side(
-            rt,
-            alloc,
-            &self.shared,
-            reporters.as_mut_slice(),
-            u64::from(reports),
-        )?;
+        let (workers, reports) = (self.workers.as_mut_slice(), u64::from(reports));
+        let all = work_side_by_side(rt, alloc, &self.shared, workers, reports)?;
         let last = self.shared.live.read(rt, &mut self.reader);
         let checksum = Checksum::EMPTY
             .with(all.tally.calls)
@@ -191,34 +186,28 @@ impl<J: Live + Send + Sync> Served<J> {
     /// So many requests by each of so many threads at a proxy of the record. Nobody
     /// reports, so all replies have the record that was opened.
     fn proxies<R: Clock + Threads + Wait + Sync>(
-        mut self,
+        &mut self,
         rt: &R,
         alloc: Global,
         threads: u32,
         requests: u32,
     ) -> Result<Measured, Fault> {
-        let mut askers = self.workers(alloc, threads, Role::Asks)?;
+        self.add_workers(threads, Role::Asks)?;
         let token = self.shared.live.split(&mut self.reader);
-        let all = proxying::ask_beside(
-            rt,
-            alloc,
-            &self.shared,
-            token,
-            askers.as_mut_slice(),
-            u64::from(requests),
-        )?;
+        let (askers, requests) = (self.workers.as_mut_slice(), u64::from(requests));
+        let all = proxying::ask_beside(rt, alloc, &self.shared, token, askers, requests)?;
         Ok(all.measured(of_tally(all.tally).with(all.tally.sum)))
     }
 
     /// So many times a token that has seen as many raises is
     /// split off another, learned by a third one, and met by it.
-    fn tokens<R: CpuClock + Wait>(mut self, rt: &R, size: u32) -> Result<Measured, Fault> {
+    fn tokens<R: CpuClock + Wait>(&mut self, rt: &R, size: u32) -> Result<Measured, Fault> {
         self.raise(rt, size)?;
-        let Some(mut teller) = self.reporters.pop() else {
+        let Some(teller) = self.reporters.last_mut() else {
             return Err(Fault::Live);
         };
-        let _ = self.shared.live.read(rt, &mut teller);
-        Ok(telling::tokens(rt, &self.shared.live, &mut teller, &mut self.reader, size))
+        let _ = self.shared.live.read(rt, teller);
+        Ok(telling::tokens(rt, &self.shared.live, teller, &mut self.reader, size))
     }
 
     /// Raises the record so many times.
@@ -230,27 +219,28 @@ impl<J: Live + Send + Sync> Served<J> {
         Ok(())
     }
 
-    /// So many with a token each that is split off the reader's.
-    fn workers(
-        &mut self,
-        alloc: Global,
-        workers: u32,
-        role: Role,
-    ) -> Result<Vec<Worker<J>>, Fault> {
-        let mut all = Vec::new(alloc);
+    /// So many more, with a token each that is split off the reader's.
+    fn add_workers(&mut self, workers: u32, role: Role) -> Result<(), Fault> {
         for _ in 0..workers {
-            let token = self.shared.live.split(&mut self.reader);
-            all.push(Worker::new(token, role))?;
+            self.add_worker(role)?;
         }
-        Ok(all)
+        Ok(())
     }
 
-    /// One with the token of the last reporter that is left.
-    fn reporter(&mut self, role: Role) -> Result<Worker<J>, Fault> {
-        match self.reporters.pop() {
-            Some(token) => Ok(Worker::new(token, role)),
-            None => Err(Fault::Live),
-        }
+    /// One more, with a token that is split off the reader's.
+    fn add_worker(&mut self, role: Role) -> Result<(), Fault> {
+        let token = self.shared.live.split(&mut self.reader);
+        self.workers.push(Worker::new(token, role))?;
+        Ok(())
+    }
+
+    /// One more, with the token of the last reporter that is left.
+    fn add_reporter(&mut self, role: Role) -> Result<(), Fault> {
+        let Some(token) = self.reporters.pop() else {
+            return Err(Fault::Live);
+        };
+        self.workers.push(Worker::new(token, role))?;
+        Ok(())
     }
 }
 

@@ -27,9 +27,5 @@ pub(crate) fn tokens<J: Live, R: CpuClock + Wait>(
         live.meet(rt, teller, hearer);
         checksum = checksum.with(hearer.position());
     }
-    Measured {
-        operations: u64::from(times) * CALLS,
-        time: watch.stop(rt),
-        checksum,
-    }
+    watch.measured(rt, u64::from(times).saturating_mul(CALLS), checksum)
 }

@@ -12,13 +12,21 @@ use std::alloc::Global;
 use std::time::CpuClock;
 
 /// How many times all tags are looked up.
-const PASSES: u32 = 10;
+const PASSES: u64 = 10;
 
 /// How many tags a request has.
 const TAGS_PER_REQUEST: usize = 4;
 
 /// The moments at which throttles expire are below this one.
 const LAST_MOMENT: u64 = 1_000;
+
+/// A queue, the tags for which throttles are set, and their copies, which are looked up.
+#[derive(Drop)]
+struct Throttled {
+    queue: GrvQueue<u64>,
+    given: Vec<Tag>,
+    tags: Vec<Tag>,
+}
 
 /// Sets so many throttles, and looks them up by requests of
 /// four tags at other priorities and moments.
@@ -27,17 +35,36 @@ pub(crate) fn throttles(
     alloc: Global,
     size: u32,
 ) -> Result<Measured, Fault> {
-    let mut queue = empty_queue(alloc, 1, 1, 1)?;
-    let tags = tags(alloc, size)?;
-    let given = copies(alloc, tags.as_slice())?;
+    let throttles = Throttled::of(alloc, size)?;
     let watch = Stopwatch::start(clock);
-    set_each(&mut queue, given)?;
-    let checksum = look_up(&queue, tags.as_slice())?;
-    Ok(Measured {
-        operations: u64::from(size) * u64::from(PASSES + 1),
-        time: watch.stop(clock),
-        checksum,
-    })
+    match throttles.set_and_look_up() {
+        Ok(checksum) => Ok(watch.measured(clock, u64::from(size) * (PASSES + 1), checksum)),
+        Err(fault) => Err(fault),
+    }
+}
+
+impl Throttled {
+    /// So many that are not set yet.
+    fn of(alloc: Global, size: u32) -> Result<Throttled, Fault> {
+        let tags = tags(alloc, size)?;
+        let given = copies(alloc, tags.as_slice())?;
+        Ok(Throttled {
+            queue: empty_queue(alloc, 1, 1, 1)?,
+            given,
+            tags,
+        })
+    }
+
+    /// Sets them, and looks them up.
+    fn set_and_look_up(self) -> Result<Checksum, Fault> {
+        let Throttled {
+            mut queue,
+            given,
+            tags,
+        } = self;
+        set_each(&mut queue, given)?;
+        look_up(&queue, tags.as_slice())
+    }
 }
 
 /// So many tags of eight bytes, without an order.
