@@ -67,21 +67,13 @@ pub(crate) fn processed(
     size: u32,
 ) -> Result<Measured, Fault> {
     let mut chain = empty_chain(alloc, MANY)?;
-    let watch = Stopwatch::start(clock);
-    match ask_mixed(&mut chain, size) {
-        Ok(checksum) => Ok(watch.measured(clock, u64::from(size), checksum)),
-        Err(fault) => Err(fault),
-    }
-}
-
-/// Makes so many requests of the mix.
-fn ask_mixed(chain: &mut ChainCore, size: u32) -> Result<Checksum, Fault> {
     let mut checksum = Checksum::EMPTY;
     let mut draws = Draws::START;
+    let watch = Stopwatch::start(clock);
     for place in 0..size {
-        checksum = asked(chain, mixed(&mut draws, place), checksum)?;
+        checksum = asked(&mut chain, mixed(&mut draws, place), checksum)?;
     }
-    Ok(checksum)
+    Ok(watch.measured(clock, u64::from(size), checksum))
 }
 
 /// A chain that nobody has asked yet, with so many commit proxies.

@@ -33,11 +33,16 @@ const WAITS_PER_WINDOW: u32 = 8;
 pub(crate) fn windows(clock: &impl CpuClock, alloc: Global, room: u32) -> Result<Measured, Fault> {
     let mut queue = nearly_full_queue(alloc, room)?;
     let offers = room.saturating_mul(OFFERS_PER_ROOM);
+    let mut checksum = Checksum::EMPTY;
+    let mut draws = Draws::START;
     let watch = Stopwatch::start(clock);
-    match offer_mixed(&mut queue, offers) {
-        Ok(checksum) => Ok(watch.measured(clock, u64::from(offers), checksum)),
-        Err(fault) => Err(fault),
+    for place in 0..offers {
+        checksum = offered(&mut queue, checksum, mixed(&mut draws, place))?;
+        if place % OFFERS_PER_WINDOW == 0 {
+            checksum = started(&mut queue, checksum, ELAPSED)?;
+        }
     }
+    Ok(watch.measured(clock, u64::from(offers), checksum))
 }
 
 /// A queue in which so many wait that there is room for a tenth more.
@@ -47,19 +52,6 @@ fn nearly_full_queue(alloc: Global, room: u32) -> Result<GrvQueue<u64>, Fault> {
         Ok(_) => Ok(queue),
         Err(fault) => Err(fault),
     }
-}
-
-/// Makes so many offers of the mix, and holds a window after every few.
-fn offer_mixed(queue: &mut GrvQueue<u64>, offers: u32) -> Result<Checksum, Fault> {
-    let mut checksum = Checksum::EMPTY;
-    let mut draws = Draws::START;
-    for place in 0..offers {
-        checksum = offered(queue, checksum, mixed(&mut draws, place))?;
-        if place % OFFERS_PER_WINDOW == 0 {
-            checksum = started(queue, checksum, ELAPSED)?;
-        }
-    }
-    Ok(checksum)
 }
 
 /// Floods of system requests into a queue that is filled with batch and default
