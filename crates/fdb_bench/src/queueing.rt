@@ -23,7 +23,7 @@ const ELAPSED: u64 = 10_000;
 const FLOODS: u64 = 10;
 
 /// How many offers all floods make for each request that there is room for.
-const OFFERS_OF_FLOODS: u64 = 30;
+const OFFERS_OF_FLOODS: u64 = FLOODS * 3;
 
 /// How many questions there are for each window.
 const WAITS_PER_WINDOW: u32 = 8;
