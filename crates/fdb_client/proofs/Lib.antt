@@ -1,5 +1,6 @@
 pub mod Kept
 pub mod Calls
 pub mod Longer
+pub mod Numbered
 pub mod Own
 pub mod Reading

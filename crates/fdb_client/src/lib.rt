@@ -15,7 +15,9 @@ mod journal;
 mod read;
 mod reply;
 mod versions;
+mod workload;
 
 pub use client::Client;
 pub use error::ClientError;
 pub use read::ReadVersion;
+pub use workload::{Cluster, ClusterConfig, Workload, run_workload};

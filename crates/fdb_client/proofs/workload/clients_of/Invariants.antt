@@ -1,0 +1,10 @@
+use Rattle.std.proofs.Common.{◌≡◌, length, vec_len}
+use Rattle.fdb_client.proofs.Numbered.{AreNew}
+use Rattle.fdb_client.proofs.workload.clients_of.Given as goal
+
+abbrev pub invariant-loop-seen : goal.invariant-loop-seen
+invariant-loop-seen g l = record {
+  number : l.number ≡ length l.yielded;
+  count : vec_len l.clients ≡ l.number;
+  new : AreNew l.clients.items l.number;
+}
