@@ -9,3 +9,5 @@ mod line;
 mod refused_memory;
 #[cfg(test)]
 mod same;
+#[cfg(test)]
+mod workload;

@@ -3,3 +3,4 @@
 //! memory of their own. What refuses is asked once more, and has changed nothing before.
 
 pub mod clients;
+pub mod workloads;
