@@ -66,7 +66,8 @@ impl<J: Live> Cluster<J> {
     }
 }
 
-/// Calls that a user writes (`TestWorkload`, FoundationDB 7.1).
+/// Calls that a user writes (`TestWorkload`, FoundationDB 7.1). They are made in the thread that
+/// runs the workload.
 pub trait Workload<R> {
     /// What comes of it.
     type Output;
@@ -85,9 +86,10 @@ pub trait Workload<R> {
 
 /// Runs a workload at a new cluster, and answers what came of it and the chain of commit versions.
 ///
-/// The GRV proxies serve meanwhile, each in a thread of its own, and are joined before this
-/// returns. Where memory runs out, or a thread cannot be had, before the workload starts, it does
-/// not start. A proxy that runs out of memory later closes its desk, and its clients are told so.
+/// Each GRV proxy serves in a thread of its own, and all are joined before this returns. It is
+/// refused where memory runs out or a thread cannot be had, and for nothing else; the workload has
+/// not started then. A proxy that runs out of memory later closes its desk, and who reads there is
+/// told so. `audit` of `fdb_history` explains the chain with the logs of the clients.
 pub fn run_workload<R: Threads + Wait + Sync, W: Workload<R> + Drop>(
     rt: &R,
     alloc: Global,
