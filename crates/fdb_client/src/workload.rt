@@ -1,15 +1,15 @@
 //! Calls that a user writes, at a cluster of a sequencer, a live record and GRV proxies.
 
-ghost use Rattle.std.specs.Prelude.{◌≡◌, ◌<◌, ◌≤◌, ℕ, [], IfOk, Some, slice_get, vec_len};
+ghost use Rattle.std.specs.Prelude.{◌≡◌, ◌<◌, ◌≤◌, ◌%◌, ℕ, [], All, IfOk, Some, ⊤, slice_get, vec_len};
 ghost use Rattle.fdb_chain.specs.ChainCore.{IsEpoch, IsProxyCount};
 ghost use Rattle.fdb_client.specs.Account.{new_account};
 ghost use Rattle.fdb_history.specs.Chain.{IsChain};
 ghost use Rattle.fdb_queue.specs.Config.{IsConfig, IsElapsed};
 
 use crate::client::Client;
-use fdb_chain::{ChainCore, Sequencer};
+use fdb_chain::{ChainCore, ChainError, Sequencer};
 use fdb_history::{Issued, Record};
-use fdb_live::{Live, LiveRecord, Opened, Seen};
+use fdb_live::{Live, LiveError, LiveRecord, Opened, Seen};
 use fdb_proxy::{Desk, GrvProxy};
 use fdb_queue::{GrvQueue, QueueConfig};
 use std::alloc::{AllocError, Global};
@@ -21,17 +21,17 @@ use std::thread::{JoinHandle, Threads};
 /// What a cluster is made with.
 #[derive(Clone, Copy, Debug, PartialEq, Eq)]
 pub struct ClusterConfig {
-    /// The last version of the epoch before.
+    /// The last version of the epoch before, below that of `start`.
     pub epoch_end: u64,
     /// The live committed version before any report. Its version is the first commit version.
     pub start: Record,
-    /// The number of clients. There is a commit proxy for each.
+    /// The number of clients, 1 to 64. There is a commit proxy for each.
     pub clients: u32,
-    /// The number of GRV proxies.
+    /// The number of GRV proxies, 1 to 16.
     pub grv_proxies: u32,
     /// What the queue of each GRV proxy is made with.
     pub queue: QueueConfig,
-    /// The time between two windows of a GRV proxy, in microseconds.
+    /// The time between two windows of a GRV proxy, 1 to 10,000,000 microseconds.
     pub elapsed: u64,
 }
 
@@ -59,20 +59,32 @@ impl<J: Live> Cluster<J> {
         &self.live
     }
 
-    /// The desk of the GRV proxy with this number; they are numbered from 0, and beyond the last
-    /// one they begin anew.
+    /// The desk of the GRV proxy with this number. They are numbered from 0, and beyond the last
+    /// one they begin anew. Who closes a desk ends its proxy.
     pub fn desk(&self, number: u32) -> &Desk<J> {
-        &self.desks[number as usize % self.desks.len()]
+        &self.desks[self.place(number)]
+    }
+
+    /// The place of that desk. (what a desk holds is behind a lock, and so no clause can tell one
+    /// from another: this one says which is taken)
+    fn place(&self, number: u32) -> usize
+        ensures { result ≡ number % vec_len self.now.desks }
+    {
+        number as usize % self.desks.len()
     }
 }
 
-/// Calls that a user writes (`TestWorkload`, FoundationDB 7.1). They are made in the thread that
-/// runs the workload.
+/// Calls that a user writes (`TestWorkload`, FoundationDB 7.1).
 pub trait Workload<R> {
     /// What comes of it.
     type Output;
 
-    /// Has the clients call the cluster. They have called nobody yet, and have seen nothing.
+    // What it promises of that.
+    ghost gives: { Self → Self.Output → Type 0 } = { λ _ _. ⊤ };
+
+    /// Has the clients call the cluster, in the thread that called `run_workload`. There are as many
+    /// as the cluster was made for, each at the place of its number. They have called nobody yet,
+    /// and have seen nothing.
     fn start<J: Live>(
         self,
         rt: &R,
@@ -81,15 +93,17 @@ pub trait Workload<R> {
     ) -> Self::Output
         requires count { vec_len clients ≡ J.reporters }
         requires new { (k : ℕ) → k < vec_len clients
-            → slice_get clients.items k ≡ Some (new_account k []) };
+            → slice_get clients.items k ≡ Some (new_account k []) }
+        ensures gives { gives self result };
 }
 
 /// Runs a workload at a new cluster, and answers what came of it and the chain of commit versions.
 ///
-/// Each GRV proxy serves in a thread of its own, and all are joined before this returns. It is
-/// refused where memory runs out or a thread cannot be had, and for nothing else; the workload has
-/// not started then. A proxy that runs out of memory later closes its desk, and who reads there is
-/// told so. `audit` of `fdb_history` explains the chain with the logs of the clients.
+/// Each GRV proxy serves in a thread of its own, and all have ended before this returns: it waits
+/// for the workload, and then for them. It is refused where memory runs out or a thread cannot be
+/// had, and the workload has not started then. A proxy that runs out of memory later closes its
+/// desk, and who reads there is refused as `ProxyClosed`; this answers as ever. `audit` of
+/// `fdb_history` looks for a history that explains the clients' logs and the chain.
 pub fn run_workload<R: Threads + Wait + Sync, W: Workload<R> + Drop>(
     rt: &R,
     alloc: Global,
@@ -98,15 +112,17 @@ pub fn run_workload<R: Threads + Wait + Sync, W: Workload<R> + Drop>(
 ) -> Result<(W::Output, Vec<Issued>), AllocError>
     requires epoch { IsEpoch config.epoch_end config.start.version }
     requires clients { IsProxyCount config.clients }
-    requires grv_proxies { 0 < config.grv_proxies }
+    requires grv_proxies { (0 < config.grv_proxies) × (config.grv_proxies ≤ 16) }
     requires queue { IsConfig config.queue }
     requires elapsed { IsElapsed config.elapsed }
+    ensures gives { IfOk result (λ ran. W.gives workload ran.0) }
     ensures one_chain { IfOk result
         (λ ran. IsChain config.epoch_end config.start.version ran.1.items) }
 {
     match LiveRecord::<Brand>::open(rt, alloc, config.start, config.clients) {
         Ok(opened) => run_named::<Brand, R, W>(rt, alloc, config, opened, workload),
-        Err(_) => Err(AllocError),
+        Err(LiveError::Memory) => Err(AllocError),
+        Err(LiveError::TooLarge) => unreachable!(),
     }
 }
 
@@ -120,29 +136,24 @@ fn run_named<J: Live + Send + Sync, R: Threads + Wait + Sync, W: Workload<R> + D
 ) -> Result<(W::Output, Vec<Issued>), AllocError>
     requires opened { opened
         ≡ record { table = J.table; start = J.start; reporters = J.reporters } }
+    requires start { config.start ≡ J.start }
     requires epoch_end { config.epoch_end ≡ J.epoch_end }
     requires recovery { config.start.version ≡ J.recovery }
     requires named { config.clients ≡ J.reporters }
+    requires epoch { IsEpoch config.epoch_end config.start.version }
     requires clients { IsProxyCount config.clients }
     requires grv_proxies { 0 < config.grv_proxies }
     requires queue { IsConfig config.queue }
     requires elapsed { IsElapsed config.elapsed }
+    ensures gives { IfOk result (λ ran. W.gives workload ran.0) }
     ensures one_chain { IfOk result
         (λ ran. IsChain config.epoch_end config.start.version ran.1.items) }
 {
     let Ok((live, first, tokens)) = opened.parts::<J>() else {
         return Err(AllocError);
     };
-    let Ok(core) = ChainCore::new(
-        alloc,
-        config.epoch_end,
-        config.start.version,
-        config.clients,
-    ) else {
-        return Err(AllocError);
-    };
     let cluster = Cluster {
-        sequencer: Sequencer::new(core),
+        sequencer: sequencer_of(alloc, config)?,
         live,
         desks: desks_of(alloc, config.grv_proxies)?,
     };
@@ -153,6 +164,25 @@ fn run_named<J: Live + Send + Sync, R: Threads + Wait + Sync, W: Workload<R> + D
         desks: _,
     } = cluster;
     Ok((output, sequencer.close().into_answers()))
+}
+
+/// A sequencer of which nobody has asked anything yet. There is a commit proxy for each client.
+fn sequencer_of<J: Live>(alloc: Global, config: ClusterConfig) -> Result<Sequencer<J>, AllocError>
+    requires epoch_end { config.epoch_end ≡ J.epoch_end }
+    requires recovery { config.start.version ≡ J.recovery }
+    requires epoch { IsEpoch config.epoch_end config.start.version }
+    requires clients { IsProxyCount config.clients }
+{
+    match ChainCore::new(
+        alloc,
+        config.epoch_end,
+        config.start.version,
+        config.clients,
+    ) {
+        Ok(core) => Ok(Sequencer::new(core)),
+        Err(ChainError::Memory) => Err(AllocError),
+        Err(_) => unreachable!(),
+    }
 }
 
 /// So many open desks with no request on them.
@@ -182,6 +212,7 @@ fn at_cluster<J: Live + Send + Sync, R: Threads + Wait + Sync, W: Workload<R> + 
     requires count { vec_len tokens ≡ J.reporters }
     requires tokens { (k : ℕ) → k < vec_len tokens
         → slice_get tokens.items k ≡ Some (record { reporter = Some k; raises = [] }) }
+    ensures gives { IfOk result (W.gives workload) }
 {
     let proxies = proxies_of(alloc, config, cluster, &mut first)?;
     let clients = clients_of(alloc, &cluster.live, tokens)?;
@@ -197,16 +228,36 @@ fn proxies_of<'a, J: Live>(
 ) -> Result<Vec<GrvProxy<'a, J>>, AllocError>
     requires queue { IsConfig config.queue }
     requires elapsed { IsElapsed config.elapsed }
+    ensures each { IfOk result (λ proxies. vec_len proxies ≡ vec_len cluster.now.desks) }
+    ensures made { IfOk result (λ proxies. All (λ proxy. (proxy.config ≡ config.queue)
+        × (proxy.throttles ≡ []) × (proxy.elapsed ≡ config.elapsed)) proxies.items) }
 {
     let mut proxies = Vec::new(alloc);
     for desk in &cluster.desks {
-        let Ok(queue) = GrvQueue::new(alloc, config.queue) else {
-            return Err(AllocError);
-        };
-        let seen = cluster.live.split(first);
-        proxies.push(GrvProxy::new(alloc, &cluster.live, desk, queue, config.elapsed, seen))?;
+        proxies.push(proxy_at(alloc, config, &cluster.live, desk, first))?;
     }
     Ok(proxies)
+}
+
+/// A GRV proxy of a desk, with a queue of its own and a token that is split off another one.
+fn proxy_at<'a, J: Live>(
+    alloc: Global,
+    config: ClusterConfig,
+    live: &'a LiveRecord<J>,
+    desk: &'a Desk<J>,
+    first: &mut Seen<J>,
+) -> GrvProxy<'a, J>
+    requires queue { IsConfig config.queue }
+    requires elapsed { IsElapsed config.elapsed }
+    ensures config { result.config ≡ config.queue }
+    ensures throttles { result.throttles ≡ [] }
+    ensures elapsed { result.elapsed ≡ config.elapsed }
+{
+    let Ok(queue) = GrvQueue::new(alloc, config.queue) else {
+        unreachable!()
+    };
+    let seen = live.split(first);
+    GrvProxy::new(alloc, live, desk, queue, config.elapsed, seen)
 }
 
 /// A client for each token, which has called nobody yet.
@@ -257,6 +308,7 @@ fn served<J: Live + Send + Sync, R: Threads + Wait + Sync, W: Workload<R> + Drop
     requires count { vec_len clients ≡ J.reporters }
     requires new { (k : ℕ) → k < vec_len clients
         → slice_get clients.items k ≡ Some (new_account k []) }
+    ensures gives { IfOk result (W.gives workload) }
 {
     thread::scope(
         thread::scope_env(),
@@ -265,6 +317,7 @@ fn served<J: Live + Send + Sync, R: Threads + Wait + Sync, W: Workload<R> + Drop
             requires count { vec_len clients ≡ J.reporters }
             requires new { (k : ℕ) → k < vec_len clients
                 → slice_get clients.items k ≡ Some (new_account k []) }
+            ensures gives { IfOk result (W.gives workload) }
         {
             let mut threads = Vec::new(alloc);
             let mut all_started = true;

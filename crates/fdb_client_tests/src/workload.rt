@@ -1,9 +1,13 @@
 //! Workloads at a cluster.
 
+ghost use Rattle.std.specs.Prelude.{◌≡◌};
+ghost use Rattle.fdb_chain.specs.ChainCore.{IsEpoch};
+ghost use Rattle.fdb_queue.specs.Config.{IsConfig, IsElapsed};
+
 use crate::same::same;
 use fdb_client::{Client, ClientError, Cluster, ClusterConfig, Workload, run_workload};
 use fdb_history::{
-    AuditFault, ClientLog, GrvOpts, Issued, OpenGate, Priority, Record, Sequence, audit,
+    Ask, AuditFault, ClientLog, GrvOpts, Issued, OpenGate, Priority, Record, Sequence, audit,
 };
 use fdb_live::Live;
 use fdb_queue::QueueConfig;
@@ -13,11 +17,12 @@ use std::sync::Wait;
 use std::test::Fail;
 use std::thread::Threads;
 
-/// The live committed version before any report.
+/// The live committed version before any report. The first client's reads find it as it is here,
+/// since a report of the first commit version raises nothing.
 const START: Record = Record {
     version: 100,
-    locked: false,
-    metadata: None,
+    locked: true,
+    metadata: Some(7),
 };
 
 /// Each client in turn draws a commit version, reports it, and reads through each GRV proxy. The
@@ -57,7 +62,7 @@ impl CommitAndRead {
         mut client: Client<'_, J>,
     ) -> Result<ClientLog, ClientError> {
         client.ask(rt, &OpenGate, cluster.sequencer(), 0, 1_000)?;
-        client.report(rt, &OpenGate, 1, false, None)?;
+        client.report(rt, &OpenGate, 1, true, Some(8))?;
         for number in 0..self.grv_proxies {
             client.read_version(rt, &OpenGate, cluster.desk(number), one_read(self.alloc))?;
         }
@@ -71,8 +76,30 @@ fn one_read(alloc: Global) -> GrvOpts {
         priority: Priority::Default,
         count: 1,
         tags: Sequence::new(alloc),
-        lock_aware: false,
+        lock_aware: true,
         at: 0,
+    }
+}
+
+/// A cluster for so many clients, with so many GRV proxies.
+fn config_of(clients: u32, grv_proxies: u32) -> ClusterConfig
+    ensures clients { result.clients ≡ clients }
+    ensures grv_proxies { result.grv_proxies ≡ grv_proxies }
+    ensures epoch { IsEpoch result.epoch_end result.start.version }
+    ensures queue { IsConfig result.queue }
+    ensures elapsed { IsElapsed result.elapsed }
+{
+    ClusterConfig {
+        epoch_end: 60,
+        start: START,
+        clients,
+        grv_proxies,
+        queue: QueueConfig {
+            normal: 1_000,
+            batch: 1_000,
+            room: 1_000,
+        },
+        elapsed: 1_000_000,
     }
 }
 
@@ -84,19 +111,12 @@ pub(crate) fn commit_and_read<R: Threads + Wait + Abort + Sync>(
     clients: u32,
     grv_proxies: u32,
 ) -> Result<(), AllocError> {
-    assert!(rt; clients > 0 && clients <= 64 && grv_proxies > 0, "in range");
-    let config = ClusterConfig {
-        epoch_end: 0,
-        start: START,
-        clients,
-        grv_proxies,
-        queue: QueueConfig {
-            normal: 1_000,
-            batch: 1_000,
-            room: 1_000,
-        },
-        elapsed: 1_000_000,
-    };
+    assert!(rt; clients > 0 && clients <= 64, "clients in range");
+    assert!(rt;
+        grv_proxies > 0 && grv_proxies <= 16,
+        "GRV proxies in range"
+    );
+    let config = config_of(clients, grv_proxies);
     let (logs, chain) = run_workload(rt, alloc, config, CommitAndRead { alloc, grv_proxies })?;
     match logs {
         Ok(logs) => explained(rt, alloc, &logs, &chain, clients, grv_proxies),
@@ -124,6 +144,81 @@ fn explained(
     };
     let wanted = u64::from(clients) * (1 + u64::from(grv_proxies));
     same(rt, &events, &wanted, &"events");
+    Ok(())
+}
+
+/// Closes the first of three desks, and reads at each of them and at the one after.
+#[derive(Drop)]
+struct CloseAndRead {
+    alloc: Global,
+}
+
+impl<R: Wait> Workload<R> for CloseAndRead {
+    type Output = Option<[bool; 4]>;
+
+    /// Answers at which desks the read was served.
+    fn start<J: Live>(
+        self,
+        rt: &R,
+        cluster: &Cluster<J>,
+        mut clients: Vec<Client<'_, J>>,
+    ) -> Option<[bool; 4]> {
+        let mut client = clients.pop()?;
+        cluster.desk(0).close(rt);
+        let mut served = [false; 4];
+        for number in 0..4 {
+            let opts = one_read(self.alloc);
+            let read = client.read_version(rt, &OpenGate, cluster.desk(number), opts);
+            served[number as usize] = read.is_ok();
+        }
+        Some(served)
+    }
+}
+
+/// The desks are three, and the one after the last is the first.
+#[test]
+fn desks_begin_anew(rt: HostRuntime) -> Result<(), Fail> {
+    let alloc = rt.alloc();
+    let (served, _) = run_workload(&rt, alloc, config_of(1, 3), CloseAndRead { alloc })?;
+    same(&rt, &served, &Some([false, true, true, false]), &"served");
+    Ok(())
+}
+
+/// Draws a version as each commit proxy of a cluster, and as one more.
+#[derive(Drop)]
+struct AskAsEach;
+
+impl<R: Wait> Workload<R> for AskAsEach {
+    type Output = [bool; 3];
+
+    /// Answers which of them the sequencer knows.
+    fn start<J: Live>(
+        self,
+        rt: &R,
+        cluster: &Cluster<J>,
+        _clients: Vec<Client<'_, J>>,
+    ) -> [bool; 3] {
+        let mut known = [false; 3];
+        for proxy in 0..3 {
+            let ask = Ask {
+                proxy,
+                num: 1,
+                processed: 0,
+                at: 0,
+            };
+            let asked = cluster.sequencer().ask(rt, &OpenGate, ask);
+            known[proxy as usize] = asked.is_ok();
+        }
+        known
+    }
+}
+
+/// There is a commit proxy for each client, and no more.
+#[test]
+fn a_commit_proxy_for_each_client(rt: HostRuntime) -> Result<(), Fail> {
+    let (known, chain) = run_workload(&rt, rt.alloc(), config_of(2, 1), AskAsEach)?;
+    same(&rt, &known, &[true, true, false], &"known");
+    same(&rt, &chain.len(), &2, &"chain");
     Ok(())
 }
 
