@@ -82,9 +82,9 @@ pub trait Workload<R> {
     // What it promises of that.
     ghost gives: { Self → Self.Output → Type 0 } = { λ _ _. ⊤ };
 
-    /// Has the clients call the cluster, in the thread that called `run_workload`. There are as many
-    /// as the cluster was made for, each at the place of its number. They have called nobody yet,
-    /// and have seen nothing.
+    /// Has the clients call the cluster, in the thread that called `run_workload`. There are as
+    /// many as the cluster was made for, each at the place of its number. They have called nobody
+    /// yet, and have seen nothing.
     fn start<J: Live>(
         self,
         rt: &R,

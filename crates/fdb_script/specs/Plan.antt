@@ -48,7 +48,8 @@ pub record IsPlan (plan : Plan) : Type 0 where
   pub config_in_range : IsConfig plan.setup.config
   pub elapsed_in_range : IsElapsed plan.setup.elapsed
   pub throttles_in_range : length plan.setup.throttles ≤ MAX_THROTTLES
-  pub throttles_tagged : AllByRecursion (λ throttle. IsTrue (is_tag throttle.tag)) plan.setup.throttles
+  pub throttles_tagged : AllByRecursion
+      (λ throttle. IsTrue (is_tag throttle.tag)) plan.setup.throttles
   pub rounds_in_range : length plan.rounds ≤ MAX_ROUNDS
   pub commands_in_range : sum_by length plan.rounds ≤ MAX_COMMANDS
   pub commands_fit : AllByRecursion

@@ -247,7 +247,8 @@ frame_with _ _ _ _ _ _ _ = None
 -- the epoch before ends before the recovery version, and there are not too many commands
 abbrev pub is_frame : Frame → Bool
 is_frame frame =
-    nat_lt frame.setup.epoch_end frame.setup.recovery && nat_le (sum_by length frame.rounds) MAX_COMMANDS
+    nat_lt frame.setup.epoch_end frame.setup.recovery
+    && nat_le (sum_by length frame.rounds) MAX_COMMANDS
 
 abbrev pub frame_of : Data → Option Frame
 frame_of value =

@@ -84,8 +84,8 @@ pub struct Command {
     pub act: Act,
 }
 
-/// What a script says besides its rounds: from where the service starts, how many clients there are,
-/// and what its GRV proxies are made with.
+/// What a script says besides its rounds: from where the service starts, how many clients there
+/// are, and what its GRV proxies are made with.
 #[derive(Debug, Drop)]
 pub struct Setup {
     /// The end of the epoch before: the version before the first commit version.
@@ -119,7 +119,8 @@ impl Model for Script {
 
     ghost view = { λ script. record { setup = script.setup; rounds = script.rounds } };
 
-    ghost invariant = { λ script. IsPlan (record { setup = script.setup; rounds = script.rounds }) };
+    ghost invariant = { λ script. IsPlan
+        (record { setup = script.setup; rounds = script.rounds }) };
 }
 
 impl Script {
