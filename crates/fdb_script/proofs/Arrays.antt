@@ -1,5 +1,5 @@
 -- Arrays of a JSON value as lists, read item by item.
-use Rattle.std.proofs.Common.{◌≡◌, ℕ, List, [], ◌∷◌, ◌++◌, Result, Ok, Err, Option, None, Some, refl, ap, append_assoc}
+use Rattle.std.proofs.Common.{◌≡◌, ℕ, List, [], ◌∷◌, ◌++◌, Result, Ok, Err, Option, None, Some, option_map, refl, sym, ap, append_assoc}
 use Rattle.serde_json.specs.Data.{Data}
 use Rattle.serde_json.specs.View.{items_of}
 use Rattle.fdb_script.specs.Reading.{list_of, then_commands}
@@ -29,3 +29,9 @@ prefixed-then_commands front round place command (Err error) = refl
 abbrev pub after_front : {A : Type 0} → List A → Option (List A) → Option (List A)
 after_front front None = None
 after_front front (Some rest) = Some (front ++ rest)
+
+-- one more array
+pub after_front-next : {A : Type 0} (front : List A) (first : A) (rest : Option (List A))
+    → after_front front (option_map (λ all. first ∷ all) rest) ≡ after_front (front ++ first ∷ []) rest
+after_front-next front first None = refl
+after_front-next front first (Some rest) = ap Some (sym (append_assoc front (first ∷ []) rest))

@@ -1,4 +1,9 @@
+pub mod Accepted
 pub mod Arrays
+pub mod Elements
 pub mod Examples
+pub mod Outline
+pub mod Plain
+pub mod Shallow
 pub mod Texts
 pub mod Within

@@ -1,5 +1,7 @@
 pub mod Plan
 pub mod Reading
+pub mod Value
+pub mod View
 pub mod Answering
 pub mod Text
 pub use Rattle.fdb_history.specs.Added

@@ -1,39 +1,62 @@
 //! From the bytes of a script to the script.
 
 ghost use Rattle.std.specs.Prelude.{◌≡◌};
-ghost use Rattle.serde_json.specs.View.{view};
-ghost use Rattle.fdb_script.specs.Reading.{frame_of, framed_plan, IsUnlessMemory, ReadsAs};
+ghost use Rattle.serde_json.specs.Read.{read};
+ghost use Rattle.fdb_script.specs.Reading.{frame_of, framed_plan, IsUnlessMemory, plan_of, ReadsAs};
+ghost use Rattle.fdb_script.specs.View.{view};
 
+mod accepted;
 mod command;
 mod members;
+mod number;
 mod tags;
+mod value;
 mod whole;
 
 use crate::error::ScriptError;
 use crate::script::Script;
+use accepted::is_accepted;
 use command::rounds_of;
-use serde_json::Value;
+use json::{Error, Scratch, Tape};
+use simdutf8::basic::from_utf8;
 use std::alloc::Global;
+use value::Value;
 use whole::frame_of;
 
 /// The script that the bytes stand for.
 ///
-/// It is refused as `NotJson` where the bytes are no JSON text, then as `BadLimit` for a fault in
-/// the whole, then as `BadField` with the first command that has a fault, and as `Memory` wherever
-/// memory is refused. It takes time in proportion to the bytes: one pass over the JSON value, in
-/// which the members of an object are looked up by name.
+/// It is refused as `NotJson` where the bytes are no JSON text that `serde_json` reads, then as
+/// `BadLimit` for a fault in the whole, then as `BadField` with the first command that has a fault,
+/// and as `Memory` wherever memory is refused, or where the text has 4 GiB or more. It takes time
+/// in proportion to the bytes: they are laid out as one list of tokens, in which a member is looked
+/// up by a walk over its object's members that steps over what they hold.
 pub fn read_script(alloc: Global, bytes: &[u8]) -> Result<Script, ScriptError>
     ensures { ReadsAs bytes.now result }
 {
-    match Value::from_slice(alloc, bytes) {
-        Ok(value) => script_of(alloc, &value),
-        Err(error) if error.is_memory() => Err(ScriptError::Memory),
+    match from_utf8(bytes) {
+        Ok(text) => read_text(alloc, text),
         Err(_) => Err(ScriptError::NotJson),
     }
 }
 
+/// The script that a text stands for.
+fn read_text(alloc: Global, text: &str) -> Result<Script, ScriptError>
+    ensures { IsUnlessMemory result (plan_of (read text.now)) }
+{
+    let mut scratch = Scratch::new(alloc);
+    let tape = match Tape::parse(text, &mut scratch, Vec::new(alloc)) {
+        Ok(tape) => tape,
+        Err(Error::Invalid) => return Err(ScriptError::NotJson),
+        Err(_) => return Err(ScriptError::Memory),
+    };
+    if !is_accepted(tape.nodes()) {
+        return Err(ScriptError::NotJson);
+    }
+    script_of(alloc, &Value::root(&tape))
+}
+
 /// The script of a JSON value.
-fn script_of(alloc: Global, value: &Value) -> Result<Script, ScriptError>
+fn script_of(alloc: Global, value: &Value<'_, '_>) -> Result<Script, ScriptError>
     ensures { IsUnlessMemory result (framed_plan (frame_of (view value.now))) }
 {
     let Some(frame) = frame_of(alloc, value)? else {

@@ -1,33 +1,35 @@
 //! Values of a kind, and the members of an object that are such values.
 
-ghost use Rattle.std.specs.Prelude.{◌≡◌, ◌≤◌, false, map, IfSome};
+ghost use Rattle.std.specs.Prelude.{◌≡◌, ◌≤◌, false, map, IfOk, IfSome};
 ghost use Rattle.std.specs.Option.{option_map};
 ghost use Rattle.serde_json.specs.Find.{as_bool, as_str};
-ghost use Rattle.serde_json.specs.View.{view};
-ghost use Rattle.fdb_script.specs.Reading.{array_of, array_within, member, member_or, whole, whole_below, whole_or_null, whole_within};
+ghost use Rattle.fdb_script.specs.View.{view};
+ghost use Rattle.fdb_script.specs.Reading.{array_within, member, member_or, whole, whole_below, whole_or_null, whole_within};
 
-use serde_json::Value;
-
-/// The items of an array.
-pub(crate) fn items(value: &Value) -> Option<&[Value]>
-    ensures { option_map (λ items. map view items.now) result ≡ array_of (view value.now) }
-{
-    Some(value.as_array()?.as_slice())
-}
+use crate::reading::value::Value;
+use std::alloc::{AllocError, Global};
 
 /// The items of an array that has at most so many.
-pub(crate) fn items_within(value: &Value, most: usize) -> Option<&[Value]>
-    ensures { option_map (λ items. map view items.now) result ≡ array_within most (view value.now) }
+pub(crate) fn items_within<'t, 'a>(
+    alloc: Global,
+    value: &Value<'t, 'a>,
+    most: usize,
+) -> Result<Option<Vec<Value<'t, 'a>>>, AllocError>
+    ensures { IfOk result
+        (λ found. option_map (λ items. map view items.items) found
+        ≡ array_within most (view value.now)) }
 {
-    let items = items(value)?;
+    let Some(items) = value.items(alloc)? else {
+        return Ok(None);
+    };
     if items.len() > most {
-        return None;
+        return Ok(None);
     }
-    Some(items)
+    Ok(Some(items))
 }
 
 /// A whole number from one number to another.
-fn whole_within(value: &Value, low: u64, high: u64) -> Option<u64>
+fn whole_within(value: &Value<'_, '_>, low: u64, high: u64) -> Option<u64>
     ensures value { result ≡ whole_within low high (view value.now) }
     ensures within { IfSome result (λ number. (low ≤ number) × (number ≤ high)) }
 {
@@ -39,14 +41,14 @@ fn whole_within(value: &Value, low: u64, high: u64) -> Option<u64>
 }
 
 /// A member that is a whole number.
-pub(crate) fn whole_member(value: &Value, name: &str) -> Option<u64>
+pub(crate) fn whole_member(value: &Value<'_, '_>, name: &str) -> Option<u64>
     ensures { result ≡ member whole name.now (view value.now) }
 {
     value.get(name)?.as_u64()
 }
 
 /// A member that is a whole number, or a number where there is no such member.
-pub(crate) fn whole_or(value: &Value, name: &str, absent: u64) -> Option<u64>
+pub(crate) fn whole_or(value: &Value<'_, '_>, name: &str, absent: u64) -> Option<u64>
     ensures { result ≡ member_or absent whole name.now (view value.now) }
 {
     match value.get(name) {
@@ -56,16 +58,22 @@ pub(crate) fn whole_or(value: &Value, name: &str, absent: u64) -> Option<u64>
 }
 
 /// A member that is a whole number from one number to another.
-pub(crate) fn member_within(value: &Value, name: &str, low: u64, high: u64) -> Option<u64>
+pub(crate) fn member_within(value: &Value<'_, '_>, name: &str, low: u64, high: u64) -> Option<u64>
     ensures value { result ≡ member (whole_within low high) name.now (view value.now) }
     ensures within { IfSome result (λ number. (low ≤ number) × (number ≤ high)) }
 {
-    whole_within(value.get(name)?, low, high)
+    whole_within(&value.get(name)?, low, high)
 }
 
 /// A member that is a whole number from one number to another, or a number of these where there is
 /// no such member.
-pub(crate) fn within_or(value: &Value, name: &str, absent: u64, low: u64, high: u64) -> Option<u64>
+pub(crate) fn within_or(
+    value: &Value<'_, '_>,
+    name: &str,
+    absent: u64,
+    low: u64,
+    high: u64,
+) -> Option<u64>
     requires some { low ≤ absent }
     requires in_range { absent ≤ high }
     ensures value { result ≡ member_or absent (whole_within low high) name.now (view value.now) }
@@ -73,12 +81,12 @@ pub(crate) fn within_or(value: &Value, name: &str, absent: u64, low: u64, high: 
 {
     match value.get(name) {
         None => Some(absent),
-        Some(member) => whole_within(member, low, high),
+        Some(member) => whole_within(&member, low, high),
     }
 }
 
 /// A member that is the number of a client, one of so many.
-pub(crate) fn client_member(value: &Value, name: &str, clients: u32) -> Option<u32>
+pub(crate) fn client_member(value: &Value<'_, '_>, name: &str, clients: u32) -> Option<u32>
     ensures { result ≡ member (whole_below clients) name.now (view value.now) }
 {
     let client = whole_member(value, name)?;
@@ -89,7 +97,7 @@ pub(crate) fn client_member(value: &Value, name: &str, clients: u32) -> Option<u
 }
 
 /// A member that is true or false, or false where there is no such member.
-pub(crate) fn flag_or_false(value: &Value, name: &str) -> Option<bool>
+pub(crate) fn flag_or_false(value: &Value<'_, '_>, name: &str) -> Option<bool>
     ensures { result ≡ member_or false as_bool name.now (view value.now) }
 {
     match value.get(name) {
@@ -99,7 +107,7 @@ pub(crate) fn flag_or_false(value: &Value, name: &str) -> Option<bool>
 }
 
 /// A whole number, or null for none.
-fn whole_or_null(value: &Value) -> Option<Option<u64>>
+fn whole_or_null(value: &Value<'_, '_>) -> Option<Option<u64>>
     ensures { result ≡ whole_or_null (view value.now) }
 {
     if value.is_null() {
@@ -110,17 +118,17 @@ fn whole_or_null(value: &Value) -> Option<Option<u64>>
 }
 
 /// A member that is a whole number or null for none, and none where there is no such member.
-pub(crate) fn whole_or_none(value: &Value, name: &str) -> Option<Option<u64>>
+pub(crate) fn whole_or_none(value: &Value<'_, '_>, name: &str) -> Option<Option<u64>>
     ensures { result ≡ member_or None whole_or_null name.now (view value.now) }
 {
     match value.get(name) {
         None => Some(None),
-        Some(member) => whole_or_null(member),
+        Some(member) => whole_or_null(&member),
     }
 }
 
 /// A member that is a text.
-pub(crate) fn text_member<'a>(value: &'a Value, name: &str) -> Option<&'a str>
+pub(crate) fn text_member<'a>(value: &Value<'_, 'a>, name: &str) -> Option<&'a str>
     ensures { option_map (λ text. text.now) result ≡ member as_str name.now (view value.now) }
 {
     value.get(name)?.as_str()

@@ -4,4 +4,4 @@ use Rattle.fdb_script.proofs.reading.whole.has_few_commands.Given as goal
 
 abbrev pub invariant-loop-round : goal.invariant-loop-round
 invariant-loop-round l =
-    (l.count ≤ MAX_COMMANDS) × (l.count + sum_by (λ round. length round.now) (drop l.round-index l.rounds) ≡ sum_by (λ round. length round.now) l.rounds)
+    (l.count ≤ MAX_COMMANDS) × (l.count + sum_by (λ round. length round.items) (drop l.round-index l.rounds) ≡ sum_by (λ round. length round.items) l.rounds)

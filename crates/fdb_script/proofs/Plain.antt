@@ -1,0 +1,138 @@
+-- What `serde_json` reads is the plain value, and a look into the plain value is a look into the one on the tape.
+use Rattle.std.proofs.Common.{◌≡◌, ℕ, List, Bool, true, false, Option, Some, None, is_some, option_map, option_and_then, bytes_eq, cond, true≢false, refl, sym, ap, ◌∙◌, subst}
+use Rattle.std.specs.Prelude.{⊤}
+use Rattle.std.proofs.lemmas.Slice.Eq.{bytes_eq-Decides}
+use Rattle.json.specs.Json as json
+use Rattle.json.specs.Find as find
+use Rattle.serde_json.specs.Data.{Num, Data, number, array, object, Items, item, Members, no_members, put}
+use Rattle.serde_json.specs.Find.{get, get_member, as_null, as_bool, as_number, as_str, as_array, as_u64}
+use Rattle.serde_json.specs.Read.{number_of, of_json, of_items, of_members}
+use Rattle.serde_json.proofs.Views.{get_member-put, get_member-put_other}
+use Rattle.fdb_script.specs.Value.{read_or, plain, plain_items, plain_members}
+
+-- ---- what is read is the plain value
+
+-- a is what was read, if anything was
+abbrev Agrees : {A : Type 0} → Option A → A → Type 0
+Agrees None a = ⊤
+Agrees (Some b) a = a ≡ b
+
+Agrees-map : {A B : Type 0} (f : A → B) (o : Option A) (a : A) → Agrees o a → Agrees (option_map f o) (f a)
+Agrees-map f None a e = tt
+Agrees-map f (Some b) a e = ap f e
+
+Agrees-and_then : {A B : Type 0} (f : A → Option B) (o : Option A) (a : A) (b : B) → Agrees o a → Agrees (f a) b → Agrees (option_and_then f o) b
+Agrees-and_then f None a b e h = tt
+Agrees-and_then f (Some c) a b e h = subst (λ x. Agrees (f x) b) e h
+
+Agrees-read_or : (o : Option Num) → Agrees o (read_or o)
+Agrees-read_or None = tt
+Agrees-read_or (Some n) = refl
+
+mutual
+  Agrees-of_json : (j : json.Json) → Agrees (of_json j) (plain j)
+  Agrees-of_json json.null = refl
+  Agrees-of_json (json.boolean b) = refl
+  Agrees-of_json (json.number s) = Agrees-map number (number_of s) _ (Agrees-read_or (number_of s))
+  Agrees-of_json (json.string s) = refl
+  Agrees-of_json (json.array js) = Agrees-map array (of_items js) _ (Agrees-of_items js)
+  Agrees-of_json (json.object ms) = Agrees-map object (of_members ms no_members) _ (Agrees-of_members ms no_members)
+
+  Agrees-of_items : (js : json.Items) → Agrees (of_items js) (plain_items js)
+  Agrees-of_items json.no_items = refl
+  Agrees-of_items (json.item j js) = Agrees-and_then (λ d. option_map (item d) (of_items js)) (of_json j) (plain j) _ (Agrees-of_json j) (Agrees-map (item (plain j)) (of_items js) _ (Agrees-of_items js))
+
+  Agrees-of_members : (ms : json.Members) (found : Members) → Agrees (of_members ms found) (plain_members ms found)
+  Agrees-of_members json.no_members found = refl
+  Agrees-of_members (json.member k j ms) found = Agrees-and_then (λ d. of_members ms (put k d found)) (of_json j) (plain j) _ (Agrees-of_json j) (Agrees-of_members ms (put k (plain j) found))
+
+pub plain-of_json : (j : json.Json) (d : Data) → of_json j ≡ Some d → plain j ≡ d
+plain-of_json j d e = subst (λ o. Agrees o (plain j)) e (Agrees-of_json j)
+
+pub plain_items-of_items : (js : json.Items) (ds : Items) → of_items js ≡ Some ds → plain_items js ≡ ds
+plain_items-of_items js ds e = subst (λ o. Agrees o (plain_items js)) e (Agrees-of_items js)
+
+pub plain_members-of_members : (ms : json.Members) (found r : Members) → of_members ms found ≡ Some r → plain_members ms found ≡ r
+plain_members-of_members ms found r e = subst (λ o. Agrees o (plain_members ms found)) e (Agrees-of_members ms found)
+
+-- ---- the value at a name
+
+-- what stands at a name after members that may have it
+abbrev pub plain_or : Option json.Json → Option Data → Option Data
+plain_or None earlier = earlier
+plain_or (Some j) earlier = Some (plain j)
+
+plain_or-later_or : (a b : Option json.Json) (c : Option Data) → plain_or a (plain_or b c) ≡ plain_or (find.later_or a b) c
+plain_or-later_or None b c = refl
+plain_or-later_or (Some j) b c = refl
+
+plain_or-None : (o : Option json.Json) → plain_or o None ≡ option_map plain o
+plain_or-None None = refl
+plain_or-None (Some j) = refl
+
+get_member-put_plain : (name k : List ℕ) (j : json.Json) (found : Members) (same : Bool) → bytes_eq k name ≡ same
+    → get_member name (put k (plain j) found) ≡ plain_or (cond same (Some j) None) (get_member name found)
+get_member-put_plain name k j found true e = subst (λ n. get_member n (put k (plain j) found) ≡ Some (plain j)) ((bytes_eq-Decides k name).0 e) (get_member-put k (plain j) found)
+get_member-put_plain name k j found false e = get_member-put_other name k (plain j) found (λ h. true≢false (sym ((bytes_eq-Decides k name).1 (sym h)) ∙ e))
+
+pub get_member-plain_members : (name : List ℕ) (ms : json.Members) (found : Members) → get_member name (plain_members ms found) ≡ plain_or (find.get_member name ms) (get_member name found)
+get_member-plain_members name json.no_members found = refl
+get_member-plain_members name (json.member k j ms) found =
+    get_member-plain_members name ms (put k (plain j) found)
+    ∙ ap (plain_or (find.get_member name ms)) (get_member-put_plain name k j found _ refl)
+    ∙ plain_or-later_or (find.get_member name ms) _ _
+
+pub get-plain : (name : List ℕ) (j : json.Json) → get name (plain j) ≡ option_map plain (find.get name j)
+get-plain name json.null = refl
+get-plain name (json.boolean b) = refl
+get-plain name (json.number s) = refl
+get-plain name (json.string s) = refl
+get-plain name (json.array js) = refl
+get-plain name (json.object ms) = get_member-plain_members name ms no_members ∙ plain_or-None (find.get_member name ms)
+
+-- ---- what kind of value it is
+
+pub as_str-plain : (j : json.Json) → as_str (plain j) ≡ find.as_str j
+as_str-plain json.null = refl
+as_str-plain (json.boolean b) = refl
+as_str-plain (json.number s) = refl
+as_str-plain (json.string s) = refl
+as_str-plain (json.array js) = refl
+as_str-plain (json.object ms) = refl
+
+pub as_bool-plain : (j : json.Json) → as_bool (plain j) ≡ find.as_bool j
+as_bool-plain json.null = refl
+as_bool-plain (json.boolean b) = refl
+as_bool-plain (json.number s) = refl
+as_bool-plain (json.string s) = refl
+as_bool-plain (json.array js) = refl
+as_bool-plain (json.object ms) = refl
+
+pub is_null-plain : (j : json.Json) → is_some (as_null (plain j)) ≡ find.is_null j
+is_null-plain json.null = refl
+is_null-plain (json.boolean b) = refl
+is_null-plain (json.number s) = refl
+is_null-plain (json.string s) = refl
+is_null-plain (json.array js) = refl
+is_null-plain (json.object ms) = refl
+
+pub as_array-plain : (j : json.Json) → as_array (plain j) ≡ option_map plain_items (find.as_array j)
+as_array-plain json.null = refl
+as_array-plain (json.boolean b) = refl
+as_array-plain (json.number s) = refl
+as_array-plain (json.string s) = refl
+as_array-plain (json.array js) = refl
+as_array-plain (json.object ms) = refl
+
+-- a number that is refused is no whole number
+as_u64-read_or : (o : Option Num) → as_u64 (read_or o) ≡ option_and_then as_u64 o
+as_u64-read_or None = refl
+as_u64-read_or (Some n) = refl
+
+pub as_u64-plain : (j : json.Json) → option_and_then as_u64 (as_number (plain j)) ≡ option_and_then (λ s. option_and_then as_u64 (number_of s)) (find.as_number j)
+as_u64-plain json.null = refl
+as_u64-plain (json.boolean b) = refl
+as_u64-plain (json.number s) = as_u64-read_or (number_of s)
+as_u64-plain (json.string s) = refl
+as_u64-plain (json.array js) = refl
+as_u64-plain (json.object ms) = refl

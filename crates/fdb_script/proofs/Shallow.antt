@@ -1,0 +1,154 @@
+-- What `serde_json` reads of a text that `json` reads: the brackets of a value nest as deep as the value.
+use Rattle.std.specs.Prelude.{⊤}
+use Rattle.std.proofs.Common.{◌≡◌, ℕ, zero, suc, ◌+◌, ◌-◌, ◌<◌, ◌≤◌, max, nat_le, nat_lt, Bool, true, ◌&&◌, if◌then◌else◌, List, [], ◌∷◌, ◌++◌, Option, Some, None, option_and_then, refl, sym, ap, ◌∙◌, subst, arith, append_assoc, append-nil, le_refl, inl, inr, ◌⊎◌}
+use Rattle.std.proofs.Math.Dec.{leb-zero, leb-suc-zero, leb-suc-suc}
+use Rattle.std.proofs.lemmas.Bool.{le-leb, lt-leb, lt-ltb, cases_lt}
+use Rattle.json.specs.Token.{Token}
+use Rattle.json.specs.Lex.{tokens}
+use Rattle.json.specs.Json as json
+use Rattle.json.specs.Tree.{json_tokens, items_tokens, members_tokens, depth, items_depth, members_depth}
+use Rattle.json.proofs.Grammar.{closed_array, read_key_is}
+use Rattle.json.proofs.Found.{one_reading, Some_inj}
+use Rattle.json.proofs.Nesting.{value-depth}
+use Rattle.json.proofs.Printed.Trees.{value-json_tokens}
+use Rattle.json.proofs.Unique.Spelling.{value-json_tokens_back, tokens-document}
+use Rattle.serde_json.specs.Read.{max_depth}
+use Rattle.fdb_script.specs.Value.{outline, shallow}
+
+-- A value that was read is read at each depth that has room for it.
+pub any_depth : (e d : ℕ) (ts rest : List Token) (j : json.Json) → json.value e ts ≡ Some (j, rest) → depth j ≤ d → json.value d ts ≡ Some (j, rest)
+any_depth e d ts rest j read fits = ap (json.value d) (value-json_tokens_back e ts rest j read) ∙ value-json_tokens j d rest fits
+
+-- Where nothing nests, behind one bracket, and for two things in a row.
+nothing_nested : (room : ℕ) (b : Bool) → b ≡ (nat_le 0 room && b)
+nothing_nested room b = ap (λ t. t && b) (sym (leb-zero room))
+
+one_deeper : (d room : ℕ) (b : ℕ → Bool) → (nat_lt 0 room && (nat_le d (room - 1) && b (room - 1 + 1))) ≡ (nat_le (suc d) room && b room)
+one_deeper d zero b = ap (λ t. t && b 0) (sym (leb-suc-zero d))
+one_deeper d (suc room) b =
+    let less : suc room - 1 ≡ room = omega arith in
+    let back : room + 1 ≡ suc room = omega arith in
+    ap (λ t. t && (nat_le d (suc room - 1) && b (suc room - 1 + 1))) (lt-ltb 0 (suc room) (omega arith))
+    ∙ ap (λ n. nat_le d n && b (n + 1)) less
+    ∙ ap (λ n. nat_le d room && b n) back
+    ∙ ap (λ t. t && b (suc room)) (sym (leb-suc-suc d room))
+
+both_fit : (d e room : ℕ) (b : Bool) → (nat_le d room && (nat_le e room && b)) ≡ (nat_le (max d e) room && b)
+both_fit d e room b = go (cases_lt room d) (cases_lt room e)
+  where
+    go : (room < d) ⊎ (d ≤ room) → (room < e) ⊎ (e ≤ room) → (nat_le d room && (nat_le e room && b)) ≡ (nat_le (max d e) room && b)
+    go (inl deep) other = rw (lt-leb d room deep, lt-leb (max d e) room (omega arith))
+    go (inr fits) (inl deep) = rw (le-leb d room fits, lt-leb e room deep, lt-leb (max d e) room (omega arith))
+    go (inr fits) (inr both) = rw (le-leb d room fits, le-leb e room both, le-leb (max d e) room (omega arith))
+
+-- The brackets of a value's tokens nest as deep as the value, and so do those of items and of members, with the bracket that closes them.
+mutual
+  shallow-json_tokens : (j : json.Json) (room : ℕ) (rest : List Token) → shallow room (json_tokens j ++ rest) ≡ (nat_le (depth j) room && shallow room rest)
+  shallow-json_tokens json.null room rest = nothing_nested room _
+  shallow-json_tokens (json.boolean b) room rest = nothing_nested room _
+  shallow-json_tokens (json.number s) room rest = nothing_nested room _
+  shallow-json_tokens (json.string s) room rest = nothing_nested room _
+  shallow-json_tokens (json.array js) room rest = ap (λ b. nat_lt 0 room && b) (shallow-items_tokens js (room - 1) rest) ∙ one_deeper (items_depth js) room (λ n. shallow n rest)
+  shallow-json_tokens (json.object ms) room rest = ap (λ b. nat_lt 0 room && b) (shallow-members_tokens ms (room - 1) rest) ∙ one_deeper (members_depth ms) room (λ n. shallow n rest)
+
+  shallow-items_tokens : (js : json.Items) (room : ℕ) (rest : List Token) → shallow room (items_tokens js ++ rest) ≡ (nat_le (items_depth js) room && shallow (room + 1) rest)
+  shallow-items_tokens json.no_items room rest = nothing_nested room _
+  shallow-items_tokens (json.item j js) room rest =
+      ap (shallow room) (append_assoc (json_tokens j) (items_tokens js) rest)
+      ∙ shallow-json_tokens j room (items_tokens js ++ rest)
+      ∙ ap (λ b. nat_le (depth j) room && b) (shallow-items_tokens js room rest)
+      ∙ both_fit (depth j) (items_depth js) room _
+
+  shallow-members_tokens : (ms : json.Members) (room : ℕ) (rest : List Token) → shallow room (members_tokens ms ++ rest) ≡ (nat_le (members_depth ms) room && shallow (room + 1) rest)
+  shallow-members_tokens json.no_members room rest = nothing_nested room _
+  shallow-members_tokens (json.member k j ms) room rest =
+      ap (shallow room) (append_assoc (json_tokens j) (members_tokens ms) rest)
+      ∙ shallow-json_tokens j room (members_tokens ms ++ rest)
+      ∙ ap (λ b. nat_le (depth j) room && b) (shallow-members_tokens ms room rest)
+      ∙ both_fit (depth j) (members_depth ms) room _
+
+pub shallow-value : (e room : ℕ) (ts rest : List Token) (j : json.Json) → json.value e ts ≡ Some (j, rest) → shallow room ts ≡ (nat_le (depth j) room && shallow room rest)
+shallow-value e room ts rest j read = ap (shallow room) (value-json_tokens_back e ts rest j read) ∙ shallow-json_tokens j room rest
+
+-- What is read as items or members is their tokens.
+abbrev Spelled : {A : Type 0} → (A → List Token) → List Token → Option (A × List Token) → Type 0
+Spelled f ts None = ⊤
+Spelled f ts (Some x) = ts ≡ f x.0 ++ x.1
+
+module _ {B : Type 0} (f : B → List Token) (front : List Token) (ts : List Token) where
+  and_more : (g : B → B) (j : json.Json) (rest : List Token) → ((b : B) → f (g b) ≡ front ++ (json_tokens j ++ f b)) → ts ≡ json_tokens j ++ rest → (o : Option (B × List Token)) → Spelled f rest o → Spelled f (front ++ ts) (json.parse_map g o)
+  and_more g j rest is first None h = tt
+  and_more g j rest is first (Some x) h =
+      ap (λ us. front ++ us) (first ∙ ap (λ us. json_tokens j ++ us) h ∙ sym (append_assoc (json_tokens j) (f x.0) x.1))
+      ∙ sym (append_assoc front (json_tokens j ++ f x.0) x.1) ∙ ap (λ us. us ++ x.1) (sym (is x.0))
+
+  then_more : (e : ℕ) (g : json.Json → B → B) → ((j : json.Json) (b : B) → f (g j b) ≡ front ++ (json_tokens j ++ f b)) → (more : json.Parse B) → ((us : List Token) → Spelled f us (more us))
+      → (o : Option (json.Json × List Token)) → json.value e ts ≡ o → Spelled f (front ++ ts) (option_and_then (λ x. json.parse_map (g x.0) (more x.1)) o)
+  then_more e g is more spells None read = tt
+  then_more e g is more spells (Some x) read = and_more (g x.0) x.0 x.1 (is x.0) (value-json_tokens_back e ts x.1 x.0 read) (more x.1) (spells x.1)
+
+module _ (e : ℕ) where
+  item_turn : (n : ℕ) → ((us : List Token) → Spelled items_tokens us (json.items (json.value e) n us)) → (ts : List Token) (o : Option (List Token)) → json.after_end_array ts ≡ o
+      → Spelled items_tokens ts (json.items_step (json.value e) (json.items (json.value e) n) ts o)
+  item_turn n again ts (Some rest) closed = closed_array ts rest closed
+  item_turn n again ts None going = then_more items_tokens [] ts e json.item (λ j b. refl) _ again _ refl
+
+  items_spelled : (n : ℕ) (ts : List Token) → Spelled items_tokens ts (json.items (json.value e) n ts)
+  unfolding json.items
+  items_spelled zero ts = tt
+  items_spelled (suc n) ts = item_turn n (items_spelled n) ts _ refl
+
+  member_turn : (n : ℕ) → ((us : List Token) → Spelled members_tokens us (json.members (json.value e) n us)) → (ts : List Token) (o : Option (Option (List ℕ) × List Token)) → json.read_key ts ≡ o
+      → Spelled members_tokens ts (option_and_then (λ x. json.members_step (json.value e) (json.members (json.value e) n) x.0 x.1) o)
+  member_turn n again ts None is = tt
+  member_turn n again ts (Some (None, rest)) is = read_key_is ts None rest is
+  member_turn n again ts (Some (Some k, rest)) is =
+      subst (λ us. Spelled members_tokens us (json.members_step (json.value e) (json.members (json.value e) n) (Some k) rest)) (sym (read_key_is ts (Some k) rest is))
+      (then_more members_tokens (Token.key k ∷ []) rest e (json.member k) (λ j b. refl) _ again _ refl)
+
+  members_spelled : (n : ℕ) (ts : List Token) → Spelled members_tokens ts (json.members (json.value e) n ts)
+  unfolding json.members
+  members_spelled zero ts = tt
+  members_spelled (suc n) ts = member_turn n (members_spelled n) ts _ refl
+
+  pub shallow-items : (n room : ℕ) (ts rest : List Token) (js : json.Items) → json.items (json.value e) n ts ≡ Some (js, rest) → shallow room ts ≡ (nat_le (items_depth js) room && shallow (room + 1) rest)
+  shallow-items n room ts rest js read = ap (shallow room) (subst (Spelled items_tokens ts) read (items_spelled n ts)) ∙ shallow-items_tokens js room rest
+
+  pub shallow-members : (n room : ℕ) (ts rest : List Token) (ms : json.Members) → json.members (json.value e) n ts ≡ Some (ms, rest) → shallow room ts ≡ (nat_le (members_depth ms) room && shallow (room + 1) rest)
+  shallow-members n room ts rest ms read = ap (shallow room) (subst (Spelled members_tokens ts) read (members_spelled n ts)) ∙ shallow-members_tokens ms room rest
+
+-- `serde_json` refuses a value that nests deeper than it allows, and reads every other value as `json` does.
+value-none_of_deep : (j : json.Json) (d : ℕ) (rest : List Token) → d < depth j → json.value d (json_tokens j ++ rest) ≡ None
+value-none_of_deep j d rest deep = go (json.value d (json_tokens j ++ rest)) refl
+  where
+    go : (o : Option (json.Json × List Token)) → json.value d (json_tokens j ++ rest) ≡ o → o ≡ None
+    go None none = refl
+    go (Some x) read =
+        let same : x ≡ (j, rest) = Some_inj x (j, rest) (one_reading d (depth j) _ x (j, rest) read (value-json_tokens j (depth j) rest (le_refl (depth j)))) in
+        absurd (omega (arith, value-depth d _ x.1 x.0 read, ap (λ y. depth y.0) same))
+
+abbrev whole : Option (json.Json × List Token) → Option json.Json
+whole o = option_and_then (λ p. json.if_last p.0 p.1) o
+
+abbrev only_if : json.Json → Bool → Option json.Json
+only_if j b = if b then Some j else None
+
+whole-json_tokens : (j : json.Json) (d : ℕ) → whole (json.value d (json_tokens j ++ [])) ≡ only_if j (shallow d (json_tokens j ++ []))
+whole-json_tokens j d = go (cases_lt d (depth j)) ∙ sym (ap (only_if j) (shallow-json_tokens j d []))
+  where
+    go : (d < depth j) ⊎ (depth j ≤ d) → whole (json.value d (json_tokens j ++ [])) ≡ only_if j (nat_le (depth j) d && true)
+    go (inl deep) = ap whole (value-none_of_deep j d [] deep) ∙ sym (ap (λ b. only_if j (b && true)) (lt-leb (depth j) d deep))
+    go (inr fits) = ap whole (value-json_tokens j d [] fits) ∙ sym (ap (λ b. only_if j (b && true)) (le-leb (depth j) d fits))
+
+pub outline-shallow : (text : List ℕ) (j : json.Json) → json.document text ≡ Some j → outline text ≡ (if shallow max_depth (tokens text) then Some j else None)
+outline-shallow text j is =
+    subst (λ ts. whole (json.value max_depth ts) ≡ only_if j (shallow max_depth ts)) (append-nil (json_tokens j) ∙ sym (tokens-document text j is)) (whole-json_tokens j max_depth)
+
+pub outline-no_document : (text : List ℕ) → json.document text ≡ None → outline text ≡ None
+outline-no_document text none = go (json.value max_depth (tokens text)) refl
+  where
+    go : (o : Option (json.Json × List Token)) → json.value max_depth (tokens text) ≡ o → outline text ≡ None
+    go None unread = ap whole unread
+    go (Some x) read =
+        let within : depth x.0 ≤ json.max_depth = omega (arith, value-depth max_depth (tokens text) x.1 x.0 read) in
+        ap whole (read ∙ sym (any_depth max_depth json.max_depth (tokens text) x.1 x.0 read within)) ∙ none

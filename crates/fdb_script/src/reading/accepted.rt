@@ -1,0 +1,41 @@
+//! What `serde_json` refuses of JSON texts.
+
+ghost use Rattle.std.specs.Prelude.{◌≡◌, ◌&&◌, map};
+ghost use Rattle.std.specs.List.{list_all};
+ghost use Rattle.json.specs.Tape.{node_token};
+ghost use Rattle.serde_json.specs.Read.{max_depth};
+ghost use Rattle.fdb_script.specs.Value.{is_fine, shallow};
+
+use crate::reading::number::is_number;
+use json::Node;
+
+/// How deep arrays and objects may nest.
+const MAX_DEPTH: usize = 127;
+
+/// Whether `serde_json` reads a text with these nodes: it refuses what nests too deep, and a number
+/// that is too large.
+pub(crate) fn is_accepted(nodes: &[Node<'_>]) -> bool
+    ensures { result ≡
+        (shallow max_depth (map node_token nodes.now)
+        && list_all is_fine (map node_token nodes.now)) }
+{
+    let mut room = MAX_DEPTH;
+    for node in nodes {
+        match node {
+            Node::Object(_) | Node::Array(_) => {
+                if room == 0 {
+                    return false;
+                }
+                room -= 1;
+            }
+            Node::EndObject | Node::EndArray => room += 1,
+            Node::Number(text) => {
+                if !is_number(text) {
+                    return false;
+                }
+            }
+            Node::Key(_) | Node::String(_) | Node::Bool(_) | Node::Null => {}
+        }
+    }
+    true
+}
