@@ -6,9 +6,9 @@ use Rattle.json.specs.Lex.{tokens}
 use Rattle.json.specs.Json as json
 use Rattle.serde_json.specs.Data.{Data}
 use Rattle.serde_json.specs.Read.{max_depth, of_json, read}
-use Rattle.fdb_script.specs.Value.{outline, shallow, is_fine, plain, data_at}
+use Rattle.fdb_script.specs.private.Tape.{shallow, is_fine, plain, data_at}
 use Rattle.fdb_script.proofs.Elements.{json_at-begins}
-use Rattle.fdb_script.proofs.Outline.{outline-begins, fine-outline}
+use Rattle.fdb_script.proofs.Outline.{outline, outline-begins, fine-outline}
 use Rattle.fdb_script.proofs.Plain.{plain-of_json}
 use Rattle.fdb_script.proofs.Shallow.{outline-shallow, outline-no_document}
 

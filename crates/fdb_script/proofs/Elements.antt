@@ -7,7 +7,7 @@ use Rattle.json.specs.Find as find
 use Rattle.serde_json.specs.Data.{Data}
 use Rattle.serde_json.specs.Find.{get, as_u64}
 use Rattle.serde_json.specs.Read.{number_of}
-use Rattle.fdb_script.specs.Value.{first_value, json_at, data_at, is_value, plain, plain_items}
+use Rattle.fdb_script.specs.private.Tape.{first_value, json_at, data_at, is_value, plain, plain_items}
 use Rattle.fdb_script.specs.Reading.{list_of, array_of, whole}
 use Rattle.fdb_script.proofs.Outline.{value-begins}
 use Rattle.fdb_script.proofs.Plain.{get-plain, as_array-plain, as_u64-plain}

@@ -13,7 +13,11 @@ use Rattle.json.proofs.Printed.Trees.{value-json_tokens}
 use Rattle.json.proofs.Unique.Spelling.{value-json_tokens_back}
 use Rattle.serde_json.specs.Data.{Members, no_members, put, item, array, object, number}
 use Rattle.serde_json.specs.Read.{max_depth, number_of, of_json, of_items, of_members}
-use Rattle.fdb_script.specs.Value.{outline, is_fine}
+use Rattle.fdb_script.specs.private.Tape.{is_fine}
+
+-- the one value that a text is, with its numbers as they are written and no deeper than `serde_json` reads
+abbrev pub outline : List ℕ → Option json.Json
+outline text = option_and_then (λ p. json.if_last p.0 p.1) (json.value max_depth (tokens text))
 
 -- a value nests no deeper than it has tokens
 mutual

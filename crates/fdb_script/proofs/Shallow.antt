@@ -13,7 +13,8 @@ use Rattle.json.proofs.Nesting.{value-depth}
 use Rattle.json.proofs.Printed.Trees.{value-json_tokens}
 use Rattle.json.proofs.Unique.Spelling.{value-json_tokens_back, tokens-document}
 use Rattle.serde_json.specs.Read.{max_depth}
-use Rattle.fdb_script.specs.Value.{outline, shallow}
+use Rattle.fdb_script.specs.private.Tape.{shallow}
+use Rattle.fdb_script.proofs.Outline.{outline}
 
 -- A value that was read is read at each depth that has room for it.
 pub any_depth : (e d : ℕ) (ts rest : List Token) (j : json.Json) → json.value e ts ≡ Some (j, rest) → depth j ≤ d → json.value d ts ≡ Some (j, rest)

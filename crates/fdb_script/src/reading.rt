@@ -3,7 +3,7 @@
 ghost use Rattle.std.specs.Prelude.{◌≡◌};
 ghost use Rattle.serde_json.specs.Read.{read};
 ghost use Rattle.fdb_script.specs.Reading.{frame_of, framed_plan, IsUnlessMemory, plan_of, ReadsAs};
-ghost use Rattle.fdb_script.specs.View.{view};
+ghost use Rattle.fdb_script.specs.private.View.{view};
 
 mod accepted;
 mod command;
@@ -18,8 +18,8 @@ use crate::script::Script;
 use accepted::is_accepted;
 use command::rounds_of;
 use json::{Error, Scratch, Tape};
-use simdutf8::basic::from_utf8;
 use std::alloc::Global;
+use std::str;
 use value::Value;
 use whole::frame_of;
 
@@ -33,7 +33,7 @@ use whole::frame_of;
 pub fn read_script(alloc: Global, bytes: &[u8]) -> Result<Script, ScriptError>
     ensures { ReadsAs bytes.now result }
 {
-    match from_utf8(bytes) {
+    match str::from_utf8(bytes) {
         Ok(text) => read_text(alloc, text),
         Err(_) => Err(ScriptError::NotJson),
     }

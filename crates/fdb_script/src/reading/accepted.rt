@@ -4,7 +4,7 @@ ghost use Rattle.std.specs.Prelude.{◌≡◌, ◌&&◌, map};
 ghost use Rattle.std.specs.List.{list_all};
 ghost use Rattle.json.specs.Tape.{node_token};
 ghost use Rattle.serde_json.specs.Read.{max_depth};
-ghost use Rattle.fdb_script.specs.Value.{is_fine, shallow};
+ghost use Rattle.fdb_script.specs.private.Tape.{is_fine, shallow};
 
 use crate::reading::number::is_number;
 use json::Node;

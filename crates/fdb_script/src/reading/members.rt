@@ -3,7 +3,7 @@
 ghost use Rattle.std.specs.Prelude.{◌≡◌, ◌≤◌, false, map, IfOk, IfSome};
 ghost use Rattle.std.specs.Option.{option_map};
 ghost use Rattle.serde_json.specs.Find.{as_bool, as_str};
-ghost use Rattle.fdb_script.specs.View.{view};
+ghost use Rattle.fdb_script.specs.private.View.{view};
 ghost use Rattle.fdb_script.specs.Reading.{array_within, member, member_or, whole, whole_below, whole_or_null, whole_within};
 
 use crate::reading::value::Value;

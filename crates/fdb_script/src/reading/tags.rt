@@ -2,7 +2,7 @@
 
 ghost use Rattle.std.specs.Prelude.{◌≡◌, IfOk, [], map};
 ghost use Rattle.std.specs.List.{list_all};
-ghost use Rattle.fdb_script.specs.View.{view};
+ghost use Rattle.fdb_script.specs.private.View.{view};
 ghost use Rattle.fdb_script.specs.Plan.{is_tag, is_tag_byte};
 ghost use Rattle.fdb_script.specs.Reading.{member_or, priority_of, tag_of, tags_of};
 

@@ -1,7 +1,7 @@
 //! A JSON value of a script, found in the tape of its tokens.
 
 ghost use Rattle.std.specs.Prelude.{◌≡◌, true};
-ghost use Rattle.fdb_script.specs.Value.{is_value};
+ghost use Rattle.fdb_script.specs.private.Tape.{is_value};
 
 use crate::reading::number::whole_of;
 use json::{Element, Tape};
@@ -19,8 +19,8 @@ impl<'t, 'a> Value<'t, 'a> {
     ghost use Rattle.std.specs.Option.{option_map};
     ghost use Rattle.serde_json.specs.Find.{as_bool, as_null, as_str, get};
     ghost use Rattle.fdb_script.specs.Reading.{array_of, whole};
-    ghost use Rattle.fdb_script.specs.Value.{data_at};
-    ghost use Rattle.fdb_script.specs.View.{view};
+    ghost use Rattle.fdb_script.specs.private.Tape.{data_at};
+    ghost use Rattle.fdb_script.specs.private.View.{view};
 
     /// The value of a whole text.
     pub(crate) fn root(tape: &'t Tape<'a>) -> Value<'t, 'a>

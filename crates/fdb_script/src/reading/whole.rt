@@ -2,7 +2,7 @@
 
 ghost use Rattle.std.specs.Prelude.{◌≡◌, ◌<◌, ◌≤◌, [], codes, length, map, nat_le, nat_lt, ◌&&◌, sum_by, IfOk, IfSome};
 ghost use Rattle.std.specs.Option.{option_map};
-ghost use Rattle.fdb_script.specs.View.{view};
+ghost use Rattle.fdb_script.specs.private.View.{view};
 ghost use Rattle.fdb_history.specs.declared.register.TheConstants.{MAX_VERSION};
 ghost use Rattle.fdb_queue.specs.Config.{IsConfig, IsElapsed};
 ghost use Rattle.fdb_queue.specs.declared.config.TheConstants.{MAX_ELAPSED};

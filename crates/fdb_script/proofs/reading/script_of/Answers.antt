@@ -1,5 +1,5 @@
 use Rattle.std.proofs.Common.{sym}
-use Rattle.fdb_script.specs.View.{view}
+use Rattle.fdb_script.specs.private.View.{view}
 use Rattle.fdb_script.proofs.Within.{IsPlan-read}
 use Rattle.fdb_script.proofs.reading.script_of.Goals as goal
 

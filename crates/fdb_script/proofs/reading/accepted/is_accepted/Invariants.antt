@@ -2,7 +2,7 @@ use Rattle.std.proofs.Common.{◌≡◌, ◌+◌, ◌≤◌, ◌&&◌, map, drop
 use Rattle.std.specs.List.{list_all}
 use Rattle.json.specs.Tape.{node_token}
 use Rattle.serde_json.specs.Read.{max_depth}
-use Rattle.fdb_script.specs.Value.{is_fine, shallow}
+use Rattle.fdb_script.specs.private.Tape.{is_fine, shallow}
 use Rattle.fdb_script.proofs.reading.accepted.is_accepted.Given as goal
 
 -- what is left is accepted with the room that is left, if the whole is

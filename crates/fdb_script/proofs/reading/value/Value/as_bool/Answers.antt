@@ -1,5 +1,5 @@
 use Rattle.std.proofs.Common.{sym, ◌∙◌}
-use Rattle.fdb_script.specs.Value.{json_at}
+use Rattle.fdb_script.specs.private.Tape.{json_at}
 use Rattle.fdb_script.proofs.Elements.{begins-json_at}
 use Rattle.fdb_script.proofs.Plain.{as_bool-plain}
 use Rattle.fdb_script.proofs.reading.value.Value.as_bool.Goals as goal

@@ -1,5 +1,5 @@
 use Rattle.std.proofs.Common.{arith, Some, None, ◌∙◌}
-use Rattle.fdb_script.specs.Value.{json_at}
+use Rattle.fdb_script.specs.private.Tape.{json_at}
 use Rattle.fdb_script.proofs.Elements.{begins-json_at, whole-data_at}
 use Rattle.fdb_script.proofs.reading.value.Value.as_u64.Goals as goal
 

@@ -1,5 +1,5 @@
 use Rattle.std.proofs.Common.{arith, Some}
-use Rattle.fdb_script.specs.Value.{json_at}
+use Rattle.fdb_script.specs.private.Tape.{json_at}
 use Rattle.fdb_script.proofs.Elements.{begins-json_at, get-data_at, is_value-found}
 use Rattle.fdb_script.proofs.reading.value.Value.get.Goals as goal
 

@@ -1,5 +1,5 @@
 use Rattle.std.proofs.Common.{sym, ◌∙◌}
-use Rattle.fdb_script.specs.Value.{json_at}
+use Rattle.fdb_script.specs.private.Tape.{json_at}
 use Rattle.fdb_script.proofs.Elements.{begins-json_at}
 use Rattle.fdb_script.proofs.Plain.{is_null-plain}
 use Rattle.fdb_script.proofs.reading.value.Value.is_null.Goals as goal

@@ -2,8 +2,8 @@ use Rattle.std.proofs.Common.{List, ◌++◌, arith, map, append-nil, Some, sym,
 use Rattle.std.proofs.lemmas.List.{map-append}
 use Rattle.serde_json.specs.Data.{Data}
 use Rattle.fdb_script.specs.Reading.{array_of, list_of}
-use Rattle.fdb_script.specs.View.{view}
-use Rattle.fdb_script.specs.Value.{json_at, plain_items}
+use Rattle.fdb_script.specs.private.View.{view}
+use Rattle.fdb_script.specs.private.Tape.{json_at, plain_items}
 use Rattle.fdb_script.proofs.Elements.{begins-json_at, is_value-begins, items-none, items-first, items-next}
 use Rattle.fdb_script.proofs.reading.value.Value.items.Goals as goal
 

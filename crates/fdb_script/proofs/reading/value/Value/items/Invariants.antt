@@ -2,8 +2,8 @@ use Rattle.std.proofs.Common.{◌≡◌, ◌++◌, Some, length, map}
 use Rattle.json.specs.Json as json
 use Rattle.json.specs.Find.{InItems}
 use Rattle.fdb_script.specs.Reading.{list_of, array_of}
-use Rattle.fdb_script.specs.Value.{plain_items}
-use Rattle.fdb_script.specs.View.{view}
+use Rattle.fdb_script.specs.private.Tape.{plain_items}
+use Rattle.fdb_script.specs.private.View.{view}
 use Rattle.fdb_script.proofs.reading.value.Value.items.Given as goal
 
 -- the items so far, and those that are left, are all

@@ -1,16 +1,11 @@
--- The value of `serde_json` that a place of a tape of `json` stands for, over the grammar on which
--- `serde_json` stands. Only private clauses cite this.
+-- What `serde_json` refuses of the tokens of a text, and the value that tokens begin with as it reads
+-- it, over the grammar of `json` on which it stands.
 -- (this product's own)
-use Rattle.std.specs.Prelude.{ℕ, ◌+◌, ◌-◌, nat_lt, ◌&&◌, Bool, true, List, [], ◌∷◌, length, negsuc, Option, None, Some, is_some, option_and_then}
+use Rattle.std.specs.Prelude.{ℕ, ◌+◌, ◌-◌, nat_lt, ◌&&◌, Bool, true, List, [], ◌∷◌, length, negsuc, Option, None, Some, is_some}
 use Rattle.json.specs.Token.{Token}
-use Rattle.json.specs.Lex.{tokens}
 use Rattle.json.specs.Json as json
 use Rattle.serde_json.specs.Data.{Num, negative, Data, null, boolean, number, string, array, object, Items, no_items, item, Members, no_members, put}
-use Rattle.serde_json.specs.Read.{max_depth, number_of}
-
--- the one value that a text is, with its numbers as they are written
-abbrev pub outline : List ℕ → Option json.Json
-outline text = option_and_then (λ p. json.if_last p.0 p.1) (json.value max_depth (tokens text))
+use Rattle.serde_json.specs.Read.{number_of}
 
 -- whether the brackets of tokens nest no deeper than this, where as many may be left open or closed
 -- by those before and after
