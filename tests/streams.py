@@ -14,7 +14,7 @@ PIPE_BYTES = 65_536
 # What is printed of a script without rounds.
 NO_REPLIES = b"audit ok events 0 raised 0 versions 0\n"
 # How much processor time a script may take, in seconds: some five times what the slowest of them does on a slow machine.
-WORK_SECONDS = 10
+WORK_SECONDS = 5
 
 
 def sizes(program):
@@ -71,8 +71,9 @@ def largest():
     whole = ["--history", "--proxies", "16"]
     yield "all its limits", crowd_at_all_limits(MOST_BYTES), whole
     yield "bytes, in one text", with_note(MOST_BYTES), []
-    for value in ("0", '""', "[]", "{}", '{"a":0}', '"aaaaaaaa"', "0.5", "[[0]]"):
+    for value in ("0", '""', "[]", "[0]", "{}", '{"a":0}', '"aaaaaaaa"', "0.5", "[[0]]"):
         yield f"bytes, in values {value}", with_values(MOST_BYTES, value), []
+    yield "bytes, in lists 124 deep", with_values(MOST_BYTES, "[" * 124 + "]" * 124), []
     crowds = [[do("grv", who) for who in range(64)]] * (MOST_COMMANDS // 64)
     for name, rounds, top in [*large(), ("reads of 64 clients in each round", crowds, {"clients": 64})]:
         yield f"commands: {name}", written(rounds, **top), whole
