@@ -7,7 +7,7 @@ import tempfile
 from typing import NamedTuple
 
 from answers import do
-from harness import ARGUMENTS_REFUSED, EXAMPLES, NOT_ENDED, OUT_OF_MEMORY, READING_FAILED, ROOT, done, fault_of, first_output, first_script, refused as refused_script, run, written
+from harness import ARGUMENTS_REFUSED, EXAMPLES, NOT_ENDED, OUT_OF_MEMORY, READING_FAILED, ROOT, Ran, done, fault_of, first_output, first_script, read, refused as refused_script, run, written
 from judge import Lawful
 from model import expected
 from races import commit
@@ -30,6 +30,8 @@ BEARING = {crate: r"^refused_memory::" for crate in ("fdb_tests", "fdb_service_t
 # Those of them that pass also where all are refused from any one on.
 WITHOUT = r"::without_memory$"
 PASSED = done(b"\ntest result: ok\n")
+# The library in use, and how it ends where it is refused what it can't do without.
+USES, FAILED = f"{ROOT}/crates/fdb_uses/out/fdb_uses", Ran(1, None, None)
 # What tests/refuse.c tells where it refuses the start of a thread.
 THREAD = b"t"
 # The sweep of clients that race for one proxy.
@@ -118,6 +120,18 @@ def refused(program):
                 most_threads = max(most_threads, threads if name == ONE_PROXY else 0)
     # The one proxy of this sweep is started before anything races, so that the others were threads of clients.
     yield "starts of clients' threads", None if most_threads > 1 else f"{most_threads} threads were refused in a sweep of one proxy"
+
+
+def used(_program):
+    """The library in use fails where it is refused a thread, such as a GRV proxy's, and for memory, or does without it."""
+    each, printed = lambda at: at + 1, done(read(f"{ROOT}/crates/fdb_uses/stdout"))
+    with tempfile.TemporaryDirectory(prefix="refuse-") as folder:
+        preloaded, threads = built(folder), 0
+        for goes_on in (False, True):
+            for it in swept([USES], preloaded, b"", FAILED, exactly(printed), goes_on, each):
+                threads += it.what == THREAD
+                yield f"{'from ' if goes_on else ''}allocation or thread {it.number}", it.fault
+    yield "starts of threads", None if threads > 1 else f"{threads} threads were refused"
 
 
 def threads(program):

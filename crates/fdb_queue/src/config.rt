@@ -8,7 +8,7 @@ ghost use Rattle.fdb_queue.specs.Config.{IsConfig, IsElapsed};
 use fdb_history::Priority;
 
 /// The microseconds over which a rate counts. A budget counts parts of a transaction, of which
-/// `RATE_WINDOW` are one.
+/// `RATE_WINDOW` are one. FoundationDB: `START_TRANSACTION_RATE_WINDOW`, 2.0 seconds.
 pub const RATE_WINDOW: u64 = 2_000_000;
 
 /// The greatest limit of a rate.
