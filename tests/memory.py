@@ -124,11 +124,14 @@ def refused(program):
 
 def used(_program):
     """The library in use fails where it is refused a thread, such as a GRV proxy's, and for memory, or does without it."""
-    each, printed = lambda at: at + 1, done(read(f"{ROOT}/crates/fdb_uses/stdout"))
+    each, printed = lambda at: at + 1, read(f"{ROOT}/crates/fdb_uses/stdout")
+    # The last audit prints its fault, whichever that is.
+    starved = printed.replace(b"fault: Wrong 1 1\n", b"fault: want of memory\n")
+    ended = lambda ran: fault_of(ran, done(starved if ran.out == starved else printed))
     with tempfile.TemporaryDirectory(prefix="refuse-") as folder:
         preloaded, threads = built(folder), 0
         for goes_on in (False, True):
-            for it in swept([USES], preloaded, b"", FAILED, exactly(printed), goes_on, each):
+            for it in swept([USES], preloaded, b"", FAILED, ended, goes_on, each):
                 threads += it.what == THREAD
                 yield f"{'from ' if goes_on else ''}allocation or thread {it.number}", it.fault
     yield "starts of threads", None if threads > 1 else f"{threads} threads were refused"
