@@ -4,7 +4,7 @@ use Rattle.std.specs.Prelude.{⊤}
 use Rattle.std.proofs.lemmas.Slice.Eq.{bytes_eq-Decides}
 use Rattle.json.specs.Json as json
 use Rattle.json.specs.Find as find
-use Rattle.serde_json.specs.Data.{Num, Data, number, array, object, Items, item, Members, no_members, put}
+use Rattle.serde_json.specs.Data.{Num, Data, number, array, object, item, Members, no_members, put}
 use Rattle.serde_json.specs.Find.{get, get_member, as_null, as_bool, as_number, as_str, as_array, as_u64}
 use Rattle.serde_json.specs.Read.{number_of, of_json, of_items, of_members}
 use Rattle.serde_json.proofs.Views.{get_member-put, get_member-put_other}
@@ -49,16 +49,10 @@ mutual
 pub plain-of_json : (j : json.Json) (d : Data) → of_json j ≡ Some d → plain j ≡ d
 plain-of_json j d e = subst (λ o. Agrees o (plain j)) e (Agrees-of_json j)
 
-pub plain_items-of_items : (js : json.Items) (ds : Items) → of_items js ≡ Some ds → plain_items js ≡ ds
-plain_items-of_items js ds e = subst (λ o. Agrees o (plain_items js)) e (Agrees-of_items js)
-
-pub plain_members-of_members : (ms : json.Members) (found r : Members) → of_members ms found ≡ Some r → plain_members ms found ≡ r
-plain_members-of_members ms found r e = subst (λ o. Agrees o (plain_members ms found)) e (Agrees-of_members ms found)
-
 -- ---- the value at a name
 
 -- what stands at a name after members that may have it
-abbrev pub plain_or : Option json.Json → Option Data → Option Data
+abbrev plain_or : Option json.Json → Option Data → Option Data
 plain_or None earlier = earlier
 plain_or (Some j) earlier = Some (plain j)
 
@@ -75,7 +69,7 @@ get_member-put_plain : (name k : List ℕ) (j : json.Json) (found : Members) (sa
 get_member-put_plain name k j found true e = subst (λ n. get_member n (put k (plain j) found) ≡ Some (plain j)) ((bytes_eq-Decides k name).0 e) (get_member-put k (plain j) found)
 get_member-put_plain name k j found false e = get_member-put_other name k (plain j) found (λ h. true≢false (sym ((bytes_eq-Decides k name).1 (sym h)) ∙ e))
 
-pub get_member-plain_members : (name : List ℕ) (ms : json.Members) (found : Members) → get_member name (plain_members ms found) ≡ plain_or (find.get_member name ms) (get_member name found)
+get_member-plain_members : (name : List ℕ) (ms : json.Members) (found : Members) → get_member name (plain_members ms found) ≡ plain_or (find.get_member name ms) (get_member name found)
 get_member-plain_members name json.no_members found = refl
 get_member-plain_members name (json.member k j ms) found =
     get_member-plain_members name ms (put k (plain j) found)

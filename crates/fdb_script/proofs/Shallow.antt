@@ -1,13 +1,11 @@
 -- What `serde_json` reads of a text that `json` reads: the brackets of a value nest as deep as the value.
-use Rattle.std.specs.Prelude.{⊤}
-use Rattle.std.proofs.Common.{◌≡◌, ℕ, zero, suc, ◌+◌, ◌-◌, ◌<◌, ◌≤◌, max, nat_le, nat_lt, Bool, true, ◌&&◌, if◌then◌else◌, List, [], ◌∷◌, ◌++◌, Option, Some, None, option_and_then, refl, sym, ap, ◌∙◌, subst, arith, append_assoc, append-nil, le_refl, inl, inr, ◌⊎◌}
+use Rattle.std.proofs.Common.{◌≡◌, ℕ, zero, suc, ◌+◌, ◌-◌, ◌<◌, ◌≤◌, max, nat_le, nat_lt, Bool, true, ◌&&◌, if◌then◌else◌, List, [], ◌++◌, Option, Some, None, option_and_then, refl, sym, ap, ◌∙◌, subst, arith, append_assoc, append-nil, le_refl, inl, inr, ◌⊎◌}
 use Rattle.std.proofs.Math.Dec.{leb-zero, leb-suc-zero, leb-suc-suc}
 use Rattle.std.proofs.lemmas.Bool.{le-leb, lt-leb, lt-ltb, cases_lt}
 use Rattle.json.specs.Token.{Token}
 use Rattle.json.specs.Lex.{tokens}
 use Rattle.json.specs.Json as json
 use Rattle.json.specs.Tree.{json_tokens, items_tokens, members_tokens, depth, items_depth, members_depth}
-use Rattle.json.proofs.Grammar.{closed_array, read_key_is}
 use Rattle.json.proofs.Found.{one_reading, Some_inj}
 use Rattle.json.proofs.Nesting.{value-depth}
 use Rattle.json.proofs.Printed.Trees.{value-json_tokens}
@@ -17,7 +15,7 @@ use Rattle.fdb_script.specs.private.Tape.{shallow}
 use Rattle.fdb_script.proofs.Outline.{outline}
 
 -- A value that was read is read at each depth that has room for it.
-pub any_depth : (e d : ℕ) (ts rest : List Token) (j : json.Json) → json.value e ts ≡ Some (j, rest) → depth j ≤ d → json.value d ts ≡ Some (j, rest)
+any_depth : (e d : ℕ) (ts rest : List Token) (j : json.Json) → json.value e ts ≡ Some (j, rest) → depth j ≤ d → json.value d ts ≡ Some (j, rest)
 any_depth e d ts rest j read fits = ap (json.value d) (value-json_tokens_back e ts rest j read) ∙ value-json_tokens j d rest fits
 
 -- Where nothing nests, behind one bracket, and for two things in a row.
@@ -67,56 +65,6 @@ mutual
       ∙ shallow-json_tokens j room (members_tokens ms ++ rest)
       ∙ ap (λ b. nat_le (depth j) room && b) (shallow-members_tokens ms room rest)
       ∙ both_fit (depth j) (members_depth ms) room _
-
-pub shallow-value : (e room : ℕ) (ts rest : List Token) (j : json.Json) → json.value e ts ≡ Some (j, rest) → shallow room ts ≡ (nat_le (depth j) room && shallow room rest)
-shallow-value e room ts rest j read = ap (shallow room) (value-json_tokens_back e ts rest j read) ∙ shallow-json_tokens j room rest
-
--- What is read as items or members is their tokens.
-abbrev Spelled : {A : Type 0} → (A → List Token) → List Token → Option (A × List Token) → Type 0
-Spelled f ts None = ⊤
-Spelled f ts (Some x) = ts ≡ f x.0 ++ x.1
-
-module _ {B : Type 0} (f : B → List Token) (front : List Token) (ts : List Token) where
-  and_more : (g : B → B) (j : json.Json) (rest : List Token) → ((b : B) → f (g b) ≡ front ++ (json_tokens j ++ f b)) → ts ≡ json_tokens j ++ rest → (o : Option (B × List Token)) → Spelled f rest o → Spelled f (front ++ ts) (json.parse_map g o)
-  and_more g j rest is first None h = tt
-  and_more g j rest is first (Some x) h =
-      ap (λ us. front ++ us) (first ∙ ap (λ us. json_tokens j ++ us) h ∙ sym (append_assoc (json_tokens j) (f x.0) x.1))
-      ∙ sym (append_assoc front (json_tokens j ++ f x.0) x.1) ∙ ap (λ us. us ++ x.1) (sym (is x.0))
-
-  then_more : (e : ℕ) (g : json.Json → B → B) → ((j : json.Json) (b : B) → f (g j b) ≡ front ++ (json_tokens j ++ f b)) → (more : json.Parse B) → ((us : List Token) → Spelled f us (more us))
-      → (o : Option (json.Json × List Token)) → json.value e ts ≡ o → Spelled f (front ++ ts) (option_and_then (λ x. json.parse_map (g x.0) (more x.1)) o)
-  then_more e g is more spells None read = tt
-  then_more e g is more spells (Some x) read = and_more (g x.0) x.0 x.1 (is x.0) (value-json_tokens_back e ts x.1 x.0 read) (more x.1) (spells x.1)
-
-module _ (e : ℕ) where
-  item_turn : (n : ℕ) → ((us : List Token) → Spelled items_tokens us (json.items (json.value e) n us)) → (ts : List Token) (o : Option (List Token)) → json.after_end_array ts ≡ o
-      → Spelled items_tokens ts (json.items_step (json.value e) (json.items (json.value e) n) ts o)
-  item_turn n again ts (Some rest) closed = closed_array ts rest closed
-  item_turn n again ts None going = then_more items_tokens [] ts e json.item (λ j b. refl) _ again _ refl
-
-  items_spelled : (n : ℕ) (ts : List Token) → Spelled items_tokens ts (json.items (json.value e) n ts)
-  unfolding json.items
-  items_spelled zero ts = tt
-  items_spelled (suc n) ts = item_turn n (items_spelled n) ts _ refl
-
-  member_turn : (n : ℕ) → ((us : List Token) → Spelled members_tokens us (json.members (json.value e) n us)) → (ts : List Token) (o : Option (Option (List ℕ) × List Token)) → json.read_key ts ≡ o
-      → Spelled members_tokens ts (option_and_then (λ x. json.members_step (json.value e) (json.members (json.value e) n) x.0 x.1) o)
-  member_turn n again ts None is = tt
-  member_turn n again ts (Some (None, rest)) is = read_key_is ts None rest is
-  member_turn n again ts (Some (Some k, rest)) is =
-      subst (λ us. Spelled members_tokens us (json.members_step (json.value e) (json.members (json.value e) n) (Some k) rest)) (sym (read_key_is ts (Some k) rest is))
-      (then_more members_tokens (Token.key k ∷ []) rest e (json.member k) (λ j b. refl) _ again _ refl)
-
-  members_spelled : (n : ℕ) (ts : List Token) → Spelled members_tokens ts (json.members (json.value e) n ts)
-  unfolding json.members
-  members_spelled zero ts = tt
-  members_spelled (suc n) ts = member_turn n (members_spelled n) ts _ refl
-
-  pub shallow-items : (n room : ℕ) (ts rest : List Token) (js : json.Items) → json.items (json.value e) n ts ≡ Some (js, rest) → shallow room ts ≡ (nat_le (items_depth js) room && shallow (room + 1) rest)
-  shallow-items n room ts rest js read = ap (shallow room) (subst (Spelled items_tokens ts) read (items_spelled n ts)) ∙ shallow-items_tokens js room rest
-
-  pub shallow-members : (n room : ℕ) (ts rest : List Token) (ms : json.Members) → json.members (json.value e) n ts ≡ Some (ms, rest) → shallow room ts ≡ (nat_le (members_depth ms) room && shallow (room + 1) rest)
-  shallow-members n room ts rest ms read = ap (shallow room) (subst (Spelled members_tokens ts) read (members_spelled n ts)) ∙ shallow-members_tokens ms room rest
 
 -- `serde_json` refuses a value that nests deeper than it allows, and reads every other value as `json` does.
 value-none_of_deep : (j : json.Json) (d : ℕ) (rest : List Token) → d < depth j → json.value d (json_tokens j ++ rest) ≡ None
