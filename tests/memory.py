@@ -123,7 +123,7 @@ def refused(program):
 
 
 def used(_program):
-    """The library in use fails where it is refused a thread, such as a GRV proxy's, and for memory, or does without it."""
+    """The library in use ends with an error where a thread or memory that it needs is refused, and as ever where it can do without."""
     each, printed = lambda at: at + 1, read(f"{ROOT}/crates/fdb_uses/stdout")
     # The last audit prints its fault, whichever that is.
     starved = printed.replace(b"fault: Wrong 1 1\n", b"fault: want of memory\n")

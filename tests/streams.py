@@ -13,6 +13,8 @@ MOST_BYTES = 16_777_216
 PIPE_BYTES = 65_536
 # What is printed of a script without rounds.
 NO_REPLIES = b"audit ok events 0 raised 0 versions 0\n"
+# A value of 248 bytes, of which each is a token.
+DEEP = "[" * 124 + "]" * 124
 # How much processor time a script may take, in seconds: some five times what the slowest of them does on a slow machine.
 WORK_SECONDS = 5
 
@@ -59,11 +61,11 @@ def with_note(size):
     return script(note='"?"').encode().replace(b"?", b"a" * (size - len(empty)))
 
 
-def with_values(size, value):
-    """Writes a script of about this many bytes, nearly all of them in a list of one value that is ignored."""
-    empty = script(note="[]").encode()
-    times = (size - len(empty) + 1) // (len(value) + 1)
-    return script(note=f"[{','.join([value] * times)}]").encode()
+def with_values(size, value, member="note"):
+    """Writes a script of about this many bytes, nearly all of them in a list of one value that is ignored or overwritten."""
+    empty = script()
+    times = (size - len(empty) - len(f'"{member}":[],') + 1) // (len(value) + 1)
+    return f'{{"{member}":[{",".join([value] * times)}],{empty[1:]}'.encode()
 
 
 def largest():
@@ -73,7 +75,8 @@ def largest():
     yield "bytes, in one text", with_note(MOST_BYTES), []
     for value in ("0", '""', "[]", "[0]", "{}", '{"a":0}', '"aaaaaaaa"', "0.5", "[[0]]"):
         yield f"bytes, in values {value}", with_values(MOST_BYTES, value), []
-    yield "bytes, in lists 124 deep", with_values(MOST_BYTES, "[" * 124 + "]" * 124), []
+    yield "bytes, in lists 124 deep", with_values(MOST_BYTES, DEEP), []
+    yield "bytes, in rounds that are overwritten", with_values(MOST_BYTES, "[0]", "rounds"), []
     crowds = [[do("grv", who) for who in range(64)]] * (MOST_COMMANDS // 64)
     for name, rounds, top in [*large(), ("reads of 64 clients in each round", crowds, {"clients": 64})]:
         yield f"commands: {name}", written(rounds, **top), whole

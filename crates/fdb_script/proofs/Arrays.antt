@@ -1,14 +1,8 @@
 -- Arrays of a JSON value as lists, read item by item.
 use Rattle.std.proofs.Common.{◌≡◌, ℕ, List, [], ◌∷◌, ◌++◌, Result, Ok, Err, Option, None, Some, option_map, refl, sym, ap, append_assoc}
-use Rattle.serde_json.specs.Data.{Data}
-use Rattle.serde_json.specs.View.{items_of}
-use Rattle.fdb_script.specs.Reading.{list_of, then_commands}
+use Rattle.fdb_script.specs.Reading.{then_commands}
 use Rattle.fdb_script.specs.declared.script.Command.{Command}
 use Rattle.fdb_script.specs.declared.error.ScriptError.{ScriptError}
-
-pub list_of-items_of : (values : List Data) → list_of (items_of values) ≡ values
-list_of-items_of [] = refl
-list_of-items_of (value ∷ values) = ap (λ rest. value ∷ rest) (list_of-items_of values)
 
 -- a reading of the rest, with what was read before it
 abbrev pub prefixed : {A : Type 0} → List A → Result (List A) ScriptError → Result (List A) ScriptError

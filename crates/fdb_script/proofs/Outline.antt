@@ -1,4 +1,4 @@
--- The outline of a text: its tokens spell it, and each of its numbers is one of theirs.
+-- The value of a text: it is spelt by the text's tokens, and its numbers are theirs.
 use Rattle.std.proofs.Common.{◌≡◌, ℕ, ◌≤◌, Bool, ◌&&◌, List, [], ◌∷◌, length, is_some, Option, Some, None, option_map, option_and_then, refl, sym, ap, ◌∙◌, arith, append-nil, length-append}
 use Rattle.std.specs.List.{list_all}
 use Rattle.std.proofs.Math.Bool.{and-true}
@@ -13,11 +13,15 @@ use Rattle.json.proofs.Printed.Trees.{value-json_tokens}
 use Rattle.json.proofs.Unique.Spelling.{value-json_tokens_back}
 use Rattle.serde_json.specs.Data.{Members, no_members, put, item, array, object, number}
 use Rattle.serde_json.specs.Read.{max_depth, number_of, of_json, of_items, of_members}
-use Rattle.fdb_script.specs.private.Tape.{is_fine}
+use Rattle.fdb_script.specs.private.Tape.{is_token_in_range}
+
+-- the one value that was read, where no token is left
+abbrev pub only_value : Option (json.Json × List Token) → Option json.Json
+only_value read = option_and_then (λ p. json.if_last p.0 p.1) read
 
 -- the one value that a text is, with its numbers as they are written and no deeper than `serde_json` reads
 abbrev pub outline : List ℕ → Option json.Json
-outline text = option_and_then (λ p. json.if_last p.0 p.1) (json.value max_depth (tokens text))
+outline text = only_value (json.value max_depth (tokens text))
 
 -- a value nests no deeper than it has tokens
 mutual
@@ -55,7 +59,7 @@ is_some-and_then f b each (Some a) = each a
 
 -- the number tokens of a value are its numbers
 mutual
-  fine-json_tokens : (j : json.Json) → is_some (of_json j) ≡ list_all is_fine (json_tokens j)
+  fine-json_tokens : (j : json.Json) → is_some (of_json j) ≡ list_all is_token_in_range (json_tokens j)
   fine-json_tokens json.null = refl
   fine-json_tokens (json.boolean b) = refl
   fine-json_tokens (json.number s) = is_some-map number (number_of s) ∙ sym (and-true _)
@@ -63,20 +67,20 @@ mutual
   fine-json_tokens (json.array js) = is_some-map array (of_items js) ∙ fine-items_tokens js
   fine-json_tokens (json.object ms) = is_some-map object (of_members ms no_members) ∙ fine-members_tokens ms no_members
 
-  fine-items_tokens : (js : json.Items) → is_some (of_items js) ≡ list_all is_fine (items_tokens js)
+  fine-items_tokens : (js : json.Items) → is_some (of_items js) ≡ list_all is_token_in_range (items_tokens js)
   fine-items_tokens json.no_items = refl
   fine-items_tokens (json.item j js) =
       is_some-and_then _ _ (λ d. is_some-map (item d) (of_items js) ∙ fine-items_tokens js) (of_json j)
       ∙ simp (fine-json_tokens j, list_all-append)
 
-  fine-members_tokens : (ms : json.Members) (found : Members) → is_some (of_members ms found) ≡ list_all is_fine (members_tokens ms)
+  fine-members_tokens : (ms : json.Members) (found : Members) → is_some (of_members ms found) ≡ list_all is_token_in_range (members_tokens ms)
   fine-members_tokens json.no_members found = refl
   fine-members_tokens (json.member k j ms) found =
       is_some-and_then _ _ (λ d. fine-members_tokens ms (put k d found)) (of_json j)
       ∙ simp (fine-json_tokens j, list_all-append)
 
 -- the reading that an outline is
-last : (o : Option (json.Json × List Token)) (j : json.Json) → option_and_then (λ p. json.if_last p.0 p.1) o ≡ Some j → o ≡ Some (j, [])
+last : (o : Option (json.Json × List Token)) (j : json.Json) → only_value o ≡ Some j → o ≡ Some (j, [])
 last None j e = not_found j e
 last (Some (i, [])) j e = ap (λ x. Some (x, [])) (Some_inj i j e)
 last (Some (i, t ∷ ts)) j e = not_found j e
@@ -85,7 +89,7 @@ pub outline-begins : (text : List ℕ) (j : json.Json) → outline text ≡ Some
 outline-begins text j e = (max_depth, [], last _ j e)
 
 -- a text is refused for a number exactly if one of its tokens is
-pub fine-outline : (text : List ℕ) (j : json.Json) → outline text ≡ Some j → is_some (of_json j) ≡ list_all is_fine (tokens text)
+pub fine-outline : (text : List ℕ) (j : json.Json) → outline text ≡ Some j → is_some (of_json j) ≡ list_all is_token_in_range (tokens text)
 fine-outline text j e =
     let spelled = value-json_tokens_back max_depth (tokens text) [] j (last _ j e) in
-    fine-json_tokens j ∙ ap (list_all is_fine) (sym (spelled ∙ append-nil (json_tokens j)))
+    fine-json_tokens j ∙ ap (list_all is_token_in_range) (sym (spelled ∙ append-nil (json_tokens j)))

@@ -8,7 +8,7 @@ use Rattle.serde_json.specs.Data.{Num, Data, number, array, object, item, Member
 use Rattle.serde_json.specs.Find.{get, get_member, as_null, as_bool, as_number, as_str, as_array, as_u64}
 use Rattle.serde_json.specs.Read.{number_of, of_json, of_items, of_members}
 use Rattle.serde_json.proofs.Views.{get_member-put, get_member-put_other}
-use Rattle.fdb_script.specs.private.Tape.{read_or, plain, plain_items, plain_members}
+use Rattle.fdb_script.specs.private.Tape.{number_or_minus_one, plain, plain_items, plain_members}
 
 -- ---- what is read is the plain value
 
@@ -25,15 +25,15 @@ Agrees-and_then : {A B : Type 0} (f : A → Option B) (o : Option A) (a : A) (b 
 Agrees-and_then f None a b e h = tt
 Agrees-and_then f (Some c) a b e h = subst (λ x. Agrees (f x) b) e h
 
-Agrees-read_or : (o : Option Num) → Agrees o (read_or o)
-Agrees-read_or None = tt
-Agrees-read_or (Some n) = refl
+Agrees-number_or_minus_one : (o : Option Num) → Agrees o (number_or_minus_one o)
+Agrees-number_or_minus_one None = tt
+Agrees-number_or_minus_one (Some n) = refl
 
 mutual
   Agrees-of_json : (j : json.Json) → Agrees (of_json j) (plain j)
   Agrees-of_json json.null = refl
   Agrees-of_json (json.boolean b) = refl
-  Agrees-of_json (json.number s) = Agrees-map number (number_of s) _ (Agrees-read_or (number_of s))
+  Agrees-of_json (json.number s) = Agrees-map number (number_of s) _ (Agrees-number_or_minus_one (number_of s))
   Agrees-of_json (json.string s) = refl
   Agrees-of_json (json.array js) = Agrees-map array (of_items js) _ (Agrees-of_items js)
   Agrees-of_json (json.object ms) = Agrees-map object (of_members ms no_members) _ (Agrees-of_members ms no_members)
@@ -119,7 +119,7 @@ as_array-plain (json.array js) = refl
 as_array-plain (json.object ms) = refl
 
 -- a number that is refused is no whole number
-as_u64-read_or : (o : Option Num) → as_u64 (read_or o) ≡ option_and_then as_u64 o
+as_u64-read_or : (o : Option Num) → as_u64 (number_or_minus_one o) ≡ option_and_then as_u64 o
 as_u64-read_or None = refl
 as_u64-read_or (Some n) = refl
 

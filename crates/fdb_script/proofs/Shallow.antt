@@ -1,5 +1,5 @@
 -- What `serde_json` reads of a text that `json` reads: the brackets of a value nest as deep as the value.
-use Rattle.std.proofs.Common.{◌≡◌, ℕ, zero, suc, ◌+◌, ◌-◌, ◌<◌, ◌≤◌, max, nat_le, nat_lt, Bool, true, ◌&&◌, if◌then◌else◌, List, [], ◌++◌, Option, Some, None, option_and_then, refl, sym, ap, ◌∙◌, subst, arith, append_assoc, append-nil, le_refl, inl, inr, ◌⊎◌}
+use Rattle.std.proofs.Common.{◌≡◌, ℕ, zero, suc, ◌+◌, ◌-◌, ◌<◌, ◌≤◌, max, nat_le, nat_lt, Bool, true, ◌&&◌, if◌then◌else◌, List, [], ◌++◌, Option, Some, None, refl, sym, ap, ◌∙◌, subst, arith, append_assoc, append-nil, le_refl, inl, inr, ◌⊎◌}
 use Rattle.std.proofs.Math.Dec.{leb-zero, leb-suc-zero, leb-suc-suc}
 use Rattle.std.proofs.lemmas.Bool.{le-leb, lt-leb, lt-ltb, cases_lt}
 use Rattle.json.specs.Token.{Token}
@@ -11,8 +11,8 @@ use Rattle.json.proofs.Nesting.{value-depth}
 use Rattle.json.proofs.Printed.Trees.{value-json_tokens}
 use Rattle.json.proofs.Unique.Spelling.{value-json_tokens_back, tokens-document}
 use Rattle.serde_json.specs.Read.{max_depth}
-use Rattle.fdb_script.specs.private.Tape.{shallow}
-use Rattle.fdb_script.proofs.Outline.{outline}
+use Rattle.fdb_script.specs.private.Tape.{nests_within}
+use Rattle.fdb_script.proofs.Outline.{only_value, outline}
 
 -- A value that was read is read at each depth that has room for it.
 any_depth : (e d : ℕ) (ts rest : List Token) (j : json.Json) → json.value e ts ≡ Some (j, rest) → depth j ≤ d → json.value d ts ≡ Some (j, rest)
@@ -42,26 +42,26 @@ both_fit d e room b = go (cases_lt room d) (cases_lt room e)
 
 -- The brackets of a value's tokens nest as deep as the value, and so do those of items and of members, with the bracket that closes them.
 mutual
-  shallow-json_tokens : (j : json.Json) (room : ℕ) (rest : List Token) → shallow room (json_tokens j ++ rest) ≡ (nat_le (depth j) room && shallow room rest)
+  shallow-json_tokens : (j : json.Json) (room : ℕ) (rest : List Token) → nests_within room (json_tokens j ++ rest) ≡ (nat_le (depth j) room && nests_within room rest)
   shallow-json_tokens json.null room rest = nothing_nested room _
   shallow-json_tokens (json.boolean b) room rest = nothing_nested room _
   shallow-json_tokens (json.number s) room rest = nothing_nested room _
   shallow-json_tokens (json.string s) room rest = nothing_nested room _
-  shallow-json_tokens (json.array js) room rest = ap (λ b. nat_lt 0 room && b) (shallow-items_tokens js (room - 1) rest) ∙ one_deeper (items_depth js) room (λ n. shallow n rest)
-  shallow-json_tokens (json.object ms) room rest = ap (λ b. nat_lt 0 room && b) (shallow-members_tokens ms (room - 1) rest) ∙ one_deeper (members_depth ms) room (λ n. shallow n rest)
+  shallow-json_tokens (json.array js) room rest = ap (λ b. nat_lt 0 room && b) (shallow-items_tokens js (room - 1) rest) ∙ one_deeper (items_depth js) room (λ n. nests_within n rest)
+  shallow-json_tokens (json.object ms) room rest = ap (λ b. nat_lt 0 room && b) (shallow-members_tokens ms (room - 1) rest) ∙ one_deeper (members_depth ms) room (λ n. nests_within n rest)
 
-  shallow-items_tokens : (js : json.Items) (room : ℕ) (rest : List Token) → shallow room (items_tokens js ++ rest) ≡ (nat_le (items_depth js) room && shallow (room + 1) rest)
+  shallow-items_tokens : (js : json.Items) (room : ℕ) (rest : List Token) → nests_within room (items_tokens js ++ rest) ≡ (nat_le (items_depth js) room && nests_within (room + 1) rest)
   shallow-items_tokens json.no_items room rest = nothing_nested room _
   shallow-items_tokens (json.item j js) room rest =
-      ap (shallow room) (append_assoc (json_tokens j) (items_tokens js) rest)
+      ap (nests_within room) (append_assoc (json_tokens j) (items_tokens js) rest)
       ∙ shallow-json_tokens j room (items_tokens js ++ rest)
       ∙ ap (λ b. nat_le (depth j) room && b) (shallow-items_tokens js room rest)
       ∙ both_fit (depth j) (items_depth js) room _
 
-  shallow-members_tokens : (ms : json.Members) (room : ℕ) (rest : List Token) → shallow room (members_tokens ms ++ rest) ≡ (nat_le (members_depth ms) room && shallow (room + 1) rest)
+  shallow-members_tokens : (ms : json.Members) (room : ℕ) (rest : List Token) → nests_within room (members_tokens ms ++ rest) ≡ (nat_le (members_depth ms) room && nests_within (room + 1) rest)
   shallow-members_tokens json.no_members room rest = nothing_nested room _
   shallow-members_tokens (json.member k j ms) room rest =
-      ap (shallow room) (append_assoc (json_tokens j) (members_tokens ms) rest)
+      ap (nests_within room) (append_assoc (json_tokens j) (members_tokens ms) rest)
       ∙ shallow-json_tokens j room (members_tokens ms ++ rest)
       ∙ ap (λ b. nat_le (depth j) room && b) (shallow-members_tokens ms room rest)
       ∙ both_fit (depth j) (members_depth ms) room _
@@ -76,28 +76,25 @@ value-none_of_deep j d rest deep = go (json.value d (json_tokens j ++ rest)) ref
         let same : x ≡ (j, rest) = Some_inj x (j, rest) (one_reading d (depth j) _ x (j, rest) read (value-json_tokens j (depth j) rest (le_refl (depth j)))) in
         absurd (omega (arith, value-depth d _ x.1 x.0 read, ap (λ y. depth y.0) same))
 
-abbrev whole : Option (json.Json × List Token) → Option json.Json
-whole o = option_and_then (λ p. json.if_last p.0 p.1) o
-
 abbrev only_if : json.Json → Bool → Option json.Json
 only_if j b = if b then Some j else None
 
-whole-json_tokens : (j : json.Json) (d : ℕ) → whole (json.value d (json_tokens j ++ [])) ≡ only_if j (shallow d (json_tokens j ++ []))
-whole-json_tokens j d = go (cases_lt d (depth j)) ∙ sym (ap (only_if j) (shallow-json_tokens j d []))
+only_value-json_tokens : (j : json.Json) (d : ℕ) → only_value (json.value d (json_tokens j ++ [])) ≡ only_if j (nests_within d (json_tokens j ++ []))
+only_value-json_tokens j d = go (cases_lt d (depth j)) ∙ sym (ap (only_if j) (shallow-json_tokens j d []))
   where
-    go : (d < depth j) ⊎ (depth j ≤ d) → whole (json.value d (json_tokens j ++ [])) ≡ only_if j (nat_le (depth j) d && true)
-    go (inl deep) = ap whole (value-none_of_deep j d [] deep) ∙ sym (ap (λ b. only_if j (b && true)) (lt-leb (depth j) d deep))
-    go (inr fits) = ap whole (value-json_tokens j d [] fits) ∙ sym (ap (λ b. only_if j (b && true)) (le-leb (depth j) d fits))
+    go : (d < depth j) ⊎ (depth j ≤ d) → only_value (json.value d (json_tokens j ++ [])) ≡ only_if j (nat_le (depth j) d && true)
+    go (inl deep) = ap only_value (value-none_of_deep j d [] deep) ∙ sym (ap (λ b. only_if j (b && true)) (lt-leb (depth j) d deep))
+    go (inr fits) = ap only_value (value-json_tokens j d [] fits) ∙ sym (ap (λ b. only_if j (b && true)) (le-leb (depth j) d fits))
 
-pub outline-shallow : (text : List ℕ) (j : json.Json) → json.document text ≡ Some j → outline text ≡ (if shallow max_depth (tokens text) then Some j else None)
+pub outline-shallow : (text : List ℕ) (j : json.Json) → json.document text ≡ Some j → outline text ≡ (if nests_within max_depth (tokens text) then Some j else None)
 outline-shallow text j is =
-    subst (λ ts. whole (json.value max_depth ts) ≡ only_if j (shallow max_depth ts)) (append-nil (json_tokens j) ∙ sym (tokens-document text j is)) (whole-json_tokens j max_depth)
+    subst (λ ts. only_value (json.value max_depth ts) ≡ only_if j (nests_within max_depth ts)) (append-nil (json_tokens j) ∙ sym (tokens-document text j is)) (only_value-json_tokens j max_depth)
 
 pub outline-no_document : (text : List ℕ) → json.document text ≡ None → outline text ≡ None
 outline-no_document text none = go (json.value max_depth (tokens text)) refl
   where
     go : (o : Option (json.Json × List Token)) → json.value max_depth (tokens text) ≡ o → outline text ≡ None
-    go None unread = ap whole unread
+    go None unread = ap only_value unread
     go (Some x) read =
         let within : depth x.0 ≤ json.max_depth = omega (arith, value-depth max_depth (tokens text) x.1 x.0 read) in
-        ap whole (read ∙ sym (any_depth max_depth json.max_depth (tokens text) x.1 x.0 read within)) ∙ none
+        ap only_value (read ∙ sym (any_depth max_depth json.max_depth (tokens text) x.1 x.0 read within)) ∙ none

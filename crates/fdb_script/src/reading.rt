@@ -27,9 +27,10 @@ use whole::frame_of;
 ///
 /// It is refused as `NotJson` where the bytes are no JSON text that `serde_json` reads, then as
 /// `BadLimit` for a fault in the whole, then as `BadField` with the first command that has a fault,
-/// and as `Memory` wherever memory is refused, or where the text has 4 GiB or more. It takes time
-/// in proportion to the bytes: they are laid out as one list of tokens, in which a member is looked
-/// up by a walk over its object's members that steps over what they hold.
+/// and as `Memory` where it is refused memory that it can't do without, or where the text is longer
+/// than `json::MAX_LEN`, which is 4 GiB less 256 bytes. It takes time in proportion to the bytes:
+/// they are laid out as one list of tokens, and a look-up goes over the members of one object, past
+/// what they hold.
 pub fn read_script(alloc: Global, bytes: &[u8]) -> Result<Script, ScriptError>
     ensures { ReadsAs bytes.now result }
 {
@@ -47,7 +48,10 @@ fn read_text(alloc: Global, text: &str) -> Result<Script, ScriptError>
     let tape = match Tape::parse(text, &mut scratch, Vec::new(alloc)) {
         Ok(tape) => tape,
         Err(Error::Invalid) => return Err(ScriptError::NotJson),
-        Err(_) => return Err(ScriptError::Memory),
+        // A text is too long where a place in it takes more memory than there is for one.
+        Err(Error::OutOfMemory | Error::TooLong | Error::DuplicateKey) => {
+            return Err(ScriptError::Memory);
+        }
     };
     if !is_accepted(tape.nodes()) {
         return Err(ScriptError::NotJson);

@@ -1,51 +1,57 @@
--- What `serde_json` refuses of the tokens of a text, and the value that tokens begin with as it reads
--- it, over the grammar of `json` on which it stands.
+-- Which texts `serde_json` refuses, by the tokens that `json` reads of them, and the value that it
+-- makes of the tokens from some place on.
 -- (this product's own)
 use Rattle.std.specs.Prelude.{ℕ, ◌+◌, ◌-◌, nat_lt, ◌&&◌, Bool, true, List, [], ◌∷◌, length, negsuc, Option, None, Some, is_some}
+use Rattle.std.specs.List.{list_all}
 use Rattle.json.specs.Token.{Token}
 use Rattle.json.specs.Json as json
 use Rattle.serde_json.specs.Data.{Num, negative, Data, null, boolean, number, string, array, object, Items, no_items, item, Members, no_members, put}
-use Rattle.serde_json.specs.Read.{number_of}
+use Rattle.serde_json.specs.Read.{max_depth, number_of}
 
--- whether the brackets of tokens nest no deeper than this, where as many may be left open or closed
--- by those before and after
-abbrev pub shallow : ℕ → List Token → Bool
-shallow room [] = true
-shallow room (Token.begin_object ∷ ts) = nat_lt 0 room && shallow (room - 1) ts
-shallow room (Token.end_object ∷ ts) = shallow (room + 1) ts
-shallow room (Token.begin_array ∷ ts) = nat_lt 0 room && shallow (room - 1) ts
-shallow room (Token.end_array ∷ ts) = shallow (room + 1) ts
-shallow room (Token.key s ∷ ts) = shallow room ts
-shallow room (Token.string s ∷ ts) = shallow room ts
-shallow room (Token.number s ∷ ts) = shallow room ts
-shallow room (Token.boolean b ∷ ts) = shallow room ts
-shallow room (Token.null ∷ ts) = shallow room ts
-shallow room (Token.bad ∷ ts) = shallow room ts
+-- whether at each place at most so many brackets are open; one that closes what was opened before
+-- these tokens makes room for one more
+abbrev pub nests_within : ℕ → List Token → Bool
+nests_within room [] = true
+nests_within room (Token.begin_object ∷ ts) = nat_lt 0 room && nests_within (room - 1) ts
+nests_within room (Token.end_object ∷ ts) = nests_within (room + 1) ts
+nests_within room (Token.begin_array ∷ ts) = nat_lt 0 room && nests_within (room - 1) ts
+nests_within room (Token.end_array ∷ ts) = nests_within (room + 1) ts
+nests_within room (Token.key s ∷ ts) = nests_within room ts
+nests_within room (Token.string s ∷ ts) = nests_within room ts
+nests_within room (Token.number s ∷ ts) = nests_within room ts
+nests_within room (Token.boolean b ∷ ts) = nests_within room ts
+nests_within room (Token.null ∷ ts) = nests_within room ts
+nests_within room (Token.bad ∷ ts) = nests_within room ts
 
--- whether a token is no number that `serde_json` refuses
-abbrev pub is_fine : Token → Bool
-is_fine Token.begin_object = true
-is_fine Token.end_object = true
-is_fine Token.begin_array = true
-is_fine Token.end_array = true
-is_fine (Token.key s) = true
-is_fine (Token.string s) = true
-is_fine (Token.number s) = is_some (number_of s)
-is_fine (Token.boolean b) = true
-is_fine Token.null = true
-is_fine Token.bad = true
+-- whether a token is anything but a number that no finite double holds
+abbrev pub is_token_in_range : Token → Bool
+is_token_in_range Token.begin_object = true
+is_token_in_range Token.end_object = true
+is_token_in_range Token.begin_array = true
+is_token_in_range Token.end_array = true
+is_token_in_range (Token.key s) = true
+is_token_in_range (Token.string s) = true
+is_token_in_range (Token.number s) = is_some (number_of s)
+is_token_in_range (Token.boolean b) = true
+is_token_in_range Token.null = true
+is_token_in_range Token.bad = true
 
--- the number that was read; a text that is refused stands for -1, which is no whole number
-abbrev pub read_or : Option Num → Num
-read_or None = negative (negsuc 0)
-read_or (Some num) = num
+-- whether `serde_json` refuses nothing of a text with these tokens
+abbrev pub is_accepted : List Token → Bool
+is_accepted ts = nests_within max_depth ts && list_all is_token_in_range ts
 
--- The members go in one after another, so the last value of a key stays.
+-- the number that was read; one that is refused stands for -1, which is no whole number
+abbrev pub number_or_minus_one : Option Num → Num
+number_or_minus_one None = negative (negsuc 0)
+number_or_minus_one (Some num) = num
+
+-- The value that `serde_json` makes of a JSON value, with that number in the place of one that it
+-- refuses. The members go in one after another, so the last value of a key stays.
 abbrev mutual
   pub plain : json.Json → Data
   plain json.null = null
   plain (json.boolean b) = boolean b
-  plain (json.number s) = number (read_or (number_of s))
+  plain (json.number s) = number (number_or_minus_one (number_of s))
   plain (json.string s) = string s
   plain (json.array js) = array (plain_items js)
   plain (json.object ms) = object (plain_members ms no_members)
@@ -58,7 +64,7 @@ abbrev mutual
   plain_members json.no_members found = found
   plain_members (json.member k j ms) found = plain_members ms (put k (plain j) found)
 
--- whether tokens begin with a value: it nests no deeper than it has tokens
+-- whether tokens begin with a value, however deep: none nests deeper than it has tokens
 abbrev pub is_value : List Token → Bool
 is_value ts = is_some (json.value (length ts) ts)
 

@@ -8,13 +8,13 @@ use fast_float::Numeral;
 
 /// Whether a number's text is one that `serde_json` reads: no float that is too large.
 #[tactic(auto, unfolding(serde_json::specs::Read::number_of))]
-pub(crate) fn is_number(text: &str) -> bool
+pub(crate) fn is_in_range(text: &str) -> bool
     ensures { result ≡ is_some (number_of text.now) }
 {
     let bytes = text.as_bytes();
     match bytes.split_first() {
-        Some((b'-', digits)) => is_in_range(true, &Numeral::scan(digits)),
-        _ => is_in_range(false, &Numeral::scan(bytes)),
+        Some((b'-', digits)) => fits(true, &Numeral::scan(digits)),
+        _ => fits(false, &Numeral::scan(bytes)),
     }
 }
 
@@ -26,14 +26,13 @@ pub(crate) fn whole_of(text: &str) -> Option<u64>
 }
 
 /// Whether a number is no float that is too large. An integer that fits needs no float to be made.
-#[inline(always)]
-fn is_in_range(negative: bool, numeral: &Numeral<'_>) -> bool
+fn fits(negative: bool, numeral: &Numeral<'_>) -> bool
     ensures { result ≡ is_some (number_from negative numeral.now) }
 {
-    let fits = if negative {
+    let is_integer = if negative {
         numeral.to_i64(true).is_some_and(|n| n < 0)
     } else {
         numeral.to_u64().is_some()
     };
-    fits || numeral.to_float::<f64>(negative).is_finite()
+    is_integer || numeral.to_float::<f64>(negative).is_finite()
 }

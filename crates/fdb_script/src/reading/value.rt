@@ -7,7 +7,7 @@ use crate::reading::number::whole_of;
 use json::{Element, Tape};
 use std::alloc::{AllocError, Global};
 
-/// A value of a tape, which means what `serde_json` reads of its text.
+/// A value on a tape. It stands for what `serde_json` reads there.
 #[derive(Drop)]
 pub(crate) struct Value<'t, 'a> {
     element: Element<'t, 'a>,
