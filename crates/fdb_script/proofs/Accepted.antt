@@ -1,36 +1,47 @@
--- What `serde_json` reads of a text is what the tape of a text that is accepted has at its begin.
-use Rattle.std.proofs.Common.{◌≡◌, ℕ, Bool, true, false, ◌&&◌, if◌then◌else◌, List, is_some, Option, Some, None, option_and_then, refl, sym, ap, ◌∙◌}
+-- The plan of a text, by what is looked at of its value.
+use Rattle.std.proofs.Common.{◌≡◌, ℕ, true, false, List, is_some, Option, Some, None, option_map, option_and_then, refl, sym, ap, ◌∙◌}
 use Rattle.std.proofs.lemmas.Bool.{false≢true}
 use Rattle.std.specs.List.{list_all}
 use Rattle.json.specs.Lex.{tokens}
 use Rattle.json.specs.Json as json
+use Rattle.json.proofs.Found.{not_found, Some_inj}
 use Rattle.serde_json.specs.Data.{Data}
 use Rattle.serde_json.specs.Read.{of_json, read}
-use Rattle.fdb_script.specs.private.Tape.{is_accepted, is_token_in_range, plain, data_at}
-use Rattle.fdb_script.proofs.Elements.{json_at-begins}
-use Rattle.fdb_script.proofs.Outline.{outline, outline-begins, fine-outline}
+use Rattle.fdb_script.specs.Reading.{frame_of, framed_plan, plan_of}
+use Rattle.fdb_script.specs.private.Kept.{kept}
+use Rattle.fdb_script.specs.private.Plain.{is_token_in_range, outline, plain}
+use Rattle.fdb_script.specs.declared.reading.place.Place.TheVariants.{Script}
+use Rattle.fdb_script.proofs.Kept.{framed_plan-kept}
+use Rattle.fdb_script.proofs.Outline.{fine-outline}
 use Rattle.fdb_script.proofs.Plain.{plain-of_json}
-use Rattle.fdb_script.proofs.Shallow.{outline-shallow, outline-no_document}
 
-read_of : (j : json.Json) (o : Option Data) (fine : Bool) → of_json j ≡ o → is_some o ≡ fine → o ≡ (if fine then Some (plain j) else None)
-read_of j None fine e is = ap (λ b. if b then Some (plain j) else None) is
-read_of j (Some d) fine e is = ap Some (sym (plain-of_json j d e)) ∙ ap (λ b. if b then Some (plain j) else None) is
+refused : (o : Option Data) → is_some o ≡ false → o ≡ None
+refused None e = refl
+refused (Some d) e = absurd (false≢true (sym e))
 
-read_from : (text : List ℕ) (j : json.Json) (deep : Bool) → outline text ≡ (if deep then Some j else None)
-    → read text ≡ (if deep && list_all is_token_in_range (tokens text) then Some (data_at (tokens text)) else None)
-read_from text j false e = ap (option_and_then of_json) e
-read_from text j true e =
-    ap (option_and_then of_json) e ∙ read_of j _ _ refl (fine-outline text j e)
-    ∙ ap (λ i. if list_all is_token_in_range (tokens text) then Some (plain i) else None) (sym (json_at-begins (tokens text) j (outline-begins text j e)))
+plain_of : (j : json.Json) (o : Option Data) → of_json j ≡ o → is_some o ≡ true → o ≡ Some (plain j)
+plain_of j None e is = absurd (false≢true is)
+plain_of j (Some d) e is = ap Some (sym (plain-of_json j d e))
 
-read_when : (text : List ℕ) (o : Option json.Json) → json.document text ≡ o → is_some o ≡ true
-    → read text ≡ (if is_accepted (tokens text) then Some (data_at (tokens text)) else None)
-read_when text None e is = absurd (false≢true is)
-read_when text (Some j) e is = read_from text j _ (outline-shallow text j e)
+-- a number that is too large: `serde_json` reads nothing
+pub read-out_of_range : (text : List ℕ) → list_all is_token_in_range (tokens text) ≡ false → read text ≡ None
+read-out_of_range text out = go (outline text) refl
+  where
+    go : (o : Option json.Json) → outline text ≡ o → option_and_then of_json o ≡ None
+    go None e = refl
+    go (Some j) e = refused (of_json j) (fine-outline text j e ∙ out)
 
-pub read-document : (text : List ℕ) → is_some (json.document text) ≡ true
-    → read text ≡ (if is_accepted (tokens text) then Some (data_at (tokens text)) else None)
-read-document text is = read_when text _ refl is
+-- else it reads the value that the text is, if it is one
+pub read-in_range : (text : List ℕ) → list_all is_token_in_range (tokens text) ≡ true → read text ≡ option_map plain (outline text)
+read-in_range text within = go (outline text) refl
+  where
+    go : (o : Option json.Json) → outline text ≡ o → option_and_then of_json o ≡ option_map plain o
+    go None e = refl
+    go (Some j) e = plain_of j (of_json j) refl (fine-outline text j e ∙ within)
 
-pub read-no_document : (text : List ℕ) → json.document text ≡ None → read text ≡ None
-read-no_document text e = ap (option_and_then of_json) (outline-no_document text e)
+plan_of-kept : (o : Option json.Json) (k : json.Json) → option_map (kept Script) o ≡ Some k → plan_of (option_map plain o) ≡ framed_plan (frame_of (plain k))
+plan_of-kept None k e = not_found k e
+plan_of-kept (Some j) k e = sym (framed_plan-kept j) ∙ ap (λ i. framed_plan (frame_of (plain i))) (Some_inj (kept Script j) k e)
+
+pub plan_of-read : (text : List ℕ) (k : json.Json) → list_all is_token_in_range (tokens text) ≡ true → option_map (kept Script) (outline text) ≡ Some k → plan_of (read text) ≡ framed_plan (frame_of (plain k))
+plan_of-read text k within e = ap plan_of (read-in_range text within) ∙ plan_of-kept (outline text) k e

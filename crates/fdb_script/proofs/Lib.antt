@@ -1,9 +1,10 @@
 pub mod Accepted
 pub mod Arrays
-pub mod Elements
 pub mod Examples
+pub mod Kept
+pub mod KeptReading
 pub mod Outline
 pub mod Plain
-pub mod Shallow
 pub mod Texts
+pub mod Views
 pub mod Within

@@ -1,52 +1,17 @@
 -- The value of a text: it is spelt by the text's tokens, and its numbers are theirs.
-use Rattle.std.proofs.Common.{◌≡◌, ℕ, ◌≤◌, Bool, ◌&&◌, List, [], ◌∷◌, length, is_some, Option, Some, None, option_map, option_and_then, refl, sym, ap, ◌∙◌, arith, append-nil, length-append}
+use Rattle.std.proofs.Common.{◌≡◌, ℕ, Bool, ◌&&◌, List, [], ◌∷◌, is_some, Option, Some, None, option_map, option_and_then, refl, sym, ap, ◌∙◌, append-nil}
 use Rattle.std.specs.List.{list_all}
 use Rattle.std.proofs.Math.Bool.{and-true}
 use Rattle.std.proofs.lemmas.List.Folds.{list_all-append}
 use Rattle.json.specs.Token.{Token}
 use Rattle.json.specs.Lex.{tokens}
 use Rattle.json.specs.Json as json
-use Rattle.json.specs.Tree.{json_tokens, items_tokens, members_tokens, depth, items_depth, members_depth}
-use Rattle.json.specs.Find.{BeginsWith}
+use Rattle.json.specs.Tree.{json_tokens, items_tokens, members_tokens}
 use Rattle.json.proofs.Found.{not_found, Some_inj}
-use Rattle.json.proofs.Printed.Trees.{value-json_tokens}
 use Rattle.json.proofs.Unique.Spelling.{value-json_tokens_back}
 use Rattle.serde_json.specs.Data.{Members, no_members, put, item, array, object, number}
 use Rattle.serde_json.specs.Read.{max_depth, number_of, of_json, of_items, of_members}
-use Rattle.fdb_script.specs.private.Tape.{is_token_in_range}
-
--- the one value that was read, where no token is left
-abbrev pub only_value : Option (json.Json × List Token) → Option json.Json
-only_value read = option_and_then (λ p. json.if_last p.0 p.1) read
-
--- the one value that a text is, with its numbers as they are written and no deeper than `serde_json` reads
-abbrev pub outline : List ℕ → Option json.Json
-outline text = only_value (json.value max_depth (tokens text))
-
--- a value nests no deeper than it has tokens
-mutual
-  depth-json_tokens : (j : json.Json) → depth j ≤ length (json_tokens j)
-  depth-json_tokens json.null = omega arith
-  depth-json_tokens (json.boolean b) = omega arith
-  depth-json_tokens (json.number s) = omega arith
-  depth-json_tokens (json.string s) = omega arith
-  depth-json_tokens (json.array js) = omega (arith, depth-items_tokens js)
-  depth-json_tokens (json.object ms) = omega (arith, depth-members_tokens ms)
-
-  depth-items_tokens : (js : json.Items) → items_depth js ≤ length (items_tokens js)
-  depth-items_tokens json.no_items = omega arith
-  depth-items_tokens (json.item j js) = omega (arith, depth-json_tokens j, depth-items_tokens js, length-append (json_tokens j) (items_tokens js))
-
-  depth-members_tokens : (ms : json.Members) → members_depth ms ≤ length (members_tokens ms)
-  depth-members_tokens json.no_members = omega arith
-  depth-members_tokens (json.member k j ms) = omega (arith, depth-json_tokens j, depth-members_tokens ms, length-append (json_tokens j) (members_tokens ms))
-
--- as deep as there are tokens is always deep enough
-pub value-begins : (ts : List Token) (j : json.Json) → BeginsWith ts j → (rest : List Token) × (json.value (length ts) ts ≡ Some (j, rest))
-value-begins ts j (d, rest, e) =
-    let spelled = value-json_tokens_back d ts rest j e in
-    let deep : depth j ≤ length ts = omega (arith, depth-json_tokens j, ap length spelled, length-append (json_tokens j) rest) in
-    (rest, ap (json.value (length ts)) spelled ∙ value-json_tokens j (length ts) rest deep)
+use Rattle.fdb_script.specs.private.Plain.{only_value, outline, is_token_in_range}
 
 -- whether a reading gives an answer
 is_some-map : {A B : Type 0} (f : A → B) (o : Option A) → is_some (option_map f o) ≡ is_some o
@@ -80,13 +45,10 @@ mutual
       ∙ simp (fine-json_tokens j, list_all-append)
 
 -- the reading that an outline is
-last : (o : Option (json.Json × List Token)) (j : json.Json) → only_value o ≡ Some j → o ≡ Some (j, [])
+pub last : (o : Option (json.Json × List Token)) (j : json.Json) → only_value o ≡ Some j → o ≡ Some (j, [])
 last None j e = not_found j e
 last (Some (i, [])) j e = ap (λ x. Some (x, [])) (Some_inj i j e)
 last (Some (i, t ∷ ts)) j e = not_found j e
-
-pub outline-begins : (text : List ℕ) (j : json.Json) → outline text ≡ Some j → BeginsWith (tokens text) j
-outline-begins text j e = (max_depth, [], last _ j e)
 
 -- a text is refused for a number exactly if one of its tokens is
 pub fine-outline : (text : List ℕ) (j : json.Json) → outline text ≡ Some j → is_some (of_json j) ≡ list_all is_token_in_range (tokens text)

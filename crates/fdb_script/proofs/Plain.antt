@@ -8,7 +8,7 @@ use Rattle.serde_json.specs.Data.{Num, Data, number, array, object, item, Member
 use Rattle.serde_json.specs.Find.{get, get_member, as_null, as_bool, as_number, as_str, as_array, as_u64}
 use Rattle.serde_json.specs.Read.{number_of, of_json, of_items, of_members}
 use Rattle.serde_json.proofs.Views.{get_member-put, get_member-put_other}
-use Rattle.fdb_script.specs.private.Tape.{number_or_minus_one, plain, plain_items, plain_members}
+use Rattle.fdb_script.specs.private.Plain.{number_or_minus_one, plain, plain_items, plain_members}
 
 -- ---- what is read is the plain value
 

@@ -1,2 +1,3 @@
-pub mod Tape
+pub mod Plain
 pub mod View
+pub mod Kept

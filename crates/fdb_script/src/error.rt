@@ -23,7 +23,7 @@ pub enum ScriptError {
     /// limit, or a round is no list.
     #[error("BadLimit")]
     BadLimit,
-    /// Memory was refused, or the text is longer than `json` reads, 4 GiB less 256 bytes.
+    /// Memory was refused.
     #[error("want of memory")]
     Memory,
 }

@@ -1,7 +1,7 @@
 //! The commands of a script.
 
 ghost use Rattle.std.specs.Prelude.{◌≡◌, IfOk, map};
-ghost use Rattle.fdb_script.specs.private.View.{view};
+ghost use Rattle.fdb_script.specs.private.View.{lists_of, view};
 ghost use Rattle.serde_json.specs.Find.{as_bool};
 ghost use Rattle.fdb_history.specs.declared.grv.Priority.TheVariants.{Default};
 ghost use Rattle.fdb_script.specs.Reading.{act_of, ask_of, command_of, commands_from, grv_of, grv_with, IsUnlessMemory, member_or, priority_of, reask_of, report_of, rounds_from, tell_of, whole};
@@ -12,23 +12,24 @@ use crate::reading::members::{
     client_member, flag_or_false, text_member, whole_member, whole_or, whole_or_none,
 };
 use crate::reading::tags::{priority_of, tags_or_none};
-use crate::reading::value::Value;
+use crate::reading::value::{get, items};
 use crate::script::{Act, Command};
 use fdb_history::{GrvOpts, Priority, Sequence, Tag};
+use json::Value;
 use std::alloc::{AllocError, Global};
 
 /// The priority of a read.
-fn priority_or_default(value: &Value<'_, '_>) -> Option<Priority>
+fn priority_or_default(value: &Value<'_>) -> Option<Priority>
     ensures { result ≡ member_or Default priority_of (codes "priority") (view value.now) }
 {
-    match value.get("priority") {
+    match get(value, "priority") {
         None => Some(Priority::Default),
-        Some(member) => priority_of(&member),
+        Some(member) => priority_of(member),
     }
 }
 
 /// A read with these tags.
-fn grv_with(value: &Value<'_, '_>, tags: Sequence<Tag>) -> Option<Act>
+fn grv_with(value: &Value<'_>, tags: Sequence<Tag>) -> Option<Act>
     ensures { result ≡ grv_with (Some tags) (member_or 0 whole (codes "at") (view value.now))
         (member_or Default priority_of (codes "priority") (view value.now))
         (member_or 1 whole (codes "count") (view value.now))
@@ -48,7 +49,7 @@ fn grv_with(value: &Value<'_, '_>, tags: Sequence<Tag>) -> Option<Act>
 }
 
 /// A read.
-fn grv_of(alloc: Global, value: &Value<'_, '_>) -> Result<Option<Act>, AllocError>
+fn grv_of(alloc: Global, value: &Value<'_>) -> Result<Option<Act>, AllocError>
     ensures { IfOk result (λ act. act ≡ grv_of (view value.now)) }
 {
     let Some(tags) = tags_or_none(alloc, value, "tags")? else {
@@ -58,7 +59,7 @@ fn grv_of(alloc: Global, value: &Value<'_, '_>) -> Result<Option<Act>, AllocErro
 }
 
 /// A request for the next commit version.
-fn ask_of(value: &Value<'_, '_>) -> Option<Act>
+fn ask_of(value: &Value<'_>) -> Option<Act>
     ensures { result ≡ ask_of (view value.now) }
 {
     let at = whole_member(value, "at")?;
@@ -67,7 +68,7 @@ fn ask_of(value: &Value<'_, '_>) -> Option<Act>
 }
 
 /// A request for the commit version under a number.
-fn reask_of(value: &Value<'_, '_>) -> Option<Act>
+fn reask_of(value: &Value<'_>) -> Option<Act>
     ensures { result ≡ reask_of (view value.now) }
 {
     let num = whole_member(value, "num")?;
@@ -77,7 +78,7 @@ fn reask_of(value: &Value<'_, '_>) -> Option<Act>
 }
 
 /// A report.
-fn report_of(value: &Value<'_, '_>) -> Option<Act>
+fn report_of(value: &Value<'_>) -> Option<Act>
     ensures { result ≡ report_of (view value.now) }
 {
     let num = whole_member(value, "num")?;
@@ -91,7 +92,7 @@ fn report_of(value: &Value<'_, '_>) -> Option<Act>
 }
 
 /// A tell to another client.
-fn tell_of(value: &Value<'_, '_>, client: u32, clients: u32) -> Option<Act>
+fn tell_of(value: &Value<'_>, client: u32, clients: u32) -> Option<Act>
     ensures { result ≡ tell_of clients client (view value.now) }
 {
     let to = client_member(value, "to", clients)?;
@@ -104,7 +105,7 @@ fn tell_of(value: &Value<'_, '_>, client: u32, clients: u32) -> Option<Act>
 /// What a command's client is to do.
 fn act_of(
     alloc: Global,
-    value: &Value<'_, '_>,
+    value: &Value<'_>,
     client: u32,
     clients: u32,
 ) -> Result<Option<Act>, AllocError>
@@ -124,11 +125,7 @@ fn act_of(
 }
 
 /// A command of a script with this many clients.
-fn command_of(
-    alloc: Global,
-    value: &Value<'_, '_>,
-    clients: u32,
-) -> Result<Option<Command>, AllocError>
+fn command_of(alloc: Global, value: &Value<'_>, clients: u32) -> Result<Option<Command>, AllocError>
     ensures { IfOk result (λ command. command ≡ command_of clients (view value.now)) }
 {
     let Some(client) = client_member(value, "client", clients) else {
@@ -143,7 +140,7 @@ fn command_of(
 /// The commands of a round, or the first that is faulty.
 fn commands_of(
     alloc: Global,
-    values: &[Value<'_, '_>],
+    values: &[Value<'_>],
     clients: u32,
     round: u64,
 ) -> Result<Sequence<Command>, ScriptError>
@@ -165,15 +162,18 @@ fn commands_of(
 /// The commands of each round, or the first that is faulty.
 pub(crate) fn rounds_of(
     alloc: Global,
-    rounds: &[Vec<Value<'_, '_>>],
+    rounds: &[Value<'_>],
     clients: u32,
 ) -> Result<Sequence<Sequence<Command>>, ScriptError>
     ensures { IsUnlessMemory result
-        (rounds_from clients 0 (map (λ round. map view round.items) rounds.now)) }
+        (rounds_from clients 0 (lists_of rounds.now)) }
 {
     let mut all = Sequence::new(alloc);
     for (number, round) in rounds.iter().enumerate() {
-        let commands = commands_of(alloc, round, clients, number as u64)?;
+        let commands = match items(round) {
+            Some(values) => commands_of(alloc, values, clients, number as u64)?,
+            None => Sequence::new(alloc),
+        };
         all.push(commands)?;
     }
     Ok(all)

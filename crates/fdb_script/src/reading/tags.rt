@@ -7,17 +7,18 @@ ghost use Rattle.fdb_script.specs.Plan.{is_tag, is_tag_byte};
 ghost use Rattle.fdb_script.specs.Reading.{member_or, priority_of, tag_of, tags_of};
 
 use crate::reading::members::items_within;
-use crate::reading::value::Value;
+use crate::reading::value::{as_str, get};
 use crate::script::MAX_TAGS;
 use fdb_history::{Priority, Sequence, Tag};
 use fdb_queue::MAX_TAG;
+use json::Value;
 use std::alloc::{AllocError, Global};
 
 /// A priority, by its word.
-pub(crate) fn priority_of(value: &Value<'_, '_>) -> Option<Priority>
+pub(crate) fn priority_of(value: &Value<'_>) -> Option<Priority>
     ensures { result ≡ priority_of (view value.now) }
 {
-    match value.as_str()? {
+    match as_str(value)? {
         "system" => Some(Priority::System),
         "default" => Some(Priority::Default),
         "batch" => Some(Priority::Batch),
@@ -47,10 +48,10 @@ fn is_tag(bytes: &[u8]) -> bool
 }
 
 /// A tag.
-pub(crate) fn tag_of(alloc: Global, value: &Value<'_, '_>) -> Result<Option<Tag>, AllocError>
+pub(crate) fn tag_of(alloc: Global, value: &Value<'_>) -> Result<Option<Tag>, AllocError>
     ensures { IfOk result (λ tag. tag ≡ tag_of (view value.now)) }
 {
-    let Some(text) = value.as_str() else {
+    let Some(text) = as_str(value) else {
         return Ok(None);
     };
     if !is_tag(text.as_bytes()) {
@@ -61,14 +62,14 @@ pub(crate) fn tag_of(alloc: Global, value: &Value<'_, '_>) -> Result<Option<Tag>
 }
 
 /// The tags of a list of them.
-fn tags_of(alloc: Global, value: &Value<'_, '_>) -> Result<Option<Sequence<Tag>>, AllocError>
+fn tags_of(alloc: Global, value: &Value<'_>) -> Result<Option<Sequence<Tag>>, AllocError>
     ensures { IfOk result (λ tags. tags ≡ tags_of (view value.now)) }
 {
-    let Some(items) = items_within(alloc, value, MAX_TAGS)? else {
+    let Some(items) = items_within(value, MAX_TAGS) else {
         return Ok(None);
     };
     let mut tags = Sequence::new(alloc);
-    for item in &items {
+    for item in items {
         let Some(tag) = tag_of(alloc, item)? else {
             return Ok(None);
         };
@@ -80,13 +81,13 @@ fn tags_of(alloc: Global, value: &Value<'_, '_>) -> Result<Option<Sequence<Tag>>
 /// A member that is a list of tags, and no tags where there is no such member.
 pub(crate) fn tags_or_none(
     alloc: Global,
-    value: &Value<'_, '_>,
+    value: &Value<'_>,
     name: &str,
 ) -> Result<Option<Sequence<Tag>>, AllocError>
     ensures { IfOk result (λ tags. tags ≡ member_or [] tags_of name.now (view value.now)) }
 {
-    match value.get(name) {
+    match get(value, name) {
         None => Ok(Some(Sequence::new(alloc))),
-        Some(member) => tags_of(alloc, &member),
+        Some(member) => tags_of(alloc, member),
     }
 }

@@ -1,29 +1,30 @@
 //! A script as a whole: its numbers, its throttles, and its rounds as lists of values.
 
-ghost use Rattle.std.specs.Prelude.{◌≡◌, ◌<◌, ◌≤◌, [], codes, length, map, nat_le, nat_lt, ◌&&◌, sum_by, IfOk, IfSome};
+ghost use Rattle.std.specs.Prelude.{is_some, ◌≡◌, ◌<◌, ◌≤◌, [], codes, length, map, nat_le, nat_lt, ◌&&◌, sum_by, IfOk, IfSome};
 ghost use Rattle.std.specs.Option.{option_map};
-ghost use Rattle.fdb_script.specs.private.View.{view};
+ghost use Rattle.fdb_script.specs.private.View.{lists_of, view};
 ghost use Rattle.fdb_history.specs.declared.register.TheConstants.{MAX_VERSION};
 ghost use Rattle.fdb_queue.specs.Config.{IsConfig, IsElapsed};
 ghost use Rattle.fdb_queue.specs.declared.config.TheConstants.{MAX_ELAPSED};
-ghost use Rattle.fdb_script.specs.Reading.{arrays_of, checked, config_of, frame_of, frame_with, is_frame, member, member_or, priority_of, throttle_of, throttle_with, throttles_of, whole, whole_within};
+ghost use Rattle.fdb_script.specs.Reading.{array_of, arrays_of, checked, every, config_of, frame_of, frame_with, is_frame, member, member_or, priority_of, throttle_of, throttle_with, throttles_of, whole, whole_within};
 ghost use Rattle.fdb_script.specs.declared.script.TheConstants.{MAX_CLIENTS, MAX_COMMANDS};
 
 use crate::reading::members::{items_within, member_within, whole_member, within_or};
 use crate::reading::tags::{priority_of, tag_of};
-use crate::reading::value::Value;
+use crate::reading::value::{get, item_count, items};
 use crate::script::{MAX_CLIENTS, MAX_COMMANDS, MAX_ROUNDS, MAX_THROTTLES, Setup, Throttle};
 use fdb_history::{MAX_VERSION, Sequence, Tag};
 use fdb_queue::{MAX_ELAPSED, MAX_RATE, MAX_ROOM, QueueConfig};
+use json::Value;
 use std::alloc::{AllocError, Global};
 
 /// A script whose commands are not read yet, its numbers within their limits.
 #[derive(Drop)]
-pub(crate) struct Frame<'t, 'a> {
+pub(crate) struct Frame<'v, 'a> {
     /// What it says besides its rounds.
     pub(crate) setup: Setup,
     /// The values of each round.
-    pub(crate) rounds: Vec<Vec<Value<'t, 'a>>>,
+    pub(crate) rounds: &'v [Value<'a>],
     ghost epoch_ends_before: { setup.epoch_end < setup.recovery },
     ghost recovery_in_range: { setup.recovery ≤ MAX_VERSION },
     ghost some_client: { 1 ≤ setup.clients },
@@ -33,7 +34,7 @@ pub(crate) struct Frame<'t, 'a> {
 }
 
 /// What the queues are made with.
-fn config_of(value: &Value<'_, '_>) -> Option<QueueConfig>
+fn config_of(value: &Value<'_>) -> Option<QueueConfig>
     ensures value { result ≡ config_of (view value.now) }
     ensures in_range { IfSome result IsConfig }
 {
@@ -48,7 +49,7 @@ fn config_of(value: &Value<'_, '_>) -> Option<QueueConfig>
 }
 
 /// The time between two windows.
-fn elapsed_of(value: &Value<'_, '_>) -> Option<u64>
+fn elapsed_of(value: &Value<'_>) -> Option<u64>
     ensures value { result
         ≡ member_or 1000000 (whole_within 1 MAX_ELAPSED) (codes "elapsed") (view value.now) }
     ensures in_range { IfSome result IsElapsed }
@@ -57,13 +58,13 @@ fn elapsed_of(value: &Value<'_, '_>) -> Option<u64>
 }
 
 /// A throttle of this tag.
-fn throttle_with(value: &Value<'_, '_>, tag: Tag) -> Option<Throttle>
+fn throttle_with(value: &Value<'_>, tag: Tag) -> Option<Throttle>
     ensures { result ≡ throttle_with (Some tag)
         (member priority_of (codes "priority") (view value.now))
         (member whole (codes "rate") (view value.now))
         (member whole (codes "expires") (view value.now)) }
 {
-    let priority = priority_of(&value.get("priority")?)?;
+    let priority = priority_of(get(value, "priority")?)?;
     let rate = whole_member(value, "rate")?;
     let expires = whole_member(value, "expires")?;
     Some(Throttle {
@@ -75,30 +76,27 @@ fn throttle_with(value: &Value<'_, '_>, tag: Tag) -> Option<Throttle>
 }
 
 /// A throttle.
-fn throttle_of(alloc: Global, value: &Value<'_, '_>) -> Result<Option<Throttle>, AllocError>
+fn throttle_of(alloc: Global, value: &Value<'_>) -> Result<Option<Throttle>, AllocError>
     ensures { IfOk result (λ throttle. throttle ≡ throttle_of (view value.now)) }
 {
-    let Some(member) = value.get("tag") else {
+    let Some(member) = get(value, "tag") else {
         return Ok(None);
     };
-    let Some(tag) = tag_of(alloc, &member)? else {
+    let Some(tag) = tag_of(alloc, member)? else {
         return Ok(None);
     };
     Ok(throttle_with(value, tag))
 }
 
 /// The throttles of a list of them.
-fn throttles_of(
-    alloc: Global,
-    value: &Value<'_, '_>,
-) -> Result<Option<Sequence<Throttle>>, AllocError>
+fn throttles_of(alloc: Global, value: &Value<'_>) -> Result<Option<Sequence<Throttle>>, AllocError>
     ensures { IfOk result (λ throttles. throttles ≡ throttles_of (view value.now)) }
 {
-    let Some(items) = items_within(alloc, value, MAX_THROTTLES)? else {
+    let Some(items) = items_within(value, MAX_THROTTLES) else {
         return Ok(None);
     };
     let mut throttles = Sequence::new(alloc);
-    for item in &items {
+    for item in items {
         let Some(throttle) = throttle_of(alloc, item)? else {
             return Ok(None);
         };
@@ -110,76 +108,78 @@ fn throttles_of(
 /// The throttles of a script, which are none where it has no such member.
 fn throttles_or_none(
     alloc: Global,
-    value: &Value<'_, '_>,
+    value: &Value<'_>,
 ) -> Result<Option<Sequence<Throttle>>, AllocError>
     ensures { IfOk result
         (λ throttles. throttles ≡ member_or [] throttles_of (codes "throttles") (view value.now)) }
 {
-    match value.get("throttles") {
+    match get(value, "throttles") {
         None => Ok(Some(Sequence::new(alloc))),
-        Some(member) => throttles_of(alloc, &member),
+        Some(member) => throttles_of(alloc, member),
     }
 }
 
-/// The items of each of a list of arrays.
-fn arrays_of<'t, 'a>(
-    alloc: Global,
-    value: &Value<'t, 'a>,
-) -> Result<Option<Vec<Vec<Value<'t, 'a>>>>, AllocError>
-    ensures { IfOk result
-        (λ found. option_map (λ arrays. map (λ array. map view array.items) arrays.items) found
-        ≡ arrays_of (view value.now)) }
+/// Whether each of these values is an array.
+fn are_arrays(values: &[Value<'_>]) -> bool
+    ensures { result ≡ is_some (every array_of (map view values.now)) }
 {
-    let Some(values) = items_within(alloc, value, MAX_ROUNDS)? else {
-        return Ok(None);
-    };
-    let mut arrays = Vec::new(alloc);
-    for value in &values {
-        let Some(array) = value.items(alloc)? else {
-            return Ok(None);
-        };
-        arrays.push(array)?;
+    for value in values {
+        if items(value).is_none() {
+            return false;
+        }
     }
-    Ok(Some(arrays))
+    true
 }
 
 /// Whether the rounds have no more commands in all than a script may have.
-fn has_few_commands(rounds: &[Vec<Value<'_, '_>>]) -> bool
-    ensures { result ≡ nat_le (sum_by (λ round. length round.items) rounds.now) MAX_COMMANDS }
+fn has_few_commands(rounds: &[Value<'_>]) -> bool
+    ensures { result ≡ nat_le (sum_by length (lists_of rounds.now)) MAX_COMMANDS }
 {
     let mut count = 0;
     for round in rounds {
-        if round.len() > MAX_COMMANDS - count {
+        let commands = item_count(round);
+        if commands > MAX_COMMANDS - count {
             return false;
         }
-        count += round.len();
+        count += commands;
     }
     true
 }
 
 /// Whether the epoch before ends before the recovery version, and there are not too many commands.
-fn is_frame(epoch_end: u64, recovery: u64, rounds: &[Vec<Value<'_, '_>>]) -> bool
+fn is_frame(epoch_end: u64, recovery: u64, rounds: &[Value<'_>]) -> bool
     ensures { result ≡
-        (nat_lt epoch_end recovery
-        && nat_le (sum_by length (map (λ round. map view round.items) rounds.now)) MAX_COMMANDS) }
+        (nat_lt epoch_end recovery && nat_le (sum_by length (lists_of rounds.now)) MAX_COMMANDS) }
 {
     epoch_end < recovery && has_few_commands(rounds)
 }
 
+/// The rounds of a script, each of which is an array.
+fn rounds_in<'v, 'a>(value: &'v Value<'a>) -> Option<&'v [Value<'a>]>
+    ensures { option_map (λ rounds. lists_of rounds.now) result
+        ≡ member arrays_of (codes "rounds") (view value.now) }
+{
+    let rounds = items_within(get(value, "rounds")?, MAX_ROUNDS)?;
+    if !are_arrays(rounds) {
+        return None;
+    }
+    Some(rounds)
+}
+
 /// A script of these throttles and rounds.
-fn frame_with<'t, 'a>(
-    value: &Value<'t, 'a>,
+fn frame_with<'v, 'a>(
+    value: &Value<'_>,
     throttles: Sequence<Throttle>,
-    rounds: Vec<Vec<Value<'t, 'a>>>,
-) -> Option<Frame<'t, 'a>>
+    rounds: &'v [Value<'a>],
+) -> Option<Frame<'v, 'a>>
     ensures { option_map
         (λ frame. record {
           setup = frame.setup;
-          rounds = map (λ round. map view round.items) frame.rounds.items;
+          rounds = lists_of frame.rounds.now;
         }) result
         ≡ checked is_frame
         (frame_with (Some throttles)
-        (Some (map (λ round. map view round.items) rounds.entry.items))
+        (Some (lists_of rounds.now))
         (member whole (codes "epoch_end") (view value.now))
         (member (whole_within 0 MAX_VERSION) (codes "recovery") (view value.now))
         (member (whole_within 1 MAX_CLIENTS) (codes "clients") (view value.now))
@@ -191,7 +191,7 @@ fn frame_with<'t, 'a>(
     let clients = member_within(value, "clients", 1, MAX_CLIENTS)? as u32;
     let config = config_of(value)?;
     let elapsed = elapsed_of(value)?;
-    if !is_frame(epoch_end, recovery, &rounds) {
+    if !is_frame(epoch_end, recovery, rounds) {
         return None;
     }
     let setup = Setup {
@@ -206,25 +206,22 @@ fn frame_with<'t, 'a>(
 }
 
 /// What a JSON value says as a whole.
-pub(crate) fn frame_of<'t, 'a>(
+pub(crate) fn frame_of<'v, 'a>(
     alloc: Global,
-    value: &Value<'t, 'a>,
-) -> Result<Option<Frame<'t, 'a>>, AllocError>
+    value: &'v Value<'a>,
+) -> Result<Option<Frame<'v, 'a>>, AllocError>
     ensures { IfOk result
         (λ found. option_map
         (λ frame. record {
           setup = frame.setup;
-          rounds = map (λ round. map view round.items) frame.rounds.items;
+          rounds = lists_of frame.rounds.now;
         }) found
         ≡ frame_of (view value.now)) }
 {
     let Some(throttles) = throttles_or_none(alloc, value)? else {
         return Ok(None);
     };
-    let Some(rounds) = value.get("rounds") else {
-        return Ok(None);
-    };
-    let Some(rounds) = arrays_of(alloc, &rounds)? else {
+    let Some(rounds) = rounds_in(value) else {
         return Ok(None);
     };
     Ok(frame_with(value, throttles, rounds))

@@ -6,4 +6,4 @@ use Rattle.fdb_script.proofs.reading.tags.tags_of.Given as goal
 
 -- the tags so far, and those of what is left, are those of all
 abbrev pub invariant-loop-item : goal.invariant-loop-item
-invariant-loop-item l = after_front l.tags (every tag_of (map view (drop l.item-index l.item-items))) ≡ every tag_of (map view l.item-items)
+invariant-loop-item l = after_front l.tags (every tag_of (map view (drop l.item-index l.items))) ≡ every tag_of (map view l.items)

@@ -1,0 +1,114 @@
+//! What is looked at of a JSON text, read without memory for all else.
+
+ghost use Rattle.std.specs.Prelude.{◌≡◌, ◌≢◌, ◌<◌, ◌∷◌, ◌++◌, [], length, if◌then◌else◌, IfOk, OnOk, Err, None, Some};
+ghost use Rattle.json.specs.Json.{items, members, parse_map, value};
+ghost use Rattle.json.specs.Value.{items_view, members_view, value_view};
+ghost use Rattle.json.specs.declared.error.Error.TheVariants.{Invalid as refused};
+ghost use Rattle.fdb_script.specs.private.Kept.{item_place, kept, kept_items, kept_members, most_items};
+
+use crate::reading::place::Place;
+use json::{Error, Reader, Token, Value};
+use std::alloc::Global;
+
+/// What is kept of the next value of a reader, which stands at this place. Arrays and objects may
+/// nest `depth` deep.
+#[cycle(read)]
+pub(crate) fn read_kept<'a>(
+    alloc: Global,
+    reader: &mut Reader<'a>,
+    place: Place,
+    depth: usize,
+) -> Result<Value<'a>, Error>
+    ensures ok { IfOk result
+        (λ found. parse_map (kept place) (value depth reader.old)
+        ≡ Some (value_view found, reader.new)) }
+    ensures shorter { OnOk result (length reader.new < length reader.old) }
+    ensures invalid { result ≡ Err refused → value depth reader.old ≡ None }
+{
+    let token = reader.next().ok_or(Error::Invalid)?;
+    match token {
+        Token::String(text) => Ok(Value::String(text)),
+        Token::Number(text) => Ok(Value::Number(text)),
+        Token::Bool(flag) => Ok(Value::Bool(flag)),
+        Token::Null => Ok(Value::Null),
+        Token::BeginArray => {
+            if depth == 0 {
+                return Err(Error::Invalid);
+            }
+            Ok(Value::Array(read_items(alloc, reader, place, depth - 1)?))
+        }
+        Token::BeginObject => {
+            if depth == 0 {
+                return Err(Error::Invalid);
+            }
+            Ok(Value::Object(read_members(alloc, reader, place, depth - 1)?))
+        }
+        Token::EndObject | Token::EndArray | Token::Key(_) | Token::Bad => Err(Error::Invalid),
+    }
+}
+
+/// What is kept of the items that are left of an array at this place.
+#[cycle(read)]
+fn read_items<'a>(
+    alloc: Global,
+    reader: &mut Reader<'a>,
+    place: Place,
+    depth: usize,
+) -> Result<Vec<Value<'a>>, Error>
+    ensures ok { IfOk result
+        (λ found. parse_map (kept_items (item_place place) (most_items place))
+        (items (value depth) (length reader.old) reader.old)
+        ≡ Some (items_view found.items, reader.new)) }
+    ensures shorter { OnOk result (length reader.new < length reader.old) }
+    ensures invalid { result ≡ Err refused
+        → items (value depth) (length reader.old) reader.old ≡ None }
+{
+    let most = place.most_items();
+    let mut found = Vec::new(alloc);
+    while !reader.take_end_array() {
+        let item = read_kept(alloc, reader, place.item(), depth)?;
+        let has_room = found.len() < most;
+        push_if(&mut found, has_room, item)?;
+    }
+    Ok(found)
+}
+
+/// What is kept of the members that are left of an object at this place.
+#[cycle(read)]
+fn read_members<'a>(
+    alloc: Global,
+    reader: &mut Reader<'a>,
+    place: Place,
+    depth: usize,
+) -> Result<Vec<(&'a str, Value<'a>)>, Error>
+    ensures ok { IfOk result
+        (λ found. parse_map (kept_members place)
+        (members (value depth) (length reader.old) reader.old)
+        ≡ Some (members_view found.items, reader.new)) }
+    ensures shorter { OnOk result (length reader.new < length reader.old) }
+    ensures invalid { result ≡ Err refused
+        → members (value depth) (length reader.old) reader.old ≡ None }
+{
+    let mut found = Vec::new(alloc);
+    while let Some(key) = reader.next_key()? {
+        let inner = place.member(key);
+        let member = read_kept(alloc, reader, inner.unwrap_or(Place::Scalar), depth)?;
+        push_if(&mut found, inner.is_some(), (key, member))?;
+    }
+    Ok(found)
+}
+
+/// Puts one more at the end of a list, if it is wanted.
+fn push_if<T: Drop>(list: &mut Vec<T>, wanted: bool, item: T) -> Result<(), Error>
+    ensures ok { OnOk result (list.new.items
+        ≡ (if wanted then list.old.items ++ item ∷ [] else list.old.items)) }
+    ensures never_invalid { result ≢ Err refused }
+{
+    if !wanted {
+        return Ok(());
+    }
+    match list.push(item) {
+        Ok(()) => Ok(()),
+        Err(_) => Err(Error::OutOfMemory),
+    }
+}
