@@ -1,5 +1,5 @@
 -- The plan of a text, by what is looked at of its value.
-use Rattle.std.proofs.Common.{◌≡◌, ℕ, true, false, List, is_some, Option, Some, None, option_map, option_and_then, refl, sym, ap, ◌∙◌}
+use Rattle.std.proofs.Common.{◌≡◌, ℕ, Bool, true, false, List, is_some, Option, Some, None, option_map, option_and_then, refl, sym, ap, ◌∙◌}
 use Rattle.std.proofs.lemmas.Bool.{false≢true}
 use Rattle.std.specs.List.{list_all}
 use Rattle.json.specs.Lex.{tokens}
@@ -23,16 +23,17 @@ plain_of : (j : json.Json) (o : Option Data) → of_json j ≡ o → is_some o �
 plain_of j None e is = absurd (false≢true is)
 plain_of j (Some d) e is = ap Some (sym (plain-of_json j d e))
 
--- a number that is too large: `serde_json` reads nothing
-pub read-out_of_range : (text : List ℕ) → list_all is_token_in_range (tokens text) ≡ false → read text ≡ None
-read-out_of_range text out = go (outline text) refl
+-- a text that is no value, or has a number that is too large: `serde_json` reads nothing
+pub read-refused : (text : List ℕ) → (list_all is_token_in_range (tokens text) ≡ true → outline text ≡ None) → read text ≡ None
+read-refused text h = go (list_all is_token_in_range (tokens text)) refl (outline text) refl
   where
-    go : (o : Option json.Json) → outline text ≡ o → option_and_then of_json o ≡ None
-    go None e = refl
-    go (Some j) e = refused (of_json j) (fine-outline text j e ∙ out)
+    go : (b : Bool) → list_all is_token_in_range (tokens text) ≡ b → (o : Option json.Json) → outline text ≡ o → option_and_then of_json o ≡ None
+    go b within None e = refl
+    go true within (Some j) e = not_found j (sym (h within) ∙ e)
+    go false within (Some j) e = refused (of_json j) (fine-outline text j e ∙ within)
 
 -- else it reads the value that the text is, if it is one
-pub read-in_range : (text : List ℕ) → list_all is_token_in_range (tokens text) ≡ true → read text ≡ option_map plain (outline text)
+read-in_range : (text : List ℕ) → list_all is_token_in_range (tokens text) ≡ true → read text ≡ option_map plain (outline text)
 read-in_range text within = go (outline text) refl
   where
     go : (o : Option json.Json) → outline text ≡ o → option_and_then of_json o ≡ option_map plain o

@@ -2,14 +2,16 @@
 use Rattle.std.proofs.Common.{◌≡◌, ℕ, Bool, true, false, nat_lt, is_some, if◌then◌else◌, suc, ◌-◌, ◌<◌, ◌≤◌, List, [], ◌∷◌, ◌++◌, length, Option, Some, None, refl, sym, ap, ◌∙◌, arith, length-append}
 use Rattle.std.proofs.lemmas.Bool.{ltb-true, ltb-false}
 use Rattle.std.specs.Borrow.{Bor}
+use Rattle.std.specs.List.{list_all}
 use Rattle.json.specs.Token.{Token}
 use Rattle.json.specs.Json as json
-use Rattle.json.specs.Json.{parse_map}
+use Rattle.json.specs.Json.{parse_map, after_end_array, read_key}
 use Rattle.json.specs.Value.{value_view, items_view, members_view}
 use Rattle.json.specs.declared.value.Value.{Value}
 use Rattle.json.proofs.Found.{not_found, Some_inj}
 use Rattle.json.proofs.Trees.{items_before, members_before, items_before-no_items, members_before-no_members, one_more_item, one_more_member}
 use Rattle.fdb_script.specs.private.Kept.{kept, kept_items, kept_members, item_place, most_items, member_place, if_looked_at}
+use Rattle.fdb_script.specs.private.Plain.{is_token_in_range}
 use Rattle.fdb_script.specs.declared.reading.place.Place.{Place}
 use Rattle.fdb_script.specs.declared.reading.place.Place.TheVariants.{Scalar}
 
@@ -124,6 +126,19 @@ members_turn found more m place (Some inner) j named pushed is o = members_kept 
 
 pub members_end_kept : {A : Type 0} (found : List (Bor (List ℕ) × Value A)) (place : Place) → kept_members_after found place json.no_members ≡ members_view found
 members_end_kept found place = members_before-no_members found
+
+-- ---- numbers in range, over a key and over the end of an array
+
+pub in_range_key : (ts : List Token) (k : Option (List ℕ)) (rest : List Token) → read_key ts ≡ Some (k, rest) → list_all is_token_in_range ts ≡ list_all is_token_in_range rest
+in_range_key [] k rest e = not_found (k, rest) e
+in_range_key (Token.key s ∷ ts) k rest e = ap (λ x. list_all is_token_in_range x.1) (Some_inj (Some s, ts) (k, rest) e)
+in_range_key (Token.end_object ∷ ts) k rest e = ap (λ x. list_all is_token_in_range x.1) (Some_inj (None, ts) (k, rest) e)
+in_range_key (t ∷ ts) k rest e = not_found (k, rest) e
+
+pub in_range_end : (ts rest : List Token) → after_end_array ts ≡ Some rest → list_all is_token_in_range ts ≡ list_all is_token_in_range rest
+in_range_end [] rest e = not_found rest e
+in_range_end (Token.end_array ∷ ts) rest e = ap (list_all is_token_in_range) (Some_inj ts rest e)
+in_range_end (t ∷ ts) rest e = not_found rest e
 
 -- ---- what is kept of an array and of an object
 

@@ -1,4 +1,4 @@
--- What `serde_json` reads is the plain value, and a look into the plain value is a look into the one on the tape.
+-- What `serde_json` reads is the plain value, and a look into the plain value is a look into the one of `json`.
 use Rattle.std.proofs.Common.{◌≡◌, ℕ, List, Bool, true, false, Option, Some, None, is_some, option_map, option_and_then, bytes_eq, cond, true≢false, refl, sym, ap, ◌∙◌, subst}
 use Rattle.std.specs.Prelude.{⊤}
 use Rattle.std.proofs.lemmas.Slice.Eq.{bytes_eq-Decides}

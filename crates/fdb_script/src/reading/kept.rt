@@ -1,17 +1,20 @@
 //! What is looked at of a JSON text, read without memory for all else.
 
-ghost use Rattle.std.specs.Prelude.{◌≡◌, ◌≢◌, ◌<◌, ◌∷◌, ◌++◌, [], length, if◌then◌else◌, IfOk, OnOk, Err, None, Some};
+ghost use Rattle.std.specs.Prelude.{◌≡◌, ◌≢◌, ◌<◌, ◌∷◌, ◌++◌, [], length, true, if◌then◌else◌, IfOk, OnOk, Err, None, Some};
+ghost use Rattle.std.specs.List.{list_all};
 ghost use Rattle.json.specs.Json.{items, members, parse_map, value};
 ghost use Rattle.json.specs.Value.{items_view, members_view, value_view};
 ghost use Rattle.json.specs.declared.error.Error.TheVariants.{Invalid as refused};
 ghost use Rattle.fdb_script.specs.private.Kept.{item_place, kept, kept_items, kept_members, most_items};
+ghost use Rattle.fdb_script.specs.private.Plain.{is_token_in_range};
 
+use crate::reading::number::is_in_range;
 use crate::reading::place::Place;
 use json::{Error, Reader, Token, Value};
 use std::alloc::Global;
 
 /// What is kept of the next value of a reader, which stands at this place. Arrays and objects may
-/// nest `depth` deep.
+/// nest `depth` deep, and each number has to be in the range of a float.
 #[cycle(read)]
 pub(crate) fn read_kept<'a>(
     alloc: Global,
@@ -22,13 +25,22 @@ pub(crate) fn read_kept<'a>(
     ensures ok { IfOk result
         (λ found. parse_map (kept place) (value depth reader.old)
         ≡ Some (value_view found, reader.new)) }
+    ensures in_range { OnOk result
+        (list_all is_token_in_range reader.old ≡ list_all is_token_in_range reader.new) }
     ensures shorter { OnOk result (length reader.new < length reader.old) }
-    ensures invalid { result ≡ Err refused → value depth reader.old ≡ None }
+    ensures invalid { result ≡ Err refused
+        → list_all is_token_in_range reader.old ≡ true
+        → value depth reader.old ≡ None }
 {
     let token = reader.next().ok_or(Error::Invalid)?;
     match token {
         Token::String(text) => Ok(Value::String(text)),
-        Token::Number(text) => Ok(Value::Number(text)),
+        Token::Number(text) => {
+            if !is_in_range(text) {
+                return Err(Error::Invalid);
+            }
+            Ok(Value::Number(text))
+        }
         Token::Bool(flag) => Ok(Value::Bool(flag)),
         Token::Null => Ok(Value::Null),
         Token::BeginArray => {
@@ -59,8 +71,11 @@ fn read_items<'a>(
         (λ found. parse_map (kept_items (item_place place) (most_items place))
         (items (value depth) (length reader.old) reader.old)
         ≡ Some (items_view found.items, reader.new)) }
+    ensures in_range { OnOk result
+        (list_all is_token_in_range reader.old ≡ list_all is_token_in_range reader.new) }
     ensures shorter { OnOk result (length reader.new < length reader.old) }
     ensures invalid { result ≡ Err refused
+        → list_all is_token_in_range reader.old ≡ true
         → items (value depth) (length reader.old) reader.old ≡ None }
 {
     let most = place.most_items();
@@ -85,8 +100,11 @@ fn read_members<'a>(
         (λ found. parse_map (kept_members place)
         (members (value depth) (length reader.old) reader.old)
         ≡ Some (members_view found.items, reader.new)) }
+    ensures in_range { OnOk result
+        (list_all is_token_in_range reader.old ≡ list_all is_token_in_range reader.new) }
     ensures shorter { OnOk result (length reader.new < length reader.old) }
     ensures invalid { result ≡ Err refused
+        → list_all is_token_in_range reader.old ≡ true
         → members (value depth) (length reader.old) reader.old ≡ None }
 {
     let mut found = Vec::new(alloc);

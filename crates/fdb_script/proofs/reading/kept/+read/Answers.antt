@@ -1,4 +1,5 @@
-use Rattle.std.proofs.Common.{◌≡◌, ◌-◌, ◌<◌, [], ◌∷◌, ◌++◌, is_some, if◌then◌else◌, length, nat_lt, Some, None, sym, ap, ap₂, ◌∙◌, arith, rules}
+use Rattle.std.proofs.Common.{◌≡◌, ◌-◌, ◌<◌, [], ◌∷◌, ◌++◌, true, is_some, if◌then◌else◌, length, nat_lt, Some, None, refl, sym, ap, ap₂, ◌∙◌, arith, rules}
+use Rattle.std.specs.List.{list_all}
 use Rattle.json.specs.Token.{Token}
 use Rattle.json.specs.Json.{Json, array, object, parse_map, after_end_array, read_key, items, members, value}
 use Rattle.json.specs.Reads.{token_of}
@@ -7,40 +8,43 @@ use Rattle.json.specs.declared.value.Value.{String, Number, Bool, Null, the_lemm
 use Rattle.json.proofs.Grammar.{value_is, value-begin_array, value-begin_object, read_key-shorter, items_end, items_fail, items_more, members_end, members_no_key, members_fail, members_more}
 use Rattle.json.proofs.Trees.{view-Array, view-Object}
 use Rattle.fdb_script.specs.private.Kept.{kept, kept_items, kept_members, item_place, most_items}
-use Rattle.fdb_script.proofs.KeptReading.{kept_array, kept_object, kept_of, none_of, kept_items_after, kept_members_after, items_turn, items_end_kept, length_kept, or_scalar, members_turn, members_end_kept}
+use Rattle.fdb_script.specs.private.Plain.{is_token_in_range}
+use Rattle.fdb_script.proofs.KeptReading.{kept_array, kept_object, kept_of, none_of, kept_items_after, kept_members_after, items_turn, items_end_kept, length_kept, or_scalar, members_turn, members_end_kept, in_range_key}
 use Rattle.fdb_script.proofs.reading.kept.+read.Goals as goal
 
 pub read_kept-returns-in_err-token-clause-invalid : goal.read_kept-returns-in_err-token-clause-invalid
-read_kept-returns-in_err-token-clause-invalid t c invalid =
+read_kept-returns-in_err-token-clause-invalid t c invalid fine =
     let empty : c.args.reader.now ≡ [] = grind arith in
     ap (value c.args.depth) empty ∙ value_is c.args.depth []
 
 pub read_kept-returns-then-depth-eq0-clause-invalid : goal.read_kept-returns-then-depth-eq0-clause-invalid
 unfolding value
-read_kept-returns-then-depth-eq0-clause-invalid t c never =
+read_kept-returns-then-depth-eq0-clause-invalid t c never fine =
     let first : c.args.reader.now ≡ token_of c.in_ok-token.token ∷ c.next.new.self = grind arith in
     let none : c.args.depth ≡ 0 = omega arith in
     ap₂ value none (first ∙ ap (λ k. token_of k ∷ c.next.new.self) c.in-BeginArray.is)
 
 pub read_kept-returns-then-depth-eq0-2-clause-invalid : goal.read_kept-returns-then-depth-eq0-2-clause-invalid
 unfolding value
-read_kept-returns-then-depth-eq0-2-clause-invalid t c never =
+read_kept-returns-then-depth-eq0-2-clause-invalid t c never fine =
     let first : c.args.reader.now ≡ token_of c.in_ok-token.token ∷ c.next.new.self = grind arith in
     let none : c.args.depth ≡ 0 = omega arith in
     ap₂ value none (first ∙ ap (λ k. token_of k ∷ c.next.new.self) c.in-BeginObject.is)
 
 pub read_kept-returns-in_err-read_items-in-BeginArray-clause-invalid : goal.read_kept-returns-in_err-read_items-in-BeginArray-clause-invalid
-read_kept-returns-in_err-read_items-in-BeginArray-clause-invalid t c invalid =
+read_kept-returns-in_err-read_items-in-BeginArray-clause-invalid t c invalid fine =
     let first : c.args.reader.now ≡ token_of c.in_ok-token.token ∷ c.next.new.self = grind arith in
     let opened = ap (value c.args.depth) (first ∙ ap (λ k. token_of k ∷ c.next.new.self) c.in-BeginArray.is) ∙ value-begin_array c.args.depth c.next.new.self (omega arith) in
-    let failed : items (value (c.args.depth - 1)) (length c.next.new.self) c.next.new.self ≡ None = grind arith in
+    let within : list_all is_token_in_range c.next.new.self ≡ true = rw (← fine, first, c.in-BeginArray.is) refl in
+    let failed : items (value (c.args.depth - 1)) (length c.next.new.self) c.next.new.self ≡ None = grind (arith, within) in
     opened ∙ ap (parse_map array) failed
 
 pub read_kept-returns-in_err-read_members-in-BeginObject-clause-invalid : goal.read_kept-returns-in_err-read_members-in-BeginObject-clause-invalid
-read_kept-returns-in_err-read_members-in-BeginObject-clause-invalid t c invalid =
+read_kept-returns-in_err-read_members-in-BeginObject-clause-invalid t c invalid fine =
     let first : c.args.reader.now ≡ token_of c.in_ok-token.token ∷ c.next.new.self = grind arith in
     let opened = ap (value c.args.depth) (first ∙ ap (λ k. token_of k ∷ c.next.new.self) c.in-BeginObject.is) ∙ value-begin_object c.args.depth c.next.new.self (omega arith) in
-    let failed : members (value (c.args.depth - 1)) (length c.next.new.self) c.next.new.self ≡ None = grind arith in
+    let within : list_all is_token_in_range c.next.new.self ≡ true = rw (← fine, first, c.in-BeginObject.is) refl in
+    let failed : members (value (c.args.depth - 1)) (length c.next.new.self) c.next.new.self ≡ None = grind (arith, within) in
     opened ∙ ap (parse_map object) failed
 
 pub read_kept-returns-in-String-clause-ok : goal.read_kept-returns-in-String-clause-ok
@@ -50,8 +54,8 @@ read_kept-returns-in-String-clause-ok t c =
     let seen : value_view (String c.in-String.text) ≡ Json.string c.in-String.text.now = search (rules, the_lemmas) in
     ap (parse_map (kept c.args.place)) (ap (value c.args.depth) is ∙ value_is c.args.depth _) ∙ ap (λ j. Some (j, c.next.new.self)) (sym seen)
 
-pub read_kept-returns-in-Number-clause-ok : goal.read_kept-returns-in-Number-clause-ok
-read_kept-returns-in-Number-clause-ok t c =
+pub read_kept-returns-else-not-is_in_range-clause-ok : goal.read_kept-returns-else-not-is_in_range-clause-ok
+read_kept-returns-else-not-is_in_range-clause-ok t c =
     let first : c.args.reader.now ≡ token_of c.in_ok-token.token ∷ c.next.new.self = grind arith in
     let is : c.args.reader.now ≡ Token.number c.in-Number.text.now ∷ c.next.new.self = grind (arith, first) in
     let seen : value_view (Number c.in-Number.text) ≡ Json.number c.in-Number.text.now = search (rules, the_lemmas) in
@@ -86,17 +90,18 @@ read_kept-returns-in_ok-read_members-in-BeginObject-clause-ok t c =
     ap (parse_map (kept c.args.place)) opened ∙ kept_object c.args.place _ ∙ ap (parse_map object) found.ensures.ok ∙ ap (λ j. Some (j, c.read_members.new.reader)) (sym (view-Object found.field-0))
 
 pub read_kept-returns-in-EndObject-clause-invalid : goal.read_kept-returns-in-EndObject-clause-invalid
-read_kept-returns-in-EndObject-clause-invalid t c invalid =
+read_kept-returns-in-EndObject-clause-invalid t c invalid fine =
     let first : c.args.reader.now ≡ token_of c.in_ok-token.token ∷ c.next.new.self = grind arith in
     rw (value_is c.args.depth c.args.reader.now, first) (grind arith)
 
 pub read_items-returns-in_err-item-clause-invalid : goal.read_items-returns-in_err-item-clause-invalid
-read_items-returns-in_err-item-clause-invalid t c invalid =
+read_items-returns-in_err-item-clause-invalid t c invalid fine =
     let p = value c.args.depth in
     let l = c.loop-alloc in
     let n = l.invariant.0 in
     let going : (after_end_array l.reader ≡ None) × (c.take_end_array.new.self ≡ l.reader) = grind arith in
-    let failed : p c.take_end_array.new.self ≡ None = grind arith in
+    let within : list_all is_token_in_range c.take_end_array.new.self ≡ true = rw going.1 (sym l.invariant.6 ∙ fine) in
+    let failed : p c.take_end_array.new.self ≡ None = grind (arith, within) in
     let place = item_place c.args.place in
     none_of (kept_items place (most_items c.args.place)) _
     (l.invariant.3 ∙ ap (parse_map (kept_items_after l.found.items place (most_items c.args.place - length l.found.items))) (items_fail p n l.reader going.0 (rw (← going.1) failed)))
@@ -123,6 +128,7 @@ read_items-loop-alloc-preserved t c =
       l.invariant.3 ∙ ap (parse_map (kept_items_after l.found.items place (most_items c.args.place - length l.found.items))) turn ∙ kept_so,
       omega (arith, l.invariant.4),
       l.invariant.5,
+      l.invariant.6 ∙ ap (list_all is_token_in_range) (sym going.1) ∙ done.in_range,
     )
 
 pub read_items-returns-clause-ok : goal.read_items-returns-clause-ok
@@ -136,21 +142,22 @@ read_items-returns-clause-ok t c =
     ∙ ap (λ js. Some (js, r)) (items_end_kept l.found.items place (most_items c.args.place - length l.found.items))
 
 pub read_members-returns-in_err-key-clause-invalid : goal.read_members-returns-in_err-key-clause-invalid
-read_members-returns-in_err-key-clause-invalid t c invalid =
+read_members-returns-in_err-key-clause-invalid t c invalid fine =
     let p = value c.args.depth in
     let l = c.loop-found in
     let n = l.invariant.0 in
     none_of (kept_members c.args.place) _ (l.invariant.2 ∙ ap (parse_map (kept_members_after l.found.items c.args.place)) (members_no_key p n l.reader c.in_err-key.ensures.value))
 
 pub read_members-returns-in_err-member-clause-invalid : goal.read_members-returns-in_err-member-clause-invalid
-read_members-returns-in_err-member-clause-invalid t c invalid =
+read_members-returns-in_err-member-clause-invalid t c invalid fine =
     let p = value c.args.depth in
     let l = c.loop-found in
     let n = l.invariant.0 in
     let k = c.in-Some.key.now in
     let s = c.next_key.new.self in
     let key : read_key l.reader ≡ Some (Some k, s) = grind arith in
-    let failed : p s ≡ None = grind arith in
+    let within : list_all is_token_in_range s ≡ true = sym (in_range_key l.reader (Some k) s key) ∙ sym l.invariant.4 ∙ fine in
+    let failed : p s ≡ None = grind (arith, within) in
     none_of (kept_members c.args.place) _ (l.invariant.2 ∙ ap (parse_map (kept_members_after l.found.items c.args.place)) (members_fail p n k l.reader s key failed))
 
 pub read_members-loop-found-preserved : goal.read_members-loop-found-preserved
@@ -177,6 +184,7 @@ read_members-loop-found-preserved t c =
       omega (arith, l.invariant.1),
       l.invariant.2 ∙ ap (parse_map (kept_members_after l.found.items c.args.place)) turn ∙ kept_so,
       omega (arith, l.invariant.3),
+      l.invariant.4 ∙ in_range_key l.reader (Some k) s key ∙ done.in_range,
     )
 
 pub read_members-returns-clause-ok : goal.read_members-returns-clause-ok
