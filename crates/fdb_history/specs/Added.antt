@@ -1,4 +1,4 @@
--- How a client's log grows: by one call for each thing that it was told to do.
+-- How a client's log grows: by one call for each thing that it was told to do. (this product's own)
 use Rattle.std.specs.Prelude.{◌≡◌, Bool, true, false, List, [], ◌∷◌, ◌++◌}
 use Rattle.fdb_history.specs.Log.{position_after_calls}
 use Rattle.fdb_history.specs.declared.log.Call.{Call}

@@ -1,4 +1,4 @@
--- A GRV proxy, as contracts see it.
+-- A GRV proxy, as contracts see it. (this product's own)
 use Rattle.std.specs.Prelude.{ℕ, List}
 use Rattle.fdb_live.specs.Seen.{Sight}
 use Rattle.fdb_queue.specs.Throttles.{Throttle}

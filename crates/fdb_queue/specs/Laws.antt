@@ -1,4 +1,4 @@
--- Words of the laws: which list a priority has, and which priority is lower.
+-- Words of the laws: which list a priority has, and which priority is lower. (this product's own)
 use Rattle.std.specs.Prelude.{ℕ, List}
 use Rattle.fdb_history.specs.declared.grv.Priority.{Priority}
 use Rattle.fdb_history.specs.declared.grv.Priority.TheVariants.{System, Default, Batch}

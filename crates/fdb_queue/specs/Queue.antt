@@ -1,4 +1,4 @@
--- The queue of a GRV proxy, as contracts see it.
+-- The queue of a GRV proxy, as contracts see it. (this product's own)
 use Rattle.std.specs.Prelude.{List, []}
 use Rattle.fdb_queue.specs.Throttles.{Throttle}
 use Rattle.fdb_queue.specs.Waiting.{Requests, nothing}

@@ -1,6 +1,7 @@
 -- What the arguments of the command line ask for. clap reads them, and its definitions say what it
 -- makes of them: the matches of a command on them, and the kinds of error that it gives at them.
 -- Here stand the command, what is read of its matches, and what the program does then.
+-- (this product's own)
 use Rattle.std.specs.Prelude.{◌≡◌, ◌≢◌, ◌⊎◌, ◌≤◌, ⊤, ℕ, Bool, true, false, List, [], Option, Some, None, IfSome, Ok, length, codes, pos, option_map}
 use Rattle.std.specs.Io.KnownBytes.{Appends, Consumes}
 use Rattle.std.specs.Option.{option_map_or}

@@ -1,4 +1,4 @@
--- What a run promises of its outcome.
+-- What a run promises of its outcome. (this product's own)
 use Rattle.std.specs.Prelude.{◌≡◌, ◌≢◌, ℕ, false, None, List}
 use Rattle.fdb_history.specs.Audit.{IsFirstFault, Low}
 use Rattle.fdb_history.specs.Chain.{IsChain}

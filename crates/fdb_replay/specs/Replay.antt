@@ -1,4 +1,4 @@
--- What a replay of some bytes writes, and what a refused one says.
+-- What a replay of some bytes writes, and what a refused one says. (this product's own)
 use Rattle.std.specs.Prelude.{◌≡◌, ◌≢◌, ◌<◌, ◌++◌, Bool, List, ℕ, Ok, Err, Option, length}
 use Rattle.std.specs.Io.KnownBytes.{Appends}
 use Rattle.fdb_replay.specs.Outcome.{IsRunOf, Fails}

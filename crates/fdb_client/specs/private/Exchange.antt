@@ -1,4 +1,4 @@
--- Whether an answer is to a request, and what it comes to.
+-- Whether an answer is to a request, and what it comes to. (this product's own)
 use Rattle.std.specs.Prelude.{◌≡◌, Bool, true, ◌&&◌, ◌==◌, if◌then◌else◌, Result, Ok, Err}
 use Rattle.fdb_history.specs.Strays.{may_refuse}
 use Rattle.fdb_history.specs.declared.grv.GrvOpts.{GrvOpts}

@@ -1,4 +1,4 @@
--- The version under each request number, as a client keeps it.
+-- The version under each request number, as a client keeps it. (this product's own)
 use Rattle.std.specs.Prelude.{◌≡◌, ℕ, ◌+◌, ◌-◌, ◌<◌, ◌==◌, List, Option, None, Some, slice_get}
 use Rattle.std.specs.Prelude.{if◌then◌else◌, vec_len, vec_capacity}
 use Rattle.std.specs.List.{find}

@@ -1,4 +1,4 @@
--- How the parts of an audit answer one another.
+-- How the parts of an audit answer one another. (this product's own)
 use Rattle.std.specs.Prelude.{◌≡◌, ℕ, ◌+◌, ◌<◌, ◌≤◌, Bool, false, List, length, take, Option, None, Some, slice_get, slice_index_or, count_by}
 use Rattle.std.specs.List.{AllByRecursion}
 use Rattle.std.specs.List.Sorted.{IsNonDecreasingBy}

@@ -1,4 +1,4 @@
--- The order of the program's events, and the raises among them.
+-- The order of the program's events, and the raises among them. (this product's own)
 use Rattle.std.specs.Prelude.{ℕ, true, false, List, [], ◌∷◌}
 use Rattle.std.specs.List.{flat_map}
 use Rattle.std.specs.List.Sorted.{IsNonDecreasingBy}

@@ -1,4 +1,5 @@
 -- What a token, and what lies behind the lock of the reports, keep of their passes.
+-- (this product's own)
 use Rattle.std.specs.Prelude.{◌≡◌, ℕ, ◌+◌, ◌<◌, ◌≤◌, Bool, true, Option, None, Some, List, [], ◌∷◌, ◌++◌, length, MatchBool}
 use Rattle.atomic_table.specs.Seated.{TableId}
 use Rattle.fdb_history.specs.declared.register.Record.{Record}

@@ -1,4 +1,4 @@
--- The throttles that three maps keep.
+-- The throttles that three maps keep. (this product's own)
 use Rattle.std.specs.Prelude.{ℕ, List, ◌++◌, map}
 use Rattle.std.specs.BTreeMap.{BTreeMap}
 use Rattle.std.specs.Global.{Vec}

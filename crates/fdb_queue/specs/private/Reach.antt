@@ -1,4 +1,4 @@
--- How far a window comes, by the number of requests of each list.
+-- How far a window comes, by the number of requests of each list. (this product's own)
 use Rattle.std.specs.Prelude.{◌≡◌, ◌+◌, ◌*◌, ◌≤◌, ◌++◌, take, length}
 use Rattle.fdb_queue.specs.declared.config.TheConstants.{MAX_COUNT, MAX_STARTED}
 use Rattle.fdb_queue.specs.declared.waiting.Reach.{Reach}

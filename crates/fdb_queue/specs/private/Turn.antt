@@ -1,4 +1,4 @@
--- How far a window has come in the row.
+-- How far a window has come in the row. (this product's own)
 use Rattle.std.specs.Prelude.{◌+◌, ◌*◌, ◌≤◌, ◌&&◌, true, false, nat_lt, if◌then◌else◌}
 use Rattle.fdb_queue.specs.Window.{may_start}
 use Rattle.fdb_queue.specs.declared.budgets.Budgets.{Budgets}

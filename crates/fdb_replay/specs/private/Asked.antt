@@ -1,4 +1,4 @@
--- What the arguments of the command line ask for, as the program reads it.
+-- What the arguments of the command line ask for, as the program reads it. (this product's own)
 use Rattle.std.specs.Prelude.{◌≡◌, ◌≤◌, ℕ, List, [], codes, option_map}
 use Rattle.std.specs.Option.{option_map_or}
 use Rattle.std.specs.Str.Parse.{digits_value, without_leading_plus}

@@ -1,4 +1,4 @@
--- A round of a run, as the calls of all clients.
+-- A round of a run, as the calls of all clients. (this product's own)
 use Rattle.std.specs.Prelude.{◌≡◌, ℕ, ◌+◌, List, [], ◌∷◌, ◌++◌, length, drop, map}
 use Rattle.std.proofs.Common.{set, get_or}
 use Rattle.std.specs.List.{FoldsTo, flat_map}
