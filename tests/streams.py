@@ -3,7 +3,7 @@ import os
 import resource
 import subprocess
 
-from answers import MOST_COMMANDS, crowd_at_all_limits, do, large
+from answers import MOST_COMMANDS, MOST_ROUNDS, crowd_at_all_limits, do, large
 from harness import DONE, NO_STREAM, READING_FAILED, REFUSED, WRITING_FAILED, Ran
 from harness import done, fault_of, first_output, first_script, refused, run, script, under, written
 from model import expected
@@ -17,6 +17,8 @@ NO_REPLIES = b"audit ok events 0 raised 0 versions 0\n"
 DEEP = "[" * 124 + "]" * 124
 # How much processor time a script may take, in seconds: some five times what the slowest of them does on a slow machine.
 WORK_SECONDS = 5
+# How much memory a script of few threads may ask for, in KiB: with 64 MiB each of them is done.
+HELD_KIBIBYTES = 96 * 1024
 
 
 def sizes(program):
@@ -68,15 +70,34 @@ def with_values(size, value, member="note"):
     return f'{{"{member}":[{",".join([value] * times)}],{empty[1:]}'.encode()
 
 
+def with_members(size, member, end):
+    """Writes an object of about this many bytes that begins with one member over and over, and ends so."""
+    times = (size - len(end) - 1) // (len(member) + 1)
+    return f'{{{",".join([member] * times)},{end}'
+
+
+def longest():
+    """Names scripts that are as long as may be, nearly all of which is ignored or overwritten, with what is printed."""
+    nothing = done(NO_REPLIES)
+    yield "bytes, in one text", with_note(MOST_BYTES), nothing
+    for value in ("0", '""', "[]", "[0]", "{}", '{"a":0}', '"aaaaaaaa"', "0.5", "[[0]]"):
+        yield f"bytes, in values {value}", with_values(MOST_BYTES, value), nothing
+    yield "bytes, in lists 124 deep", with_values(MOST_BYTES, DEEP), nothing
+    yield "bytes, in rounds that are overwritten", with_values(MOST_BYTES, "[0]", "rounds"), nothing
+    for many in (1, MOST_ROUNDS):
+        rounds = f'"rounds":[{",".join(["[0]"] * many)}]'
+        yield f"bytes, in {many} rounds that are overwritten again and again", with_members(MOST_BYTES, rounds, script()[1:]).encode(), nothing
+    read = '"tags":[],"do":"grv","client":0}'
+    tagged = with_members(MOST_BYTES - 100, '"tags":[0]', read)
+    yield "bytes, in tags that are overwritten again and again", script(f"[[{tagged}]]").encode(), expected(script(f"[[{{{read}]]").encode())
+
+
 def largest():
     """Names scripts that are as large as may be in one way or another, with the arguments to run them with."""
     whole = ["--history", "--proxies", "16"]
     yield "all its limits", crowd_at_all_limits(MOST_BYTES), whole
-    yield "bytes, in one text", with_note(MOST_BYTES), []
-    for value in ("0", '""', "[]", "[0]", "{}", '{"a":0}', '"aaaaaaaa"', "0.5", "[[0]]"):
-        yield f"bytes, in values {value}", with_values(MOST_BYTES, value), []
-    yield "bytes, in lists 124 deep", with_values(MOST_BYTES, DEEP), []
-    yield "bytes, in rounds that are overwritten", with_values(MOST_BYTES, "[0]", "rounds"), []
+    for name, given, _ in longest():
+        yield name, given, []
     crowds = [[do("grv", who) for who in range(64)]] * (MOST_COMMANDS // 64)
     for name, rounds, top in [*large(), ("reads of 64 clients in each round", crowds, {"clients": 64})]:
         yield f"commands: {name}", written(rounds, **top), whole
@@ -90,8 +111,14 @@ def work(program):
         after = resource.getrusage(resource.RUSAGE_CHILDREN)
         spent = after.ru_utime + after.ru_stime - before.ru_utime - before.ru_stime
         fault = f"it took {spent:.1f} s" if spent > WORK_SECONDS else None
-        ends = Ran(DONE, None if arguments else NO_REPLIES, b"")
-        yield name, fault_of(ran, ends) or fault
+        yield name, fault_of(ran, Ran(DONE, None, b"")) or fault
+
+
+def held(program):
+    """What is ignored or overwritten takes no memory: the longest scripts are read though not much of it can be had."""
+    for name, given, ends in longest():
+        ran = run(["sh", "-c", f'ulimit -v {HELD_KIBIBYTES}; exec "$0"', program], given)
+        yield name, fault_of(ran, ends)
 
 
 def broken(program):

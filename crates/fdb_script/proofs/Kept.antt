@@ -1,5 +1,5 @@
 -- A script means what it means when only what is looked at of it is kept.
-use Rattle.std.proofs.Common.{◌≡◌, ℕ, zero, suc, ◌+◌, ◌≤◌, ◌<◌, ◌==◌, min, nat_eq, nat_le, nat_lt, Bool, true, false, not, ◌&&◌, cond, bytes_eq, List, [], ◌∷◌, map, length, sum_by, Result, Ok, Err, Option, None, Some, option_map, option_and_then, codes, refl, sym, ap, ◌∙◌, subst, subst₂, arith, inl, inr, ◌⊎◌, if◌then◌else◌}
+use Rattle.std.proofs.Common.{◌≡◌, ℕ, zero, suc, ◌+◌, ◌≤◌, ◌<◌, ◌==◌, min, nat_eq, nat_le, nat_lt, Bool, true, false, not, ◌&&◌, cond, bytes_eq, List, [], ◌∷◌, map, length, sum_by, true≢false, Result, Ok, Err, Option, None, Some, option_map, option_and_then, codes, refl, sym, ap, ◌∙◌, subst, subst₂, arith, inl, inr, ◌⊎◌, if◌then◌else◌}
 use Rattle.std.specs.Cmp.Lexicographic.{pointwise}
 use Rattle.std.proofs.lemmas.Bool.{and_parts, cases_lt, le-leb, leb-true, lt-leb}
 use Rattle.std.proofs.lemmas.List.Sums.{sum_by-cons}
@@ -23,7 +23,7 @@ use Rattle.fdb_script.specs.declared.script.Command.{Command}
 use Rattle.fdb_script.specs.declared.script.Setup.{Setup}
 use Rattle.fdb_script.specs.declared.script.Throttle.{Throttle}
 use Rattle.fdb_script.specs.declared.script.TheConstants.{MAX_CLIENTS, MAX_THROTTLES, MAX_ROUNDS, MAX_COMMANDS, MAX_TAGS}
-use Rattle.fdb_script.specs.private.Kept.{item_place, most_items, member_place, if_looked_at, kept, kept_items, kept_members}
+use Rattle.fdb_script.specs.private.Kept.{item_place, most_items, member_place, with_member, if_looked_at, kept, kept_items, kept_members}
 use Rattle.fdb_script.specs.private.Plain.{plain, plain_items}
 use Rattle.fdb_script.proofs.Plain.{get-plain}
 
@@ -72,31 +72,50 @@ later_or-None : (o : Option json.Json) → find.later_or o None ≡ o
 later_or-None None = refl
 later_or-None (Some j) = refl
 
-later_or-map : (f : json.Json → json.Json) (later earlier : Option json.Json)
-    → find.later_or (option_map f later) (option_map f earlier) ≡ option_map f (find.later_or later earlier)
-later_or-map f None earlier = refl
-later_or-map f (Some j) earlier = refl
+get_member-with_member : (name k : List ℕ) (j : json.Json) (ms : json.Members)
+    → find.get_member name (with_member k j ms) ≡ cond (bytes_eq k name) (Some j) (find.get_member name ms)
+get_member-with_member name k j json.no_members = refl
+get_member-with_member name k j (json.member l i ms) = go (bytes_eq l k) refl (bytes_eq k name) refl (bytes_eq l name) refl (get_member-with_member name k j ms)
+  where
+    go : (a : Bool) → bytes_eq l k ≡ a → (b : Bool) → bytes_eq k name ≡ b → (d : Bool) → bytes_eq l name ≡ d
+        → find.get_member name (with_member k j ms) ≡ cond b (Some j) (find.get_member name ms)
+        → find.get_member name (cond a (with_member k j ms) (json.member l i (with_member k j ms)))
+        ≡ cond b (Some j) (find.later_or (find.get_member name ms) (cond d (Some i) None))
+    go true same true is d at rest = rest
+    go true same false is true at rest = absurd (true≢false (sym at ∙ ap (λ x. bytes_eq x name) ((bytes_eq-Decides l k).0 same) ∙ is))
+    go true same false is false at rest = rest ∙ sym (later_or-None _)
+    go false same true is d at rest = ap (λ o. find.later_or o (cond (bytes_eq l name) (Some i) None)) rest
+    go false same false is d at rest = λ x. find.later_or (rest x) (cond (at x) (Some i) None)
 
 -- a look-up by a name that has a place: one more member, and all
-get_member-if_looked_at : (name k : List ℕ) (j : json.Json) (inner : Place) (place : Option Place) (rest : json.Members) (later : Option json.Json) (same : Bool)
-    → bytes_eq k name ≡ same → (same ≡ true → place ≡ Some inner) → find.get_member name rest ≡ option_map (kept inner) later
-    → find.get_member name (if_looked_at place k j (λ p. kept p j) rest) ≡ option_map (kept inner) (find.later_or later (cond same (Some j) None))
-get_member-if_looked_at name k j inner None rest later true is at e = absurd (none-some inner (at refl))
-get_member-if_looked_at name k j inner None rest later false is at e = e ∙ ap (option_map (kept inner)) (sym (later_or-None later))
-get_member-if_looked_at name k j inner (Some place) rest later true is at e =
-    (λ i. find.later_or (e i) (cond (is i) (Some (kept (same_Some place inner (at refl) i) j)) None))
-    ∙ later_or-map (kept inner) later (Some j)
-get_member-if_looked_at name k j inner (Some place) rest later false is at e =
-    (λ i. find.later_or (e i) (cond (is i) (Some (kept place j)) None))
-    ∙ later_or-map (kept inner) later None
+get_member-if_looked_at : (name k : List ℕ) (j : json.Json) (inner : Place) (place : Option Place) (found : json.Members) (same : Bool)
+    → bytes_eq k name ≡ same → (same ≡ true → place ≡ Some inner)
+    → find.get_member name (if_looked_at place k (λ p. kept p j) found) ≡ cond same (Some (kept inner j)) (find.get_member name found)
+get_member-if_looked_at name k j inner None found true is at = absurd (none-some inner (at refl))
+get_member-if_looked_at name k j inner None found false is at = refl
+get_member-if_looked_at name k j inner (Some place) found true is at =
+    get_member-with_member name k (kept place j) found
+    ∙ (λ i. cond (is i) (Some (kept (same_Some place inner (at refl) i) j)) (find.get_member name found))
+get_member-if_looked_at name k j inner (Some place) found false is at =
+    get_member-with_member name k (kept place j) found
+    ∙ ap (λ b. cond b (Some (kept place j)) (find.get_member name found)) is
+
+later_or-kept : (inner : Place) (j : json.Json) (same : Bool) (later earlier : Option json.Json)
+    → find.later_or (option_map (kept inner) later) (cond same (Some (kept inner j)) earlier)
+    ≡ find.later_or (option_map (kept inner) (find.later_or later (cond same (Some j) None))) earlier
+later_or-kept inner j same (Some x) earlier = refl
+later_or-kept inner j true None earlier = refl
+later_or-kept inner j false None earlier = refl
 
 get_member-kept_members : (name : List ℕ) (place inner : Place) → member_place place name ≡ Some inner
-    → (ms : json.Members) → find.get_member name (kept_members place ms) ≡ option_map (kept inner) (find.get_member name ms)
-get_member-kept_members name place inner at json.no_members = refl
-get_member-kept_members name place inner at (json.member k j ms) =
-    get_member-if_looked_at name k j inner (member_place place k) (kept_members place ms) (find.get_member name ms) (bytes_eq k name) refl
-    (λ same. ap (member_place place) ((bytes_eq-Decides k name).0 same) ∙ at)
-    (get_member-kept_members name place inner at ms)
+    → (found ms : json.Members) → find.get_member name (kept_members place found ms) ≡ find.later_or (option_map (kept inner) (find.get_member name ms)) (find.get_member name found)
+get_member-kept_members name place inner at found json.no_members = refl
+get_member-kept_members name place inner at found (json.member k j ms) =
+    get_member-kept_members name place inner at (if_looked_at (member_place place k) k (λ p. kept p j) found) ms
+    ∙ ap (find.later_or (option_map (kept inner) (find.get_member name ms)))
+    (get_member-if_looked_at name k j inner (member_place place k) found (bytes_eq k name) refl
+    (λ same. ap (member_place place) ((bytes_eq-Decides k name).0 same) ∙ at))
+    ∙ later_or-kept inner j (bytes_eq k name) (find.get_member name ms) (find.get_member name found)
 
 find_get-kept : (name : List ℕ) (place inner : Place) → member_place place name ≡ Some inner
     → (j : json.Json) → find.get name (kept place j) ≡ option_map (kept inner) (find.get name j)
@@ -105,7 +124,7 @@ find_get-kept name place inner at (json.boolean b) = refl
 find_get-kept name place inner at (json.number s) = refl
 find_get-kept name place inner at (json.string s) = refl
 find_get-kept name place inner at (json.array js) = refl
-find_get-kept name place inner at (json.object ms) = get_member-kept_members name place inner at ms
+find_get-kept name place inner at (json.object ms) = get_member-kept_members name place inner at json.no_members ms ∙ later_or-None _
 
 get-kept : (name : List ℕ) (place inner : Place) → member_place place name ≡ Some inner
     → (j : json.Json) → get name (plain (kept place j)) ≡ option_map plain (option_map (kept inner) (find.get name j))

@@ -1,5 +1,5 @@
 -- What is kept of arrays and objects, an item or a member at a time.
-use Rattle.std.proofs.Common.{◌≡◌, ℕ, Bool, true, false, nat_lt, is_some, if◌then◌else◌, suc, ◌-◌, ◌<◌, ◌≤◌, List, [], ◌∷◌, ◌++◌, length, Option, Some, None, refl, sym, ap, ◌∙◌, arith, length-append}
+use Rattle.std.proofs.Common.{◌≡◌, ℕ, Bool, true, false, nat_lt, unwrap_or, not, cond, filter, bytes_eq, is_some, if◌then◌else◌, suc, ◌-◌, ◌<◌, ◌≤◌, List, [], ◌∷◌, ◌++◌, length, Option, Some, None, refl, sym, ap, ◌∙◌, arith, length-append}
 use Rattle.std.proofs.lemmas.Bool.{ltb-true, ltb-false}
 use Rattle.std.specs.Borrow.{Bor}
 use Rattle.std.specs.List.{list_all}
@@ -9,8 +9,8 @@ use Rattle.json.specs.Json.{parse_map, after_end_array, read_key}
 use Rattle.json.specs.Value.{value_view, items_view, members_view}
 use Rattle.json.specs.declared.value.Value.{Value}
 use Rattle.json.proofs.Found.{not_found, Some_inj}
-use Rattle.json.proofs.Trees.{items_before, members_before, items_before-no_items, members_before-no_members, one_more_item, one_more_member}
-use Rattle.fdb_script.specs.private.Kept.{kept, kept_items, kept_members, item_place, most_items, member_place, if_looked_at}
+use Rattle.json.proofs.Trees.{items_before, items_before-no_items, one_more_item}
+use Rattle.fdb_script.specs.private.Kept.{kept, kept_items, kept_members, item_place, most_items, member_place, with_member, if_looked_at}
 use Rattle.fdb_script.specs.private.Plain.{is_token_in_range}
 use Rattle.fdb_script.specs.declared.reading.place.Place.{Place}
 use Rattle.fdb_script.specs.declared.reading.place.Place.TheVariants.{Scalar}
@@ -27,11 +27,6 @@ pub none_of : {A B : Type 0} (f : A → B) (o : Option (A × List Token)) → pa
 none_of f None e = refl
 none_of f (Some x) e = not_found (f x.0, x.1) (sym e)
 
--- where what is passed over stands
-abbrev pub or_scalar : Option Place → Place
-or_scalar None = Scalar
-or_scalar (Some place) = place
-
 -- ---- items
 
 abbrev pub kept_items_after : {A : Type 0} → List (Value A) → Place → ℕ → json.Items → json.Items
@@ -40,16 +35,6 @@ kept_items_after found place most js = items_before found (kept_items place most
 none_kept : (place : Place) (js : json.Items) → kept_items place 0 js ≡ json.no_items
 none_kept place json.no_items = refl
 none_kept place (json.item j js) = refl
-
-none_before_items : {A : Type 0} (found : List (Value A)) (f : json.Items → json.Items) → found ≡ [] → (o : Option (json.Items × List Token)) → parse_map f o ≡ parse_map (λ js. items_before found (f js)) o
-none_before_items found f none None = refl
-none_before_items found f none (Some x) = ap (λ vs. Some (items_before vs (f x.0), x.1)) (sym none)
-
-pub items_begin : {A : Type 0} (found : List (Value A)) (place : Place) (most : ℕ) → found ≡ [] → (o : Option (json.Items × List Token))
-    → parse_map (kept_items place most) o ≡ parse_map (kept_items_after found place (most - length found)) o
-items_begin found place most none o =
-    let all : most - length found ≡ most = omega (arith, ap length none) in
-    ap (λ m. parse_map (kept_items place m) o) (sym all) ∙ none_before_items found (kept_items place (most - length found)) none o
 
 pub items_kept : {A : Type 0} (found more : List (Value A)) (v : Value A) (place : Place) (most : ℕ) (j : json.Json)
     → more ≡ found ++ v ∷ [] → length found < most → kept place j ≡ value_view v → (o : Option (json.Items × List Token))
@@ -73,59 +58,43 @@ items_passed found place most j full (Some x) =
     ∙ ap (λ m. Some (items_before found (kept_items place m x.0), x.1)) (sym none)
 
 pub items_end_kept : {A : Type 0} (found : List (Value A)) (place : Place) (most : ℕ) → kept_items_after found place most json.no_items ≡ items_view found
-items_end_kept found place most = go most
-  where
-    go : (m : ℕ) → items_before found (kept_items place m json.no_items) ≡ items_view found
-    go m = items_before-no_items found
+items_end_kept found place most = items_before-no_items found
 
 pub items_turn : {A : Type 0} (found more : List (Value A)) (v : Value A) (place : Place) (most : ℕ) (j : json.Json) (room : Bool)
-    → room ≡ nat_lt (length found) most → more ≡ (if room then found ++ v ∷ [] else found) → kept place j ≡ value_view v → (o : Option (json.Items × List Token))
+    → room ≡ nat_lt (length found) most → more ≡ (if room then found ++ v ∷ [] else found) → kept (if room then place else Scalar) j ≡ value_view v → (o : Option (json.Items × List Token))
     → parse_map (kept_items_after found place (most - length found)) (parse_map (json.item j) o) ≡ parse_map (kept_items_after more place (most - length more)) o
 items_turn found more v place most j true room pushed is o = items_kept found more v place most j pushed (ltb-true (length found) most (sym room)) is o
 items_turn found more v place most j false room pushed is o =
     items_passed found place most j (ltb-false (length found) most (sym room)) o ∙ ap (λ vs. parse_map (kept_items_after vs place (most - length vs)) o) (sym pushed)
 
-pub length_kept : {A : Type 0} (found more : List (Value A)) (v : Value A) (most : ℕ) (room : Bool)
-    → room ≡ nat_lt (length found) most → more ≡ (if room then found ++ v ∷ [] else found) → length found ≤ most → length more ≤ most
-length_kept found more v most true room pushed before = omega (arith, ap length pushed, length-append found (v ∷ []), ltb-true (length found) most (sym room))
-length_kept found more v most false room pushed before = omega (arith, ap length pushed)
-
 -- ---- members
 
-abbrev pub kept_members_after : {A : Type 0} → List (Bor (List ℕ) × Value A) → Place → json.Members → json.Members
-kept_members_after found place ms = members_before found (kept_members place ms)
+pub members_turn : {A : Type 0} (found more : List (Bor (List ℕ) × Value A)) (k : List ℕ) (v : Value A) (place : Place) (inner : Option Place) (j : json.Json)
+    → inner ≡ member_place place k → members_view more ≡ (if is_some inner then with_member k (value_view v) (members_view found) else members_view found)
+    → kept (unwrap_or inner Scalar) j ≡ value_view v → (o : Option (json.Members × List Token))
+    → parse_map (kept_members place (members_view found)) (parse_map (json.member k j) o) ≡ parse_map (kept_members place (members_view more)) o
+members_turn found more k v place inner j named put is None = refl
+members_turn found more k v place inner j named put is (Some x) =
+    ap (λ ms. Some (kept_members place ms x.0, x.1))
+    (ap (λ p. if_looked_at p k (λ q. kept q j) (members_view found)) (sym named) ∙ one_looked_at inner is ∙ sym put)
+  where
+    one_looked_at : (p : Option Place) → kept (unwrap_or p Scalar) j ≡ value_view v
+        → if_looked_at p k (λ q. kept q j) (members_view found) ≡ (if is_some p then with_member k (value_view v) (members_view found) else members_view found)
+    one_looked_at None is = refl
+    one_looked_at (Some q) is = ap (λ i. with_member k i (members_view found)) is
 
-pub members_begin : {A : Type 0} (found : List (Bor (List ℕ) × Value A)) (place : Place) → found ≡ [] → (o : Option (json.Members × List Token))
-    → parse_map (kept_members place) o ≡ parse_map (kept_members_after found place) o
-members_begin found place none None = refl
-members_begin found place none (Some x) = ap (λ ms. Some (members_before ms (kept_members place x.0), x.1)) (sym none)
-
-pub members_kept : {A : Type 0} (found more : List (Bor (List ℕ) × Value A)) (m : Bor (List ℕ) × Value A) (place inner : Place) (j : json.Json)
-    → more ≡ found ++ m ∷ [] → member_place place m.0.now ≡ Some inner → kept inner j ≡ value_view m.1 → (o : Option (json.Members × List Token))
-    → parse_map (kept_members_after found place) (parse_map (json.member m.0.now j) o) ≡ parse_map (kept_members_after more place) o
-members_kept found more m place inner j pushed named is None = refl
-members_kept found more m place inner j pushed named is (Some x) =
-    ap (λ p. Some (members_before found (if_looked_at p m.0.now j (λ q. kept q j) (kept_members place x.0)), x.1)) named
-    ∙ ap (λ i. Some (members_before found (json.member m.0.now i (kept_members place x.0)), x.1)) is
-    ∙ one_more_member found m (Some (kept_members place x.0, x.1))
-    ∙ ap (λ ms. Some (members_before ms (kept_members place x.0), x.1)) (sym pushed)
-
-pub members_passed : {A : Type 0} (found : List (Bor (List ℕ) × Value A)) (place : Place) (k : List ℕ) (j : json.Json)
-    → member_place place k ≡ None → (o : Option (json.Members × List Token))
-    → parse_map (kept_members_after found place) (parse_map (json.member k j) o) ≡ parse_map (kept_members_after found place) o
-members_passed found place k j unnamed None = refl
-members_passed found place k j unnamed (Some x) =
-    ap (λ p. Some (members_before found (if_looked_at p k j (λ q. kept q j) (kept_members place x.0)), x.1)) unnamed
-
-pub members_turn : {A : Type 0} (found more : List (Bor (List ℕ) × Value A)) (m : Bor (List ℕ) × Value A) (place : Place) (inner : Option Place) (j : json.Json)
-    → inner ≡ member_place place m.0.now → more ≡ (if is_some inner then found ++ m ∷ [] else found) → kept (or_scalar inner) j ≡ value_view m.1 → (o : Option (json.Members × List Token))
-    → parse_map (kept_members_after found place) (parse_map (json.member m.0.now j) o) ≡ parse_map (kept_members_after more place) o
-members_turn found more m place None j named pushed is o =
-    members_passed found place m.0.now j (sym named) o ∙ ap (λ ms. parse_map (kept_members_after ms place) o) (sym pushed)
-members_turn found more m place (Some inner) j named pushed is o = members_kept found more m place inner j pushed (sym named) is o
-
-pub members_end_kept : {A : Type 0} (found : List (Bor (List ℕ) × Value A)) (place : Place) → kept_members_after found place json.no_members ≡ members_view found
-members_end_kept found place = members_before-no_members found
+-- the members without those of a name, and one of that name
+pub put_member : {A : Type 0} (m : Bor (List ℕ) × Value A) (ms : List (Bor (List ℕ) × Value A))
+    → members_view (filter (λ (n : Bor (List ℕ) × Value A). not (bytes_eq n.0.now m.0.now)) ms ++ m ∷ []) ≡ with_member m.0.now (value_view m.1) (members_view ms)
+put_member {A} m [] = refl
+put_member {A} m (n ∷ ms) = go (bytes_eq n.0.now m.0.now) (put_member m ms)
+  where
+    go : (same : Bool)
+        → members_view (filter (λ (l : Bor (List ℕ) × Value A). not (bytes_eq l.0.now m.0.now)) ms ++ m ∷ []) ≡ with_member m.0.now (value_view m.1) (members_view ms)
+        → members_view (cond (not same) (n ∷ filter (λ (l : Bor (List ℕ) × Value A). not (bytes_eq l.0.now m.0.now)) ms) (filter (λ (l : Bor (List ℕ) × Value A). not (bytes_eq l.0.now m.0.now)) ms) ++ m ∷ [])
+        ≡ cond same (with_member m.0.now (value_view m.1) (members_view ms)) (json.member n.0.now (value_view n.1) (with_member m.0.now (value_view m.1) (members_view ms)))
+    go true rest = rest
+    go false rest = ap (json.member n.0.now (value_view n.1)) rest
 
 -- ---- numbers in range, over a key and over the end of an array
 
@@ -147,6 +116,6 @@ pub kept_array : (place : Place) (o : Option (json.Items × List Token))
 kept_array place None = refl
 kept_array place (Some x) = refl
 
-pub kept_object : (place : Place) (o : Option (json.Members × List Token)) → parse_map (kept place) (parse_map json.object o) ≡ parse_map json.object (parse_map (kept_members place) o)
+pub kept_object : (place : Place) (o : Option (json.Members × List Token)) → parse_map (kept place) (parse_map json.object o) ≡ parse_map json.object (parse_map (kept_members place json.no_members) o)
 kept_object place None = refl
 kept_object place (Some x) = refl

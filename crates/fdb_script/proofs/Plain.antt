@@ -1,11 +1,11 @@
 -- What `serde_json` reads is the plain value, and a look into the plain value is a look into the one of `json`.
-use Rattle.std.proofs.Common.{◌≡◌, ℕ, List, Bool, true, false, Option, Some, None, is_some, option_map, option_and_then, bytes_eq, cond, true≢false, refl, sym, ap, ◌∙◌, subst}
+use Rattle.std.proofs.Common.{◌≡◌, ℕ, List, Bool, true, false, Option, Some, None, option_map, option_and_then, bytes_eq, cond, true≢false, refl, sym, ap, ◌∙◌, subst}
 use Rattle.std.specs.Prelude.{⊤}
 use Rattle.std.proofs.lemmas.Slice.Eq.{bytes_eq-Decides}
 use Rattle.json.specs.Json as json
 use Rattle.json.specs.Find as find
 use Rattle.serde_json.specs.Data.{Num, Data, number, array, object, item, Members, no_members, put}
-use Rattle.serde_json.specs.Find.{get, get_member, as_null, as_bool, as_number, as_str, as_array, as_u64}
+use Rattle.serde_json.specs.Find.{get, get_member}
 use Rattle.serde_json.specs.Read.{number_of, of_json, of_items, of_members}
 use Rattle.serde_json.proofs.Views.{get_member-put, get_member-put_other}
 use Rattle.fdb_script.specs.private.Plain.{number_or_minus_one, plain, plain_items, plain_members}
@@ -83,50 +83,3 @@ get-plain name (json.number s) = refl
 get-plain name (json.string s) = refl
 get-plain name (json.array js) = refl
 get-plain name (json.object ms) = get_member-plain_members name ms no_members ∙ plain_or-None (find.get_member name ms)
-
--- ---- what kind of value it is
-
-pub as_str-plain : (j : json.Json) → as_str (plain j) ≡ find.as_str j
-as_str-plain json.null = refl
-as_str-plain (json.boolean b) = refl
-as_str-plain (json.number s) = refl
-as_str-plain (json.string s) = refl
-as_str-plain (json.array js) = refl
-as_str-plain (json.object ms) = refl
-
-pub as_bool-plain : (j : json.Json) → as_bool (plain j) ≡ find.as_bool j
-as_bool-plain json.null = refl
-as_bool-plain (json.boolean b) = refl
-as_bool-plain (json.number s) = refl
-as_bool-plain (json.string s) = refl
-as_bool-plain (json.array js) = refl
-as_bool-plain (json.object ms) = refl
-
-pub is_null-plain : (j : json.Json) → is_some (as_null (plain j)) ≡ find.is_null j
-is_null-plain json.null = refl
-is_null-plain (json.boolean b) = refl
-is_null-plain (json.number s) = refl
-is_null-plain (json.string s) = refl
-is_null-plain (json.array js) = refl
-is_null-plain (json.object ms) = refl
-
-pub as_array-plain : (j : json.Json) → as_array (plain j) ≡ option_map plain_items (find.as_array j)
-as_array-plain json.null = refl
-as_array-plain (json.boolean b) = refl
-as_array-plain (json.number s) = refl
-as_array-plain (json.string s) = refl
-as_array-plain (json.array js) = refl
-as_array-plain (json.object ms) = refl
-
--- a number that is refused is no whole number
-as_u64-read_or : (o : Option Num) → as_u64 (number_or_minus_one o) ≡ option_and_then as_u64 o
-as_u64-read_or None = refl
-as_u64-read_or (Some n) = refl
-
-pub as_u64-plain : (j : json.Json) → option_and_then as_u64 (as_number (plain j)) ≡ option_and_then (λ s. option_and_then as_u64 (number_of s)) (find.as_number j)
-as_u64-plain json.null = refl
-as_u64-plain (json.boolean b) = refl
-as_u64-plain (json.number s) = as_u64-read_or (number_of s)
-as_u64-plain (json.string s) = refl
-as_u64-plain (json.array js) = refl
-as_u64-plain (json.object ms) = refl

@@ -1,5 +1,5 @@
 -- Look-ups in a value of `json`, as `serde_json` reads it.
-use Rattle.std.proofs.Common.{◌≡◌, ℕ, true, List, [], ◌∷◌, map, is_some, Vec, Option, Some, None, option_map, option_and_then, refl, sym, ap, ◌∙◌}
+use Rattle.std.proofs.Common.{◌≡◌, ℕ, true, List, [], ◌∷◌, map, is_some, Vec, Option, Some, None, unwrap_or, option_map, option_and_then, refl, sym, ap, ◌∙◌}
 use Rattle.std.proofs.lemmas.Bool.{false≢true}
 use Rattle.std.specs.Borrow.{Bor}
 use Rattle.json.specs.Find as find
@@ -10,7 +10,7 @@ use Rattle.serde_json.specs.Data.{Data}
 use Rattle.serde_json.specs.Find.{get}
 use Rattle.fdb_script.specs.Reading.{array_of, every, list_of}
 use Rattle.fdb_script.specs.private.Plain.{plain, plain_items}
-use Rattle.fdb_script.specs.private.View.{view, if_some, lists_of}
+use Rattle.fdb_script.specs.private.View.{view, lists_of}
 use Rattle.fdb_script.proofs.Plain.{get-plain}
 
 plain-option : {A : Type 0} (r : Option (Bor (Value A))) → option_map (λ found. view found.now) r ≡ option_map plain (option_map (λ found. value_view found.now) r)
@@ -31,7 +31,7 @@ array_of-view values = sym (ap (λ j. array_of (plain j)) (view-Array values) �
 -- each of some values is an array
 first_list : {A : Type 0} (value : Value A) (values : List (Value A)) (first : Option (List Data)) → array_of (view value) ≡ first → (rest : Option (List (List Data))) → every array_of (map view values) ≡ rest
     → (is_some (every array_of (map view values)) ≡ true → every array_of (map view values) ≡ Some (lists_of values))
-    → is_some (option_and_then (λ f. option_map (λ r. f ∷ r) rest) first) ≡ true → option_and_then (λ f. option_map (λ r. f ∷ r) rest) first ≡ Some (if_some first ∷ lists_of values)
+    → is_some (option_and_then (λ f. option_map (λ r. f ∷ r) rest) first) ≡ true → option_and_then (λ f. option_map (λ r. f ∷ r) rest) first ≡ Some (unwrap_or first [] ∷ lists_of values)
 first_list value values None is rest others again done = absurd (false≢true done)
 first_list value values (Some first) is None others again done = absurd (false≢true done)
 first_list value values (Some first) is (Some rest) others again done =

@@ -1,8 +1,9 @@
--- What is looked at of a script: the members that have a name there, and no more items of a list
--- than it takes to see that they are too many.
+-- What is looked at of a script: the last member of each name that counts there, and no more items
+-- of a list than it takes to see that they are too many.
 -- (this product's own)
-use Rattle.std.specs.Prelude.{ℕ, zero, suc, ◌+◌, List, nat_eq, codes, Option, None, Some, if◌then◌else◌}
+use Rattle.std.specs.Prelude.{ℕ, zero, suc, ◌+◌, List, nat_eq, nat_lt, codes, cond, Option, None, Some, if◌then◌else◌}
 use Rattle.std.specs.Cmp.Lexicographic.{pointwise}
+use Rattle.std.specs.Str.{bytes_eq}
 use Rattle.json.specs.Json as json
 use Rattle.fdb_script.specs.declared.reading.place.Place.{Place}
 use Rattle.fdb_script.specs.declared.reading.place.Place.TheVariants.{Script, Throttles, Throttle, Rounds, Round, Command, Tags, Scalar}
@@ -29,10 +30,15 @@ most_items Command = 0
 most_items Tags = MAX_TAGS + 1
 most_items Scalar = 0
 
--- what stands at a member of a name, if it is looked at: each name has one meaning wherever it stands
+-- what stands in a list at a place, under a number: beyond those that are kept nothing is looked at
+abbrev pub item_place_at : Place → ℕ → Place
+item_place_at place number = if nat_lt number (most_items place) then item_place place else Scalar
+
+-- that place, if this is the name that is wanted, else what the other names say
 abbrev pub named : List ℕ → List ℕ → Place → Option Place → Option Place
 named name wanted place other = if pointwise nat_eq name wanted then Some place else other
 
+-- what stands at a member of a name, if it is looked at: of a script, of a throttle, of a command
 abbrev pub member_of_script : List ℕ → Option Place
 member_of_script name =
     named name (codes "epoch_end") Scalar (named name (codes "recovery") Scalar
@@ -65,9 +71,15 @@ member_place Command name = member_of_command name
 member_place Tags name = None
 member_place Scalar name = None
 
-abbrev pub if_looked_at : Option Place → List ℕ → json.Json → (Place → json.Json) → json.Members → json.Members
-if_looked_at None name j kept rest = rest
-if_looked_at (Some place) name j kept rest = json.member name (kept place) rest
+-- the members, and this one in the place of those of its name
+abbrev pub with_member : List ℕ → json.Json → json.Members → json.Members
+with_member name j json.no_members = json.member name j json.no_members
+with_member name j (json.member k i ms) =
+    cond (bytes_eq k name) (with_member name j ms) (json.member k i (with_member name j ms))
+
+abbrev pub if_looked_at : Option Place → List ℕ → (Place → json.Json) → json.Members → json.Members
+if_looked_at None name kept found = found
+if_looked_at (Some place) name kept found = with_member name (kept place) found
 
 -- what is kept of a value at a place
 abbrev mutual
@@ -77,13 +89,13 @@ abbrev mutual
   kept place (json.number s) = json.number s
   kept place (json.string s) = json.string s
   kept place (json.array js) = json.array (kept_items (item_place place) (most_items place) js)
-  kept place (json.object ms) = json.object (kept_members place ms)
+  kept place (json.object ms) = json.object (kept_members place json.no_members ms)
 
   pub kept_items : Place → ℕ → json.Items → json.Items
   kept_items place most json.no_items = json.no_items
   kept_items place zero (json.item j js) = json.no_items
   kept_items place (suc most) (json.item j js) = json.item (kept place j) (kept_items place most js)
 
-  pub kept_members : Place → json.Members → json.Members
-  kept_members place json.no_members = json.no_members
-  kept_members place (json.member k j ms) = if_looked_at (member_place place k) k j (λ inner. kept inner j) (kept_members place ms)
+  pub kept_members : Place → json.Members → json.Members → json.Members
+  kept_members place found json.no_members = found
+  kept_members place found (json.member k j ms) = kept_members place (if_looked_at (member_place place k) k (λ inner. kept inner j) found) ms

@@ -1,6 +1,6 @@
 -- The value of `serde_json` that a value of `json` stands for.
 -- (this product's own)
-use Rattle.std.specs.Prelude.{List, [], map, Option, None, Some}
+use Rattle.std.specs.Prelude.{List, [], map, unwrap_or}
 use Rattle.serde_json.specs.Data.{Data}
 use Rattle.json.specs.Value.{value_view}
 use Rattle.json.specs.declared.value.Value.{Value}
@@ -11,12 +11,8 @@ abbrev pub view : {A : Type 0} → Value A → Data
 view value = plain (value_view value)
 
 -- the items of an array, and none of what is no array
-abbrev pub if_some : Option (List Data) → List Data
-if_some None = []
-if_some (Some items) = items
-
 abbrev pub list_at : Data → List Data
-list_at value = if_some (array_of value)
+list_at value = unwrap_or (array_of value) []
 
 abbrev pub lists_of : {A : Type 0} → List (Value A) → List (List Data)
 lists_of values = map (λ value. list_at (view value)) values

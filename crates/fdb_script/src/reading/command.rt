@@ -12,7 +12,7 @@ use crate::reading::members::{
     client_member, flag_or_false, text_member, whole_member, whole_or, whole_or_none,
 };
 use crate::reading::tags::{priority_of, tags_or_none};
-use crate::reading::value::{get, items};
+use crate::reading::value::{get, list_at};
 use crate::script::{Act, Command};
 use fdb_history::{GrvOpts, Priority, Sequence, Tag};
 use json::Value;
@@ -170,10 +170,7 @@ pub(crate) fn rounds_of(
 {
     let mut all = Sequence::new(alloc);
     for (number, round) in rounds.iter().enumerate() {
-        let commands = match items(round) {
-            Some(values) => commands_of(alloc, values, clients, number as u64)?,
-            None => Sequence::new(alloc),
-        };
+        let commands = commands_of(alloc, list_at(round), clients, number as u64)?;
         all.push(commands)?;
     }
     Ok(all)

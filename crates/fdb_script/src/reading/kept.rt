@@ -1,11 +1,11 @@
-//! What is looked at of a JSON text, read without memory for all else.
+//! What is looked at of a JSON text, read without memory for what is not.
 
 ghost use Rattle.std.specs.Prelude.{◌≡◌, ◌≢◌, ◌<◌, ◌∷◌, ◌++◌, [], length, true, if◌then◌else◌, IfOk, OnOk, Err, None, Some};
 ghost use Rattle.std.specs.List.{list_all};
-ghost use Rattle.json.specs.Json.{items, members, parse_map, value};
+ghost use Rattle.json.specs.Json.{items, members, no_members, parse_map, value};
 ghost use Rattle.json.specs.Value.{items_view, members_view, value_view};
 ghost use Rattle.json.specs.declared.error.Error.TheVariants.{Invalid as refused};
-ghost use Rattle.fdb_script.specs.private.Kept.{item_place, kept, kept_items, kept_members, most_items};
+ghost use Rattle.fdb_script.specs.private.Kept.{item_place, kept, kept_items, kept_members, most_items, with_member};
 ghost use Rattle.fdb_script.specs.private.Plain.{is_token_in_range};
 
 use crate::reading::number::is_in_range;
@@ -81,9 +81,9 @@ fn read_items<'a>(
     let most = place.most_items();
     let mut found = Vec::new(alloc);
     while !reader.take_end_array() {
-        let item = read_kept(alloc, reader, place.item(), depth)?;
-        let has_room = found.len() < most;
-        push_if(&mut found, has_room, item)?;
+        let number = found.len();
+        let item = read_kept(alloc, reader, place.item(number), depth)?;
+        push_if(&mut found, number < most, item)?;
     }
     Ok(found)
 }
@@ -97,7 +97,7 @@ fn read_members<'a>(
     depth: usize,
 ) -> Result<Vec<(&'a str, Value<'a>)>, Error>
     ensures ok { IfOk result
-        (λ found. parse_map (kept_members place)
+        (λ found. parse_map (kept_members place no_members)
         (members (value depth) (length reader.old) reader.old)
         ≡ Some (members_view found.items, reader.new)) }
     ensures in_range { OnOk result
@@ -111,9 +111,28 @@ fn read_members<'a>(
     while let Some(key) = reader.next_key()? {
         let inner = place.member(key);
         let member = read_kept(alloc, reader, inner.unwrap_or(Place::Scalar), depth)?;
-        push_if(&mut found, inner.is_some(), (key, member))?;
+        put_if(&mut found, inner.is_some(), key, member)?;
     }
     Ok(found)
+}
+
+/// Puts a member among others, in the place of those of its name, if it is wanted.
+fn put_if<'a>(
+    members: &mut Vec<(&'a str, Value<'a>)>,
+    wanted: bool,
+    name: &'a str,
+    member: Value<'a>,
+) -> Result<(), Error>
+    ensures ok { OnOk result (members_view members.new.items
+        ≡ (if wanted then with_member name.now (value_view member.entry) (members_view members.old.items)
+        else members_view members.old.items)) }
+    ensures never_invalid { result ≢ Err refused }
+{
+    if !wanted {
+        return Ok(());
+    }
+    members.retain(|other| other.0 != name);
+    push(members, (name, member))
 }
 
 /// Puts one more at the end of a list, if it is wanted.
@@ -125,6 +144,14 @@ fn push_if<T: Drop>(list: &mut Vec<T>, wanted: bool, item: T) -> Result<(), Erro
     if !wanted {
         return Ok(());
     }
+    push(list, item)
+}
+
+/// Puts one more at the end of a list.
+fn push<T: Drop>(list: &mut Vec<T>, item: T) -> Result<(), Error>
+    ensures ok { OnOk result (list.new.items ≡ list.old.items ++ item ∷ []) }
+    ensures never_invalid { result ≢ Err refused }
+{
     match list.push(item) {
         Ok(()) => Ok(()),
         Err(_) => Err(Error::OutOfMemory),

@@ -1,7 +1,7 @@
 //! Where a value stands in a script, and what of it is looked at.
 
 ghost use Rattle.std.specs.Prelude.{◌≡◌};
-ghost use Rattle.fdb_script.specs.private.Kept.{item_place, member_of_command, member_of_script, member_of_throttle, member_place, most_items};
+ghost use Rattle.fdb_script.specs.private.Kept.{item_place_at, member_of_command, member_of_script, member_of_throttle, member_place, most_items};
 
 use crate::script::{MAX_COMMANDS, MAX_ROUNDS, MAX_TAGS, MAX_THROTTLES};
 
@@ -22,15 +22,19 @@ pub(crate) enum Place {
     Command,
     /// A command's list of tags.
     Tags,
-    /// A number, a text, a flag or null.
+    /// A number, a text, a flag or null. Of a list or an object here nothing is looked at.
     Scalar,
 }
 
 impl Place {
-    /// Where the items of a list stand.
-    pub(crate) fn item(self) -> Place
-        ensures { result ≡ item_place self }
+    /// Where the item of a list with this number stands. Beyond the
+    /// most that are looked at nothing is: it stands for a scalar.
+    pub(crate) fn item(self, number: usize) -> Place
+        ensures { result ≡ item_place_at self number }
     {
+        if number >= self.most_items() {
+            return Place::Scalar;
+        }
         match self {
             Place::Throttles => Place::Throttle,
             Place::Rounds => Place::Round,

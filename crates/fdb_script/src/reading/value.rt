@@ -1,6 +1,6 @@
 //! What a JSON value is, as `serde_json` reads it.
 
-ghost use Rattle.std.specs.Prelude.{◌≡◌, is_some, length, map};
+ghost use Rattle.std.specs.Prelude.{◌≡◌, is_some, map};
 ghost use Rattle.std.specs.Option.{option_map};
 ghost use Rattle.serde_json.specs.Find.{as_bool, as_null, as_str, get};
 ghost use Rattle.fdb_script.specs.Reading.{array_of, whole};
@@ -55,12 +55,12 @@ pub(crate) fn items<'v, 'a>(value: &'v Value<'a>) -> Option<&'v [Value<'a>]>
     }
 }
 
-/// How many items the array has that the value is, and 0 where it is no array.
-pub(crate) fn item_count(value: &Value<'_>) -> usize
-    ensures { result ≡ length (list_at (view value.now)) }
+/// The items of the array that the value is, and none where it is no array.
+pub(crate) fn list_at<'v, 'a>(value: &'v Value<'a>) -> &'v [Value<'a>]
+    ensures { map view result.now ≡ list_at (view value.now) }
 {
-    match items(value) {
-        Some(items) => items.len(),
-        None => 0,
+    if let Value::Array(items) = value {
+        return items;
     }
+    &[]
 }

@@ -1,4 +1,4 @@
-//! A script as a whole: its numbers, its throttles, and its rounds as lists of values.
+//! A script as a whole: its numbers, its throttles, and its rounds as values that are arrays.
 
 ghost use Rattle.std.specs.Prelude.{is_some, ◌≡◌, ◌<◌, ◌≤◌, [], codes, length, map, nat_le, nat_lt, ◌&&◌, sum_by, IfOk, IfSome};
 ghost use Rattle.std.specs.Option.{option_map};
@@ -11,7 +11,7 @@ ghost use Rattle.fdb_script.specs.declared.script.TheConstants.{MAX_CLIENTS, MAX
 
 use crate::reading::members::{items_within, member_within, whole_member, within_or};
 use crate::reading::tags::{priority_of, tag_of};
-use crate::reading::value::{get, item_count, items};
+use crate::reading::value::{get, items, list_at};
 use crate::script::{MAX_CLIENTS, MAX_COMMANDS, MAX_ROUNDS, MAX_THROTTLES, Setup, Throttle};
 use fdb_history::{MAX_VERSION, Sequence, Tag};
 use fdb_queue::{MAX_ELAPSED, MAX_RATE, MAX_ROOM, QueueConfig};
@@ -23,7 +23,7 @@ use std::alloc::{AllocError, Global};
 pub(crate) struct Frame<'v, 'a> {
     /// What it says besides its rounds.
     pub(crate) setup: Setup,
-    /// The values of each round.
+    /// Its rounds, each an array.
     pub(crate) rounds: &'v [Value<'a>],
     ghost epoch_ends_before: { setup.epoch_end < setup.recovery },
     ghost recovery_in_range: { setup.recovery ≤ MAX_VERSION },
@@ -137,7 +137,7 @@ fn has_few_commands(rounds: &[Value<'_>]) -> bool
 {
     let mut count = 0;
     for round in rounds {
-        let commands = item_count(round);
+        let commands = list_at(round).len();
         if commands > MAX_COMMANDS - count {
             return false;
         }

@@ -1,15 +1,16 @@
-use Rattle.std.proofs.Common.{◌≡◌, ◌-◌, ◌<◌, [], ◌∷◌, ◌++◌, true, is_some, if◌then◌else◌, length, nat_lt, Some, None, refl, sym, ap, ap₂, ◌∙◌, arith, rules}
+use Rattle.std.proofs.Common.{◌≡◌, ◌-◌, ◌<◌, [], ◌∷◌, true, unwrap_or, is_some, if◌then◌else◌, length, nat_lt, Some, None, refl, sym, ap, ap₂, ◌∙◌, arith, rules}
 use Rattle.std.specs.List.{list_all}
 use Rattle.json.specs.Token.{Token}
-use Rattle.json.specs.Json.{Json, array, object, parse_map, after_end_array, read_key, items, members, value}
+use Rattle.json.specs.Json.{Json, array, object, no_members, parse_map, after_end_array, read_key, items, members, value}
 use Rattle.json.specs.Reads.{token_of}
-use Rattle.json.specs.Value.{value_view}
+use Rattle.json.specs.Value.{value_view, members_view}
 use Rattle.json.specs.declared.value.Value.{String, Number, Bool, Null, the_lemmas}
 use Rattle.json.proofs.Grammar.{value_is, value-begin_array, value-begin_object, read_key-shorter, items_end, items_fail, items_more, members_end, members_no_key, members_fail, members_more}
 use Rattle.json.proofs.Trees.{view-Array, view-Object}
-use Rattle.fdb_script.specs.private.Kept.{kept, kept_items, kept_members, item_place, most_items}
+use Rattle.fdb_script.specs.private.Kept.{kept, kept_items, kept_members, item_place, most_items, with_member}
+use Rattle.fdb_script.specs.declared.reading.place.Place.TheVariants.{Scalar}
 use Rattle.fdb_script.specs.private.Plain.{is_token_in_range}
-use Rattle.fdb_script.proofs.KeptReading.{kept_array, kept_object, kept_of, none_of, kept_items_after, kept_members_after, items_turn, items_end_kept, length_kept, or_scalar, members_turn, members_end_kept, in_range_key}
+use Rattle.fdb_script.proofs.KeptReading.{kept_array, kept_object, kept_of, none_of, kept_items_after, items_turn, items_end_kept, members_turn, in_range_key}
 use Rattle.fdb_script.proofs.reading.kept.+read.Goals as goal
 
 pub read_kept-returns-in_err-token-clause-invalid : goal.read_kept-returns-in_err-token-clause-invalid
@@ -100,11 +101,11 @@ read_items-returns-in_err-item-clause-invalid t c invalid fine =
     let l = c.loop-alloc in
     let n = l.invariant.0 in
     let going : (after_end_array l.reader ≡ None) × (c.take_end_array.new.self ≡ l.reader) = grind arith in
-    let within : list_all is_token_in_range c.take_end_array.new.self ≡ true = rw going.1 (sym l.invariant.6 ∙ fine) in
+    let within : list_all is_token_in_range c.take_end_array.new.self ≡ true = rw going.1 (sym l.invariant.5 ∙ fine) in
     let failed : p c.take_end_array.new.self ≡ None = grind (arith, within) in
     let place = item_place c.args.place in
     none_of (kept_items place (most_items c.args.place)) _
-    (l.invariant.3 ∙ ap (parse_map (kept_items_after l.found.items place (most_items c.args.place - length l.found.items))) (items_fail p n l.reader going.0 (rw (← going.1) failed)))
+    (l.invariant.2 ∙ ap (parse_map (kept_items_after l.found.items place (most_items c.args.place - length l.found.items))) (items_fail p n l.reader going.0 (rw (← going.1) failed)))
 
 pub read_items-loop-alloc-preserved : goal.read_items-loop-alloc-preserved
 read_items-loop-alloc-preserved t c =
@@ -117,18 +118,19 @@ read_items-loop-alloc-preserved t c =
     let r = c.read_kept.new.reader in
     let place = item_place c.args.place in
     let less : length r < length l.reader = rw (← going.1) done.shorter in
-    let read = kept_of (kept place) (p l.reader) (value_view v) r (rw (← going.1) (grind (arith, done.ok))) in
+    let room = nat_lt c.len-number.result c.most_items-most.result in
+    let where_it_is : c.item.result ≡ (if room then place else Scalar) = grind arith in
+    let read = kept_of (kept (if room then place else Scalar)) (p l.reader) (value_view v) r (ap (λ q. parse_map (kept q) (p l.reader)) (sym where_it_is) ∙ ap (λ s. parse_map (kept c.item.result) (p s)) (sym going.1) ∙ done.ok) in
     let turn = items_more p n l.reader r read.0 (omega (arith, l.invariant.1)) going.0 read.1 in
-    let has_room : nat_lt c.len.result c.most_items-most.result ≡ nat_lt (length l.found.items) (most_items c.args.place) = grind arith in
+    let has_room : room ≡ nat_lt (length l.found.items) (most_items c.args.place) = grind arith in
     let pushed = c.in_ok-push_if.ensures.ok in
     let kept_so = items_turn l.found.items c.push_if.new.list.items v place (most_items c.args.place) read.0 _ has_room pushed read.2 (items p (n - 1) r) in (
       n - 1,
       omega (arith, l.invariant.1),
-      length_kept l.found.items c.push_if.new.list.items v (most_items c.args.place) _ has_room pushed l.invariant.2,
-      l.invariant.3 ∙ ap (parse_map (kept_items_after l.found.items place (most_items c.args.place - length l.found.items))) turn ∙ kept_so,
-      omega (arith, l.invariant.4),
-      l.invariant.5,
-      l.invariant.6 ∙ ap (list_all is_token_in_range) (sym going.1) ∙ done.in_range,
+      l.invariant.2 ∙ ap (parse_map (kept_items_after l.found.items place (most_items c.args.place - length l.found.items))) turn ∙ kept_so,
+      omega (arith, l.invariant.3),
+      l.invariant.4,
+      l.invariant.5 ∙ ap (list_all is_token_in_range) (sym going.1) ∙ done.in_range,
     )
 
 pub read_items-returns-clause-ok : goal.read_items-returns-clause-ok
@@ -138,7 +140,7 @@ read_items-returns-clause-ok t c =
     let n = l.invariant.0 in
     let r = c.take_end_array.new.self in
     let place = item_place c.args.place in
-    l.invariant.3 ∙ ap (parse_map (kept_items_after l.found.items place (most_items c.args.place - length l.found.items))) (items_end p n l.reader r l.invariant.1 (grind arith))
+    l.invariant.2 ∙ ap (parse_map (kept_items_after l.found.items place (most_items c.args.place - length l.found.items))) (items_end p n l.reader r l.invariant.1 (grind arith))
     ∙ ap (λ js. Some (js, r)) (items_end_kept l.found.items place (most_items c.args.place - length l.found.items))
 
 pub read_members-returns-in_err-key-clause-invalid : goal.read_members-returns-in_err-key-clause-invalid
@@ -146,7 +148,8 @@ read_members-returns-in_err-key-clause-invalid t c invalid fine =
     let p = value c.args.depth in
     let l = c.loop-found in
     let n = l.invariant.0 in
-    none_of (kept_members c.args.place) _ (l.invariant.2 ∙ ap (parse_map (kept_members_after l.found.items c.args.place)) (members_no_key p n l.reader c.in_err-key.ensures.value))
+    none_of (kept_members c.args.place no_members) _
+    (l.invariant.2 ∙ ap (parse_map (kept_members c.args.place (members_view l.found.items))) (members_no_key p n l.reader c.in_err-key.ensures.value))
 
 pub read_members-returns-in_err-member-clause-invalid : goal.read_members-returns-in_err-member-clause-invalid
 read_members-returns-in_err-member-clause-invalid t c invalid fine =
@@ -158,7 +161,8 @@ read_members-returns-in_err-member-clause-invalid t c invalid fine =
     let key : read_key l.reader ≡ Some (Some k, s) = grind arith in
     let within : list_all is_token_in_range s ≡ true = sym (in_range_key l.reader (Some k) s key) ∙ sym l.invariant.4 ∙ fine in
     let failed : p s ≡ None = grind (arith, within) in
-    none_of (kept_members c.args.place) _ (l.invariant.2 ∙ ap (parse_map (kept_members_after l.found.items c.args.place)) (members_fail p n k l.reader s key failed))
+    none_of (kept_members c.args.place no_members) _
+    (l.invariant.2 ∙ ap (parse_map (kept_members c.args.place (members_view l.found.items))) (members_fail p n k l.reader s key failed))
 
 pub read_members-loop-found-preserved : goal.read_members-loop-found-preserved
 read_members-loop-found-preserved t c =
@@ -174,15 +178,16 @@ read_members-loop-found-preserved t c =
     let less = read_key-shorter l.reader (Some k) s key in
     let lesser : length r < length s = done.shorter in
     let inner = c.member-inner.result in
-    let where_it_is : c.unwrap_or.result ≡ or_scalar inner = grind arith in
+    let where_it_is : c.unwrap_or.result ≡ unwrap_or inner Scalar = grind arith in
     let wanted : c.is_some.result ≡ is_some inner = grind arith in
-    let pushed : c.push_if.new.list.items ≡ (if is_some inner then l.found.items ++ (c.in-Some.key, v) ∷ [] else l.found.items) = rw (← wanted) c.in_ok-push_if.ensures.ok in
-    let read = kept_of (kept (or_scalar inner)) (p s) (value_view v) r (ap (λ q. parse_map (kept q) (p s)) (sym where_it_is) ∙ done.ok) in
+    let put : members_view c.put_if.new.members.items ≡ (if is_some inner then with_member k (value_view v) (members_view l.found.items) else members_view l.found.items) =
+    rw (← wanted) c.in_ok-put_if.ensures.ok in
+    let read = kept_of (kept (unwrap_or inner Scalar)) (p s) (value_view v) r (ap (λ q. parse_map (kept q) (p s)) (sym where_it_is) ∙ done.ok) in
     let turn = members_more p n k l.reader s r read.0 (omega (arith, l.invariant.1)) key read.1 in
-    let kept_so = members_turn l.found.items c.push_if.new.list.items (c.in-Some.key, v) c.args.place inner read.0 c.member-inner.ensures pushed read.2 (members p (n - 1) r) in (
+    let kept_so = members_turn l.found.items c.put_if.new.members.items k v c.args.place inner read.0 c.member-inner.ensures put read.2 (members p (n - 1) r) in (
       n - 1,
       omega (arith, l.invariant.1),
-      l.invariant.2 ∙ ap (parse_map (kept_members_after l.found.items c.args.place)) turn ∙ kept_so,
+      l.invariant.2 ∙ ap (parse_map (kept_members c.args.place (members_view l.found.items))) turn ∙ kept_so,
       omega (arith, l.invariant.3),
       l.invariant.4 ∙ in_range_key l.reader (Some k) s key ∙ done.in_range,
     )
@@ -193,4 +198,4 @@ read_members-returns-clause-ok t c =
     let l = c.loop-found in
     let n = l.invariant.0 in
     let r = c.next_key.new.self in
-    l.invariant.2 ∙ ap (parse_map (kept_members_after l.found.items c.args.place)) (members_end p n l.reader r l.invariant.1 (grind arith)) ∙ ap (λ ms. Some (ms, r)) (members_end_kept l.found.items c.args.place)
+    l.invariant.2 ∙ ap (parse_map (kept_members c.args.place (members_view l.found.items))) (members_end p n l.reader r l.invariant.1 (grind arith))

@@ -1,9 +1,10 @@
 use Rattle.std.proofs.Common.{◌≡◌, ℕ, ◌+◌, ◌-◌, ◌*◌, ◌≤◌, length}
 use Rattle.std.specs.List.{list_all}
-use Rattle.json.specs.Json.{items, members, value, parse_map}
+use Rattle.json.specs.Json.{items, members, no_members, value, parse_map}
+use Rattle.json.specs.Value.{members_view}
 use Rattle.fdb_script.specs.private.Kept.{item_place, most_items, kept_items, kept_members}
 use Rattle.fdb_script.specs.private.Plain.{is_token_in_range}
-use Rattle.fdb_script.proofs.KeptReading.{kept_items_after, kept_members_after}
+use Rattle.fdb_script.proofs.KeptReading.{kept_items_after}
 use Rattle.fdb_script.proofs.reading.kept.+read.Given as goal
 
 abbrev pub decreases-read_kept : goal.decreases-read_kept
@@ -19,7 +20,7 @@ decreases-read_members l = 2 * l.depth + 1
 -- before are in range
 abbrev pub invariant-read_items-loop-alloc : goal.invariant-read_items-loop-alloc
 invariant-read_items-loop-alloc l =
-    (n : ℕ) × (length l.reader ≤ n) × (length l.found.items ≤ most_items l.place)
+    (n : ℕ) × (length l.reader ≤ n)
     × (parse_map (kept_items (item_place l.place) (most_items l.place)) (items (value l.depth) (length l.initial.reader) l.initial.reader)
     ≡ parse_map (kept_items_after l.found.items (item_place l.place) (most_items l.place - length l.found.items)) (items (value l.depth) n l.reader))
     × (length l.reader ≤ length l.initial.reader) × (l.most ≡ most_items l.place)
@@ -33,8 +34,8 @@ decreases-read_items-loop-alloc l = length l.reader
 abbrev pub invariant-read_members-loop-found : goal.invariant-read_members-loop-found
 invariant-read_members-loop-found l =
     (n : ℕ) × (length l.reader ≤ n)
-    × (parse_map (kept_members l.place) (members (value l.depth) (length l.initial.reader) l.initial.reader)
-    ≡ parse_map (kept_members_after l.found.items l.place) (members (value l.depth) n l.reader))
+    × (parse_map (kept_members l.place no_members) (members (value l.depth) (length l.initial.reader) l.initial.reader)
+    ≡ parse_map (kept_members l.place (members_view l.found.items)) (members (value l.depth) n l.reader))
     × (length l.reader ≤ length l.initial.reader)
     × (list_all is_token_in_range l.initial.reader ≡ list_all is_token_in_range l.reader)
 
