@@ -77,7 +77,7 @@ def with_members(size, member, end):
 
 
 def longest():
-    """Names scripts that are as long as may be, nearly all of which is ignored or overwritten, with what is printed."""
+    """Names scripts about as long as may be, nearly all of which is ignored or overwritten, with what is printed."""
     nothing = done(NO_REPLIES)
     yield "bytes, in one text", with_note(MOST_BYTES), nothing
     for value in ("0", '""', "[]", "[0]", "{}", '{"a":0}', '"aaaaaaaa"', "0.5", "[[0]]"):
@@ -92,30 +92,40 @@ def longest():
     yield "bytes, in tags that are overwritten again and again", script(f"[[{tagged}]]").encode(), expected(script(f"[[{{{read}]]").encode())
 
 
+def crowded():
+    """Names scripts about as long as may be, with far too many commands, which are overwritten or not, and how they end."""
+    for item in ("0", '{"do":0}', '{"tags":[0]}'):
+        commands = f'[{",".join([item] * 8_000)}]'
+        overwritten = with_values(MOST_BYTES, commands, "rounds")
+        yield f"bytes, in far too many commands {item} that are overwritten", overwritten, done(NO_REPLIES)
+        kept = overwritten.replace(b',"rounds":[]', b"")
+        yield f"bytes, in far too many commands {item}", kept, refused("BadLimit")
+
+
 def largest():
-    """Names scripts that are as large as may be in one way or another, with the arguments to run them with."""
-    whole = ["--history", "--proxies", "16"]
-    yield "all its limits", crowd_at_all_limits(MOST_BYTES), whole
-    for name, given, _ in longest():
-        yield name, given, []
+    """Names scripts that are as large as may be in one way or another, with the arguments to run them with, and how they end."""
+    whole, lawful = ["--history", "--proxies", "16"], Ran(DONE, None, b"")
+    yield "all its limits", crowd_at_all_limits(MOST_BYTES), whole, lawful
+    for name, given, ends in [*longest(), *crowded()]:
+        yield name, given, [], ends
     crowds = [[do("grv", who) for who in range(64)]] * (MOST_COMMANDS // 64)
     for name, rounds, top in [*large(), ("reads of 64 clients in each round", crowds, {"clients": 64})]:
-        yield f"commands: {name}", written(rounds, **top), whole
+        yield f"commands: {name}", written(rounds, **top), whole, lawful
 
 
 def work(program):
     """The largest scripts take a bounded time of the processor, the starts of their threads included."""
-    for name, given, arguments in largest():
+    for name, given, arguments, ends in largest():
         before = resource.getrusage(resource.RUSAGE_CHILDREN)
         ran = run([program, *arguments], given)
         after = resource.getrusage(resource.RUSAGE_CHILDREN)
         spent = after.ru_utime + after.ru_stime - before.ru_utime - before.ru_stime
         fault = f"it took {spent:.1f} s" if spent > WORK_SECONDS else None
-        yield name, fault_of(ran, Ran(DONE, None, b"")) or fault
+        yield name, fault_of(ran, ends) or fault
 
 
 def held(program):
-    """What is ignored or overwritten takes no memory: the longest scripts are read though not much of it can be had."""
+    """The longest scripts are read though little memory can be had: what is ignored is not held, nor what is overwritten."""
     for name, given, ends in longest():
         ran = run(["sh", "-c", f'ulimit -v {HELD_KIBIBYTES}; exec "$0"', program], given)
         yield name, fault_of(ran, ends)

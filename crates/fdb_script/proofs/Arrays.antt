@@ -1,4 +1,4 @@
--- Arrays of a JSON value as lists, read item by item.
+-- What is read of the rest of a list, with what was read before it.
 use Rattle.std.proofs.Common.{List, ◌++◌, Result, Ok, Err, Option, None, Some}
 use Rattle.fdb_script.specs.declared.error.ScriptError.{ScriptError}
 

@@ -1,4 +1,4 @@
--- A script means what it means when only what is looked at of it is kept.
+-- A script means the same when only what is looked at of it is kept.
 use Rattle.std.proofs.Common.{◌≡◌, ℕ, zero, suc, ◌+◌, ◌≤◌, ◌<◌, ◌==◌, min, nat_eq, nat_le, nat_lt, Bool, true, false, not, ◌&&◌, cond, bytes_eq, List, [], ◌∷◌, map, length, sum_by, true≢false, Result, Ok, Err, Option, None, Some, option_map, option_and_then, codes, refl, sym, ap, ◌∙◌, subst, subst₂, arith, inl, inr, ◌⊎◌, if◌then◌else◌}
 use Rattle.std.specs.Cmp.Lexicographic.{pointwise}
 use Rattle.std.proofs.lemmas.Bool.{and_parts, cases_lt, le-leb, leb-true, lt-leb}

@@ -5,7 +5,7 @@ use Rattle.std.specs.Borrow.{Bor}
 use Rattle.std.specs.List.{list_all}
 use Rattle.json.specs.Token.{Token}
 use Rattle.json.specs.Json as json
-use Rattle.json.specs.Json.{parse_map, after_end_array, read_key}
+use Rattle.json.specs.Json.{parse_map, read_key}
 use Rattle.json.specs.Value.{value_view, items_view, members_view}
 use Rattle.json.specs.declared.value.Value.{Value}
 use Rattle.json.proofs.Found.{not_found, Some_inj}
@@ -96,18 +96,13 @@ put_member {A} m (n ∷ ms) = go (bytes_eq n.0.now m.0.now) (put_member m ms)
     go true rest = rest
     go false rest = ap (json.member n.0.now (value_view n.1)) rest
 
--- ---- numbers in range, over a key and over the end of an array
+-- ---- numbers in range, over a key
 
 pub in_range_key : (ts : List Token) (k : Option (List ℕ)) (rest : List Token) → read_key ts ≡ Some (k, rest) → list_all is_token_in_range ts ≡ list_all is_token_in_range rest
 in_range_key [] k rest e = not_found (k, rest) e
 in_range_key (Token.key s ∷ ts) k rest e = ap (λ x. list_all is_token_in_range x.1) (Some_inj (Some s, ts) (k, rest) e)
 in_range_key (Token.end_object ∷ ts) k rest e = ap (λ x. list_all is_token_in_range x.1) (Some_inj (None, ts) (k, rest) e)
 in_range_key (t ∷ ts) k rest e = not_found (k, rest) e
-
-pub in_range_end : (ts rest : List Token) → after_end_array ts ≡ Some rest → list_all is_token_in_range ts ≡ list_all is_token_in_range rest
-in_range_end [] rest e = not_found rest e
-in_range_end (Token.end_array ∷ ts) rest e = ap (list_all is_token_in_range) (Some_inj ts rest e)
-in_range_end (t ∷ ts) rest e = not_found rest e
 
 -- ---- what is kept of an array and of an object
 

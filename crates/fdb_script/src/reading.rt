@@ -33,8 +33,8 @@ const MAX_DEPTH: usize = 127;
 /// It is refused as `NotJson` where the bytes are no JSON text that `serde_json` reads, then as
 /// `BadLimit` for a fault in the whole, then as `BadField` with the first command that has a fault,
 /// and as `Memory` where memory is refused. It takes time in proportion to the bytes. While it reads
-/// it keeps of each object the last member of each name that counts there, and of each list at most
-/// one item more than it may have; what else there is takes no memory.
+/// it takes a byte for each of them, and keeps of each object the last member so far of each name
+/// that counts there, and of each list at most one item more than it may have.
 pub fn read_script(alloc: Global, bytes: &[u8]) -> Result<Script, ScriptError>
     ensures { ReadsAs bytes.now result }
 {

@@ -1,4 +1,4 @@
-//! What is looked at of a JSON text, read without memory for what is not.
+//! What is looked at of a JSON text, and nothing else of it.
 
 ghost use Rattle.std.specs.Prelude.{◌≡◌, ◌≢◌, ◌<◌, ◌∷◌, ◌++◌, [], length, true, if◌then◌else◌, IfOk, OnOk, Err, None, Some};
 ghost use Rattle.std.specs.List.{list_all};

@@ -22,13 +22,14 @@ pub(crate) enum Place {
     Command,
     /// A command's list of tags.
     Tags,
-    /// A number, a text, a flag or null. Of a list or an object here nothing is looked at.
+    /// A number, a text, a flag or null, or what is passed over. Of a list or an object here nothing
+    /// is kept.
     Scalar,
 }
 
 impl Place {
-    /// Where the item of a list with this number stands. Beyond the
-    /// most that are looked at nothing is: it stands for a scalar.
+    /// Where the item with this number stands in a list. One beyond those that are looked at stands
+    /// as a scalar does, so that nothing in it is kept.
     pub(crate) fn item(self, number: usize) -> Place
         ensures { result ≡ item_place_at self number }
     {

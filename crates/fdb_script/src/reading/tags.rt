@@ -1,6 +1,6 @@
 //! Tags and priorities.
 
-ghost use Rattle.std.specs.Prelude.{◌≡◌, IfOk, [], map};
+ghost use Rattle.std.specs.Prelude.{◌≡◌, IfOk, []};
 ghost use Rattle.std.specs.List.{list_all};
 ghost use Rattle.fdb_script.specs.private.View.{view};
 ghost use Rattle.fdb_script.specs.Plan.{is_tag, is_tag_byte};
