@@ -1,5 +1,5 @@
 -- A script means the same when only what is looked at of it is kept.
-use Rattle.std.proofs.Common.{◌≡◌, ℕ, zero, suc, ◌+◌, ◌≤◌, ◌<◌, ◌==◌, min, nat_eq, nat_le, nat_lt, Bool, true, false, not, ◌&&◌, cond, bytes_eq, List, [], ◌∷◌, map, length, sum_by, true≢false, Result, Ok, Err, Option, None, Some, option_map, option_and_then, codes, refl, sym, ap, ◌∙◌, subst, subst₂, arith, inl, inr, ◌⊎◌, if◌then◌else◌}
+use Rattle.std.proofs.Common.{◌≡◌, ℕ, zero, suc, ◌+◌, ◌-◌, ◌≤◌, ◌<◌, ◌==◌, min, nat_eq, nat_le, nat_lt, Bool, true, false, not, ◌&&◌, cond, bytes_eq, List, [], ◌∷◌, map, length, sum_by, true≢false, Result, Ok, Err, Option, None, Some, option_map, option_and_then, codes, refl, sym, ap, ◌∙◌, subst, subst₂, arith, inl, inr, ◌⊎◌, if◌then◌else◌}
 use Rattle.std.specs.Cmp.Lexicographic.{pointwise}
 use Rattle.std.proofs.lemmas.Bool.{and_parts, cases_lt, le-leb, leb-true, lt-leb}
 use Rattle.std.proofs.lemmas.List.Sums.{sum_by-cons}
@@ -23,7 +23,7 @@ use Rattle.fdb_script.specs.declared.script.Command.{Command}
 use Rattle.fdb_script.specs.declared.script.Setup.{Setup}
 use Rattle.fdb_script.specs.declared.script.Throttle.{Throttle}
 use Rattle.fdb_script.specs.declared.script.TheConstants.{MAX_CLIENTS, MAX_THROTTLES, MAX_ROUNDS, MAX_COMMANDS, MAX_TAGS}
-use Rattle.fdb_script.specs.private.Kept.{item_place, most_items, member_place, with_member, if_looked_at, kept, kept_items, kept_members}
+use Rattle.fdb_script.specs.private.Kept.{count_of, place_after, item_place, most_items, member_place, with_member, if_looked_at, kept, kept_items, kept_members}
 use Rattle.fdb_script.specs.private.Plain.{plain, plain_items}
 use Rattle.fdb_script.proofs.Plain.{get-plain}
 
@@ -176,17 +176,23 @@ values-each : (js : json.Items) → values js ≡ each plain js
 values-each json.no_items = refl
 values-each (json.item j js) = ap (λ rest. plain j ∷ rest) (values-each js)
 
--- where there are no more items than are kept, each is
-values-kept_items : (place : Place) (most : ℕ) (js : json.Items) → length (values js) ≤ most
+-- where there are no more items than are kept, each is, if all stand at one place
+values-kept_items : (place : Place) → ((j : json.Json) → place_after place j ≡ place) → (most : ℕ) (js : json.Items) → length (values js) ≤ most
     → values (kept_items place most js) ≡ each (λ j. plain (kept place j)) js
-values-kept_items place most json.no_items few = refl
-values-kept_items place zero (json.item j js) few = absurd (omega arith)
-values-kept_items place (suc most) (json.item j js) few = ap (λ rest. plain (kept place j) ∷ rest) (values-kept_items place most js (omega arith))
+values-kept_items place one most json.no_items few = refl
+values-kept_items place one zero (json.item j js) few = absurd (omega arith)
+values-kept_items place one (suc most) (json.item j js) few =
+    ap (λ p. plain (kept place j) ∷ values (kept_items p most js)) (one (kept place j))
+    ∙ ap (λ rest. plain (kept place j) ∷ rest) (values-kept_items place one most js (omega arith))
 
 length-kept_items : (place : Place) (most : ℕ) (js : json.Items) → length (values (kept_items place most js)) ≡ min most (length (values js))
 length-kept_items place most json.no_items = omega arith
 length-kept_items place zero (json.item j js) = omega arith
-length-kept_items place (suc most) (json.item j js) = omega (arith, length-kept_items place most js)
+length-kept_items place (suc most) (json.item j js) = omega (arith, length-kept_items (place_after place (kept place j)) most js)
+
+count_of-values : (js : json.Items) → count_of js ≡ length (values js)
+count_of-values json.no_items = refl
+count_of-values (json.item j js) = ap suc (count_of-values js)
 
 -- one more than may be is still too many
 nat_le-kept : (most count counted : ℕ) → min (most + 1) count ≤ counted → counted ≤ count → nat_le counted most ≡ nat_le count most
@@ -223,18 +229,18 @@ every-each reading f g same json.no_items = refl
 every-each reading f g same (json.item j js) =
     λ i. option_and_then (λ first. option_map (λ rest. first ∷ rest) (every-each reading f g same js i)) (same j i)
 
-list-kept : {T : Type 0} (reading : Data → Option T) (most : ℕ) (place : Place) → most_items place ≡ most + 1 → IsKept reading (item_place place)
+list-kept : {T : Type 0} (reading : Data → Option T) (most : ℕ) (place : Place) → most_items place ≡ most + 1 → ((j : json.Json) → place_after (item_place place) j ≡ item_place place) → IsKept reading (item_place place)
     → IsKept (λ value. option_and_then (every reading) (array_within most value)) place
-list-kept reading most place one_more same =
+list-kept reading most place one_more one same =
     list-related (λ a b. a ≡ b) refl (every reading) most place one_more (λ js few.
-    ap (every reading) (values-kept_items (item_place place) (most_items place) js (omega arith))
+    ap (every reading) (values-kept_items (item_place place) one (most_items place) js (omega arith))
     ∙ every-each reading (λ j. plain (kept (item_place place) j)) plain same js
     ∙ ap (every reading) (sym (values-each js)))
 
 -- ---- throttles and commands
 
 tags_of-kept : IsKept tags_of Tags
-tags_of-kept = list-kept tag_of MAX_TAGS Tags refl tag_of-kept
+tags_of-kept = list-kept tag_of MAX_TAGS Tags refl (λ j. refl) tag_of-kept
 
 throttle_of-kept : IsKept throttle_of AThrottle
 throttle_of-kept j =
@@ -244,7 +250,7 @@ throttle_of-kept j =
     (member-kept whole (codes "expires") AThrottle Scalar refl whole-kept j i)
 
 throttles_of-kept : IsKept throttles_of Throttles
-throttles_of-kept = list-kept throttle_of MAX_THROTTLES Throttles refl throttle_of-kept
+throttles_of-kept = list-kept throttle_of MAX_THROTTLES Throttles refl (λ j. refl) throttle_of-kept
 
 grv_of-kept : IsKept grv_of ACommand
 grv_of-kept j =
@@ -304,9 +310,14 @@ command_of-kept clients j =
 abbrev cut_at : ℕ → json.Items → List Data
 cut_at most js = values (kept_items ACommand most js)
 
--- the same rounds, some of them cut
+-- rounds that are cut at so many commands in all
+abbrev cut_rounds : ℕ → List json.Items → List (List Data)
+cut_rounds left [] = []
+cut_rounds left (js ∷ rounds) = cut_at left js ∷ cut_rounds (left - length (cut_at left js)) rounds
+
+-- the same rounds, cut and not
 abbrev AreCut : ℕ → Option (List (List Data)) → Option (List (List Data)) → Type 0
-AreCut most cut uncut = (rounds : Option (List json.Items)) × (cut ≡ option_map (map (cut_at most)) rounds) × (uncut ≡ option_map (map values) rounds)
+AreCut left cut uncut = (rounds : Option (List json.Items)) × (cut ≡ option_map (cut_rounds left) rounds) × (uncut ≡ option_map (map values) rounds)
 
 abbrev all_arrays : json.Items → Option (List json.Items)
 all_arrays json.no_items = Some []
@@ -334,18 +345,29 @@ array_of-plain (json.string s) = refl
 array_of-plain (json.array js) = refl
 array_of-plain (json.object ms) = refl
 
-array_of-kept : (j : json.Json) → array_of (plain (kept Round j)) ≡ option_map (cut_at (MAX_COMMANDS + 1)) (find.as_array j)
-array_of-kept json.null = refl
-array_of-kept (json.boolean b) = refl
-array_of-kept (json.number s) = refl
-array_of-kept (json.string s) = refl
-array_of-kept (json.array js) = refl
-array_of-kept (json.object ms) = refl
+cut_first : (left : ℕ) (js : json.Items) (rest : Option (List json.Items))
+    → option_map (λ others. cut_at left js ∷ others) (option_map (cut_rounds (left - length (cut_at left js))) rest) ≡ option_map (cut_rounds left) (option_map (λ others. js ∷ others) rest)
+cut_first left js None = refl
+cut_first left js (Some rest) = refl
+
+every-cut : (left most : ℕ) (js : json.Items) → length (values js) ≤ most
+    → every array_of (values (kept_items (Round left) most js)) ≡ option_map (cut_rounds left) (all_arrays js)
+every-cut left most json.no_items few = refl
+every-cut left zero (json.item j js) few = absurd (omega arith)
+every-cut left (suc most) (json.item json.null js) few = refl
+every-cut left (suc most) (json.item (json.boolean b) js) few = refl
+every-cut left (suc most) (json.item (json.number s) js) few = refl
+every-cut left (suc most) (json.item (json.string s) js) few = refl
+every-cut left (suc most) (json.item (json.array k) js) few =
+    ap (λ count. option_map (λ others. cut_at left k ∷ others) (every array_of (values (kept_items (Round (left - count)) most js)))) (count_of-values (kept_items ACommand left k))
+    ∙ ap (option_map (λ others. cut_at left k ∷ others)) (every-cut (left - length (cut_at left k)) most js (omega arith))
+    ∙ cut_first left k (all_arrays js)
+every-cut left (suc most) (json.item (json.object ms) js) few = refl
 
 arrays_of-kept : (j : json.Json) → AreCut (MAX_COMMANDS + 1) (arrays_of (plain (kept Rounds j))) (arrays_of (plain j))
 arrays_of-kept = list-related (AreCut (MAX_COMMANDS + 1)) (None, refl, refl) (every array_of) MAX_ROUNDS Rounds refl (λ js few. (
   all_arrays js,
-  ap (every array_of) (values-kept_items Round (MAX_ROUNDS + 1) js (omega arith)) ∙ every-array_of (cut_at (MAX_COMMANDS + 1)) (λ j. plain (kept Round j)) array_of-kept js,
+  every-cut (MAX_COMMANDS + 1) (MAX_ROUNDS + 1) js (omega arith),
   ap (every array_of) (values-each js) ∙ every-array_of values plain array_of-plain js,
 ))
 
@@ -359,27 +381,28 @@ commands_from-each clients round place f g same (json.item j js) =
 commands_from-cut_at : (clients round most : ℕ) (js : json.Items) → length (values js) ≤ most
     → commands_from clients round 0 (cut_at most js) ≡ commands_from clients round 0 (values js)
 commands_from-cut_at clients round most js few =
-    ap (commands_from clients round 0) (values-kept_items ACommand most js few)
+    ap (commands_from clients round 0) (values-kept_items ACommand (λ j. refl) most js few)
     ∙ commands_from-each clients round 0 (λ j. plain (kept ACommand j)) plain (command_of-kept clients) js
     ∙ ap (commands_from clients round 0) (sym (values-each js))
 
-rounds_from-cut_at : (clients round most : ℕ) (rounds : List json.Items) → sum_by length (map values rounds) ≤ most
-    → rounds_from clients round (map (cut_at most) rounds) ≡ rounds_from clients round (map values rounds)
-rounds_from-cut_at clients round most [] few = refl
-rounds_from-cut_at clients round most (js ∷ rounds) few =
+rounds_from-cut_rounds : (clients round left : ℕ) (rounds : List json.Items) → sum_by length (map values rounds) ≤ left
+    → rounds_from clients round (cut_rounds left rounds) ≡ rounds_from clients round (map values rounds)
+rounds_from-cut_rounds clients round left [] few = refl
+rounds_from-cut_rounds clients round left (js ∷ rounds) few =
     let sum = sum_by-cons length (values js) (map values rounds) in
-    let first = commands_from-cut_at clients round most js (omega arith) in
-    let rest = rounds_from-cut_at clients (round + 1) most rounds (omega arith) in
+    let count = length-kept_items ACommand left js in
+    let first = commands_from-cut_at clients round left js (omega arith) in
+    let rest = rounds_from-cut_rounds clients (round + 1) (left - length (cut_at left js)) rounds (omega arith) in
     λ i. then_rounds (first i) (rest i)
 
 -- how many commands are left where rounds are cut
-sum-cut_at : (most : ℕ) (rounds : List json.Items)
-    → (min most (sum_by length (map values rounds)) ≤ sum_by length (map (cut_at most) rounds)) × (sum_by length (map (cut_at most) rounds) ≤ sum_by length (map values rounds))
-sum-cut_at most [] = (omega arith, omega arith)
-sum-cut_at most (js ∷ rounds) =
-    let rest = sum-cut_at most rounds in
-    let first = length-kept_items ACommand most js in
-    let cut = sum_by-cons length (cut_at most js) (map (cut_at most) rounds) in
+sum-cut_rounds : (left : ℕ) (rounds : List json.Items)
+    → (min left (sum_by length (map values rounds)) ≤ sum_by length (cut_rounds left rounds)) × (sum_by length (cut_rounds left rounds) ≤ sum_by length (map values rounds))
+sum-cut_rounds left [] = (omega arith, omega arith)
+sum-cut_rounds left (js ∷ rounds) =
+    let rest = sum-cut_rounds (left - length (cut_at left js)) rounds in
+    let first = length-kept_items ACommand left js in
+    let cut = sum_by-cons length (cut_at left js) (cut_rounds (left - length (cut_at left js)) rounds) in
     let uncut = sum_by-cons length (values js) (map values rounds) in
     (omega arith, omega arith)
 
@@ -400,19 +423,19 @@ tested_plan-same setup cut uncut false same = refl
 
 -- rounds that are cut are too many, cut or not
 tested_plan-cut_at : (most : ℕ) (setup : Setup) (rounds : List json.Items) (test : Bool)
-    → framed_plan (if test && nat_le (sum_by length (map (cut_at (most + 1)) rounds)) most then Some (framed setup (map (cut_at (most + 1)) rounds)) else None)
+    → framed_plan (if test && nat_le (sum_by length (cut_rounds (most + 1) rounds)) most then Some (framed setup (cut_rounds (most + 1) rounds)) else None)
     ≡ framed_plan (if test && nat_le (sum_by length (map values rounds)) most then Some (framed setup (map values rounds)) else None)
 tested_plan-cut_at most setup rounds test =
-    let cut = map (cut_at (most + 1)) rounds in
+    let cut = cut_rounds (most + 1) rounds in
     let uncut = map values rounds in
-    let sums = sum-cut_at (most + 1) rounds in
+    let sums = sum-cut_rounds (most + 1) rounds in
     ap (λ few. framed_plan (if test && few then Some (framed setup cut) else None)) (nat_le-kept most (sum_by length uncut) (sum_by length cut) sums.0 sums.1)
     ∙ tested_plan-same setup cut uncut (test && nat_le (sum_by length uncut) most) (λ both.
     let few : sum_by length uncut ≤ most = leb-true (sum_by length uncut) most (and_parts test (nat_le (sum_by length uncut) most) both).1 in
-    rounds_from-cut_at setup.clients 0 (most + 1) rounds (omega arith))
+    rounds_from-cut_rounds setup.clients 0 (most + 1) rounds (omega arith))
 
 framed_plan-cut_at : (throttles : Option (List Throttle)) (rounds : Option (List json.Items)) (epoch_end recovery clients : Option ℕ) (config : Option QueueConfig) (elapsed : Option ℕ)
-    → framed_plan (checked is_frame (frame_with throttles (option_map (map (cut_at (MAX_COMMANDS + 1))) rounds) epoch_end recovery clients config elapsed))
+    → framed_plan (checked is_frame (frame_with throttles (option_map (cut_rounds (MAX_COMMANDS + 1)) rounds) epoch_end recovery clients config elapsed))
     ≡ framed_plan (checked is_frame (frame_with throttles (option_map (map values) rounds) epoch_end recovery clients config elapsed))
 framed_plan-cut_at (Some throttles) (Some rounds) (Some epoch_end) (Some recovery) (Some clients) (Some config) (Some elapsed) =
     tested_plan-cut_at MAX_COMMANDS

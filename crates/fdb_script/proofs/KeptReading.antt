@@ -10,7 +10,7 @@ use Rattle.json.specs.Value.{value_view, items_view, members_view}
 use Rattle.json.specs.declared.value.Value.{Value}
 use Rattle.json.proofs.Found.{not_found, Some_inj}
 use Rattle.json.proofs.Trees.{items_before, items_before-no_items, one_more_item}
-use Rattle.fdb_script.specs.private.Kept.{kept, kept_items, kept_members, item_place, most_items, member_place, with_member, if_looked_at}
+use Rattle.fdb_script.specs.private.Kept.{kept, kept_items, kept_members, count_of, place_after, item_place, most_items, member_place, with_member, if_looked_at}
 use Rattle.fdb_script.specs.private.Plain.{is_token_in_range}
 use Rattle.fdb_script.specs.declared.reading.place.Place.{Place}
 use Rattle.fdb_script.specs.declared.reading.place.Place.TheVariants.{Scalar}
@@ -36,36 +36,46 @@ none_kept : (place : Place) (js : json.Items) → kept_items place 0 js ≡ json
 none_kept place json.no_items = refl
 none_kept place (json.item j js) = refl
 
-pub items_kept : {A : Type 0} (found more : List (Value A)) (v : Value A) (place : Place) (most : ℕ) (j : json.Json)
+items_kept : {A : Type 0} (found more : List (Value A)) (v : Value A) (place : Place) (most : ℕ) (j : json.Json)
     → more ≡ found ++ v ∷ [] → length found < most → kept place j ≡ value_view v → (o : Option (json.Items × List Token))
-    → parse_map (kept_items_after found place (most - length found)) (parse_map (json.item j) o) ≡ parse_map (kept_items_after more place (most - length more)) o
+    → parse_map (kept_items_after found place (most - length found)) (parse_map (json.item j) o)
+    ≡ parse_map (kept_items_after more (place_after place (value_view v)) (most - length more)) o
 items_kept found more v place most j pushed less is None = refl
 items_kept found more v place most j pushed less is (Some x) =
     let left : most - length found ≡ suc (most - length more) = omega (arith, ap length pushed, length-append found (v ∷ []), less) in
     ap (λ m. Some (items_before found (kept_items place m (json.item j x.0)), x.1)) left
-    ∙ ap (λ i. Some (items_before found (json.item i (kept_items place (most - length more) x.0)), x.1)) is
-    ∙ one_more_item found v (Some (kept_items place (most - length more) x.0, x.1))
-    ∙ ap (λ vs. Some (items_before vs (kept_items place (most - length more) x.0), x.1)) (sym pushed)
+    ∙ ap (λ i. Some (items_before found (json.item i (kept_items (place_after place i) (most - length more) x.0)), x.1)) is
+    ∙ one_more_item found v (Some (kept_items (place_after place (value_view v)) (most - length more) x.0, x.1))
+    ∙ ap (λ vs. Some (items_before vs (kept_items (place_after place (value_view v)) (most - length more) x.0), x.1)) (sym pushed)
 
-pub items_passed : {A : Type 0} (found : List (Value A)) (place : Place) (most : ℕ) (j : json.Json)
+items_passed : {A : Type 0} (found : List (Value A)) (place next : Place) (most : ℕ) (j : json.Json)
     → most ≤ length found → (o : Option (json.Items × List Token))
-    → parse_map (kept_items_after found place (most - length found)) (parse_map (json.item j) o) ≡ parse_map (kept_items_after found place (most - length found)) o
-items_passed found place most j full None = refl
-items_passed found place most j full (Some x) =
+    → parse_map (kept_items_after found place (most - length found)) (parse_map (json.item j) o) ≡ parse_map (kept_items_after found next (most - length found)) o
+items_passed found place next most j full None = refl
+items_passed found place next most j full (Some x) =
     let none : most - length found ≡ 0 = omega arith in
     ap (λ m. Some (items_before found (kept_items place m (json.item j x.0)), x.1)) none
-    ∙ ap (λ js. Some (items_before found js, x.1)) (sym (none_kept place x.0))
-    ∙ ap (λ m. Some (items_before found (kept_items place m x.0), x.1)) (sym none)
+    ∙ ap (λ js. Some (items_before found js, x.1)) (sym (none_kept next x.0))
+    ∙ ap (λ m. Some (items_before found (kept_items next m x.0), x.1)) (sym none)
 
 pub items_end_kept : {A : Type 0} (found : List (Value A)) (place : Place) (most : ℕ) → kept_items_after found place most json.no_items ≡ items_view found
 items_end_kept found place most = items_before-no_items found
 
-pub items_turn : {A : Type 0} (found more : List (Value A)) (v : Value A) (place : Place) (most : ℕ) (j : json.Json) (room : Bool)
-    → room ≡ nat_lt (length found) most → more ≡ (if room then found ++ v ∷ [] else found) → kept (if room then place else Scalar) j ≡ value_view v → (o : Option (json.Items × List Token))
-    → parse_map (kept_items_after found place (most - length found)) (parse_map (json.item j) o) ≡ parse_map (kept_items_after more place (most - length more)) o
-items_turn found more v place most j true room pushed is o = items_kept found more v place most j pushed (ltb-true (length found) most (sym room)) is o
-items_turn found more v place most j false room pushed is o =
-    items_passed found place most j (ltb-false (length found) most (sym room)) o ∙ ap (λ vs. parse_map (kept_items_after vs place (most - length vs)) o) (sym pushed)
+pub items_turn : {A : Type 0} (found more : List (Value A)) (v : Value A) (place next : Place) (most : ℕ) (j : json.Json) (room : Bool)
+    → room ≡ nat_lt (length found) most → more ≡ (if room then found ++ v ∷ [] else found) → next ≡ place_after place (value_view v)
+    → kept (if room then place else Scalar) j ≡ value_view v → (o : Option (json.Items × List Token))
+    → parse_map (kept_items_after found place (most - length found)) (parse_map (json.item j) o) ≡ parse_map (kept_items_after more next (most - length more)) o
+items_turn found more v place next most j true room pushed after is o =
+    items_kept found more v place most j pushed (ltb-true (length found) most (sym room)) is o
+    ∙ ap (λ p. parse_map (kept_items_after more p (most - length more)) o) (sym after)
+items_turn found more v place next most j false room pushed after is o =
+    items_passed found place next most j (ltb-false (length found) most (sym room)) o
+    ∙ ap (λ vs. parse_map (kept_items_after vs next (most - length vs)) o) (sym pushed)
+
+-- how many items an array has
+pub count_of-view : {A : Type 0} (vs : List (Value A)) → count_of (items_view vs) ≡ length vs
+count_of-view [] = refl
+count_of-view (v ∷ vs) = ap suc (count_of-view vs)
 
 -- ---- members
 

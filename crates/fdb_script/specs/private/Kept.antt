@@ -1,7 +1,7 @@
 -- What is looked at of a script: the last member of each name that counts there, and no more items
--- of a list than it takes to see that they are too many.
+-- of a list, and commands of all rounds, than it takes to see that they are too many.
 -- (this product's own)
-use Rattle.std.specs.Prelude.{ℕ, zero, suc, ◌+◌, List, nat_eq, nat_lt, codes, cond, Option, None, Some, if◌then◌else◌}
+use Rattle.std.specs.Prelude.{ℕ, zero, suc, ◌+◌, ◌-◌, List, nat_eq, codes, cond, Option, None, Some, if◌then◌else◌}
 use Rattle.std.specs.Cmp.Lexicographic.{pointwise}
 use Rattle.std.specs.Str.{bytes_eq}
 use Rattle.json.specs.Json as json
@@ -14,8 +14,8 @@ abbrev pub item_place : Place → Place
 item_place Script = Scalar
 item_place Throttles = Throttle
 item_place Throttle = Scalar
-item_place Rounds = Round
-item_place Round = Command
+item_place Rounds = Round (MAX_COMMANDS + 1)
+item_place (Round most) = Command
 item_place Command = Scalar
 item_place Tags = Scalar
 item_place Scalar = Scalar
@@ -25,14 +25,35 @@ most_items Script = 0
 most_items Throttles = MAX_THROTTLES + 1
 most_items Throttle = 0
 most_items Rounds = MAX_ROUNDS + 1
-most_items Round = MAX_COMMANDS + 1
+most_items (Round most) = most
 most_items Command = 0
 most_items Tags = MAX_TAGS + 1
 most_items Scalar = 0
 
--- what stands in a list at a place, under a number: beyond those that are kept nothing is looked at
-abbrev pub item_place_at : Place → ℕ → Place
-item_place_at place number = if nat_lt number (most_items place) then item_place place else Scalar
+-- how many items it has, where it is an array
+abbrev pub count_of : json.Items → ℕ
+count_of json.no_items = 0
+count_of (json.item j js) = suc (count_of js)
+
+abbrev pub item_count : json.Json → ℕ
+item_count json.null = 0
+item_count (json.boolean b) = 0
+item_count (json.number s) = 0
+item_count (json.string s) = 0
+item_count (json.array js) = count_of js
+item_count (json.object ms) = 0
+
+-- what stands in a list behind an item of which this was kept: of the rounds that come, as many
+-- commands less are kept
+abbrev pub place_after : Place → json.Json → Place
+place_after Script j = Script
+place_after Throttles j = Throttles
+place_after Throttle j = Throttle
+place_after Rounds j = Rounds
+place_after (Round most) j = Round (most - item_count j)
+place_after Command j = Command
+place_after Tags j = Tags
+place_after Scalar j = Scalar
 
 -- that place, if this is the name that is wanted, else what the other names say
 abbrev pub named : List ℕ → List ℕ → Place → Option Place → Option Place
@@ -66,7 +87,7 @@ member_place Script name = member_of_script name
 member_place Throttles name = None
 member_place Throttle name = member_of_throttle name
 member_place Rounds name = None
-member_place Round name = None
+member_place (Round most) name = None
 member_place Command name = member_of_command name
 member_place Tags name = None
 member_place Scalar name = None
@@ -94,7 +115,7 @@ abbrev mutual
   pub kept_items : Place → ℕ → json.Items → json.Items
   kept_items place most json.no_items = json.no_items
   kept_items place zero (json.item j js) = json.no_items
-  kept_items place (suc most) (json.item j js) = json.item (kept place j) (kept_items place most js)
+  kept_items place (suc most) (json.item j js) = json.item (kept place j) (kept_items (place_after place (kept place j)) most js)
 
   pub kept_members : Place → json.Members → json.Members → json.Members
   kept_members place found json.no_members = found

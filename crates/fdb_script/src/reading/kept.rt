@@ -79,11 +79,13 @@ fn read_items<'a>(
         → items (value depth) (length reader.old) reader.old ≡ None }
 {
     let most = place.most_items();
+    let mut inner = place.item();
     let mut found = Vec::new(alloc);
     while !reader.take_end_array() {
-        let number = found.len();
-        let item = read_kept(alloc, reader, place.item(number), depth)?;
-        push_if(&mut found, number < most, item)?;
+        let has_room = found.len() < most;
+        let item = read_kept(alloc, reader, inner.if_looked_at(has_room), depth)?;
+        inner = inner.after(&item);
+        push_if(&mut found, has_room, item)?;
     }
     Ok(found)
 }

@@ -103,9 +103,8 @@ read_items-returns-in_err-item-clause-invalid t c invalid fine =
     let going : (after_end_array l.reader ≡ None) × (c.take_end_array.new.self ≡ l.reader) = grind arith in
     let within : list_all is_token_in_range c.take_end_array.new.self ≡ true = rw going.1 (sym l.invariant.5 ∙ fine) in
     let failed : p c.take_end_array.new.self ≡ None = grind (arith, within) in
-    let place = item_place c.args.place in
-    none_of (kept_items place (most_items c.args.place)) _
-    (l.invariant.2 ∙ ap (parse_map (kept_items_after l.found.items place (most_items c.args.place - length l.found.items))) (items_fail p n l.reader going.0 (rw (← going.1) failed)))
+    none_of (kept_items (item_place c.args.place) (most_items c.args.place)) _
+    (l.invariant.2 ∙ ap (parse_map (kept_items_after l.found.items l.inner (most_items c.args.place - length l.found.items))) (items_fail p n l.reader going.0 (rw (← going.1) failed)))
 
 pub read_items-loop-alloc-preserved : goal.read_items-loop-alloc-preserved
 read_items-loop-alloc-preserved t c =
@@ -116,15 +115,15 @@ read_items-loop-alloc-preserved t c =
     let done = c.in_ok-item.ensures in
     let v = c.in_ok-item.item in
     let r = c.read_kept.new.reader in
-    let place = item_place c.args.place in
+    let place = l.inner in
     let less : length r < length l.reader = rw (← going.1) done.shorter in
-    let room = nat_lt c.len-number.result c.most_items-most.result in
-    let where_it_is : c.item.result ≡ (if room then place else Scalar) = grind arith in
-    let read = kept_of (kept (if room then place else Scalar)) (p l.reader) (value_view v) r (ap (λ q. parse_map (kept q) (p l.reader)) (sym where_it_is) ∙ ap (λ s. parse_map (kept c.item.result) (p s)) (sym going.1) ∙ done.ok) in
+    let room = nat_lt c.len.result c.most_items-most.result in
+    let where_it_is : c.if_looked_at.result ≡ (if room then place else Scalar) = grind arith in
+    let read = kept_of (kept (if room then place else Scalar)) (p l.reader) (value_view v) r (ap (λ q. parse_map (kept q) (p l.reader)) (sym where_it_is) ∙ ap (λ s. parse_map (kept c.if_looked_at.result) (p s)) (sym going.1) ∙ done.ok) in
     let turn = items_more p n l.reader r read.0 (omega (arith, l.invariant.1)) going.0 read.1 in
     let has_room : room ≡ nat_lt (length l.found.items) (most_items c.args.place) = grind arith in
     let pushed = c.in_ok-push_if.ensures.ok in
-    let kept_so = items_turn l.found.items c.push_if.new.list.items v place (most_items c.args.place) read.0 _ has_room pushed read.2 (items p (n - 1) r) in (
+    let kept_so = items_turn l.found.items c.push_if.new.list.items v place c.after-inner.result (most_items c.args.place) read.0 _ has_room pushed c.after-inner.ensures read.2 (items p (n - 1) r) in (
       n - 1,
       omega (arith, l.invariant.1),
       l.invariant.2 ∙ ap (parse_map (kept_items_after l.found.items place (most_items c.args.place - length l.found.items))) turn ∙ kept_so,
@@ -139,7 +138,7 @@ read_items-returns-clause-ok t c =
     let l = c.loop-alloc in
     let n = l.invariant.0 in
     let r = c.take_end_array.new.self in
-    let place = item_place c.args.place in
+    let place = l.inner in
     l.invariant.2 ∙ ap (parse_map (kept_items_after l.found.items place (most_items c.args.place - length l.found.items))) (items_end p n l.reader r l.invariant.1 (grind arith))
     ∙ ap (λ js. Some (js, r)) (items_end_kept l.found.items place (most_items c.args.place - length l.found.items))
 

@@ -21,9 +21,9 @@ decreases-read_members l = 2 * l.depth + 1
 abbrev pub invariant-read_items-loop-alloc : goal.invariant-read_items-loop-alloc
 invariant-read_items-loop-alloc l =
     (n : ℕ) × (length l.reader ≤ n)
-    × (parse_map (kept_items (item_place l.place) (most_items l.place)) (items (value l.depth) (length l.initial.reader) l.initial.reader)
-    ≡ parse_map (kept_items_after l.found.items (item_place l.place) (most_items l.place - length l.found.items)) (items (value l.depth) n l.reader))
-    × (length l.reader ≤ length l.initial.reader) × (l.most ≡ most_items l.place)
+    × (parse_map (kept_items (item_place l.fn.place) (most_items l.fn.place)) (items (value l.depth) (length l.initial.reader) l.initial.reader)
+    ≡ parse_map (kept_items_after l.found.items l.inner (most_items l.fn.place - length l.found.items)) (items (value l.depth) n l.reader))
+    × (length l.reader ≤ length l.initial.reader) × (l.most ≡ most_items l.fn.place)
     × (list_all is_token_in_range l.initial.reader ≡ list_all is_token_in_range l.reader)
 
 abbrev pub decreases-read_items-loop-alloc : goal.decreases-read_items-loop-alloc
