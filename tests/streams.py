@@ -77,7 +77,7 @@ def with_members(size, member, end):
 
 
 def longest():
-    """Names scripts about as long as may be, nearly all of which is ignored or overwritten, with what is printed."""
+    """Names scripts about as long as may be, nearly all of which is ignored, overwritten or too much, and how they end."""
     nothing = done(NO_REPLIES)
     yield "bytes, in one text", with_note(MOST_BYTES), nothing
     for value in ("0", '""', "[]", "[0]", "{}", '{"a":0}', '"aaaaaaaa"', "0.5", "[[0]]"):
@@ -90,14 +90,10 @@ def longest():
     read = '"tags":[],"do":"grv","client":0}'
     tagged = with_members(MOST_BYTES - 100, '"tags":[0]', read)
     yield "bytes, in tags that are overwritten again and again", script(f"[[{tagged}]]").encode(), expected(script(f"[[{{{read}]]").encode())
-
-
-def crowded():
-    """Names scripts about as long as may be, with far too many commands, which are overwritten or not, and how they end."""
     for item in ("0", '{"do":0}', '{"tags":[0]}'):
         commands = f'[{",".join([item] * 8_000)}]'
         overwritten = with_values(MOST_BYTES, commands, "rounds")
-        yield f"bytes, in far too many commands {item} that are overwritten", overwritten, done(NO_REPLIES)
+        yield f"bytes, in far too many commands {item} that are overwritten", overwritten, nothing
         kept = overwritten.replace(b',"rounds":[]', b"")
         yield f"bytes, in far too many commands {item}", kept, refused("BadLimit")
 
@@ -106,7 +102,7 @@ def largest():
     """Names scripts that are as large as may be in one way or another, with the arguments to run them with, and how they end."""
     whole, lawful = ["--history", "--proxies", "16"], Ran(DONE, None, b"")
     yield "all its limits", crowd_at_all_limits(MOST_BYTES), whole, lawful
-    for name, given, ends in [*longest(), *crowded()]:
+    for name, given, ends in longest():
         yield name, given, [], ends
     crowds = [[do("grv", who) for who in range(64)]] * (MOST_COMMANDS // 64)
     for name, rounds, top in [*large(), ("reads of 64 clients in each round", crowds, {"clients": 64})]:

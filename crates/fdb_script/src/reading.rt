@@ -34,7 +34,8 @@ const MAX_DEPTH: usize = 127;
 /// `BadLimit` for a fault in the whole, then as `BadField` with the first command that has a fault,
 /// and as `Memory` where memory is refused. It takes time in proportion to the bytes. While it reads
 /// it takes a byte for each of them, and keeps of each object the last member so far of each name
-/// that counts there, and of each list at most one item more than it may have.
+/// that counts there, and of each list at most one item more than it may have, the commands of all
+/// rounds taken together.
 pub fn read_script(alloc: Global, bytes: &[u8]) -> Result<Script, ScriptError>
     ensures { ReadsAs bytes.now result }
 {
