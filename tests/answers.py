@@ -224,6 +224,17 @@ def random_scripts(program):
         yield f"seed {seed}", compared(program, given, *arguments)
 
 
+def overwritten_scripts(program):
+    """Such scripts with members that later ones of their names overwrite mean the same."""
+    for seed in range(SMALL):
+        dice = random.Random(f"overwritten {seed}")
+        plain = drawn.lawful(dice)
+        given = drawn.overwritten(dice, plain).encode()
+        proxies = dice.choice([1, 2, 16])
+        ran = run([program, "--proxies", str(proxies)], given)
+        yield f"seed {seed}", Lawful(plain.encode(), proxies).fault_of(ran, history=False)
+
+
 def spoilt_scripts(program):
     """Such scripts with a word or a mark changed: most are refused, and for what, the model says."""
     for seed in range(SPOILT):

@@ -1,4 +1,4 @@
-"""Random scripts, the same from the same dice: lawful ones, in which calls meet refusals, and spoilt ones."""
+"""Random scripts, the same from the same dice: lawful ones, in which calls meet refusals, overwritten ones, and spoilt ones."""
 import json
 import re
 
@@ -149,3 +149,33 @@ def spoilt(dice, text):
         else:
             tokens.insert(anywhere, dice.choice(tokens))
     return "".join(tokens)
+
+
+def overwritten(dice, text):
+    """Writes a script that means the same, with members that later ones of their names overwrite, and names by their codes."""
+    return rewritten(dice, json.loads(text))
+
+
+def rewritten(dice, value):
+    if isinstance(value, list):
+        return "[" + ",".join(rewritten(dice, it) for it in value) + "]"
+    if not isinstance(value, dict):
+        return json.dumps(value)
+    earlier = [(name, anything(dice)) for name in value for _ in range(dice.choice([0, 0, 1, 2]))]
+    dice.shuffle(earlier)
+    members = [*earlier, *((name, rewritten(dice, it)) for name, it in value.items())]
+    return "{" + ",".join(f"{spelt(dice, name)}:{text}" for name, text in members) + "}"
+
+
+def spelt(dice, name):
+    return json.dumps(name) if dice.random() < 0.9 else '"' + "".join(f"\\u{ord(it):04x}" for it in name) + '"'
+
+
+def anything(dice, deep=0):
+    """Draws the text of a JSON value, with names of a script in its objects."""
+    kind = dice.randrange(3 if deep < 3 else 1)
+    if kind == 0:
+        return dice.choice(["0", "-1", "1.5e3", "null", "true", '"ask"', "[]", "{}"])
+    inner = [anything(dice, deep + 1) for _ in range(dice.randrange(4))]
+    named = lambda text: f"{spelt(dice, dice.choice(['rounds', 'throttles', 'tags', 'client', 'do', 'at', 'note']))}:{text}"
+    return "[" + ",".join(inner) + "]" if kind == 1 else "{" + ",".join(map(named, inner)) + "}"
