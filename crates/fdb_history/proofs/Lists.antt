@@ -1,5 +1,5 @@
 -- A list read by place: with one more item at its end.
-use Rattle.std.proofs.Common.{◌≡◌, ◌⊎◌, ℕ, zero, suc, ◌+◌, ◌<◌, List, [], ◌∷◌, ◌++◌, length, take, Some, slice_get, refl, ap, ◌∙◌, inl, inr, arith}
+use Rattle.std.proofs.Common.{◌≡◌, ◌⊎◌, All, ℕ, zero, suc, ◌+◌, ◌<◌, List, [], ◌∷◌, ◌++◌, length, take, Some, slice_get, refl, ap, ◌∙◌, inl, inr, arith}
 use Rattle.std.proofs.lemmas.List.{take_more}
 use Rattle.std.proofs.lemmas.Option.{get_or_from_slice_get, none-some, same_Some, slice_get_within}
 
@@ -24,3 +24,10 @@ at_left xs y place x at = slice_get-append_left xs (y ∷ []) place (slice_get_w
 
 pub take-push : {X : Type 0} (xs : List X) (i : ℕ) (x : X) → slice_get xs i ≡ Some x → take (i + 1) xs ≡ take i xs ++ x ∷ []
 take-push xs i x at = take_more xs i x (slice_get_within xs i x at) ∙ ap (λ y. take i xs ++ y ∷ []) (get_or_from_slice_get xs i x x at)
+
+-- what holds of each item, and of a new one, holds of each item of the longer list
+pub all-push : {X : Type 0} (P : X → Type 0) (xs : List X) (y : X) → All P xs → P y → All P (xs ++ y ∷ [])
+all-push P [] y all new zero d below = new
+all-push P [] y all new (suc k) d below = absurd (omega arith)
+all-push P (x ∷ xs) y all new zero d below = all zero d (omega arith)
+all-push P (x ∷ xs) y all new (suc k) d below = all-push P xs y (λ j e within. all (suc j) e (omega arith)) new k d (omega arith)

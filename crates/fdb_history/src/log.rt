@@ -8,7 +8,7 @@ use std::error::Error;
 use std::fmt;
 
 /// What a client called.
-#[derive(Debug, Drop, PartialEq, Eq)]
+#[derive(Debug, Drop)]
 pub enum Input {
     /// It read the read version.
     Grv(GrvOpts),
@@ -43,7 +43,7 @@ pub enum Input {
 }
 
 /// What a call was answered.
-#[derive(Debug, Drop, PartialEq, Eq)]
+#[derive(Debug, Drop)]
 pub enum CallAnswer {
     /// A read: the live record, and what throttles the tags of the request.
     Version {
@@ -107,26 +107,27 @@ impl fmt::Display for Refusal {
     ghost output = { λ cause. Some (refusal_text cause) };
 
     fn fmt<W: fmt::Write>(&self, f: &mut fmt::Formatter<W>) -> fmt::Result {
-        match self {
-            Refusal::Early { expected } => write!(f, "Early {expected}"),
-            Refusal::Forgotten => f.write_str("Forgotten"),
-            Refusal::UnknownProxy => f.write_str("UnknownProxy"),
-            Refusal::Exhausted => f.write_str("Exhausted"),
-            Refusal::BadCount => f.write_str("BadCount"),
-            Refusal::BatchThrottled => f.write_str("BatchThrottled"),
-            Refusal::Full => f.write_str("Full"),
-            Refusal::ProxyClosed => f.write_str("ProxyClosed"),
-            Refusal::NotIssued => f.write_str("NotIssued"),
-            Refusal::Stranger => f.write_str("Stranger"),
-            Refusal::TooLarge => f.write_str("TooLarge"),
-        }
+        let name = match self {
+            Refusal::Early { expected } => return write!(f, "Early {expected}"),
+            Refusal::Forgotten => "Forgotten",
+            Refusal::UnknownProxy => "UnknownProxy",
+            Refusal::Exhausted => "Exhausted",
+            Refusal::BadCount => "BadCount",
+            Refusal::BatchThrottled => "BatchThrottled",
+            Refusal::Full => "Full",
+            Refusal::ProxyClosed => "ProxyClosed",
+            Refusal::NotIssued => "NotIssued",
+            Refusal::Stranger => "Stranger",
+            Refusal::TooLarge => "TooLarge",
+        };
+        f.write_str(name)
     }
 }
 
 impl Error for Refusal {}
 
 /// One call of a client. A position is the number of raises that had been seen.
-#[derive(Debug, Drop, PartialEq, Eq)]
+#[derive(Debug, Drop)]
 pub struct Call {
     /// What was called.
     pub input: Input,

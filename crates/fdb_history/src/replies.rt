@@ -66,7 +66,7 @@ impl Replies {
         if num <= self.erased {
             return None;
         }
-        self.places.get((num - 1) as usize).copied()
+        self.drawn_place(num)
     }
 
     /// The answer under a number, if it is kept.
@@ -116,7 +116,7 @@ impl Replies {
 }
 
 /// The answer at a place, if there is one.
-fn answer_at(answers: &[Issued], place: Option<usize>) -> Option<Issued>
+pub(crate) fn answer_at(answers: &[Issued], place: Option<usize>) -> Option<Issued>
     ensures { result ≡ option_and_then (slice_get answers.now) place }
 {
     answers.get(place?).copied()

@@ -9,7 +9,7 @@ ghost use Rattle.fdb_history.specs.Strays.{goes_with, is_again, is_justified_by,
 use crate::chain::{Issued, MAX_STEP};
 use crate::log::{Call, CallAnswer, Input, Refusal};
 use crate::register::MAX_VERSION;
-use crate::replies::Replies;
+use crate::replies::{Replies, answer_at};
 
 /// Whether a call's answer is justified.
 pub(crate) fn is_justified_by(chain: &[Issued], client: u32, own: &Replies, call: &Call) -> bool
@@ -205,6 +205,6 @@ fn is_of_issued(chain: &[Issued], own: &Replies, input: &Input, answer: &CallAns
 fn drawn_version(chain: &[Issued], own: &Replies, num: u64) -> Option<u64>
     ensures { result ≡ drawn_version chain.now own.now num }
 {
-    let entry = chain.get(own.drawn_place(num)?)?;
+    let entry = answer_at(chain, own.drawn_place(num))?;
     Some(entry.version)
 }

@@ -94,5 +94,9 @@ fn greatest_in(calls: &[Call]) -> u64
     ensures reached { 1 ≤ result → (place : ℕ) × (call : Call)
         × (slice_get calls.now place ≡ Some call) × (result ≤ call.position) }
 {
-    calls.iter().map(|call| call.position).max().unwrap_or(0)
+    let mut greatest = 0;
+    for call in calls {
+        greatest = call.position.max(greatest);
+    }
+    greatest
 }

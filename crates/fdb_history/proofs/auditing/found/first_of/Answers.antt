@@ -1,0 +1,18 @@
+use Rattle.std.proofs.Common.{refl, arith}
+use Rattle.std.proofs.lemmas.Bool.{both_ways}
+use Rattle.std.proofs.lemmas.Option.{slice_get_read, slice_get_within}
+use Rattle.fdb_history.proofs.FirstCalls.{call_more}
+use Rattle.fdb_history.proofs.auditing.found.first_of.Goals as goal
+
+pub returns-then-stands_at : goal.returns-then-stands_at
+returns-then-stands_at g c =
+    let at = slice_get_read c.args.calls.now _ c.loop-place.place c.index-calls-place.result refl c.loop-place-test.true c.index-calls-place.is in
+    ((c.index-calls-place.result, at, c.stands_at.ensures.0 c.if-stands_at.true), c.loop-place.invariant)
+
+pub loop-place-preserved : goal.loop-place-preserved
+loop-place-preserved g c =
+    let at = slice_get_read c.args.calls.now _ c.loop-place.place c.index-calls-place.result refl c.loop-place-test.true c.index-calls-place.is in
+    call_more (g.F.CallFault.Stands c.args.fault.now) c.args.calls.now c.loop-place.place c.index-calls-place.result at (λ stands. both_ways c.stands_at.result c.if-stands_at.false (c.stands_at.ensures.1 stands)) c.loop-place.invariant
+
+pub returns : goal.returns
+returns g c = λ p call at. c.loop-place.invariant p call (omega (arith, c.loop-place-test.false, slice_get_within c.args.calls.now p call at)) at
