@@ -19,3 +19,6 @@ returns-in_err-clients c = grind (arith, common_steps)
 
 pub returns-in_err-recovery : goal.returns-in_err-recovery
 returns-in_err-recovery c = grind (arith, common_steps)
+
+pub returns-in_err-epoch_end : goal.returns-in_err-epoch_end
+returns-in_err-epoch_end c = grind (arith, common_steps)
