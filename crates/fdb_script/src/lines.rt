@@ -1,7 +1,7 @@
 //! The lines of the printed text, each without its newline.
 
 ghost use Rattle.std.specs.Prelude.{◌≡◌};
-ghost use Rattle.fdb_script.specs.Text.{fresh_text, raised_text};
+ghost use Rattle.fdb_script.specs.Text.{act_text, fresh_text, raised_text};
 
 use crate::script::Act;
 use fdb_history::{Call, CallAnswer, Event, Input, TagLimit};
@@ -111,23 +111,15 @@ fn raised_word(raised: bool) -> &'static str
 }
 
 /// The word that a script has for an act.
-#[derive(Clone, Copy)]
-struct ActWord<'a>(&'a Act);
-
-impl fmt::Display for ActWord<'_> {
-    ghost use Rattle.std.specs.Prelude.{Some};
-    ghost use Rattle.fdb_script.specs.Text.{act_text};
-
-    ghost output = { λ word. Some (act_text word.0.now) };
-
-    fn fmt<W: fmt::Write>(&self, f: &mut fmt::Formatter<W>) -> fmt::Result {
-        match self.0 {
-            Act::Grv(_) => f.write_str("grv"),
-            Act::Ask { .. } => f.write_str("ask"),
-            Act::Reask { .. } => f.write_str("reask"),
-            Act::Report { .. } => f.write_str("report"),
-            Act::Tell { .. } => f.write_str("tell"),
-        }
+fn act_word(act: &Act) -> &'static str
+    ensures { result.now ≡ act_text act.now }
+{
+    match act {
+        Act::Grv(_) => "grv",
+        Act::Ask { .. } => "ask",
+        Act::Reask { .. } => "reask",
+        Act::Report { .. } => "report",
+        Act::Tell { .. } => "tell",
     }
 }
 
@@ -155,7 +147,7 @@ impl fmt::Display for ReplyLine<'_> {
 
     fn fmt<W: fmt::Write>(&self, f: &mut fmt::Formatter<W>) -> fmt::Result {
         let (round, client, number) = (self.round, self.client, self.number);
-        let act = ActWord(self.act);
+        let act = act_word(self.act);
         let answer = AnswerText(self.call);
         write!(f, "{round} {client} {number} {act} {answer}")
     }

@@ -198,3 +198,36 @@ read_members-returns-clause-ok t c =
     let n = l.invariant.0 in
     let r = c.next_key.new.self in
     l.invariant.2 ∙ ap (parse_map (kept_members c.args.place (members_view l.found.items))) (members_end p n l.reader r l.invariant.1 (grind arith))
+
+pub read_kept-returns-in-String-clause-shorter : goal.read_kept-returns-in-String-clause-shorter
+read_kept-returns-in-String-clause-shorter t c = grind arith
+
+pub read_kept-returns-else-not-is_in_range-clause-shorter : goal.read_kept-returns-else-not-is_in_range-clause-shorter
+read_kept-returns-else-not-is_in_range-clause-shorter t c = grind arith
+
+pub read_kept-returns-in-Bool-clause-shorter : goal.read_kept-returns-in-Bool-clause-shorter
+read_kept-returns-in-Bool-clause-shorter t c = grind arith
+
+pub read_kept-returns-in-Null-clause-shorter : goal.read_kept-returns-in-Null-clause-shorter
+read_kept-returns-in-Null-clause-shorter t c = grind arith
+
+pub read_kept-returns-in_ok-read_items-in-BeginArray-clause-shorter : goal.read_kept-returns-in_ok-read_items-in-BeginArray-clause-shorter
+read_kept-returns-in_ok-read_items-in-BeginArray-clause-shorter t c = grind arith
+
+pub read_kept-returns-in_ok-read_members-in-BeginObject-clause-shorter : goal.read_kept-returns-in_ok-read_members-in-BeginObject-clause-shorter
+read_kept-returns-in_ok-read_members-in-BeginObject-clause-shorter t c = grind arith
+
+pub read_kept-returns-then-not-is_in_range-clause-invalid : goal.read_kept-returns-then-not-is_in_range-clause-invalid
+read_kept-returns-then-not-is_in_range-clause-invalid t c invalid fine = grind arith
+
+pub read_items-loop-alloc-smaller : goal.read_items-loop-alloc-smaller
+read_items-loop-alloc-smaller t c = grind arith
+
+pub read_items-returns-clause-shorter : goal.read_items-returns-clause-shorter
+read_items-returns-clause-shorter t c = grind arith
+
+pub read_members-loop-found-smaller : goal.read_members-loop-found-smaller
+read_members-loop-found-smaller t c = grind arith
+
+pub read_members-returns-clause-shorter : goal.read_members-returns-clause-shorter
+read_members-returns-clause-shorter t c = grind arith

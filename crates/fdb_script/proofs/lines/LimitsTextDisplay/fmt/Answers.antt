@@ -1,0 +1,9 @@
+use Rattle.std.proofs.Common.{arith}
+use Rattle.std.proofs.lemmas.Grind.{common_steps}
+use Rattle.fdb_script.proofs.lines.LimitsTextDisplay.fmt.Goals as goal
+
+pub loop-limit-preserved : goal.loop-limit-preserved
+loop-limit-preserved g c = grind (arith, common_steps)
+
+pub returns-clause-writes : goal.returns-clause-writes
+returns-clause-writes g c = grind (arith, common_steps)
