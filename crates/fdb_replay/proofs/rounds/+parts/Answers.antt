@@ -1,5 +1,6 @@
 use Rattle.std.proofs.Common.{◌≡◌, ◌+◌, ◌/◌, ◌++◌, length, subst, rules}
 use Rattle.std.proofs.lemmas.List.{take-append-drop}
+use Rattle.std.proofs.lemmas.Result.{IfOk-weaker}
 use Rattle.fdb_replay.specs.private.Rounds.{IsPlayed}
 use Rattle.fdb_replay.proofs.Parts.{both_played, none_played}
 use Rattle.fdb_replay.proofs.rounds.+parts.Goals as goal
@@ -23,5 +24,7 @@ play_part-returns-clause-ok g t c =
     let back : IsPlayed next commands right.items rest.clients.items rest.tells.items = search rules in
     let cut_is : next ≡ first + length left.items = search rules in
     let whole : left.items ++ right.items ≡ old = rw (cut.items, cut.tail) (take-append-drop (c.len-half.result / 2) old) in
-    subst (λ all. IsPlayed first commands all c.append.new.self.items c.append-2.new.self.items) whole
-    (rw (c.in_ok-append.ensures.items, c.in_ok-append-2.ensures.items) (both_played first next commands left.items part.clients.items right.items rest.clients.items part.tells.items rest.tells.items cut_is front back))
+    IfOk-weaker c.joined.result _ (λ all. IsPlayed first commands old all.clients.items all.tells.items)
+    (λ all both. subst (λ clients. IsPlayed first commands clients all.clients.items all.tells.items) whole
+    (rw (both.0, both.1) (both_played first next commands left.items part.clients.items right.items rest.clients.items part.tells.items rest.tells.items cut_is front back)))
+    c.joined.ensures.ok
