@@ -219,8 +219,7 @@ fn play_part<'s, 'a: 's, E, J: Live + Send + Sync, R: Threads + Wait + Sync, G: 
     }
     let half = clients.len() / 2;
     let others = clients.split_off(half)?;
-    let (part, rest) = play_halves(scope, rt, alloc, world, round, first, clients, others)?;
-    part.joined(rest)
+    play_halves(scope, rt, alloc, world, round, first, clients, others)
 }
 
 /// Has the only one of these clients do its commands of a round, in this thread.
@@ -255,16 +254,13 @@ fn play_halves<'s, 'a: 's, E, J: Live + Send + Sync, R: Threads + Wait + Sync, G
     first: u32,
     front: Vec<Player<'a, J>>,
     back: Vec<Player<'a, J>>,
-) -> Result<(Part<'a, J>, Part<'a, J>), RunFault>
+) -> Result<Part<'a, J>, RunFault>
     requires some_front { 0 < vec_len front }
     requires some_back { 0 < vec_len back }
     requires few { first + (vec_len front + vec_len back) ≤ 64 }
-    ensures front { IfOk result (λ parts.
+    ensures ok { IfOk result (λ part.
         IsPlayed first round.now.commands.now
-        front.entry.items parts.0.clients.items parts.0.tells.items) }
-    ensures back { IfOk result (λ parts.
-        IsPlayed (first + vec_len front.entry) round.now.commands.now
-        back.entry.items parts.1.clients.items parts.1.tells.items) }
+        (front.entry.items ++ back.entry.items) part.clients.items part.tells.items) }
     ensures err { IfErr result (λ fault. fault ≡ RunFault.Memory) }
 {
     let next = first + front.len() as u32;
@@ -273,7 +269,7 @@ fn play_halves<'s, 'a: 's, E, J: Live + Send + Sync, R: Threads + Wait + Sync, G
     }
     let front = play_part(scope, rt, alloc, world, round, first, front)?;
     let back = play_part(scope, rt, alloc, world, round, next, back)?;
-    Ok((front, back))
+    front.joined(back)
 }
 
 /// Has two halves of the clients do their commands of a round, the front one
@@ -288,16 +284,13 @@ fn play_apart<'s, 'a: 's, E, J: Live + Send + Sync, R: Threads + Wait + Sync, G:
     first: u32,
     front: Vec<Player<'a, J>>,
     back: Vec<Player<'a, J>>,
-) -> Result<(Part<'a, J>, Part<'a, J>), RunFault>
+) -> Result<Part<'a, J>, RunFault>
     requires some_front { 0 < vec_len front }
     requires some_back { 0 < vec_len back }
     requires few { first + (vec_len front + vec_len back) ≤ 64 }
-    ensures front { IfOk result (λ parts.
+    ensures ok { IfOk result (λ part.
         IsPlayed first round.now.commands.now
-        front.entry.items parts.0.clients.items parts.0.tells.items) }
-    ensures back { IfOk result (λ parts.
-        IsPlayed (first + vec_len front.entry) round.now.commands.now
-        back.entry.items parts.1.clients.items parts.1.tells.items) }
+        (front.entry.items ++ back.entry.items) part.clients.items part.tells.items) }
     ensures err { IfErr result (λ fault. fault ≡ RunFault.Memory) }
 {
     let next = first + front.len() as u32;
@@ -318,8 +311,9 @@ fn play_apart<'s, 'a: 's, E, J: Live + Send + Sync, R: Threads + Wait + Sync, G:
         return Err(RunFault::Memory);
     };
     let ours = play_part(scope, rt, alloc, world, round, next, back);
-    let theirs = thread.join(rt);
-    Ok((theirs?, ours?))
+    let theirs = thread.join(rt)?;
+    let ours = ours?;
+    theirs.joined(ours)
 }
 
 /// Has a client do its commands of a round.
