@@ -3,6 +3,7 @@ pub mod Given
 pub mod Grown
 pub mod Input
 pub mod Learnt
+pub mod Numbered
 pub mod Parts
 pub mod Performed
 pub mod Runs

@@ -45,10 +45,10 @@ impl<'a, J: Live + Send + Sync> Clients<'a, J> {
         requires few { vec_len tokens ≤ 64 }
         ensures { IfOk result (λ clients. clients ≡ replicate (vec_len tokens) []) }
     {
-        let mut players = Vec::new(alloc);
+        let mut players = Vec::with_capacity(alloc, tokens.len())?;
         let mut number = 0;
         for seen in tokens {
-            players.push(Player::new(alloc, number, live, seen))?;
+            players.push_reserved(Player::new(alloc, number, live, seen));
             number += 1;
         }
         Ok(Clients { players })

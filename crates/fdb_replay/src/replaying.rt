@@ -22,7 +22,7 @@ pub enum ReplayFault {
     #[error("script refused: {0}")]
     Script(ScriptError),
     /// The run was refused.
-    #[error("{0}")]
+    #[error(transparent)]
     Run(RunFault),
     /// The writer failed, and took a part of the text before it did, from its start on.
     #[error("writing failed")]

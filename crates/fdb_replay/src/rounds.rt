@@ -123,6 +123,20 @@ struct Part<'a, J: Live> {
     tells: Vec<Tell<J>>,
 }
 
+impl<'a, J: Live> Part<'a, J> {
+    /// Both parts as one: the clients and what they told, behind those of this part.
+    fn joined(mut self, mut next: Part<'a, J>) -> Result<Self, RunFault>
+        ensures ok { IfOk result (λ whole.
+            (whole.clients.items ≡ self.entry.clients.items ++ next.entry.clients.items)
+            × (whole.tells.items ≡ self.entry.tells.items ++ next.entry.tells.items)) }
+        ensures err { IfErr result (λ fault. fault ≡ RunFault.Memory) }
+    {
+        self.clients.append(&mut next.clients)?;
+        self.tells.append(&mut next.tells)?;
+        Ok(self)
+    }
+}
+
 /// What a thread promises: that these clients, the first of whom has
 /// this number, do their commands of a round, or that memory is wanting.
 #[derive(Drop)]
@@ -179,7 +193,6 @@ fn play_all<'a, J: Live + Send + Sync, R: Threads + Wait + Sync, G: Gate>(
 /// It fails only where memory runs out, or where a thread cannot be
 /// had. However it ends, each thread that it started has been joined.
 #[cycle(parts)]
-#[tactic(auto, using(crate::proofs::Parts::one_played_at))]
 fn play_part<'s, 'a: 's, E, J: Live + Send + Sync, R: Threads + Wait + Sync, G: Gate>(
     scope: &'s Scope<'s, E>,
     rt: &'s R,
@@ -202,15 +215,31 @@ fn play_part<'s, 'a: 's, E, J: Live + Send + Sync, R: Threads + Wait + Sync, G: 
         });
     }
     if clients.len() == 1 {
-        let tells = play_client(rt, alloc, world, round.commands, first, &mut clients[0])?;
-        return Ok(Part { clients, tells });
+        return play_alone(rt, alloc, world, round, first, clients);
     }
     let half = clients.len() / 2;
     let others = clients.split_off(half)?;
-    let (mut part, mut rest) = play_halves(scope, rt, alloc, world, round, first, clients, others)?;
-    part.clients.append(&mut rest.clients)?;
-    part.tells.append(&mut rest.tells)?;
-    Ok(part)
+    play_halves(scope, rt, alloc, world, round, first, clients, others)
+}
+
+/// Has the only one of these clients do its commands of a round, in this thread.
+#[tactic(auto, using(crate::proofs::Parts::one_played_at))]
+fn play_alone<'a, J: Live, R: Wait, G: Gate>(
+    rt: &R,
+    alloc: Global,
+    world: &World<'_, J, G>,
+    round: &Round<'_>,
+    first: u32,
+    mut clients: Vec<Player<'a, J>>,
+) -> Result<Part<'a, J>, RunFault>
+    requires { vec_len clients ≡ 1 }
+    ensures ok { IfOk result (λ part.
+        IsPlayed first round.now.commands.now
+        clients.entry.items part.clients.items part.tells.items) }
+    ensures err { IfErr result (λ fault. fault ≡ RunFault.Memory) }
+{
+    let tells = play_client(rt, alloc, world, round.commands, first, &mut clients[0])?;
+    Ok(Part { clients, tells })
 }
 
 /// Has two halves of the clients do their commands of a round: where both
@@ -225,16 +254,13 @@ fn play_halves<'s, 'a: 's, E, J: Live + Send + Sync, R: Threads + Wait + Sync, G
     first: u32,
     front: Vec<Player<'a, J>>,
     back: Vec<Player<'a, J>>,
-) -> Result<(Part<'a, J>, Part<'a, J>), RunFault>
+) -> Result<Part<'a, J>, RunFault>
     requires some_front { 0 < vec_len front }
     requires some_back { 0 < vec_len back }
     requires few { first + (vec_len front + vec_len back) ≤ 64 }
-    ensures front { IfOk result (λ parts.
+    ensures ok { IfOk result (λ part.
         IsPlayed first round.now.commands.now
-        front.entry.items parts.0.clients.items parts.0.tells.items) }
-    ensures back { IfOk result (λ parts.
-        IsPlayed (first + vec_len front.entry) round.now.commands.now
-        back.entry.items parts.1.clients.items parts.1.tells.items) }
+        (front.entry.items ++ back.entry.items) part.clients.items part.tells.items) }
     ensures err { IfErr result (λ fault. fault ≡ RunFault.Memory) }
 {
     let next = first + front.len() as u32;
@@ -243,7 +269,7 @@ fn play_halves<'s, 'a: 's, E, J: Live + Send + Sync, R: Threads + Wait + Sync, G
     }
     let front = play_part(scope, rt, alloc, world, round, first, front)?;
     let back = play_part(scope, rt, alloc, world, round, next, back)?;
-    Ok((front, back))
+    front.joined(back)
 }
 
 /// Has two halves of the clients do their commands of a round, the front one
@@ -258,16 +284,13 @@ fn play_apart<'s, 'a: 's, E, J: Live + Send + Sync, R: Threads + Wait + Sync, G:
     first: u32,
     front: Vec<Player<'a, J>>,
     back: Vec<Player<'a, J>>,
-) -> Result<(Part<'a, J>, Part<'a, J>), RunFault>
+) -> Result<Part<'a, J>, RunFault>
     requires some_front { 0 < vec_len front }
     requires some_back { 0 < vec_len back }
     requires few { first + (vec_len front + vec_len back) ≤ 64 }
-    ensures front { IfOk result (λ parts.
+    ensures ok { IfOk result (λ part.
         IsPlayed first round.now.commands.now
-        front.entry.items parts.0.clients.items parts.0.tells.items) }
-    ensures back { IfOk result (λ parts.
-        IsPlayed (first + vec_len front.entry) round.now.commands.now
-        back.entry.items parts.1.clients.items parts.1.tells.items) }
+        (front.entry.items ++ back.entry.items) part.clients.items part.tells.items) }
     ensures err { IfErr result (λ fault. fault ≡ RunFault.Memory) }
 {
     let next = first + front.len() as u32;
@@ -288,8 +311,9 @@ fn play_apart<'s, 'a: 's, E, J: Live + Send + Sync, R: Threads + Wait + Sync, G:
         return Err(RunFault::Memory);
     };
     let ours = play_part(scope, rt, alloc, world, round, next, back);
-    let theirs = thread.join(rt);
-    Ok((theirs?, ours?))
+    let theirs = thread.join(rt)?;
+    let ours = ours?;
+    theirs.joined(ours)
 }
 
 /// Has a client do its commands of a round.

@@ -60,6 +60,42 @@ struct Service<J: Live> {
     desks: Desks<J>,
 }
 
+impl<J: Live> Service<J> {
+    /// What serves a run of the script at this live record, by so many GRV proxies.
+    fn new(
+        alloc: Global,
+        live: LiveRecord<J>,
+        script: &Script,
+        proxies: u32,
+    ) -> Result<Self, RunFault>
+        requires epoch_end { J.epoch_end ≡ script.now.setup.epoch_end }
+        requires recovery { J.recovery ≡ script.now.setup.recovery }
+        requires some_proxy { 0 < proxies }
+        requires few_proxies { proxies ≤ 16 }
+        ensures { IfErr result (λ fault. fault ≡ RunFault.Memory) }
+    {
+        let sequencer = sequencer_of(alloc, script)?;
+        let desks = Desks::new(alloc, proxies)?;
+        Ok(Service {
+            live,
+            sequencer,
+            desks,
+        })
+    }
+
+    /// The chain of commit versions, once nobody calls any more.
+    fn into_chain(self) -> Vec<Issued>
+        ensures { IsChain J.epoch_end J.recovery result.items }
+    {
+        let Service {
+            live: _,
+            sequencer,
+            desks: _,
+        } = self;
+        sequencer.close().into_answers()
+    }
+}
+
 /// Plays a script under a name that stands for its service, and audits what it leaves.
 fn run_named<J: Live + Send + Sync, R: Threads + Wait + Sync, G: Gate>(
     rt: &R,
@@ -83,18 +119,9 @@ fn run_named<J: Live + Send + Sync, R: Threads + Wait + Sync, G: Gate>(
     let Ok((live, first, tokens)) = opened.parts::<J>() else {
         return Err(RunFault::Memory);
     };
-    let service = Service {
-        live,
-        sequencer: sequencer_of(alloc, script)?,
-        desks: Desks::new(alloc, proxies)?,
-    };
+    let service = Service::new(alloc, live, script, proxies)?;
     let logs = logs_at(rt, alloc, &service, gate, script, first, tokens)?;
-    let Service {
-        live: _,
-        sequencer,
-        desks: _,
-    } = service;
-    audited(alloc, script, sequencer.close().into_answers(), logs)
+    audited(alloc, script, service.into_chain(), logs)
 }
 
 /// The logs of a script's clients, once all its rounds are

@@ -19,7 +19,7 @@ use fdb_script::{Command, Script};
 use std::alloc::Global;
 use std::sync::Wait;
 use std::thread;
-use std::thread::{JoinHandle, Threads};
+use std::thread::{JoinHandle, Scope, Threads};
 
 /// A GRV proxy for each desk, in order: each with a queue of its own, made with
 /// what the script says, and with a token that is split off the first one.
@@ -88,29 +88,69 @@ pub(crate) fn served<J: Live + Send + Sync, R: Threads + Wait + Sync, G: Gate>(
             ensures ok { IfOk result
                 (λ logs. FoldsTo AnswersRound (logs_of clients.entry) rounds.entry.now logs.items) }
             ensures err { IfErr result (λ fault. fault ≡ RunFault.Memory) }
-        {
-            let mut threads = Vec::new(alloc);
-            let mut all_started = true;
-            for proxy in proxies {
-                match scope.spawn(move || proxy.run(rt).is_ok()) {
-                    Ok(thread) => all_started &= threads.push(thread).is_ok(),
-                    Err(_) => all_started = false,
-                }
-            }
-            let played = if all_started {
-                played(rt, alloc, world, clients, rounds)
-            } else {
-                Err(RunFault::Memory)
-            };
-            world.desks.close(rt);
-            let all_served = join_all(rt, threads);
-            if all_served {
-                played
-            } else {
-                Err(RunFault::Memory)
-            }
-        },
+        { played_while_served(scope, rt, alloc, world, proxies, clients, rounds) },
     )
+}
+
+/// The logs of the clients, once all rounds are played, while the proxies serve in threads of
+/// this scope. However the rounds end, the desks are then closed, and the proxies joined.
+fn played_while_served<'s, 'p: 's, E, J: Live + Send + Sync, R: Threads + Wait + Sync, G: Gate>(
+    scope: &'s Scope<'s, E>,
+    rt: &'s R,
+    alloc: Global,
+    world: &World<'_, J, G>,
+    proxies: Vec<GrvProxy<'p, J>>,
+    clients: Clients<'_, J>,
+    rounds: &[Sequence<Command>],
+) -> Result<Vec<ClientLog>, RunFault>
+    requires few { length clients ≤ 64 }
+    ensures ok { IfOk result
+        (λ logs. FoldsTo AnswersRound (logs_of clients.entry) rounds.now logs.items) }
+    ensures err { IfErr result (λ fault. fault ≡ RunFault.Memory) }
+{
+    let (threads, all_started) = start_all(scope, rt, alloc, proxies);
+    let played = if all_started {
+        played(rt, alloc, world, clients, rounds)
+    } else {
+        Err(RunFault::Memory)
+    };
+    world.desks.close(rt);
+    let all_served = join_all(rt, threads);
+    if all_served {
+        played
+    } else {
+        Err(RunFault::Memory)
+    }
+}
+
+/// Starts each proxy in a thread of its own. Answers
+/// the threads, and whether each proxy has one.
+fn start_all<'s, 'p: 's, E, J: Live + Send + Sync, R: Threads + Wait + Sync>(
+    scope: &Scope<'s, E>,
+    rt: &'s R,
+    alloc: Global,
+    proxies: Vec<GrvProxy<'p, J>>,
+) -> (Vec<JoinHandle<bool>>, bool) {
+    let mut threads = Vec::new(alloc);
+    let mut all_started = true;
+    for proxy in proxies {
+        all_started &= start(scope, rt, proxy, &mut threads);
+    }
+    (threads, all_started)
+}
+
+/// Starts a proxy in a thread of its own, which is added to the
+/// threads. Answers whether there was a thread, and memory for it.
+fn start<'s, 'p: 's, E, J: Live + Send + Sync, R: Threads + Wait + Sync>(
+    scope: &Scope<'s, E>,
+    rt: &'s R,
+    proxy: GrvProxy<'p, J>,
+    threads: &mut Vec<JoinHandle<bool>>,
+) -> bool {
+    match scope.spawn(move || proxy.run(rt).is_ok()) {
+        Ok(thread) => threads.push(thread).is_ok(),
+        Err(_) => false,
+    }
 }
 
 /// Joins all proxies, and answers whether each served until its desk was closed.

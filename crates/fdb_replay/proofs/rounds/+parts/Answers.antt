@@ -1,5 +1,6 @@
-use Rattle.std.proofs.Common.{◌≡◌, ◌+◌, ◌/◌, ◌++◌, length, subst, rules}
+use Rattle.std.proofs.Common.{◌≡◌, ◌+◌, ◌/◌, ◌++◌, IfOk, length, subst, rules}
 use Rattle.std.proofs.lemmas.List.{take-append-drop}
+use Rattle.std.proofs.lemmas.Result.{IfOk-weaker}
 use Rattle.fdb_replay.specs.private.Rounds.{IsPlayed}
 use Rattle.fdb_replay.proofs.Parts.{both_played, none_played}
 use Rattle.fdb_replay.proofs.rounds.+parts.Goals as goal
@@ -12,16 +13,38 @@ pub play_part-returns-clause-ok : goal.play_part-returns-clause-ok
 play_part-returns-clause-ok g t c =
     let commands = c.args.round.now.commands.now in
     let first = c.args.first in
-    let old = c.args.clients.items in
-    let left = c.split_off.new.self in
-    let right = c.in_ok-others.others in
-    let part = c.in_ok-part.part in
-    let rest = c.in_ok-part.rest in
     let cut = c.in_ok-others.ensures in
-    let next = first + left.len in
-    let front : IsPlayed first commands left.items part.clients.items part.tells.items = search rules in
-    let back : IsPlayed next commands right.items rest.clients.items rest.tells.items = search rules in
-    let cut_is : next ≡ first + length left.items = search rules in
-    let whole : left.items ++ right.items ≡ old = rw (cut.items, cut.tail) (take-append-drop (c.len-half.result / 2) old) in
-    subst (λ all. IsPlayed first commands all c.append.new.self.items c.append-2.new.self.items) whole
-    (rw (c.in_ok-append.ensures.items, c.in_ok-append-2.ensures.items) (both_played first next commands left.items part.clients.items right.items rest.clients.items part.tells.items rest.tells.items cut_is front back))
+    let whole : c.split_off.new.self.items ++ c.in_ok-others.others.items ≡ c.args.clients.items = rw (cut.items, cut.tail) (take-append-drop (c.len-half.result / 2) c.args.clients.items) in
+    subst (λ all. IfOk c.play_halves.result (λ part. IsPlayed first commands all part.clients.items part.tells.items)) whole c.play_halves.ensures.ok
+
+pub play_halves-returns-clause-ok : goal.play_halves-returns-clause-ok
+play_halves-returns-clause-ok g t c =
+    let commands = c.args.round.now.commands.now in
+    let first = c.args.first in
+    let these = c.args.front in
+    let those = c.args.back in
+    let front = c.in_ok-front.front in
+    let back = c.in_ok-back.back in
+    let next = first + these.len in
+    let front_is : IsPlayed first commands these.items front.clients.items front.tells.items = search rules in
+    let back_is : IsPlayed next commands those.items back.clients.items back.tells.items = search rules in
+    let next_is : next ≡ first + length these.items = search rules in
+    IfOk-weaker c.joined.result _ (λ all. IsPlayed first commands (these.items ++ those.items) all.clients.items all.tells.items)
+    (λ all both. rw (both.0, both.1) (both_played first next commands these.items front.clients.items those.items back.clients.items front.tells.items back.tells.items next_is front_is back_is))
+    c.joined.ensures.ok
+
+pub play_apart-returns-clause-ok : goal.play_apart-returns-clause-ok
+play_apart-returns-clause-ok g t c =
+    let commands = c.args.round.now.commands.now in
+    let first = c.args.first in
+    let these = c.args.front in
+    let those = c.args.back in
+    let front = c.in_ok-theirs.theirs in
+    let back = c.in_ok-ours.ours in
+    let next = first + these.len in
+    let front_is : IsPlayed first commands these.items front.clients.items front.tells.items = search rules in
+    let back_is : IsPlayed next commands those.items back.clients.items back.tells.items = search rules in
+    let next_is : next ≡ first + length these.items = search rules in
+    IfOk-weaker c.joined.result _ (λ all. IsPlayed first commands (these.items ++ those.items) all.clients.items all.tells.items)
+    (λ all both. rw (both.0, both.1) (both_played first next commands these.items front.clients.items those.items back.clients.items front.tells.items back.tells.items next_is front_is back_is))
+    c.joined.ensures.ok
