@@ -219,7 +219,7 @@ fn at_cluster<J: Live + Send + Sync, R: Threads + Wait + Sync, W: Workload<R> + 
     alloc: Global,
     config: ClusterConfig,
     cluster: &Cluster<J>,
-    mut first: Seen<J>,
+    first: Seen<J>,
     tokens: Vec<Seen<J>>,
     workload: W,
 ) -> Result<W::Output, AllocError>
@@ -231,17 +231,17 @@ fn at_cluster<J: Live + Send + Sync, R: Threads + Wait + Sync, W: Workload<R> + 
         → slice_get tokens.items k ≡ Some (record { reporter = Some k; raises = [] }) }
     ensures gives { IfOk result (W.gives workload) }
 {
-    let proxies = proxies_of(alloc, config, cluster, &mut first)?;
+    let proxies = proxies_of(alloc, config, cluster, first)?;
     let clients = clients_of(alloc, &cluster.live, tokens)?;
     served(rt, alloc, cluster, proxies, clients, workload)
 }
 
-/// A GRV proxy for each desk, in order.
+/// A GRV proxy for each desk, in order, each with a token that is split off this one.
 fn proxies_of<'a, J: Live>(
     alloc: Global,
     config: ClusterConfig,
     cluster: &'a Cluster<J>,
-    first: &mut Seen<J>,
+    mut first: Seen<J>,
 ) -> Result<Vec<GrvProxy<'a, J>>, AllocError>
     requires queue { IsConfig config.queue }
     requires elapsed { IsElapsed config.elapsed }
@@ -251,7 +251,7 @@ fn proxies_of<'a, J: Live>(
 {
     let mut proxies = Vec::with_capacity(alloc, cluster.desks.len())?;
     for desk in &cluster.desks {
-        proxies.push_reserved(proxy_at(alloc, config, &cluster.live, desk, first));
+        proxies.push_reserved(proxy_at(alloc, config, &cluster.live, desk, &mut first));
     }
     Ok(proxies)
 }
@@ -290,10 +290,10 @@ fn clients_of<'a, J: Live>(
     ensures new { IfOk result (λ clients. (k : ℕ) → k < vec_len clients
         → slice_get clients.items k ≡ Some (new_account k [])) }
 {
-    let mut clients = Vec::new(alloc);
+    let mut clients = Vec::with_capacity(alloc, tokens.len())?;
     let mut number = 0;
     for seen in tokens {
-        clients.push(new_client(alloc, number, live, seen))?;
+        clients.push_reserved(new_client(alloc, number, live, seen));
         number += 1;
     }
     Ok(clients)
