@@ -1,4 +1,4 @@
-use Rattle.std.proofs.Common.{rules, ◌∙◌}
+use Rattle.std.proofs.Common.{◌∙◌}
 use Rattle.fdb_proxy.proofs.Batches.{prefix_trans}
 use Rattle.fdb_proxy.proofs.proxy.serve_desk.Goals as goal
 
