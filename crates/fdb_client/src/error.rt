@@ -23,16 +23,16 @@ pub enum ClientError {
     #[error("the GRV proxy is closed")]
     ProxyClosed,
     /// The sequencer refused the request.
-    #[error("{0}")]
+    #[error(transparent)]
     Chain(ChainError),
     /// The GRV proxy's queue refused the request.
-    #[error("{0}")]
+    #[error(transparent)]
     Queue(QueueError),
     /// The client has no commit version under this number.
     #[error("no commit version was issued under this number")]
     NotIssued,
     /// The live record refused the report.
-    #[error("{0}")]
+    #[error(transparent)]
     Live(LiveError),
     /// Memory was refused. The call is not logged, and the client is as it was.
     #[error("want of memory")]

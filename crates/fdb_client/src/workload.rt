@@ -16,7 +16,7 @@ use std::alloc::{AllocError, Global};
 use std::marker::Brand;
 use std::sync::Wait;
 use std::thread;
-use std::thread::{JoinHandle, Threads};
+use std::thread::{JoinHandle, Scope, Threads};
 
 /// What a cluster is made with.
 #[derive(Clone, Copy, Debug, PartialEq, Eq)]
@@ -152,11 +152,7 @@ fn run_named<J: Live + Send + Sync, R: Threads + Wait + Sync, W: Workload<R> + D
     let Ok((live, first, tokens)) = opened.parts::<J>() else {
         return Err(AllocError);
     };
-    let cluster = Cluster {
-        sequencer: sequencer_of(alloc, config)?,
-        live,
-        desks: desks_of(alloc, config.grv_proxies)?,
-    };
+    let cluster = cluster_of(alloc, config, live)?;
     let output = at_cluster(rt, alloc, config, &cluster, first, tokens, workload)?;
     let Cluster {
         sequencer,
@@ -164,6 +160,27 @@ fn run_named<J: Live + Send + Sync, R: Threads + Wait + Sync, W: Workload<R> + D
         desks: _,
     } = cluster;
     Ok((output, sequencer.close().into_answers()))
+}
+
+/// A cluster that nobody has called yet, with this live record.
+fn cluster_of<J: Live>(
+    alloc: Global,
+    config: ClusterConfig,
+    live: LiveRecord<J>,
+) -> Result<Cluster<J>, AllocError>
+    requires epoch_end { config.epoch_end ≡ J.epoch_end }
+    requires recovery { config.start.version ≡ J.recovery }
+    requires epoch { IsEpoch config.epoch_end config.start.version }
+    requires clients { IsProxyCount config.clients }
+    requires grv_proxies { 0 < config.grv_proxies }
+    ensures live { IfOk result (λ cluster. cluster.live ≡ live) }
+    ensures desks { IfOk result (λ cluster. vec_len cluster.desks ≡ config.grv_proxies) }
+{
+    Ok(Cluster {
+        sequencer: sequencer_of(alloc, config)?,
+        live,
+        desks: desks_of(alloc, config.grv_proxies)?,
+    })
 }
 
 /// A sequencer of which nobody has asked anything yet. There is a commit proxy for each client.
@@ -202,7 +219,7 @@ fn at_cluster<J: Live + Send + Sync, R: Threads + Wait + Sync, W: Workload<R> + 
     alloc: Global,
     config: ClusterConfig,
     cluster: &Cluster<J>,
-    mut first: Seen<J>,
+    first: Seen<J>,
     tokens: Vec<Seen<J>>,
     workload: W,
 ) -> Result<W::Output, AllocError>
@@ -214,17 +231,17 @@ fn at_cluster<J: Live + Send + Sync, R: Threads + Wait + Sync, W: Workload<R> + 
         → slice_get tokens.items k ≡ Some (record { reporter = Some k; raises = [] }) }
     ensures gives { IfOk result (W.gives workload) }
 {
-    let proxies = proxies_of(alloc, config, cluster, &mut first)?;
+    let proxies = proxies_of(alloc, config, cluster, first)?;
     let clients = clients_of(alloc, &cluster.live, tokens)?;
     served(rt, alloc, cluster, proxies, clients, workload)
 }
 
-/// A GRV proxy for each desk, in order.
+/// A GRV proxy for each desk, in order, each with a token that is split off this one.
 fn proxies_of<'a, J: Live>(
     alloc: Global,
     config: ClusterConfig,
     cluster: &'a Cluster<J>,
-    first: &mut Seen<J>,
+    mut first: Seen<J>,
 ) -> Result<Vec<GrvProxy<'a, J>>, AllocError>
     requires queue { IsConfig config.queue }
     requires elapsed { IsElapsed config.elapsed }
@@ -232,9 +249,9 @@ fn proxies_of<'a, J: Live>(
     ensures made { IfOk result (λ proxies. All (λ proxy. (proxy.config ≡ config.queue)
         × (proxy.throttles ≡ []) × (proxy.elapsed ≡ config.elapsed)) proxies.items) }
 {
-    let mut proxies = Vec::new(alloc);
+    let mut proxies = Vec::with_capacity(alloc, cluster.desks.len())?;
     for desk in &cluster.desks {
-        proxies.push(proxy_at(alloc, config, &cluster.live, desk, first))?;
+        proxies.push_reserved(proxy_at(alloc, config, &cluster.live, desk, &mut first));
     }
     Ok(proxies)
 }
@@ -273,10 +290,10 @@ fn clients_of<'a, J: Live>(
     ensures new { IfOk result (λ clients. (k : ℕ) → k < vec_len clients
         → slice_get clients.items k ≡ Some (new_account k [])) }
 {
-    let mut clients = Vec::new(alloc);
+    let mut clients = Vec::with_capacity(alloc, tokens.len())?;
     let mut number = 0;
     for seen in tokens {
-        clients.push(new_client(alloc, number, live, seen))?;
+        clients.push_reserved(new_client(alloc, number, live, seen));
         number += 1;
     }
     Ok(clients)
@@ -320,25 +337,41 @@ fn served<J: Live + Send + Sync, R: Threads + Wait + Sync, W: Workload<R> + Drop
             ensures gives { IfOk result (W.gives workload) }
         {
             let mut threads = Vec::new(alloc);
-            let mut all_started = true;
-            for proxy in proxies {
-                match scope.spawn(move || proxy.run(rt).is_ok()) {
-                    Ok(thread) => all_started &= threads.push(thread).is_ok(),
-                    Err(_) => all_started = false,
-                }
-            }
-            let output = if all_started {
+            let output = if start_all(rt, scope, proxies, &mut threads) {
                 Ok(workload.start::<J>(rt, cluster, clients))
             } else {
                 Err(AllocError)
             };
-            for desk in &cluster.desks {
-                desk.close(rt);
-            }
+            close_all(rt, cluster);
             join_all(rt, threads);
             output
         },
     )
+}
+
+/// Has each proxy serve its desk in a thread of its own, and keeps the threads that could be had.
+/// Answers whether there is one for each proxy.
+fn start_all<'s, E, J: Live + Send + Sync, R: Threads + Wait + Sync>(
+    rt: &'s R,
+    scope: &Scope<'s, E>,
+    proxies: Vec<GrvProxy<'s, J>>,
+    threads: &mut Vec<JoinHandle<bool>>,
+) -> bool {
+    let mut all_started = true;
+    for proxy in proxies {
+        match scope.spawn(move || proxy.run(rt).is_ok()) {
+            Ok(thread) => all_started &= threads.push(thread).is_ok(),
+            Err(_) => all_started = false,
+        }
+    }
+    all_started
+}
+
+/// Closes all desks.
+fn close_all<J: Live, R: Wait>(rt: &R, cluster: &Cluster<J>) {
+    for desk in &cluster.desks {
+        desk.close(rt);
+    }
 }
 
 /// Joins all proxies.

@@ -77,13 +77,13 @@ fn room_for<J: Live>(
     ensures len { IfOk result (λ room. vec_len room.limits ≡ length requests.now) }
     ensures capacity { IfOk result (λ room. length requests.now ≤ vec_capacity room.answers) }
 {
-    let answers = Vec::with_capacity(alloc, requests.len())?;
     let mut limits = Vec::with_capacity(alloc, requests.len())?;
     for request in requests {
         let opts = &request.payload.opts;
         let own = queue.throttles(opts.priority, opts.tags.as_slice(), opts.at)?;
         limits.push_reserved(Sequence::from(own));
     }
+    let answers = Vec::with_capacity(alloc, requests.len())?;
     Ok(Room { limits, answers })
 }
 

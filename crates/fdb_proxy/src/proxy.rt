@@ -120,7 +120,6 @@ impl<'a, J: Live> GrvProxy<'a, J> {
 }
 
 /// Serves a desk until it is closed.
-#[tactic(auto, using(crate::proofs::Batches::prefix_trans))]
 fn serve_desk<J: Live, R: Wait>(
     rt: &R,
     alloc: Global,

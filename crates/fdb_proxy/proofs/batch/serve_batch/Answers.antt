@@ -1,6 +1,7 @@
 use Rattle.std.proofs.Common.{◌∙◌, sym, ap, map}
+use Rattle.fdb_live.specs.Seen.{own_positions}
 use Rattle.fdb_proxy.specs.Batch.{own_limits}
-use Rattle.fdb_proxy.proofs.Batches.{told_more, written_back}
+use Rattle.fdb_proxy.proofs.Batches.{prefix_trans, told_more, written_back}
 use Rattle.fdb_proxy.proofs.batch.serve_batch.Goals as goal
 
 pub answer_all-requires-clause-told : goal.answer_all-requires-clause-told
@@ -15,3 +16,12 @@ returns-clause-replies g c =
     let limits = c.in-Ok.ensures.limits ∙ ap (map (own_limits c.args.queue.now.throttles)) (c.as_slice.ensures.value ∙ sym back) in
     let all = c.answer_all.ensures.replies c.args.queue.now.throttles limits in
     rw back at all
+
+pub returns-clause-reporter : goal.returns-clause-reporter
+returns-clause-reporter g c = ap (λ sight. sight.reporter) c.answer_all.ensures.same ∙ c.read-fetched.ensures.reporter ∙ c.learn_all.ensures.reporter
+
+pub returns-clause-extends : goal.returns-clause-extends
+returns-clause-extends g c = rw c.answer_all.ensures.same (prefix_trans c.args.seen.now.raises c.learn_all.new.seen.raises c.read-fetched.new.seen.raises c.learn_all.ensures.extends c.read-fetched.ensures.extends)
+
+pub returns-clause-own : goal.returns-clause-own
+returns-clause-own g c = ap own_positions c.answer_all.ensures.same ∙ c.read-fetched.ensures.own ∙ c.learn_all.ensures.own
