@@ -1,20 +1,50 @@
 -- What keeps the rule of a record and its position keeps it of the words that say them.
-use Rattle.std.proofs.Common.{◌≡◌, ℕ, sym, subst}
+use Rattle.std.proofs.Common.{◌≡◌, ℕ, ◌+◌, ◌<◌, ◌≤◌, true, length, sym, subst}
 use Rattle.crossbeam_utils.specs.Register.{Turns, Forks, Merges}
+use Rattle.fdb_history.specs.declared.register.Record.{Record}
+use Rattle.fdb_history.specs.declared.register.TheConstants.{MAX_VERSION}
+use Rattle.fdb_history.specs.Register.{after_report, raises}
+use Rattle.fdb_live.specs.Seen.{last_record}
 use Rattle.fdb_live.specs.declared.fetched.Fetched.{Fetched}
 use Rattle.fdb_live.specs.declared.held.Held.{Held}
 use Rattle.fdb_live.specs.declared.view.View.{View}
-use Rattle.fdb_live.specs.private.Rule.{Kept, Keeps, InWords}
+use Rattle.fdb_live.specs.private.Rule.{Kept, Keeps, InWords, Adds, Looks, Opens, Settles, copy_of, first, joined, lowest_of, spent, taken, without_lowest}
 use Rattle.fdb_live.specs.private.Words.{fetched_of}
+use Rattle.fdb_live.proofs.Joins.{takes, tells}
+use Rattle.fdb_live.proofs.Splits.{copies, gives_all, gives_lowest}
+use Rattle.fdb_live.proofs.Turning.{adds_named, looks, opens, settles}
 
-pub loads : {pass : ℕ} {v : View} (then : View → Fetched → Fetched → View → Type 0) → Turns Kept pass v (λ x. x) then → Turns Keeps pass v (λ x. x) (InWords then)
+loads : {pass : ℕ} {v : View} (then : View → Fetched → Fetched → View → Type 0) → Turns Kept pass v (λ x. x) then → Turns Keeps pass v (λ x. x) (InWords then)
 loads then t x = t (fetched_of x)
 
-pub writes : {pass : ℕ} {v : View} (then : View → Fetched → Fetched → View → Type 0) {new : Fetched} (held : Held) → fetched_of held ≡ new → Turns Kept pass v (λ _. new) then → Turns Keeps pass v (λ _. held) (InWords then)
+writes : {pass : ℕ} {v : View} (then : View → Fetched → Fetched → View → Type 0) {new : Fetched} (held : Held) → fetched_of held ≡ new → Turns Kept pass v (λ _. new) then → Turns Keeps pass v (λ _. held) (InWords then)
 writes {pass} {v} then {new} held is t x = subst (λ (y : Fetched). Turns Kept pass v (λ _. y) then) (sym is) t (fetched_of x)
 
-pub splits : {pass : ℕ} {v left right : View} → Forks Kept pass v left right → Forks Keeps pass v left right
-splits t x = t (fetched_of x)
+pub looks_in_words : (pass : ℕ) (v : View) → Turns Keeps pass v (λ x. x) (InWords Looks)
+looks_in_words pass v = loads Looks (looks pass v)
 
-pub joins : {pass other : ℕ} {v w both spent : View} → Merges Kept pass v other w both spent → Merges Keeps pass v other w both spent
-joins t x = t (fetched_of x)
+pub settles_in_words : (pass : ℕ) (v : View) → Turns Keeps pass v (λ x. x) (InWords Settles)
+settles_in_words pass v = loads Settles (settles pass v)
+
+pub opens_in_words : (reporters pass : ℕ) (v : View) (held : Held) (new : Fetched) → fetched_of held ≡ new → v ≡ first → new.position ≡ 0 → new.rec.version ≤ MAX_VERSION → Turns Keeps pass v (λ _. held) (InWords (Opens reporters))
+opens_in_words reporters pass v held new is at_start none in_range =
+    writes (Opens reporters) held is (opens reporters pass v new at_start none in_range)
+
+pub adds_in_words : (rec named : Record) (pass : ℕ) (v : View) (held : Held) (new : Fetched) → fetched_of held ≡ new → rec ≡ named → v.replaces ≡ true → v.low < v.high → new.position ≡ length v.seen + 1 → raises (last_record v.start v.seen) rec ≡ true → new.rec ≡ after_report (last_record v.start v.seen) rec → rec.version ≤ MAX_VERSION → Turns Keeps pass v (λ _. held) (InWords (Adds named))
+adds_in_words rec named pass v held new is same replaces some_number position up becomes in_range =
+    writes (Adds named) held is (adds_named pass v new same replaces some_number position up becomes in_range)
+
+pub copies_in_words : (pass : ℕ) (v : View) → Forks Keeps pass v v (copy_of v)
+copies_in_words pass v x = copies pass v (fetched_of x)
+
+pub gives_lowest_in_words : (pass : ℕ) (v : View) → v.low < v.high → Forks Keeps pass v (without_lowest v) (lowest_of v)
+gives_lowest_in_words pass v some_number x = gives_lowest pass v some_number (fetched_of x)
+
+pub gives_all_in_words : (pass : ℕ) (v : View) → Forks Keeps pass v spent v
+gives_all_in_words pass v x = gives_all pass v (fetched_of x)
+
+pub tells_in_words : (pass : ℕ) (v : View) (other : ℕ) (w : View) → Merges Keeps pass v other w (joined v w) spent
+tells_in_words pass v other w x = tells pass v other w (fetched_of x)
+
+pub takes_in_words : (pass : ℕ) (v : View) (other : ℕ) (w : View) → v.replaces ≡ true → Merges Keeps pass v other w (taken v w) spent
+takes_in_words pass v other w replaces x = takes pass v other w replaces (fetched_of x)

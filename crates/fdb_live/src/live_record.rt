@@ -122,8 +122,7 @@ impl<J: Live> LiveRecord<J> {
             of: _,
         } = told;
         let told = passes::give_all(&self.cell, &mut pass);
-        passes::join(&self.cell, &mut seen.pass, told);
-        passes::settle(rt, &self.cell, &mut seen.pass);
+        passes::learn(rt, &self.cell, &mut seen.pass, told);
         if seen.position < position {
             seen.position = position;
         }
@@ -142,7 +141,6 @@ impl<J: Live> LiveRecord<J> {
     {
         let mut mine = passes::copy(&self.cell, &mut first.pass);
         let theirs = passes::copy(&self.cell, &mut second.pass);
-        passes::join(&self.cell, &mut mine, theirs);
-        passes::settle(rt, &self.cell, &mut mine);
+        passes::learn(rt, &self.cell, &mut mine, theirs);
     }
 }

@@ -1,11 +1,13 @@
 //! The steps on passes of the cell: each keeps the rule, and says what has become of the views.
 
 ghost use Rattle.std.specs.Prelude.{◌≡◌, ◌+◌, ◌<◌, ◌≤◌, [], length, true};
+ghost use Rattle.crossbeam_utils.specs.Register.{Turns};
 ghost use Rattle.crossbeam_utils.specs.Seq.{IsSamePass, cell_view};
 ghost use Rattle.fdb_history.specs.Register.{after_report, raises};
 ghost use Rattle.fdb_live.specs.Seen.{last_record};
 ghost use Rattle.fdb_live.specs.private.Token.{IsReported};
-ghost use Rattle.fdb_live.specs.private.Rule.{Adds, Looks, Settles, copy_of, first, joined, lowest_of, opened, spent, taken, without_lowest};
+ghost use Rattle.fdb_live.specs.private.Rule.{Adds, InWords, Keeps, Looks, Opens, Settles, copy_of, first, joined, lowest_of, opened, spent, taken, without_lowest};
+ghost use Rattle.fdb_live.specs.private.Words.{fetched_of};
 
 use crate::ack::Ack;
 use crate::fetched::Fetched;
@@ -35,14 +37,26 @@ pub(crate) fn open_as<S: Service, R: Wait>(
     ensures cell { IsSamePass pass.old pass.new }
     ensures opened { cell_view pass.new ≡ opened start reporters }
 {
-    let begun = Fetched {
+    let words = opening::<S>(pass, start);
+    cell.swap_as::<view::Opens<S>, R>(rt, pass, words);
+}
+
+/// The words with which the first pass may open the service of a name.
+fn opening<S: Service>(pass: &Pass, start: Record) -> Held
+    requires first { cell_view pass.now ≡ first }
+    requires in_range { start.version ≤ MAX_VERSION }
+    ensures words { (fetched_of result).rec ≡ start }
+    ensures may_open { Turns Keeps pass.now.id (cell_view pass.now) (λ _. result)
+        (InWords (Opens S.reporters)) }
+{
+    Held::of(Fetched {
         rec: start,
         position: 0,
-    };
-    cell.swap_as::<view::Opens<S>, R>(rt, pass, Held::of(begun));
+    })
 }
 
 /// Loads the record.
+#[tactic(auto, using(crate::proofs::InWords::looks_in_words))]
 #[inline]
 pub(crate) fn look<R: Wait>(rt: &R, cell: &Cell, pass: &mut Pass) -> Fetched
     requires { pass.old.table_id ≡ cell.now.table.shared.table_id }
@@ -50,16 +64,6 @@ pub(crate) fn look<R: Wait>(rt: &R, cell: &Cell, pass: &mut Pass) -> Fetched
     ensures looks { Looks (cell_view pass.old) result result (cell_view pass.new) }
 {
     cell.load_as::<view::Looks, R>(rt, pass).fetched()
-}
-
-/// Ends a join by a load, and leaves what was seen as it is.
-#[inline]
-pub(crate) fn settle<R: Wait>(rt: &R, cell: &Cell, pass: &mut Pass) -> Fetched
-    requires { pass.old.table_id ≡ cell.now.table.shared.table_id }
-    ensures cell { IsSamePass pass.old pass.new }
-    ensures settles { Settles (cell_view pass.old) result result (cell_view pass.new) }
-{
-    cell.load_as::<view::Settles, R>(rt, pass).fetched()
 }
 
 /// Replaces the record by what a report makes of it.
@@ -86,10 +90,31 @@ pub(crate) fn add<P: Reported, R: Wait>(
     ensures cell { IsSamePass pass.old pass.new }
     ensures adds { Adds rec (cell_view pass.old) raised raised (cell_view pass.new) }
 {
-    cell.swap_as::<view::Adds<P>, R>(rt, pass, Held::of(raised));
+    let words = adding::<P>(pass, rec, raised);
+    cell.swap_as::<view::Adds<P>, R>(rt, pass, words);
+}
+
+/// The words by which the pass with the right may replace what the cell keeps.
+#[inline]
+fn adding<P: Reported>(pass: &Pass, rec: Record, raised: Fetched) -> Held
+    requires named { rec ≡ P.rec }
+    requires right { (cell_view pass.now).replaces ≡ true }
+    requires numbered { (cell_view pass.now).low < (cell_view pass.now).high }
+    requires next { raised.position ≡ length (cell_view pass.now).seen + 1 }
+    requires raises { raises
+        (last_record (cell_view pass.now).start (cell_view pass.now).seen)
+        rec ≡ true }
+    requires becomes { raised.rec ≡ after_report
+        (last_record (cell_view pass.now).start (cell_view pass.now).seen)
+        rec }
+    requires in_range { rec.version ≤ MAX_VERSION }
+    ensures { Turns Keeps pass.now.id (cell_view pass.now) (λ _. result) (InWords (Adds P.rec)) }
+{
+    Held::of(raised)
 }
 
 /// Splits off a copy of what was seen.
+#[tactic(auto, using(crate::proofs::InWords::copies_in_words))]
 pub(crate) fn copy(cell: &Cell, pass: &mut Pass) -> Pass
     requires { pass.old.table_id ≡ cell.now.table.shared.table_id }
     ensures kept { IsSamePass pass.old pass.new × (cell_view pass.new ≡ cell_view pass.old) }
@@ -101,6 +126,7 @@ pub(crate) fn copy(cell: &Cell, pass: &mut Pass) -> Pass
 }
 
 /// Splits off the lowest number.
+#[tactic(auto, using(crate::proofs::InWords::gives_lowest_in_words))]
 pub(crate) fn give_lowest(cell: &Cell, pass: &mut Pass) -> Pass
     requires cell { pass.old.table_id ≡ cell.now.table.shared.table_id }
     requires numbered { (cell_view pass.old).low < (cell_view pass.old).high }
@@ -114,6 +140,7 @@ pub(crate) fn give_lowest(cell: &Cell, pass: &mut Pass) -> Pass
 }
 
 /// Splits off all that the pass has.
+#[tactic(auto, using(crate::proofs::InWords::gives_all_in_words))]
 pub(crate) fn give_all(cell: &Cell, pass: &mut Pass) -> Pass
     requires { pass.old.table_id ≡ cell.now.table.shared.table_id }
     ensures kept { IsSamePass pass.old pass.new × (cell_view pass.new ≡ spent) }
@@ -125,13 +152,38 @@ pub(crate) fn give_all(cell: &Cell, pass: &mut Pass) -> Pass
 }
 
 /// Takes in what another pass has seen.
-pub(crate) fn join(cell: &Cell, pass: &mut Pass, other: Pass)
+#[inline]
+pub(crate) fn learn<R: Wait>(rt: &R, cell: &Cell, pass: &mut Pass, other: Pass) -> Fetched
     requires cell { pass.old.table_id ≡ cell.now.table.shared.table_id }
     requires other { (other.table_id ≡ pass.old.table_id) × (other.me.1 ≡ []) }
-    ensures { IsSamePass pass.old pass.new
+    ensures cell { IsSamePass pass.old pass.new }
+    ensures learns { Settles (joined (cell_view pass.old) (cell_view other)) result result
+        (cell_view pass.new) }
+{
+    join(cell, pass, other);
+    settle(rt, cell, pass)
+}
+
+/// Takes in what another pass has seen, and leaves the join to be ended by a load.
+fn join(cell: &Cell, pass: &mut Pass, other: Pass)
+    requires cell { pass.old.table_id ≡ cell.now.table.shared.table_id }
+    requires other { (other.table_id ≡ pass.old.table_id) × (other.me.1 ≡ []) }
+    ensures joined { IsSamePass pass.old pass.new
         × (cell_view pass.new ≡ joined (cell_view pass.old) (cell_view other)) }
+    ensures may_settle { Turns Keeps pass.new.id (cell_view pass.new) (λ x. x) (InWords Settles) }
 {
     cell.join_pass::<view::Joined>(pass, other);
+}
+
+/// Ends a join by a load, and leaves what was seen as it is.
+#[inline]
+fn settle<R: Wait>(rt: &R, cell: &Cell, pass: &mut Pass) -> Fetched
+    requires cell { pass.old.table_id ≡ cell.now.table.shared.table_id }
+    requires may_settle { Turns Keeps pass.old.id (cell_view pass.old) (λ x. x) (InWords Settles) }
+    ensures cell { IsSamePass pass.old pass.new }
+    ensures settles { Settles (cell_view pass.old) result result (cell_view pass.new) }
+{
+    cell.load_as::<view::Settles, R>(rt, pass).fetched()
 }
 
 /// The pass with the right to replace takes in another one with its number.

@@ -1,7 +1,0 @@
-use Rattle.std.proofs.Common.{rules}
-use Rattle.fdb_live.proofs.Splits.{gives_all}
-use Rattle.fdb_live.proofs.InWords.{splits}
-use Rattle.fdb_live.proofs.passes.give_all.Goals as goal
-
-pub split_pass-requires : goal.split_pass-requires
-split_pass-requires c = (search rules, (search rules, (search rules, splits (gives_all _ _))))
