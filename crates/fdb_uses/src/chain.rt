@@ -5,21 +5,31 @@ use fdb_chain::ChainCore;
 use fdb_history::Ask;
 use std::alloc::Global;
 
-/// Draws two commit versions, and asks for the first one again: it gets the answer that was kept
-/// for its number.
+/// A chain for one proxy, which asks three times.
 pub(crate) fn commit_versions(rt: &impl Print, alloc: Global) -> Result<()> {
     let mut chain = ChainCore::new(alloc, 0, 100, 1)?;
-    for (num, at) in [(1, 1_000), (2, 3_000), (1, 9_000)] {
-        let issued = chain.ask(Ask {
-            proxy: 0,
-            num,
-            processed: 0,
-            at,
-        })?;
-        println!(rt;
-            "request {num}: version {} after {}, fresh {}",
-            issued.version, issued.prev, issued.fresh
-        )?;
-    }
+    three_requests(rt, &mut chain)
+}
+
+/// Draws two commit versions, and asks for the first one again: it gets the answer that was kept
+/// for its number.
+fn three_requests(rt: &impl Print, chain: &mut ChainCore) -> Result<()> {
+    ask(rt, chain, 1, 1_000)?;
+    ask(rt, chain, 2, 3_000)?;
+    ask(rt, chain, 1, 9_000)
+}
+
+/// Asks for the commit version under a number, and tells what came of it.
+fn ask(rt: &impl Print, chain: &mut ChainCore, num: u64, at: u64) -> Result<()> {
+    let issued = chain.ask(Ask {
+        proxy: 0,
+        num,
+        processed: 0,
+        at,
+    })?;
+    println!(rt;
+        "request {num}: version {} after {}, fresh {}",
+        issued.version, issued.prev, issued.fresh
+    )?;
     Ok(())
 }

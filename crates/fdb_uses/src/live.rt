@@ -21,8 +21,7 @@ struct TwoReporters;
 impl<R: Print + Wait> UnderName<R> for TwoReporters {
     type Output = Result<()>;
 
-    /// Has both reporters report, the greater version first. Then the tokens meet: what the first
-    /// one has seen is a part of what the second one has.
+    /// Shares out the record and its tokens: one to read with, and those of the reporters.
     fn run<J: Live + Send + Sync>(
         self,
         rt: &R,
@@ -31,18 +30,35 @@ impl<R: Print + Wait> UnderName<R> for TwoReporters {
         _recovery: u64,
     ) -> Result<()> {
         let (live, mut reader, mut reporters) = opened.parts::<J>()?;
-        let mut second = reporters.pop().ok_or(anyhow!("no reporter"))?;
-        let mut first = reporters.pop().ok_or(anyhow!("no reporter"))?;
-        report(rt, &live, &mut first, 300)?;
-        report(rt, &live, &mut second, 200)?;
-        live.meet(rt, &mut first, &mut second);
-        let read = live.read(rt, &mut reader);
-        println!(rt;
-            "read version {} at position {}",
-            read.rec.version, read.position
-        )?;
-        Ok(())
+        report_and_read(rt, &live, &mut reader, reporters.as_mut_slice())
     }
+}
+
+/// Has both reporters report, the greater version first. Then the tokens meet: what the first
+/// one has seen is a part of what the second one has.
+fn report_and_read<J: Live, R: Print + Wait>(
+    rt: &R,
+    live: &LiveRecord<J>,
+    reader: &mut Seen<J>,
+    reporters: &mut [Seen<J>],
+) -> Result<()> {
+    let [first, second] = reporters else {
+        return Err(anyhow!("two reporters are wanted"));
+    };
+    report(rt, live, first, 300)?;
+    report(rt, live, second, 200)?;
+    live.meet(rt, first, second);
+    read(rt, live, reader)
+}
+
+/// Reads the live record, and tells what is found.
+fn read<J: Live, R: Print + Wait>(rt: &R, live: &LiveRecord<J>, token: &mut Seen<J>) -> Result<()> {
+    let read = live.read(rt, token);
+    println!(rt;
+        "read version {} at position {}",
+        read.rec.version, read.position
+    )?;
+    Ok(())
 }
 
 /// Reports a version, and tells what came of it.

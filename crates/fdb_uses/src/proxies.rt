@@ -1,11 +1,9 @@
 //! Clients that read through GRV proxies, which serve in threads of their own.
 
-ghost use Rattle.std.specs.Prelude.{◌≡◌, None};
-
 use anyhow::{Result, anyhow};
 use fdb_client::{Client, Cluster, ClusterConfig, Workload, run_workload};
-use fdb_history::{ClientLog, GrvOpts, OpenGate, Priority, Record, Sequence, audit};
-use fdb_live::{Live, Seen};
+use fdb_history::{ClientLog, GrvOpts, Issued, OpenGate, Priority, Record, Sequence, audit};
+use fdb_live::Live;
 use fdb_proxy::Desk;
 use fdb_queue::QueueConfig;
 use std::alloc::Global;
@@ -36,8 +34,12 @@ const CLUSTER: ClusterConfig = ClusterConfig {
 /// Has two clients work at a cluster, and explains what they were answered by one history.
 pub(crate) fn two_clients<R: Print + Threads + Wait + Sync>(rt: &R, alloc: Global) -> Result<()> {
     let (logs, chain) = run_workload(rt, alloc, CLUSTER, CommitAndRead { alloc })?;
-    let (writer, reader) = logs?;
-    let history = audit(alloc, START, chain.as_slice(), &[writer, reader])?;
+    explain(rt, alloc, &logs?, &chain)
+}
+
+/// Looks for the history that explains logs, and tells how long it is.
+fn explain(rt: &impl Print, alloc: Global, logs: &[ClientLog; 2], chain: &[Issued]) -> Result<()> {
+    let history = audit(alloc, START, chain, logs)?;
     println!(rt; "explained by {} events", history.events.len())?;
     Ok(())
 }
@@ -49,25 +51,39 @@ struct CommitAndRead {
 }
 
 impl<R: Print + Wait> Workload<R> for CommitAndRead {
-    type Output = Result<(ClientLog, ClientLog)>;
+    type Output = Result<[ClientLog; 2]>;
 
-    /// Each reads through a proxy of its own, and none reads less than it has seen committed. It
-    /// answers the logs of both.
+    /// Has the clients make their calls, and answers their logs.
     fn start<J: Live>(
         self,
         rt: &R,
         cluster: &Cluster<J>,
         mut clients: Vec<Client<'_, J>>,
-    ) -> Result<(ClientLog, ClientLog)> {
-        let mut reader = clients.pop().ok_or(anyhow!("no client"))?;
-        let mut writer = clients.pop().ok_or(anyhow!("no client"))?;
-        commit(rt, cluster, &mut writer)?;
-        let told = writer.tell(reader.number())?;
-        learn(rt, &mut reader, writer.number(), told)?;
-        read(rt, self.alloc, cluster.desk(0), &mut writer)?;
-        read(rt, self.alloc, cluster.desk(1), &mut reader)?;
-        Ok((writer.finish().0, reader.finish().0))
+    ) -> Result<[ClientLog; 2]> {
+        let mut reader = last_of(&mut clients)?;
+        let mut writer = last_of(&mut clients)?;
+        commit_and_read(rt, self.alloc, cluster, &mut writer, &mut reader)?;
+        Ok([writer.finish().0, reader.finish().0])
     }
+}
+
+/// The last client that is left.
+fn last_of<'a, J: Live>(clients: &mut Vec<Client<'a, J>>) -> Result<Client<'a, J>> {
+    clients.pop().ok_or(anyhow!("no client"))
+}
+
+/// Each client reads through a proxy of its own, and none reads less than it has seen committed.
+fn commit_and_read<J: Live, R: Print + Wait>(
+    rt: &R,
+    alloc: Global,
+    cluster: &Cluster<J>,
+    writer: &mut Client<'_, J>,
+    reader: &mut Client<'_, J>,
+) -> Result<()> {
+    commit(rt, cluster, writer)?;
+    tell(rt, writer, reader)?;
+    read(rt, alloc, cluster.desk(0), writer)?;
+    read(rt, alloc, cluster.desk(1), reader)
 }
 
 /// Draws two commit versions, and reports the second one.
@@ -86,16 +102,14 @@ fn commit<J: Live, R: Print + Wait>(
     Ok(())
 }
 
-/// Learns what another client has seen.
-fn learn<J: Live, R: Wait>(
+/// Tells another client what one has seen.
+fn tell<J: Live, R: Wait>(
     rt: &R,
-    client: &mut Client<'_, J>,
-    from: u32,
-    told: Seen<J>,
-) -> Result<()>
-    requires { told.reporter ≡ None }
-{
-    match client.learn(rt, from, told) {
+    teller: &mut Client<'_, J>,
+    learner: &mut Client<'_, J>,
+) -> Result<()> {
+    let told = teller.tell(learner.number())?;
+    match learner.learn(rt, teller.number(), told) {
         Ok(()) => Ok(()),
         Err((cause, _)) => Err(anyhow!("{cause}")),
     }

@@ -8,30 +8,51 @@ use std::alloc::Global;
 /// The time between two windows, in microseconds.
 const ELAPSED: u64 = 1_000_000;
 
+/// What a window grants, and how many requests may wait.
+const CONFIG: QueueConfig = QueueConfig {
+    normal: 10,
+    batch: 5,
+    room: 100,
+};
+
+/// The queue, of which each request has a name.
+type Queue = GrvQueue<&'static str>;
+
+/// A queue with two requests, and one window.
+pub(crate) fn one_window(rt: &impl Print, alloc: Global) -> Result<()> {
+    let mut queue = GrvQueue::new(alloc, CONFIG)?;
+    two_requests(rt, &mut queue)
+}
+
 /// Has two requests wait, of which one window starts the first. The second has more transactions
 /// than a window grants; the queue tells how many windows it still waits.
-pub(crate) fn one_window(rt: &impl Print, alloc: Global) -> Result<()> {
-    let config = QueueConfig {
-        normal: 10,
-        batch: 5,
-        room: 100,
-    };
-    let mut queue = GrvQueue::new(alloc, config)?;
-    for (payload, count) in [("first", 8), ("second", 30)] {
-        let request = Req {
-            priority: Priority::Default,
-            count,
-            payload,
-        };
-        if let Err((cause, _request)) = queue.offer(request) {
-            return Err(anyhow!("{cause}"));
-        }
-    }
-    for request in queue.window(ELAPSED)? {
-        println!(rt; "started the {} request", request.payload)?;
-    }
+fn two_requests(rt: &impl Print, queue: &mut Queue) -> Result<()> {
+    offer(queue, "first", 8)?;
+    offer(queue, "second", 30)?;
+    start(rt, queue)?;
     if let Some(windows) = queue.waits(ELAPSED) {
         println!(rt; "the second request waits for {windows} windows more")?;
+    }
+    Ok(())
+}
+
+/// Has a request for so many transactions wait.
+fn offer(queue: &mut Queue, payload: &'static str, count: u64) -> Result<()> {
+    let request = Req {
+        priority: Priority::Default,
+        count,
+        payload,
+    };
+    match queue.offer(request) {
+        Ok(_pushed_out) => Ok(()),
+        Err((cause, _request)) => Err(anyhow!("{cause}")),
+    }
+}
+
+/// Starts what one window grants.
+fn start(rt: &impl Print, queue: &mut Queue) -> Result<()> {
+    for request in queue.window(ELAPSED)? {
+        println!(rt; "started the {} request", request.payload)?;
     }
     Ok(())
 }

@@ -5,6 +5,7 @@ use fdb_history::{
     Call, CallAnswer, ClientLog, GrvOpts, Input, Issued, Priority, Record, Sequence, audit,
 };
 use std::alloc::{AllocError, Global};
+use std::io;
 
 /// The live committed version before any report.
 const START: Record = Record {
@@ -28,76 +29,95 @@ const COMMIT: Issued = Issued {
 /// Client 0 commits at 200, and client 1 comes to know of it: it has seen position 1, the first
 /// raise. Then it reads 100.
 pub(crate) fn caught(rt: &impl Print, alloc: Global) -> Result<()> {
-    let logs = vec![in alloc; writer(alloc)?, reader(alloc)?]?;
-    match audit(alloc, START, &[COMMIT], &logs) {
-        Ok(history) => println!(rt; "explained by {} events", history.events.len())?,
-        Err(fault) => println!(rt; "fault: {fault}")?,
-    }
+    let logs = logs(alloc)?;
+    explain(rt, alloc, &logs)?;
     Ok(())
 }
 
-/// The log of client 0, which draws a commit version and reports it.
-fn writer(alloc: Global) -> Result<ClientLog, AllocError> {
-    let calls = vec![in alloc;
-        Call {
-            input: Input::Ask {
-                num: 1,
-                processed: 0,
-                at: 0
-            },
-            asked: 0,
-            position: 0,
-            answer: CallAnswer::Answered(COMMIT),
-        },
-        Call {
-            input: Input::Report {
-                num: 1,
-                locked: false,
-                metadata: None
-            },
-            asked: 0,
-            position: 1,
-            answer: CallAnswer::Acked {
-                rec: Record {
-                    version: 200,
-                    ..START
-                },
-                raised: true
-            },
-        },
-    ]?;
-    Ok(ClientLog {
-        calls: Sequence::from(calls),
-    })
+/// Audits logs, and tells what is found.
+fn explain(rt: &impl Print, alloc: Global, logs: &[ClientLog; 2]) -> io::Result<()> {
+    match audit(alloc, START, &[COMMIT], logs) {
+        Ok(history) => println!(rt; "explained by {} events", history.events.len()),
+        Err(fault) => println!(rt; "fault: {fault}"),
+    }
 }
 
-/// The log of client 1, which has been told of the commit and reads an older version.
-fn reader(alloc: Global) -> Result<ClientLog, AllocError> {
-    let calls = vec![in alloc;
-        Call {
-            input: Input::Learn { from: 0 },
-            asked: 0,
-            position: 1,
-            answer: CallAnswer::Told,
+/// The logs of both clients. Client 0 draws a commit version and reports it. Client 1 has been
+/// told of the commit, and reads an older version.
+fn logs(alloc: Global) -> Result<[ClientLog; 2], AllocError> {
+    let writer = log_of(alloc, ask(), report())?;
+    let reader = log_of(alloc, learn(), read(alloc))?;
+    Ok([writer, reader])
+}
+
+/// The log of a client that made two calls.
+fn log_of(alloc: Global, first: Call, second: Call) -> Result<ClientLog, AllocError> {
+    let mut calls = Sequence::new(alloc);
+    calls.push(first)?;
+    calls.push(second)?;
+    Ok(ClientLog { calls })
+}
+
+/// Draws the commit version.
+fn ask() -> Call {
+    Call {
+        input: Input::Ask {
+            num: 1,
+            processed: 0,
+            at: 0,
         },
-        Call {
-            input: Input::Grv(GrvOpts {
-                priority: Priority::Default,
-                count: 1,
-                tags: Sequence::new(alloc),
-                lock_aware: false,
-                at: 0,
-            }),
-            asked: 1,
-            position: 1,
-            answer: CallAnswer::Version {
-                rec: START,
-                limits: Sequence::new(alloc),
-                locked_out: false
+        asked: 0,
+        position: 0,
+        answer: CallAnswer::Answered(COMMIT),
+    }
+}
+
+/// Reports it, which is the first raise.
+fn report() -> Call {
+    Call {
+        input: Input::Report {
+            num: 1,
+            locked: false,
+            metadata: None,
+        },
+        asked: 0,
+        position: 1,
+        answer: CallAnswer::Acked {
+            rec: Record {
+                version: 200,
+                ..START
             },
+            raised: true,
         },
-    ]?;
-    Ok(ClientLog {
-        calls: Sequence::from(calls),
-    })
+    }
+}
+
+/// Learns what client 0 has seen.
+fn learn() -> Call {
+    Call {
+        input: Input::Learn { from: 0 },
+        asked: 0,
+        position: 1,
+        answer: CallAnswer::Told,
+    }
+}
+
+/// Reads 100, though it knows of the commit.
+fn read(alloc: Global) -> Call {
+    Call {
+        input: Input::Grv(GrvOpts {
+            priority: Priority::Default,
+            count: 1,
+            tags: Sequence::new(alloc),
+            lock_aware: false,
+            at: 0,
+        }),
+        asked: 1,
+        position: 1,
+        answer: CallAnswer::Version {
+            rec: START,
+            limits: Sequence::new(alloc),
+            locked_out: false,
+        },
+    }
 }
