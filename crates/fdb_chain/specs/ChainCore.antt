@@ -1,6 +1,6 @@
 -- The members of a chain, and what a result has to do with the definition's answer.
 use Rattle.std.specs.Prelude.{◌≡◌, ℕ, ◌<◌, ◌≤◌, [], Result, Ok, Err, IsOkAnd, IsTrue}
-use Rattle.fdb_history.specs.Answer.{Chain}
+use Rattle.fdb_history.specs.Issuing.{Chain}
 use Rattle.fdb_history.specs.Chain.{IsChain}
 use Rattle.fdb_history.specs.declared.chain.Ask.{Ask}
 use Rattle.fdb_history.specs.declared.chain.Issued.{Issued}

@@ -1,7 +1,7 @@
 //! The chain of commit versions.
 
 ghost use Rattle.std.specs.Prelude.{◌≡◌, ◌+◌, ◌<◌, ◌≤◌, ◌⊎◌, ◌↔◌, ◌∷◌, ◌++◌, ◌^◌, [], false, All, IsSome, IfSome, OnOk, OnErr, IfOk, IfErr};
-ghost use Rattle.fdb_history.specs.Answer.{answer_to, fresh_answer, kept, kept_answer, next_answer, with_answer};
+ghost use Rattle.fdb_history.specs.Issuing.{answer_to, fresh_answer, kept, kept_answer, next_answer, with_answer};
 ghost use Rattle.fdb_history.specs.Chain.{IsChain, IsNext, latest};
 ghost use Rattle.fdb_chain.specs.ChainCore.{IsAnswer, IsEpoch, IsFor, IsProxyCount, MayRefuse, new_chain};
 
@@ -31,7 +31,7 @@ pub struct ChainCore {
 
 impl Model for ChainCore {
     ghost use Rattle.std.specs.Prelude.{length};
-    ghost use Rattle.fdb_history.specs.Answer.{Chain};
+    ghost use Rattle.fdb_history.specs.Issuing.{Chain};
 
     ghost Value = { Chain };
 

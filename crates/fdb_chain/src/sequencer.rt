@@ -2,7 +2,7 @@
 
 ghost use Rattle.std.specs.Prelude.{◌≡◌, ◌≤◌, IfOk, IfErr, OnErr};
 ghost use Rattle.fdb_chain.specs.ChainCore.{IsAnswer, IsFor, IsOf, MayRefuse};
-ghost use Rattle.fdb_history.specs.Answer.{Chain, answer_to, with_answer};
+ghost use Rattle.fdb_history.specs.Issuing.{Chain, answer_to, with_answer};
 ghost use Rattle.fdb_history.specs.Chain.{IsChain};
 ghost use Rattle.fdb_history.specs.declared.register.TheConstants.{MAX_VERSION};
 
@@ -32,7 +32,7 @@ struct Held<S: Service> {
 
 impl<S: Service> Model for Held<S> {
     ghost use Rattle.std.specs.Prelude.{◌≡◌};
-    ghost use Rattle.fdb_history.specs.Answer.{Chain};
+    ghost use Rattle.fdb_history.specs.Issuing.{Chain};
 
     ghost Value = { Chain };
 

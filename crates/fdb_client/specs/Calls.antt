@@ -3,7 +3,7 @@ use Rattle.std.specs.Prelude.{◌≡◌, ℕ, ◌+◌, ◌≤◌, Bool, true, �
 use Rattle.std.specs.Bool.{MatchBool}
 use mathlib.Core.List.{IsPrefix}
 use Rattle.fdb_chain.specs.ChainCore.{IsOf}
-use Rattle.fdb_history.specs.Answer as definition
+use Rattle.fdb_history.specs.Issuing as definition
 use Rattle.fdb_history.specs.Log.{fresh_answers}
 use Rattle.fdb_history.specs.Strays.{issued_under, logged_as, may_refuse}
 use Rattle.fdb_history.specs.declared.chain.Ask.{Ask}

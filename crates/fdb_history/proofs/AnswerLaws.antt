@@ -6,7 +6,7 @@ use Rattle.std.proofs.lemmas.Option.{same_Some, none-some, slice_get_within, sli
 use Rattle.std.proofs.lemmas.List.{append-nil, append_assoc, get_or-reverse, length-reverse, take_at, take_all}
 use Rattle.std.proofs.lemmas.List.Sums.{sum_by-cons}
 use Rattle.fdb_history.specs.Chain.{latest, IsChain}
-use Rattle.fdb_history.specs.Answer.{Chain, kept_among, kept, next_answer, kept_answer, answer_to, chain_after, after_asks}
+use Rattle.fdb_history.specs.Issuing.{Chain, kept_among, kept, next_answer, kept_answer, answer_to, chain_after, after_asks}
 use Rattle.fdb_history.specs.declared.chain.Ask.{Ask}
 use Rattle.fdb_history.specs.declared.chain.Issued.{Issued}
 use Rattle.fdb_history.specs.declared.log.Refusal.TheVariants.{UnknownProxy, Early, Exhausted}

@@ -7,7 +7,7 @@ use Rattle.std.proofs.lemmas.List.{reverse-append}
 use Rattle.std.proofs.lemmas.List.Elements.{All-push}
 use Rattle.std.proofs.lemmas.List.Sums.{sum_by_push}
 use Rattle.std.proofs.lemmas.Option.{none-some, same_Some, slice_get_cases, slice_get_past, slice_get_read}
-use Rattle.fdb_history.specs.Answer.{kept, kept_among}
+use Rattle.fdb_history.specs.Issuing.{kept, kept_among}
 use Rattle.fdb_history.specs.Chain.{latest, IsNext}
 use Rattle.fdb_history.specs.declared.chain.Issued.{Issued}
 use Rattle.fdb_history.specs.Replies.{KeptReplies, AreRepliesOf, AreRepliesOfAll, place_of, reply, replies_after}

@@ -8,7 +8,7 @@ use Rattle.std.proofs.lemmas.List.Concat.{flat_map-append}
 use Rattle.std.proofs.lemmas.List.Elements.{filter-append}
 use Rattle.std.proofs.lemmas.List.Folds.{find-append}
 use Rattle.std.proofs.lemmas.Option.{none-some, slice_get_past}
-use Rattle.fdb_history.specs.Answer.{by_number, kept}
+use Rattle.fdb_history.specs.Issuing.{by_number, kept}
 use Rattle.fdb_history.specs.private.Justifying.{drawn_version, own_after}
 use Rattle.fdb_history.specs.Chain.{latest}
 use Rattle.fdb_history.specs.Log.{answer_in, answers_in, fresh_answers}

@@ -5,7 +5,7 @@ pub mod Linear
 pub mod Explained
 pub mod Added
 pub mod Chain
-pub mod Answer
+pub mod Issuing
 pub mod Replies
 pub mod Text
 pub mod Laws

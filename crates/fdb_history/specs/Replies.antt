@@ -4,7 +4,7 @@
 use Rattle.std.specs.Prelude.{◌≡◌, ℕ, ◌-◌, ◌<◌, ◌==◌, nat_le, min, max, List, [], ◌∷◌, ◌++◌, length, Option, None, Some, slice_get, slice_set, All, if◌then◌else◌}
 use Rattle.std.specs.List.{slice_index_or}
 use Rattle.std.specs.Option.{option_and_then}
-use Rattle.fdb_history.specs.Answer.{kept}
+use Rattle.fdb_history.specs.Issuing.{kept}
 use Rattle.fdb_history.specs.Chain.{latest}
 use Rattle.fdb_history.specs.declared.chain.Issued.{Issued}
 

@@ -4,7 +4,7 @@ use Rattle.std.specs.Prelude.{◌≡◌, ◌⊎◌, ℕ, ◌+◌, ◌-◌, ◌==
 use Rattle.std.specs.List.{find, list_any}
 use Rattle.std.specs.Option.{option_eq, option_map, option_map_or}
 use mathlib.Core.Bool.{beq}
-use Rattle.fdb_history.specs.Answer.{by_number, kept}
+use Rattle.fdb_history.specs.Issuing.{by_number, kept}
 use Rattle.fdb_history.specs.Chain.{last_answer, latest}
 use Rattle.fdb_history.specs.Faults.{StandsAt}
 use Rattle.fdb_history.specs.Log.{calls_of, answers_in, fresh_answers}

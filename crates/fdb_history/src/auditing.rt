@@ -10,9 +10,9 @@ ghost use Rattle.fdb_history.specs.Strays.{IsStray};
 ghost use Rattle.fdb_history.specs.declared.chain.Issued.{Issued};
 ghost use Rattle.fdb_history.specs.declared.event.Event.{Event};
 
-mod answers;
 mod explaining;
 mod found;
+mod judging;
 mod justifying;
 mod order;
 mod placed;
@@ -72,7 +72,7 @@ fn history_or_fault(
     if let Some(CallName { client, call }) = stray::first_stray(alloc, chain, logs)? {
         return Err(AuditFault::Stray { client, call });
     }
-    if let Some(CallName { client, call }) = answers::first_low(&registers, logs) {
+    if let Some(CallName { client, call }) = judging::first_low(&registers, logs) {
         return Err(AuditFault::NotAbove { client, call });
     }
     Ok(explaining::explain(alloc, events)?)
@@ -98,7 +98,7 @@ fn faultless_registers(
 {
     let raises = raises::raises_of(alloc, events)?;
     let registers = registers::registers_of(alloc, start, &raises, logs)?;
-    if let Some(CallName { client, call }) = answers::first_wrong(&registers, logs) {
+    if let Some(CallName { client, call }) = judging::first_wrong(&registers, logs) {
         return Err(AuditFault::Wrong { client, call });
     }
     Ok(registers)

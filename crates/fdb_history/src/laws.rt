@@ -5,7 +5,7 @@
 
 ghost use Rattle.std.specs.Prelude.{◌≡◌, ℕ, Bool, ◌+◌, ◌<◌, ◌≤◌, ◌≢◌, ◌==◌, ◌&&◌, [], ◌∷◌, ◌++◌, List, length, take, slice_get, false, Some, Ok};
 ghost use Rattle.std.specs.List.{All, AllPairs, find};
-ghost use Rattle.fdb_history.specs.Answer.{Chain, kept, answer_to, chain_after, after_asks};
+ghost use Rattle.fdb_history.specs.Issuing.{Chain, kept, answer_to, chain_after, after_asks};
 ghost use Rattle.fdb_history.specs.Chain.{IsChain};
 ghost use Rattle.fdb_history.specs.Event.{IsLegal, register_after, raise_count, positions_from};
 ghost use Rattle.fdb_history.specs.Explained.{explained};

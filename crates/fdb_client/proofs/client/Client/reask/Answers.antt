@@ -1,6 +1,6 @@
 use Rattle.std.proofs.Common.{rules, ap, sym, ◌∙◌}
 use Rattle.fdb_client.specs.Calls.{request_of}
-use Rattle.fdb_history.specs.Answer.{answer_to}
+use Rattle.fdb_history.specs.Issuing.{answer_to}
 use Rattle.fdb_history.specs.Strays.{logged_as}
 use Rattle.fdb_history.specs.declared.log.CallAnswer.TheVariants.{Answered, Refused}
 use Rattle.fdb_client.proofs.client.Client.reask.Goals as goal
