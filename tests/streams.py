@@ -4,7 +4,7 @@ import resource
 import subprocess
 
 from answers import MOST_COMMANDS, MOST_ROUNDS, crowd_at_all_limits, do, large
-from harness import DONE, NO_STREAM, READING_FAILED, REFUSED, WRITING_FAILED, Ran
+from harness import DONE, NO_STREAM, OUT_OF_MEMORY, READING_FAILED, REFUSED, WRITING_FAILED, Ran
 from harness import done, fault_of, first_output, first_script, refused, run, script, under, written
 from model import expected
 
@@ -15,10 +15,10 @@ PIPE_BYTES = 65_536
 NO_REPLIES = b"audit ok events 0 raised 0 versions 0\n"
 # A value of 248 bytes, of which each is a token.
 DEEP = "[" * 124 + "]" * 124
-# How much processor time a script may take, in seconds: some five times what the slowest of them does on a slow machine.
-WORK_SECONDS = 5
-# How much memory a script of few threads may ask for, in KiB: with 64 MiB each of them is done.
-HELD_KIBIBYTES = 96 * 1024
+# How much processor time a script may take, in seconds: some three times what the slowest of them does on a slow machine.
+WORK_SECONDS = 10
+# With so much memory to be had, in KiB, a script of as many bytes as may be is taken in, but not the values that it is made of.
+FEW_KIBIBYTES = 96 * 1024
 
 
 def sizes(program):
@@ -120,11 +120,12 @@ def work(program):
         yield name, fault_of(ran, ends) or fault
 
 
-def held(program):
-    """The longest scripts are read though little memory can be had: what is ignored is not held, nor what is overwritten."""
-    for name, given, ends in longest():
-        ran = run(["sh", "-c", f'ulimit -v {HELD_KIBIBYTES}; exec "$0"', program], given)
-        yield name, fault_of(ran, ends)
+def starved(program):
+    """A script that takes more memory than can be had is refused for that, whatever takes it: nothing is written."""
+    for member in ("note", "rounds"):
+        for value in ("0", "[0]", '{"a":0}'):
+            ran = run(["sh", "-c", f'ulimit -v {FEW_KIBIBYTES}; exec "$0"', program], with_values(MOST_BYTES, value, member))
+            yield f"bytes, in values {value} of {member}", fault_of(ran, OUT_OF_MEMORY)
 
 
 def broken(program):

@@ -1,10 +1,4 @@
-pub mod Accepted
 pub mod Arrays
 pub mod Examples
-pub mod Kept
-pub mod KeptReading
-pub mod Outline
-pub mod Plain
 pub mod Texts
-pub mod Views
 pub mod Within

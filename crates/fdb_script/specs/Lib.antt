@@ -2,7 +2,6 @@ pub mod Plan
 pub mod Reading
 pub mod Answering
 pub mod Text
-pub mod private
 pub use Rattle.fdb_history.specs.Added
 pub use Rattle.fdb_history.specs.Event
 pub use Rattle.fdb_history.specs.Log

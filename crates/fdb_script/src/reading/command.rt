@@ -1,7 +1,7 @@
 //! The commands of a script.
 
 ghost use Rattle.std.specs.Prelude.{◌≡◌, IfOk, map};
-ghost use Rattle.fdb_script.specs.private.View.{lists_of, view};
+ghost use Rattle.serde_json.specs.View.{view};
 ghost use Rattle.serde_json.specs.Find.{as_bool};
 ghost use Rattle.fdb_history.specs.declared.grv.Priority.TheVariants.{Default};
 ghost use Rattle.fdb_script.specs.Reading.{act_of, ask_of, command_of, commands_from, grv_of, grv_with, IsUnlessMemory, member_or, priority_of, reask_of, report_of, rounds_from, tell_of, whole};
@@ -12,24 +12,23 @@ use crate::reading::members::{
     client_member, flag_or_false, text_member, whole_member, whole_or, whole_or_none,
 };
 use crate::reading::tags::{priority_of, tags_or_none};
-use crate::reading::value::{get, list_at};
 use crate::script::{Act, Command};
 use fdb_history::{GrvOpts, Priority, Sequence, Tag};
-use json::Value;
+use serde_json::Value;
 use std::alloc::{AllocError, Global};
 
 /// The priority of a read.
-fn priority_or_default(value: &Value<'_>) -> Option<Priority>
+fn priority_or_default(value: &Value) -> Option<Priority>
     ensures { result ≡ member_or Default priority_of (codes "priority") (view value.now) }
 {
-    match get(value, "priority") {
+    match value.get("priority") {
         None => Some(Priority::Default),
         Some(member) => priority_of(member),
     }
 }
 
 /// A read with these tags.
-fn grv_with(value: &Value<'_>, tags: Sequence<Tag>) -> Option<Act>
+fn grv_with(value: &Value, tags: Sequence<Tag>) -> Option<Act>
     ensures { result ≡ grv_with (Some tags) (member_or 0 whole (codes "at") (view value.now))
         (member_or Default priority_of (codes "priority") (view value.now))
         (member_or 1 whole (codes "count") (view value.now))
@@ -49,7 +48,7 @@ fn grv_with(value: &Value<'_>, tags: Sequence<Tag>) -> Option<Act>
 }
 
 /// A read.
-fn grv_of(alloc: Global, value: &Value<'_>) -> Result<Option<Act>, AllocError>
+fn grv_of(alloc: Global, value: &Value) -> Result<Option<Act>, AllocError>
     ensures { IfOk result (λ act. act ≡ grv_of (view value.now)) }
 {
     let Some(tags) = tags_or_none(alloc, value, "tags")? else {
@@ -59,7 +58,7 @@ fn grv_of(alloc: Global, value: &Value<'_>) -> Result<Option<Act>, AllocError>
 }
 
 /// A request for the next commit version.
-fn ask_of(value: &Value<'_>) -> Option<Act>
+fn ask_of(value: &Value) -> Option<Act>
     ensures { result ≡ ask_of (view value.now) }
 {
     let at = whole_member(value, "at")?;
@@ -68,7 +67,7 @@ fn ask_of(value: &Value<'_>) -> Option<Act>
 }
 
 /// A request for the commit version under a number.
-fn reask_of(value: &Value<'_>) -> Option<Act>
+fn reask_of(value: &Value) -> Option<Act>
     ensures { result ≡ reask_of (view value.now) }
 {
     let num = whole_member(value, "num")?;
@@ -78,7 +77,7 @@ fn reask_of(value: &Value<'_>) -> Option<Act>
 }
 
 /// A report.
-fn report_of(value: &Value<'_>) -> Option<Act>
+fn report_of(value: &Value) -> Option<Act>
     ensures { result ≡ report_of (view value.now) }
 {
     let num = whole_member(value, "num")?;
@@ -92,7 +91,7 @@ fn report_of(value: &Value<'_>) -> Option<Act>
 }
 
 /// A tell to another client.
-fn tell_of(value: &Value<'_>, client: u32, clients: u32) -> Option<Act>
+fn tell_of(value: &Value, client: u32, clients: u32) -> Option<Act>
     ensures { result ≡ tell_of clients client (view value.now) }
 {
     let to = client_member(value, "to", clients)?;
@@ -105,7 +104,7 @@ fn tell_of(value: &Value<'_>, client: u32, clients: u32) -> Option<Act>
 /// What a command's client is to do.
 fn act_of(
     alloc: Global,
-    value: &Value<'_>,
+    value: &Value,
     client: u32,
     clients: u32,
 ) -> Result<Option<Act>, AllocError>
@@ -125,7 +124,7 @@ fn act_of(
 }
 
 /// A command of a script with this many clients.
-fn command_of(alloc: Global, value: &Value<'_>, clients: u32) -> Result<Option<Command>, AllocError>
+fn command_of(alloc: Global, value: &Value, clients: u32) -> Result<Option<Command>, AllocError>
     ensures { IfOk result (λ command. command ≡ command_of clients (view value.now)) }
 {
     let Some(client) = client_member(value, "client", clients) else {
@@ -140,7 +139,7 @@ fn command_of(alloc: Global, value: &Value<'_>, clients: u32) -> Result<Option<C
 /// The commands of a round, or the first that is faulty.
 fn commands_of(
     alloc: Global,
-    values: &[Value<'_>],
+    values: &[Value],
     clients: u32,
     round: u64,
 ) -> Result<Sequence<Command>, ScriptError>
@@ -162,15 +161,15 @@ fn commands_of(
 /// The commands of each round, or the first that is faulty.
 pub(crate) fn rounds_of(
     alloc: Global,
-    rounds: &[Value<'_>],
+    rounds: &[&[Value]],
     clients: u32,
 ) -> Result<Sequence<Sequence<Command>>, ScriptError>
     ensures { IsUnlessMemory result
-        (rounds_from clients 0 (lists_of rounds.now)) }
+        (rounds_from clients 0 (map (λ round. map view round.now) rounds.now)) }
 {
     let mut all = Sequence::new(alloc);
     for (number, round) in rounds.iter().enumerate() {
-        let commands = commands_of(alloc, list_at(round), clients, number as u64)?;
+        let commands = commands_of(alloc, round, clients, number as u64)?;
         all.push(commands)?;
     }
     Ok(all)

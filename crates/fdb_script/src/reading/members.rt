@@ -3,14 +3,20 @@
 ghost use Rattle.std.specs.Prelude.{◌≡◌, ◌≤◌, false, map, IfSome};
 ghost use Rattle.std.specs.Option.{option_map};
 ghost use Rattle.serde_json.specs.Find.{as_bool, as_str};
-ghost use Rattle.fdb_script.specs.private.View.{view};
-ghost use Rattle.fdb_script.specs.Reading.{array_within, member, member_or, whole, whole_below, whole_or_null, whole_within};
+ghost use Rattle.serde_json.specs.View.{view};
+ghost use Rattle.fdb_script.specs.Reading.{array_of, array_within, member, member_or, whole, whole_below, whole_or_null, whole_within};
 
-use crate::reading::value::{as_bool, as_str, as_u64, get, is_null, items};
-use json::Value;
+use serde_json::Value;
+
+/// The items of an array.
+pub(crate) fn items(value: &Value) -> Option<&[Value]>
+    ensures { option_map (λ items. map view items.now) result ≡ array_of (view value.now) }
+{
+    Some(value.as_array()?.as_slice())
+}
 
 /// The items of an array that has at most so many.
-pub(crate) fn items_within<'v, 'a>(value: &'v Value<'a>, most: usize) -> Option<&'v [Value<'a>]>
+pub(crate) fn items_within(value: &Value, most: usize) -> Option<&[Value]>
     ensures { option_map (λ items. map view items.now) result ≡ array_within most (view value.now) }
 {
     let items = items(value)?;
@@ -21,11 +27,11 @@ pub(crate) fn items_within<'v, 'a>(value: &'v Value<'a>, most: usize) -> Option<
 }
 
 /// A whole number from one number to another.
-fn whole_within(value: &Value<'_>, low: u64, high: u64) -> Option<u64>
+fn whole_within(value: &Value, low: u64, high: u64) -> Option<u64>
     ensures value { result ≡ whole_within low high (view value.now) }
     ensures within { IfSome result (λ number. (low ≤ number) × (number ≤ high)) }
 {
-    let number = as_u64(value)?;
+    let number = value.as_u64()?;
     if number < low || high < number {
         return None;
     }
@@ -33,52 +39,46 @@ fn whole_within(value: &Value<'_>, low: u64, high: u64) -> Option<u64>
 }
 
 /// A member that is a whole number.
-pub(crate) fn whole_member(value: &Value<'_>, name: &str) -> Option<u64>
+pub(crate) fn whole_member(value: &Value, name: &str) -> Option<u64>
     ensures { result ≡ member whole name.now (view value.now) }
 {
-    as_u64(get(value, name)?)
+    value.get(name)?.as_u64()
 }
 
 /// A member that is a whole number, or a number where there is no such member.
-pub(crate) fn whole_or(value: &Value<'_>, name: &str, absent: u64) -> Option<u64>
+pub(crate) fn whole_or(value: &Value, name: &str, absent: u64) -> Option<u64>
     ensures { result ≡ member_or absent whole name.now (view value.now) }
 {
-    match get(value, name) {
+    match value.get(name) {
         None => Some(absent),
-        Some(member) => as_u64(member),
+        Some(member) => member.as_u64(),
     }
 }
 
 /// A member that is a whole number from one number to another.
-pub(crate) fn member_within(value: &Value<'_>, name: &str, low: u64, high: u64) -> Option<u64>
+pub(crate) fn member_within(value: &Value, name: &str, low: u64, high: u64) -> Option<u64>
     ensures value { result ≡ member (whole_within low high) name.now (view value.now) }
     ensures within { IfSome result (λ number. (low ≤ number) × (number ≤ high)) }
 {
-    whole_within(get(value, name)?, low, high)
+    whole_within(value.get(name)?, low, high)
 }
 
 /// A member that is a whole number from one number to another, or a number of these where there is
 /// no such member.
-pub(crate) fn within_or(
-    value: &Value<'_>,
-    name: &str,
-    absent: u64,
-    low: u64,
-    high: u64,
-) -> Option<u64>
+pub(crate) fn within_or(value: &Value, name: &str, absent: u64, low: u64, high: u64) -> Option<u64>
     requires some { low ≤ absent }
     requires in_range { absent ≤ high }
     ensures value { result ≡ member_or absent (whole_within low high) name.now (view value.now) }
     ensures within { IfSome result (λ number. (low ≤ number) × (number ≤ high)) }
 {
-    match get(value, name) {
+    match value.get(name) {
         None => Some(absent),
         Some(member) => whole_within(member, low, high),
     }
 }
 
 /// A member that is the number of a client, one of so many.
-pub(crate) fn client_member(value: &Value<'_>, name: &str, clients: u32) -> Option<u32>
+pub(crate) fn client_member(value: &Value, name: &str, clients: u32) -> Option<u32>
     ensures { result ≡ member (whole_below clients) name.now (view value.now) }
 {
     let client = whole_member(value, name)?;
@@ -89,39 +89,39 @@ pub(crate) fn client_member(value: &Value<'_>, name: &str, clients: u32) -> Opti
 }
 
 /// A member that is true or false, or false where there is no such member.
-pub(crate) fn flag_or_false(value: &Value<'_>, name: &str) -> Option<bool>
+pub(crate) fn flag_or_false(value: &Value, name: &str) -> Option<bool>
     ensures { result ≡ member_or false as_bool name.now (view value.now) }
 {
-    match get(value, name) {
+    match value.get(name) {
         None => Some(false),
-        Some(member) => as_bool(member),
+        Some(member) => member.as_bool(),
     }
 }
 
 /// A whole number, or null for none.
-fn whole_or_null(value: &Value<'_>) -> Option<Option<u64>>
+fn whole_or_null(value: &Value) -> Option<Option<u64>>
     ensures { result ≡ whole_or_null (view value.now) }
 {
-    if is_null(value) {
+    if value.is_null() {
         return Some(None);
     }
-    let number = as_u64(value)?;
+    let number = value.as_u64()?;
     Some(Some(number))
 }
 
 /// A member that is a whole number or null for none, and none where there is no such member.
-pub(crate) fn whole_or_none(value: &Value<'_>, name: &str) -> Option<Option<u64>>
+pub(crate) fn whole_or_none(value: &Value, name: &str) -> Option<Option<u64>>
     ensures { result ≡ member_or None whole_or_null name.now (view value.now) }
 {
-    match get(value, name) {
+    match value.get(name) {
         None => Some(None),
         Some(member) => whole_or_null(member),
     }
 }
 
 /// A member that is a text.
-pub(crate) fn text_member<'a>(value: &Value<'a>, name: &str) -> Option<&'a str>
+pub(crate) fn text_member<'a>(value: &'a Value, name: &str) -> Option<&'a str>
     ensures { option_map (λ text. text.now) result ≡ member as_str name.now (view value.now) }
 {
-    as_str(get(value, name)?)
+    value.get(name)?.as_str()
 }

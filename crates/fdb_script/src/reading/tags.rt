@@ -1,24 +1,23 @@
 //! Tags and priorities.
 
-ghost use Rattle.std.specs.Prelude.{◌≡◌, IfOk, []};
+ghost use Rattle.std.specs.Prelude.{◌≡◌, IfOk, [], map};
 ghost use Rattle.std.specs.List.{list_all};
-ghost use Rattle.fdb_script.specs.private.View.{view};
+ghost use Rattle.serde_json.specs.View.{view};
 ghost use Rattle.fdb_script.specs.Plan.{is_tag, is_tag_byte};
 ghost use Rattle.fdb_script.specs.Reading.{member_or, priority_of, tag_of, tags_of};
 
 use crate::reading::members::items_within;
-use crate::reading::value::{as_str, get};
 use crate::script::MAX_TAGS;
 use fdb_history::{Priority, Sequence, Tag};
 use fdb_queue::MAX_TAG;
-use json::Value;
+use serde_json::Value;
 use std::alloc::{AllocError, Global};
 
 /// A priority, by its word.
-pub(crate) fn priority_of(value: &Value<'_>) -> Option<Priority>
+pub(crate) fn priority_of(value: &Value) -> Option<Priority>
     ensures { result ≡ priority_of (view value.now) }
 {
-    match as_str(value)? {
+    match value.as_str()? {
         "system" => Some(Priority::System),
         "default" => Some(Priority::Default),
         "batch" => Some(Priority::Batch),
@@ -48,10 +47,10 @@ fn is_tag(bytes: &[u8]) -> bool
 }
 
 /// A tag.
-pub(crate) fn tag_of(alloc: Global, value: &Value<'_>) -> Result<Option<Tag>, AllocError>
+pub(crate) fn tag_of(alloc: Global, value: &Value) -> Result<Option<Tag>, AllocError>
     ensures { IfOk result (λ tag. tag ≡ tag_of (view value.now)) }
 {
-    let Some(text) = as_str(value) else {
+    let Some(text) = value.as_str() else {
         return Ok(None);
     };
     if !is_tag(text.as_bytes()) {
@@ -62,7 +61,7 @@ pub(crate) fn tag_of(alloc: Global, value: &Value<'_>) -> Result<Option<Tag>, Al
 }
 
 /// The tags of a list of them.
-fn tags_of(alloc: Global, value: &Value<'_>) -> Result<Option<Sequence<Tag>>, AllocError>
+fn tags_of(alloc: Global, value: &Value) -> Result<Option<Sequence<Tag>>, AllocError>
     ensures { IfOk result (λ tags. tags ≡ tags_of (view value.now)) }
 {
     let Some(items) = items_within(value, MAX_TAGS) else {
@@ -81,12 +80,12 @@ fn tags_of(alloc: Global, value: &Value<'_>) -> Result<Option<Sequence<Tag>>, Al
 /// A member that is a list of tags, and no tags where there is no such member.
 pub(crate) fn tags_or_none(
     alloc: Global,
-    value: &Value<'_>,
+    value: &Value,
     name: &str,
 ) -> Result<Option<Sequence<Tag>>, AllocError>
     ensures { IfOk result (λ tags. tags ≡ member_or [] tags_of name.now (view value.now)) }
 {
-    match get(value, name) {
+    match value.get(name) {
         None => Ok(Some(Sequence::new(alloc))),
         Some(member) => tags_of(alloc, member),
     }

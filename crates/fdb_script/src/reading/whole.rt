@@ -1,30 +1,29 @@
-//! A script as a whole: its numbers, its throttles, and its rounds as values that are arrays.
+//! A script as a whole: its numbers, its throttles, and its rounds as lists of values.
 
-ghost use Rattle.std.specs.Prelude.{is_some, ◌≡◌, ◌<◌, ◌≤◌, [], codes, length, map, nat_le, nat_lt, ◌&&◌, sum_by, IfOk, IfSome};
+ghost use Rattle.std.specs.Prelude.{◌≡◌, ◌<◌, ◌≤◌, [], codes, length, map, nat_le, nat_lt, ◌&&◌, sum_by, IfOk, IfSome};
 ghost use Rattle.std.specs.Option.{option_map};
-ghost use Rattle.fdb_script.specs.private.View.{lists_of, view};
+ghost use Rattle.serde_json.specs.View.{view};
 ghost use Rattle.fdb_history.specs.declared.register.TheConstants.{MAX_VERSION};
 ghost use Rattle.fdb_queue.specs.Config.{IsConfig, IsElapsed};
 ghost use Rattle.fdb_queue.specs.declared.config.TheConstants.{MAX_ELAPSED};
-ghost use Rattle.fdb_script.specs.Reading.{array_of, arrays_of, checked, every, config_of, frame_of, frame_with, is_frame, member, member_or, priority_of, throttle_of, throttle_with, throttles_of, whole, whole_within};
+ghost use Rattle.fdb_script.specs.Reading.{arrays_of, checked, config_of, frame_of, frame_with, is_frame, member, member_or, priority_of, throttle_of, throttle_with, throttles_of, whole, whole_within};
 ghost use Rattle.fdb_script.specs.declared.script.TheConstants.{MAX_CLIENTS, MAX_COMMANDS};
 
-use crate::reading::members::{items_within, member_within, whole_member, within_or};
+use crate::reading::members::{items, items_within, member_within, whole_member, within_or};
 use crate::reading::tags::{priority_of, tag_of};
-use crate::reading::value::{get, items, list_at};
 use crate::script::{MAX_CLIENTS, MAX_COMMANDS, MAX_ROUNDS, MAX_THROTTLES, Setup, Throttle};
 use fdb_history::{MAX_VERSION, Sequence, Tag};
 use fdb_queue::{MAX_ELAPSED, MAX_RATE, MAX_ROOM, QueueConfig};
-use json::Value;
+use serde_json::Value;
 use std::alloc::{AllocError, Global};
 
 /// A script whose commands are not read yet, its numbers within their limits.
 #[derive(Drop)]
-pub(crate) struct Frame<'v, 'a> {
+pub(crate) struct Frame<'a> {
     /// What it says besides its rounds.
     pub(crate) setup: Setup,
-    /// Its rounds, each an array.
-    pub(crate) rounds: &'v [Value<'a>],
+    /// The values of each round.
+    pub(crate) rounds: Vec<&'a [Value]>,
     ghost epoch_ends_before: { setup.epoch_end < setup.recovery },
     ghost recovery_in_range: { setup.recovery ≤ MAX_VERSION },
     ghost some_client: { 1 ≤ setup.clients },
@@ -34,7 +33,7 @@ pub(crate) struct Frame<'v, 'a> {
 }
 
 /// What the queues are made with.
-fn config_of(value: &Value<'_>) -> Option<QueueConfig>
+fn config_of(value: &Value) -> Option<QueueConfig>
     ensures value { result ≡ config_of (view value.now) }
     ensures in_range { IfSome result IsConfig }
 {
@@ -49,7 +48,7 @@ fn config_of(value: &Value<'_>) -> Option<QueueConfig>
 }
 
 /// The time between two windows.
-fn elapsed_of(value: &Value<'_>) -> Option<u64>
+fn elapsed_of(value: &Value) -> Option<u64>
     ensures value { result
         ≡ member_or 1000000 (whole_within 1 MAX_ELAPSED) (codes "elapsed") (view value.now) }
     ensures in_range { IfSome result IsElapsed }
@@ -58,13 +57,13 @@ fn elapsed_of(value: &Value<'_>) -> Option<u64>
 }
 
 /// A throttle of this tag.
-fn throttle_with(value: &Value<'_>, tag: Tag) -> Option<Throttle>
+fn throttle_with(value: &Value, tag: Tag) -> Option<Throttle>
     ensures { result ≡ throttle_with (Some tag)
         (member priority_of (codes "priority") (view value.now))
         (member whole (codes "rate") (view value.now))
         (member whole (codes "expires") (view value.now)) }
 {
-    let priority = priority_of(get(value, "priority")?)?;
+    let priority = priority_of(value.get("priority")?)?;
     let rate = whole_member(value, "rate")?;
     let expires = whole_member(value, "expires")?;
     Some(Throttle {
@@ -76,10 +75,10 @@ fn throttle_with(value: &Value<'_>, tag: Tag) -> Option<Throttle>
 }
 
 /// A throttle.
-fn throttle_of(alloc: Global, value: &Value<'_>) -> Result<Option<Throttle>, AllocError>
+fn throttle_of(alloc: Global, value: &Value) -> Result<Option<Throttle>, AllocError>
     ensures { IfOk result (λ throttle. throttle ≡ throttle_of (view value.now)) }
 {
-    let Some(member) = get(value, "tag") else {
+    let Some(member) = value.get("tag") else {
         return Ok(None);
     };
     let Some(tag) = tag_of(alloc, member)? else {
@@ -89,7 +88,7 @@ fn throttle_of(alloc: Global, value: &Value<'_>) -> Result<Option<Throttle>, All
 }
 
 /// The throttles of a list of them.
-fn throttles_of(alloc: Global, value: &Value<'_>) -> Result<Option<Sequence<Throttle>>, AllocError>
+fn throttles_of(alloc: Global, value: &Value) -> Result<Option<Sequence<Throttle>>, AllocError>
     ensures { IfOk result (λ throttles. throttles ≡ throttles_of (view value.now)) }
 {
     let Some(items) = items_within(value, MAX_THROTTLES) else {
@@ -106,80 +105,72 @@ fn throttles_of(alloc: Global, value: &Value<'_>) -> Result<Option<Sequence<Thro
 }
 
 /// The throttles of a script, which are none where it has no such member.
-fn throttles_or_none(
-    alloc: Global,
-    value: &Value<'_>,
-) -> Result<Option<Sequence<Throttle>>, AllocError>
+fn throttles_or_none(alloc: Global, value: &Value) -> Result<Option<Sequence<Throttle>>, AllocError>
     ensures { IfOk result
         (λ throttles. throttles ≡ member_or [] throttles_of (codes "throttles") (view value.now)) }
 {
-    match get(value, "throttles") {
+    match value.get("throttles") {
         None => Ok(Some(Sequence::new(alloc))),
         Some(member) => throttles_of(alloc, member),
     }
 }
 
-/// Whether each of these values is an array.
-fn are_arrays(values: &[Value<'_>]) -> bool
-    ensures { result ≡ is_some (every array_of (map view values.now)) }
+/// The items of each of a list of arrays.
+fn arrays_of(alloc: Global, value: &Value) -> Result<Option<Vec<&[Value]>>, AllocError>
+    ensures { IfOk result
+        (λ found. option_map (λ arrays. map (λ array. map view array.now) arrays.items) found
+        ≡ arrays_of (view value.now)) }
 {
+    let Some(values) = items_within(value, MAX_ROUNDS) else {
+        return Ok(None);
+    };
+    let mut arrays = Vec::new(alloc);
     for value in values {
-        if items(value).is_none() {
-            return false;
-        }
+        let Some(array) = items(value) else {
+            return Ok(None);
+        };
+        arrays.push(array)?;
     }
-    true
+    Ok(Some(arrays))
 }
 
 /// Whether the rounds have no more commands in all than a script may have.
-fn has_few_commands(rounds: &[Value<'_>]) -> bool
-    ensures { result ≡ nat_le (sum_by length (lists_of rounds.now)) MAX_COMMANDS }
+fn has_few_commands(rounds: &[&[Value]]) -> bool
+    ensures { result ≡ nat_le (sum_by (λ round. length round.now) rounds.now) MAX_COMMANDS }
 {
     let mut count = 0;
     for round in rounds {
-        let commands = list_at(round).len();
-        if commands > MAX_COMMANDS - count {
+        if round.len() > MAX_COMMANDS - count {
             return false;
         }
-        count += commands;
+        count += round.len();
     }
     true
 }
 
 /// Whether the epoch before ends before the recovery version, and there are not too many commands.
-fn is_frame(epoch_end: u64, recovery: u64, rounds: &[Value<'_>]) -> bool
+fn is_frame(epoch_end: u64, recovery: u64, rounds: &[&[Value]]) -> bool
     ensures { result ≡
-        (nat_lt epoch_end recovery && nat_le (sum_by length (lists_of rounds.now)) MAX_COMMANDS) }
+        (nat_lt epoch_end recovery
+        && nat_le (sum_by length (map (λ round. map view round.now) rounds.now)) MAX_COMMANDS) }
 {
     epoch_end < recovery && has_few_commands(rounds)
 }
 
-/// The rounds of a script, each of which is an array.
-fn rounds_in<'v, 'a>(value: &'v Value<'a>) -> Option<&'v [Value<'a>]>
-    ensures { option_map (λ rounds. lists_of rounds.now) result
-        ≡ member arrays_of (codes "rounds") (view value.now) }
-{
-    let rounds = items_within(get(value, "rounds")?, MAX_ROUNDS)?;
-    if !are_arrays(rounds) {
-        return None;
-    }
-    Some(rounds)
-}
-
 /// A script of these throttles and rounds.
-fn frame_with<'v, 'a>(
-    value: &Value<'_>,
+fn frame_with<'a>(
+    value: &Value,
     throttles: Sequence<Throttle>,
-    rounds: &'v [Value<'a>],
-) -> Option<Frame<'v, 'a>>
+    rounds: Vec<&'a [Value]>,
+) -> Option<Frame<'a>>
     ensures { option_map
         (λ frame. record {
           setup = frame.setup;
-          rounds = lists_of frame.rounds.now;
+          rounds = map (λ round. map view round.now) frame.rounds.items;
         }) result
         ≡ checked is_frame
         (frame_with (Some throttles)
-        (Some (lists_of rounds.now))
+        (Some (map (λ round. map view round.now) rounds.entry.items))
         (member whole (codes "epoch_end") (view value.now))
         (member (whole_within 0 MAX_VERSION) (codes "recovery") (view value.now))
         (member (whole_within 1 MAX_CLIENTS) (codes "clients") (view value.now))
@@ -191,7 +182,7 @@ fn frame_with<'v, 'a>(
     let clients = member_within(value, "clients", 1, MAX_CLIENTS)? as u32;
     let config = config_of(value)?;
     let elapsed = elapsed_of(value)?;
-    if !is_frame(epoch_end, recovery, rounds) {
+    if !is_frame(epoch_end, recovery, &rounds) {
         return None;
     }
     let setup = Setup {
@@ -206,22 +197,22 @@ fn frame_with<'v, 'a>(
 }
 
 /// What a JSON value says as a whole.
-pub(crate) fn frame_of<'v, 'a>(
-    alloc: Global,
-    value: &'v Value<'a>,
-) -> Result<Option<Frame<'v, 'a>>, AllocError>
+pub(crate) fn frame_of(alloc: Global, value: &Value) -> Result<Option<Frame<'_>>, AllocError>
     ensures { IfOk result
         (λ found. option_map
         (λ frame. record {
           setup = frame.setup;
-          rounds = lists_of frame.rounds.now;
+          rounds = map (λ round. map view round.now) frame.rounds.items;
         }) found
         ≡ frame_of (view value.now)) }
 {
     let Some(throttles) = throttles_or_none(alloc, value)? else {
         return Ok(None);
     };
-    let Some(rounds) = rounds_in(value) else {
+    let Some(rounds) = value.get("rounds") else {
+        return Ok(None);
+    };
+    let Some(rounds) = arrays_of(alloc, rounds)? else {
         return Ok(None);
     };
     Ok(frame_with(value, throttles, rounds))

@@ -1,5 +1,5 @@
 use Rattle.std.proofs.Common.{◌≡◌, map, drop}
-use Rattle.fdb_script.specs.private.View.{view}
+use Rattle.serde_json.specs.View.{view}
 use Rattle.fdb_script.specs.Reading.{commands_from}
 use Rattle.fdb_script.proofs.Arrays.{prefixed}
 use Rattle.fdb_script.proofs.reading.command.commands_of.Given as goal

@@ -1,5 +1,5 @@
 use Rattle.std.proofs.Common.{◌≡◌, map, drop}
-use Rattle.fdb_script.specs.private.View.{view}
+use Rattle.serde_json.specs.View.{view}
 use Rattle.fdb_script.specs.Reading.{every, throttle_of}
 use Rattle.fdb_script.proofs.Arrays.{after_front}
 use Rattle.fdb_script.proofs.reading.whole.throttles_of.Given as goal
