@@ -21,7 +21,7 @@ use Rattle.fdb_script.specs.declared.script.Act.{Act}
 use Rattle.fdb_script.specs.declared.script.Act.TheVariants.{Tell}
 use Rattle.fdb_script.specs.declared.script.Command.{Command}
 use Rattle.fdb_script.specs.declared.script.Setup.{Setup}
-use Rattle.fdb_script.specs.declared.script.Throttle.{Throttle}
+use Rattle.fdb_queue.specs.declared.throttles.Throttle.{Throttle}
 use Rattle.fdb_script.specs.declared.script.TheConstants.{MAX_CLIENTS, MAX_THROTTLES, MAX_ROUNDS, MAX_COMMANDS, MAX_TAGS}
 use Rattle.fdb_script.specs.private.Kept.{count_of, place_after, item_place, most_items, member_place, with_member, if_looked_at, kept, kept_items, kept_members}
 use Rattle.fdb_script.specs.private.Plain.{plain, plain_items}

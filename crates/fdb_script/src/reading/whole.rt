@@ -12,9 +12,9 @@ ghost use Rattle.fdb_script.specs.declared.script.TheConstants.{MAX_CLIENTS, MAX
 use crate::reading::members::{items_within, member_within, whole_member, within_or};
 use crate::reading::tags::{priority_of, tag_of};
 use crate::reading::value::{get, items, list_at};
-use crate::script::{MAX_CLIENTS, MAX_COMMANDS, MAX_ROUNDS, MAX_THROTTLES, Setup, Throttle};
+use crate::script::{MAX_CLIENTS, MAX_COMMANDS, MAX_ROUNDS, MAX_THROTTLES, Setup};
 use fdb_history::{MAX_VERSION, Sequence, Tag};
-use fdb_queue::{MAX_ELAPSED, MAX_RATE, MAX_ROOM, QueueConfig};
+use fdb_queue::{MAX_ELAPSED, MAX_RATE, MAX_ROOM, QueueConfig, Throttle};
 use json::Value;
 use std::alloc::{AllocError, Global};
 
