@@ -1,11 +1,13 @@
 //! Workloads at a cluster.
 
-ghost use Rattle.std.specs.Prelude.{◌≡◌};
-ghost use Rattle.fdb_chain.specs.ChainCore.{IsEpoch};
-ghost use Rattle.fdb_queue.specs.Config.{IsConfig, IsElapsed};
+ghost use Rattle.std.specs.Prelude.{◌≡◌, ◌<◌, ◌≤◌};
+ghost use Rattle.fdb_chain.specs.ChainCore.{IsProxyCount};
+ghost use Rattle.fdb_client.specs.Cluster.{IsClusterConfig};
 
 use crate::same::same;
-use fdb_client::{Client, ClientError, Cluster, ClusterConfig, Workload, run_workload};
+use fdb_client::{
+    Client, ClientError, Cluster, ClusterConfig, Workload, WorkloadOutcome, run_workload,
+};
 use fdb_history::{
     Ask, AuditFault, ClientLog, GrvOpts, Issued, OpenGate, Priority, Record, Sequence, audit,
 };
@@ -39,7 +41,7 @@ impl<R: Wait> Workload<R> for CommitAndRead {
     fn start<J: Live>(
         self,
         rt: &R,
-        cluster: &Cluster<J>,
+        cluster: &Cluster<'_, J>,
         clients: Vec<Client<'_, J>>,
     ) -> Result<Vec<ClientLog>, ClientError> {
         let mut logs = Vec::new(self.alloc);
@@ -58,7 +60,7 @@ impl CommitAndRead {
     fn log_of<J: Live, R: Wait>(
         &self,
         rt: &R,
-        cluster: &Cluster<J>,
+        cluster: &Cluster<'_, J>,
         mut client: Client<'_, J>,
     ) -> Result<ClientLog, ClientError> {
         client.ask(rt, &OpenGate, cluster.sequencer(), 0, 1_000)?;
@@ -82,12 +84,11 @@ fn one_read(alloc: Global) -> GrvOpts {
 }
 
 /// A cluster for so many clients, with so many GRV proxies.
-fn config_of(clients: u32, grv_proxies: u32) -> ClusterConfig
-    ensures clients { result.clients ≡ clients }
-    ensures grv_proxies { result.grv_proxies ≡ grv_proxies }
-    ensures epoch { IsEpoch result.epoch_end result.start.version }
-    ensures queue { IsConfig result.queue }
-    ensures elapsed { IsElapsed result.elapsed }
+fn config_of(clients: u32, grv_proxies: u32) -> ClusterConfig<'static>
+    requires clients { IsProxyCount clients }
+    requires some_proxy { 0 < grv_proxies }
+    requires few_proxies { grv_proxies ≤ 16 }
+    ensures { IsClusterConfig result }
 {
     ClusterConfig {
         epoch_end: 60,
@@ -99,6 +100,7 @@ fn config_of(clients: u32, grv_proxies: u32) -> ClusterConfig
             batch: 1_000,
             room: 1_000,
         },
+        throttles: &[],
         elapsed: 1_000_000,
     }
 }
@@ -117,10 +119,18 @@ pub(crate) fn commit_and_read<R: Threads + Wait + Abort + Sync>(
         "GRV proxies in range"
     );
     let config = config_of(clients, grv_proxies);
-    let (logs, chain) = run_workload(rt, alloc, config, CommitAndRead { alloc, grv_proxies })?;
-    match logs {
+    let WorkloadOutcome {
+        output,
+        chain,
+        all_served,
+    } = run_workload(rt, alloc, config, CommitAndRead { alloc, grv_proxies })?;
+    match output {
         Ok(logs) => explained(rt, alloc, &logs, &chain, clients, grv_proxies),
-        Err(ClientError::Memory | ClientError::ProxyClosed) => Err(AllocError),
+        Err(ClientError::Memory) => Err(AllocError),
+        Err(ClientError::ProxyClosed) => {
+            same(rt, &all_served, &false, &"all served");
+            Err(AllocError)
+        }
         Err(cause) => panic!(rt; "{cause}"),
     }
 }
@@ -160,7 +170,7 @@ impl<R: Wait> Workload<R> for CloseAndRead {
     fn start<J: Live>(
         self,
         rt: &R,
-        cluster: &Cluster<J>,
+        cluster: &Cluster<'_, J>,
         mut clients: Vec<Client<'_, J>>,
     ) -> Option<[bool; 4]> {
         let mut client = clients.pop()?;
@@ -179,8 +189,10 @@ impl<R: Wait> Workload<R> for CloseAndRead {
 #[test]
 fn desks_begin_anew(rt: HostRuntime) -> Result<(), Fail> {
     let alloc = rt.alloc();
-    let (served, _) = run_workload(&rt, alloc, config_of(1, 3), CloseAndRead { alloc })?;
-    same(&rt, &served, &Some([false, true, true, false]), &"served");
+    let ran = run_workload(&rt, alloc, config_of(1, 3), CloseAndRead { alloc })?;
+    let served = Some([false, true, true, false]);
+    same(&rt, &ran.output, &served, &"served");
+    same(&rt, &ran.all_served, &true, &"all served");
     Ok(())
 }
 
@@ -195,7 +207,7 @@ impl<R: Wait> Workload<R> for AskAsEach {
     fn start<J: Live>(
         self,
         rt: &R,
-        cluster: &Cluster<J>,
+        cluster: &Cluster<'_, J>,
         _clients: Vec<Client<'_, J>>,
     ) -> [bool; 3] {
         let mut known = [false; 3];
@@ -216,9 +228,9 @@ impl<R: Wait> Workload<R> for AskAsEach {
 /// There is a commit proxy for each client, and no more.
 #[test]
 fn a_commit_proxy_for_each_client(rt: HostRuntime) -> Result<(), Fail> {
-    let (known, chain) = run_workload(&rt, rt.alloc(), config_of(2, 1), AskAsEach)?;
-    same(&rt, &known, &[true, true, false], &"known");
-    same(&rt, &chain.len(), &2, &"chain");
+    let ran = run_workload(&rt, rt.alloc(), config_of(2, 1), AskAsEach)?;
+    same(&rt, &ran.output, &[true, true, false], &"known");
+    same(&rt, &ran.chain.len(), &2, &"chain");
     Ok(())
 }
 
