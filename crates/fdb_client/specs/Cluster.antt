@@ -1,5 +1,5 @@
 -- What a cluster is made with. (this product's own)
-use Rattle.std.specs.Prelude.{ℕ, ◌<◌, ◌≤◌, IsTrue}
+use Rattle.std.specs.Prelude.{◌<◌, ◌≤◌, IsTrue}
 use Rattle.std.specs.List.{list_all}
 use Rattle.fdb_chain.specs.ChainCore.{IsEpoch, IsProxyCount}
 use Rattle.fdb_queue.specs.Config.{IsConfig, IsElapsed}

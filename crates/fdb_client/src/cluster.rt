@@ -1,6 +1,6 @@
 //! What the clients of a service call.
 
-ghost use Rattle.std.specs.Prelude.{◌≡◌, ◌%◌, [], reverse, IfOk, vec_len};
+ghost use Rattle.std.specs.Prelude.{◌≡◌, ◌%◌, reverse, IfOk, vec_len};
 ghost use Rattle.fdb_chain.specs.ChainCore.{IsEpoch, IsProxyCount};
 ghost use Rattle.fdb_client.specs.Cluster.{IsClusterConfig};
 ghost use Rattle.fdb_client.specs.private.Serving.{IsMadeFor};

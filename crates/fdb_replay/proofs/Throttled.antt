@@ -1,5 +1,5 @@
 -- The throttles of a script may be set.
-use Rattle.std.proofs.Common.{◌≡◌, ◌&&◌, Bool, true, false, List, [], ◌∷◌, refl}
+use Rattle.std.proofs.Common.{◌&&◌, Bool, true, false, List, [], ◌∷◌, refl}
 use Rattle.std.specs.List.{AllByRecursion, list_all}
 use Rattle.std.specs.Prelude.{IsTrue}
 use Rattle.fdb_queue.specs.Throttles.{is_throttle}

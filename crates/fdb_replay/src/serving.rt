@@ -1,6 +1,6 @@
 //! The GRV proxies of a run, which serve while its rounds are played.
 
-ghost use Rattle.std.specs.Prelude.{◌≡◌, ◌≤◌, IfOk, length};
+ghost use Rattle.std.specs.Prelude.{◌≤◌, IfOk, length};
 ghost use Rattle.std.specs.List.{FoldsTo};
 ghost use Rattle.fdb_replay.specs.private.Rounds.{logs_of};
 ghost use Rattle.fdb_script.specs.Answering.{AnswersRound};
