@@ -7,6 +7,7 @@ mod clients;
 mod desks;
 mod driving;
 mod fault;
+mod input;
 mod player;
 mod replaying;
 mod rounds;
