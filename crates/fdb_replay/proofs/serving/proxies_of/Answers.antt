@@ -1,4 +1,4 @@
-use Rattle.std.proofs.Common.{arith}
+use Rattle.std.proofs.Common.{rules, arith, ◌≡◌}
 use Rattle.std.proofs.lemmas.List.Elements.{All-push}
 use Rattle.fdb_replay.specs.private.Throttling.{IsMadeFor}
 use Rattle.fdb_replay.proofs.serving.proxies_of.Goals as goal
