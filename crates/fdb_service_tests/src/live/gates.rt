@@ -44,11 +44,13 @@ impl OneByOne {
         self.failed.store(true, Ordering::SeqCst);
     }
 
-    /// Waits until so many have reported, and notes a failure where they do not come so far.
+    /// Waits until so many have reported, and notes a failure where they do not come so far. It
+    /// does not wait after a failure.
     fn waits_for(&self, before: u64) {
         let pause = Backoff::new();
         for _ in 0..LOOKS {
-            if self.reported.load(Ordering::SeqCst) >= before {
+            let reported = self.reported.load(Ordering::SeqCst);
+            if reported >= before || self.failed.load(Ordering::SeqCst) {
                 return;
             }
             pause.snooze();

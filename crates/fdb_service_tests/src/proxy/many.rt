@@ -39,36 +39,58 @@ fn left_next<J: Live, R: Wait>(
     Ok(submit(rt, &stand.desk, request).is_ok())
 }
 
+/// What was said, and how often in a row, behind all that was said before.
+#[derive(Drop)]
+struct Said {
+    alloc: Global,
+    before: String,
+    last: String,
+    times: u64,
+}
+
+impl Said {
+    /// Adds what was said next.
+    fn add(&mut self, said: &str) -> Result<(), AllocError> {
+        if said != self.last.as_str() {
+            self.ends()?;
+            self.last = String::from_str(self.alloc, said)?;
+        }
+        self.times = self.times.saturating_add(1);
+        Ok(())
+    }
+
+    /// Ends a row, if there is one.
+    fn ends(&mut self) -> Result<(), AllocError> {
+        if self.times > 0 {
+            let part = if self.before.is_empty() { "" } else { "; " };
+            let row = format!(in self.alloc; "{part}{} {}", self.times, self.last)?;
+            self.before.push_str(&row)?;
+            self.times = 0;
+        }
+        Ok(())
+    }
+}
+
 /// The answers to client 0, whose serial numbers count from 0, with neighbours that say the same
 /// put together: how many they are, and what each says. Nobody waits then.
 pub(crate) fn together<J: Live>(stand: &mut Stand<J>, answers: &str) -> Result<String, AllocError> {
     let alloc = stand.alloc;
     stand.waiters = Vec::new(alloc);
-    let mut text = String::new(alloc);
-    let (mut times, mut last) = (0u64, "");
+    let mut said = Said {
+        alloc,
+        before: String::new(alloc),
+        last: String::new(alloc),
+        times: 0,
+    };
     for (serial, answer) in answers.split(';').enumerate() {
-        let said = said_to(alloc, serial, answer.trim())?;
-        if said != last {
-            add_times(alloc, &mut text, times, last)?;
-            (times, last) = (0, said);
-        }
-        times = times.saturating_add(1);
+        said.add(said_to(alloc, serial, answer.trim())?)?;
     }
-    add_times(alloc, &mut text, times, last)?;
-    Ok(text)
+    said.ends()?;
+    Ok(said.before)
 }
 
 /// What an answer says to client 0 under this serial number, and the whole of one that is to others.
 fn said_to<'a>(alloc: Global, serial: usize, answer: &'a str) -> Result<&'a str, AllocError> {
     let own = format!(in alloc; "0/{serial} ")?;
     Ok(answer.strip_prefix(own.as_str()).unwrap_or(answer))
-}
-
-/// Adds what was said so many times, if it was.
-fn add_times(alloc: Global, text: &mut String, times: u64, said: &str) -> Result<(), AllocError> {
-    if times == 0 {
-        return Ok(());
-    }
-    let part = if text.is_empty() { "" } else { "; " };
-    text.push_str(&format!(in alloc; "{part}{times} {said}")?)
 }

@@ -113,23 +113,24 @@ fn whoever_is_not_let_in_or_pushed_out_hears_why(rt: HostRuntime) -> Result<(), 
     Ok(())
 }
 
-/// Several that are left at a desk that is closed, of each priority and of several counts. Those
-/// that the queue does not let in hear why, system requests start, and each that waits is closed.
+/// Several that are left at a desk that is closed, of each priority and of several counts, some
+/// with numbers above 2^32. One that the queue does not let in hears why, system requests start,
+/// and each that waits is closed.
 const LEFT_AT_A_CLOSED_DESK: &str = "
 submit 0 4294967296 batch 1 0 => in
 submit 1 4294967297 default 1 0 => in
 submit 2 9 default 64 0 => in
 submit 3 9 batch 2 0 => in
-submit 0 3 system 101 0 => in
+submit 0 4294967299 system 101 0 => in
 submit 0 4 batch 10001 0 => in
 submit 0 5 default 10001 0 => in
 submit 0 6 batch 10011 0 => in
-submit 0 7 batch 10012 0 => in
+submit 0 4294967303 batch 10012 0 => in
 submit 0 8 default 100000 0 => in
 submit 0 9 system 100000 0 => in
 close => ok
 run 10001 10001 99 => ok
-answers => 0/4294967296 from 0: closed; 1/4294967297 from 0: closed; 2/9 from 0: closed; 3/9 from 0: closed; 0/3 from 0: 100 unlocked none at 0; 0/4 from 0: closed; 0/5 from 0: closed; 0/6 from 0: closed; 0/7 from 0: the request's count is out of range; 0/8 from 0: closed; 0/9 from 0: 100 unlocked none at 0
+answers => 0/4294967296 from 0: closed; 1/4294967297 from 0: closed; 2/9 from 0: closed; 3/9 from 0: closed; 0/4294967299 from 0: 100 unlocked none at 0; 0/4 from 0: closed; 0/5 from 0: closed; 0/6 from 0: closed; 0/4294967303 from 0: the request's count is out of range; 0/8 from 0: closed; 0/9 from 0: 100 unlocked none at 0
 ";
 
 #[test]
