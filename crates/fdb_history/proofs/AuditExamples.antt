@@ -47,7 +47,7 @@ called asked answer = record { input = asked; asked = 0; position = 0; answer = 
 -- a read of a client that is lock-aware or not, and its answer
 abbrev reads : Bool → Record → Bool → Call
 reads lock_aware rec locked_out =
-    called (input.Grv (record { priority = Default; count = 1; tags = []; lock_aware = lock_aware; at = 0 })) (Version rec [] locked_out)
+    called (input.Grv (record { priority = Default; count = 1; tags = []; lock_aware = lock_aware; at = 0; use_min = false })) (Version rec [] locked_out)
 
 -- Of a locked database a client that is not lock-aware is turned away, and no other.
 turned_away : is_justified [] 0 [] (reads false (locked 100) true) ≡ true

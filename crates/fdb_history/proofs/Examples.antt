@@ -157,7 +157,7 @@ spent-kept = refl
 -- ---- logs
 
 abbrev plain_read : GrvOpts
-plain_read = record { priority = Default; count = 1; tags = []; lock_aware = false; at = 0 }
+plain_read = record { priority = Default; count = 1; tags = []; lock_aware = false; at = 0; use_min = false }
 
 -- a read of a version, and a report that raised the register
 abbrev reads : ℕ → ℕ → ℕ → Call

@@ -52,11 +52,11 @@ same_record x y close =
           | inl c ↦ elim (cases_eq x.min_known y.min_known) [
             | inr apart ↦ absurd (close (λ e. apart (ap (λ (r : Record). r.min_known) e)))
             | inl d ↦
-              let first : x ≡ record x { version = y.version } = ap (λ n. record x { version = n }) a in
-              let second : record x { version = y.version } ≡ record x { version = y.version; locked = y.locked } = ap (λ l. record x { version = y.version; locked = l }) b in
-              let third : record x { version = y.version; locked = y.locked } ≡ record y { min_known = x.min_known } = ap (λ m. record x { version = y.version; locked = y.locked; metadata = m }) c in
-              let fourth : record y { min_known = x.min_known } ≡ y = ap (λ n. record y { min_known = n }) d in
-              first ∙ second ∙ third ∙ fourth
+                let first : x ≡ record x { version = y.version } = ap (λ n. record x { version = n }) a in
+                let second : record x { version = y.version } ≡ record x { version = y.version; locked = y.locked } = ap (λ l. record x { version = y.version; locked = l }) b in
+                let third : record x { version = y.version; locked = y.locked } ≡ record y { min_known = x.min_known } = ap (λ m. record x { version = y.version; locked = y.locked; metadata = m }) c in
+                let fourth : record y { min_known = x.min_known } ≡ y = ap (λ n. record y { min_known = n }) d in
+                first ∙ second ∙ third ∙ fourth
           ]
         ]
       ]

@@ -93,7 +93,7 @@ is_of client p = client_of p.event == client
 -- a call's event is its client's own
 own_call : (who client place position : ℕ) (answer : CallAnswer) → who ≡ client → filter (is_of client) (placed_call who place position answer) ≡ placed_call who place position answer
 own_call who client place position (Version rec limits locked_out) same = kept (is_of client) (record { event = Read who place rec; position = position }) [] (eq-eqb who client same)
-own_call who client place position (Acked rec raised changed) same = kept (is_of client) (record { event = Report who place rec raised; position = position }) [] (eq-eqb who client same)
+own_call who client place position (Acked rec raised changed) same = kept (is_of client) (record { event = Report who place rec raised changed; position = position }) [] (eq-eqb who client same)
 own_call who client place position (Answered issued) same = refl
 own_call who client place position Told same = refl
 own_call who client place position (Refused cause) same = refl
@@ -101,7 +101,7 @@ own_call who client place position (Refused cause) same = refl
 -- and no other client's
 other_call : (who client place position : ℕ) (answer : CallAnswer) → (who ≡ client → ⊥) → filter (is_of client) (placed_call who place position answer) ≡ []
 other_call who client place position (Version rec limits locked_out) apart = left_out (is_of client) (record { event = Read who place rec; position = position }) [] (ne_eqb who client apart)
-other_call who client place position (Acked rec raised changed) apart = left_out (is_of client) (record { event = Report who place rec raised; position = position }) [] (ne_eqb who client apart)
+other_call who client place position (Acked rec raised changed) apart = left_out (is_of client) (record { event = Report who place rec raised changed; position = position }) [] (ne_eqb who client apart)
 other_call who client place position (Answered issued) apart = refl
 other_call who client place position Told apart = refl
 other_call who client place position (Refused cause) apart = refl

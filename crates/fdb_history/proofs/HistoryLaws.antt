@@ -252,13 +252,13 @@ newest-alike one other (Report client call rec raised changed ∷ events) same =
 -- The register is the first record with its version, but for the minimum known committed version.
 pub register_after-first : (start : Record) (events : List Event)
     → option_map (λ (rec : Record). record rec { min_known = (register_after start events).min_known })
-        (find (λ r. eqb r.version (register_after start events).version) (start ∷ reports_of events))
+    (find (λ r. eqb r.version (register_after start events).version) (start ∷ reports_of events))
     ≡ Some (register_after start events)
 register_after-first start events =
     let final = register_after start events in
     let same = newest-alike start start events refl in
     let found = newest-first start events in
     let there : find (λ r. eqb r.version final.version) (start ∷ reports_of events) ≡ Some (newest start events) =
-        subst (λ n. find (λ (r : Record). eqb r.version n) (start ∷ reports_of events) ≡ Some (newest start events)) (ap (λ (r : Record). r.version) same) found in
+    subst (λ n. find (λ (r : Record). eqb r.version n) (start ∷ reports_of events) ≡ Some (newest start events)) (ap (λ (r : Record). r.version) same) found in
     ap (option_map (λ (rec : Record). record rec { min_known = final.min_known })) there
     ∙ ap (λ (rec : Record). Some (record rec { min_known = final.min_known })) same

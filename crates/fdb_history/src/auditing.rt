@@ -10,13 +10,13 @@ ghost use Rattle.fdb_history.specs.Strays.{IsStray};
 ghost use Rattle.fdb_history.specs.declared.chain.Issued.{Issued};
 ghost use Rattle.fdb_history.specs.declared.event.Event.{Event};
 
+mod changes;
 mod explaining;
 mod found;
 mod judging;
 mod justifying;
 mod order;
 mod placed;
-mod changes;
 mod registers;
 mod stray;
 

@@ -67,7 +67,11 @@ impl Record {
     pub fn version_for(self, use_min: bool) -> u64
         ensures { result ≡ version_for use_min self }
     {
-        if use_min { self.min_known } else { self.version }
+        if use_min {
+            self.min_known
+        } else {
+            self.version
+        }
     }
 }
 

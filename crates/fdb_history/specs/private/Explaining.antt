@@ -13,9 +13,9 @@ AreEventsByPosition events = IsNonDecreasingBy (λ (p : Placed). p.position) eve
 
 -- the change of an event at a position, if it is one
 abbrev pub change_of_event : ℕ → Event → List PlacedChange
-change_of_event position (Report client call rec true) =
+change_of_event position (Report client call rec raised true) =
     record { position = position; rec = rec } ∷ []
-change_of_event position (Report client call rec false) = []
+change_of_event position (Report client call rec raised false) = []
 change_of_event position (Read client call rec) = []
 
 -- the changes among some events

@@ -61,7 +61,11 @@ pub(crate) fn registers_of(
 }
 
 /// The register before any change, and then after each change in turn.
-fn table_of(alloc: Global, start: Record, changes: &[PlacedChange]) -> Result<Vec<Record>, AllocError>
+fn table_of(
+    alloc: Global,
+    start: Record,
+    changes: &[PlacedChange],
+) -> Result<Vec<Record>, AllocError>
     ensures { IfOk result (λ table. IsTable start changes.now table.items) }
 {
     let mut table = Vec::with_capacity(alloc, changes.len() + 1)?;
