@@ -52,7 +52,7 @@ pub fn serve_batch<J: Live, R: Wait>(
     }
     learn_all(rt, live, seen, requests.as_mut_slice());
     let fetched = live.read(rt, seen);
-    Ok(answer_all(live, seen, fetched, requests, room))
+    Ok(reply_all(live, seen, fetched, requests, room))
 }
 
 /// All that a batch takes memory for.
@@ -124,7 +124,7 @@ fn learn_from<J: Live, R: Wait>(
 }
 
 /// Answers all requests with what a read saw.
-fn answer_all<J: Live>(
+fn reply_all<J: Live>(
     live: &LiveRecord<J>,
     seen: &mut Seen<J>,
     fetched: Fetched,
@@ -154,7 +154,7 @@ fn answer_all<J: Live>(
         let Some(own) = limits.pop_front() else {
             unreachable!()
         };
-        let reply = answer(live, seen, fetched, request.payload, own);
+        let reply = reply_of(live, seen, fetched, request.payload, own);
         add(&mut answers, reply);
     }
     answers
@@ -171,7 +171,7 @@ fn add<J: Live>(answers: &mut Vec<Answer<J>>, reply: Reply<J>)
 }
 
 /// Answers a request with what a read saw.
-fn answer<J: Live>(
+fn reply_of<J: Live>(
     live: &LiveRecord<J>,
     seen: &mut Seen<J>,
     fetched: Fetched,

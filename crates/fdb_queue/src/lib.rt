@@ -14,8 +14,8 @@ pub mod laws;
 mod queue;
 mod request;
 mod throttles;
-mod turn;
 mod waiting;
+mod walk;
 
 pub use budgets::Budgets;
 pub use config::{

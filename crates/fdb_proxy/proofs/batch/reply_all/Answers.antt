@@ -6,7 +6,7 @@ use Rattle.fdb_proxy.specs.Batch.{own_limits, IsReplyTo}
 use Rattle.fdb_queue.specs.Throttles.{Throttle}
 use Rattle.fdb_proxy.specs.declared.answer.Answer.TheVariants.{Reply}
 use Rattle.fdb_proxy.proofs.Batches.{none_left, same_head}
-use Rattle.fdb_proxy.proofs.batch.answer_all.Goals as goal
+use Rattle.fdb_proxy.proofs.batch.reply_all.Goals as goal
 
 pub loop-request-init : goal.loop-request-init
 loop-request-init g c = record {
@@ -18,8 +18,8 @@ loop-request-init g c = record {
   room = rw (c.requires.len, c.from-requests.ensures.1) (omega (arith, c.requires.capacity));
 }
 
-pub answer-reply-requires-clause-told : goal.answer-reply-requires-clause-told
-answer-reply-requires-clause-told g c =
+pub reply_of-reply-requires-clause-told : goal.reply_of-reply-requires-clause-told
+reply_of-reply-requires-clause-told g c =
     let told = rw c.in-Some.ensures.items at c.loop-request.invariant.told in
     rw c.loop-request.invariant.same (All-head (λ request. IsPrefix request.payload.seen.raises c.args.seen.now.raises) c.in-Some.request c.pop_front.new.self.items told)
 
@@ -34,21 +34,21 @@ loop-request-preserved g c =
     let both : (throttles : List Throttle) → c.args.room.limits.items ≡ map (own_limits throttles) c.args.requests.items → own ∷ c.pop_front-in-Some.new.self.items ≡ own_limits throttles request ∷ map (own_limits throttles) rest =
     λ throttles e. sym c.in-Some-pop_front.ensures.items ∙ inv.limits throttles e ∙ ap (map (own_limits throttles)) items in
     record {
-      same = c.answer-reply.ensures.same ∙ inv.same;
+      same = c.reply_of-reply.ensures.same ∙ inv.same;
       told = All-tail (λ asker. IsPrefix asker.payload.seen.raises c.args.seen.now.raises) request rest told;
       limits = λ throttles e. ap (drop 1) (both throttles e);
       forwards = λ throttles e last h.
-          let here : IsReplyTo throttles c.args.seen.now.raises request c.answer-reply.result = record {
-            client = c.answer-reply.ensures.client;
-            serial = c.answer-reply.ensures.serial;
-            asked = c.answer-reply.ensures.asked;
-            limits = c.answer-reply.ensures.limits ∙ same_head (both throttles e);
-            rec = c.answer-reply.ensures.rec ∙ c.requires.rec;
-            position = c.answer-reply.ensures.position ∙ c.requires.position;
-            seen = c.answer-reply.ensures.seen ∙ ap (λ sight. sight.raises) inv.same;
+          let here : IsReplyTo throttles c.args.seen.now.raises request c.reply_of-reply.result = record {
+            client = c.reply_of-reply.ensures.client;
+            serial = c.reply_of-reply.ensures.serial;
+            asked = c.reply_of-reply.ensures.asked;
+            limits = c.reply_of-reply.ensures.limits ∙ same_head (both throttles e);
+            rec = c.reply_of-reply.ensures.rec ∙ c.requires.rec;
+            position = c.reply_of-reply.ensures.position ∙ c.requires.position;
+            seen = c.reply_of-reply.ensures.seen ∙ ap (λ sight. sight.raises) inv.same;
             extends = All-head (λ asker. IsPrefix asker.payload.seen.raises c.args.seen.now.raises) request rest told;
           } in
-          let all = inv.forwards throttles e (Reply c.answer-reply.result ∷ last) (rw items (here, h)) in
+          let all = inv.forwards throttles e (Reply c.reply_of-reply.result ∷ last) (rw items (here, h)) in
           rw (c.add.ensures.last, append_assoc) all;
       pairs = omega (arith, c.in-Some.ensures.len, c.in-Some-pop_front.ensures.len, inv.pairs);
       room = omega (arith, c.add.ensures.len, c.add.ensures.capacity, c.in-Some.ensures.len, inv.room);

@@ -3,7 +3,7 @@
 ghost use Rattle.std.specs.Prelude.{◌≡◌, ◌≤◌, ◌^◌, All, fold};
 ghost use Rattle.fdb_queue.specs.Config.{IsConfig};
 ghost use Rattle.fdb_queue.specs.Kept.{AreBudgets};
-ghost use Rattle.fdb_queue.specs.private.Turn.{turn_after, IsWithinLimits};
+ghost use Rattle.fdb_queue.specs.private.Walk.{walk_after, IsWithinLimits};
 ghost use Rattle.fdb_queue.specs.Window.{may_start};
 ghost use Rattle.fdb_queue.specs.declared.config.TheConstants.{MAX_COUNT};
 
@@ -15,7 +15,7 @@ use std::collections::VecDeque;
 
 /// What a window has started so far.
 #[derive(Clone, Copy)]
-pub(crate) struct Turn {
+pub(crate) struct Walk {
     /// How many requests.
     pub(crate) requests: u64,
     /// The sum of their counts.
@@ -24,22 +24,22 @@ pub(crate) struct Turn {
     pub(crate) ended: bool,
 }
 
-impl Turn {
+impl Walk {
     /// Nothing has started.
-    pub(crate) const NEW: Turn = Turn {
+    pub(crate) const NEW: Walk = Walk {
         requests: 0,
         transactions: 0,
         ended: false,
     };
 
-    /// The turn at its next request: starts it, or ends there.
-    fn after<T>(self, config: &QueueConfig, budgets: &Budgets, request: &Req<T>) -> Turn
+    /// The walk at its next request: starts it, or ends there.
+    fn after<T>(self, config: &QueueConfig, budgets: &Budgets, request: &Req<T>) -> Walk
         requires config { IsConfig config.now }
         requires budgets { AreBudgets budgets.now }
-        requires turn { IsWithinLimits self }
+        requires walk { IsWithinLimits self }
         requires count { request.now.count ≤ MAX_COUNT }
-        ensures value { result ≡ turn_after config.now budgets.now self request.now }
-        ensures turn { IsWithinLimits result }
+        ensures value { result ≡ walk_after config.now budgets.now self request.now }
+        ensures walk { IsWithinLimits result }
     {
         if self.ended {
             return self;
@@ -48,40 +48,40 @@ impl Turn {
         if self.requests == MAX_STARTED
             || !may_start(config, budgets, request.priority, transactions)
         {
-            return Turn {
+            return Walk {
                 ended: true,
                 ..self
             };
         }
-        Turn {
+        Walk {
             requests: self.requests + 1,
             transactions,
             ended: false,
         }
     }
 
-    /// The turn after it has gone along a list.
+    /// The walk after it has gone along a list.
     pub(crate) fn along<T>(
         self,
         config: &QueueConfig,
         budgets: &Budgets,
         list: &VecDeque<Req<T>>,
-    ) -> Turn
+    ) -> Walk
         requires config { IsConfig config.now }
         requires budgets { AreBudgets budgets.now }
-        requires turn { IsWithinLimits self }
+        requires walk { IsWithinLimits self }
         requires counts { All (λ request. request.count ≤ MAX_COUNT) list.now.items }
-        ensures value { result ≡ fold (turn_after config.now budgets.now) self list.now.items }
-        ensures turn { IsWithinLimits result }
+        ensures value { result ≡ fold (walk_after config.now budgets.now) self list.now.items }
+        ensures walk { IsWithinLimits result }
     {
-        let mut turn = self;
+        let mut walk = self;
         for request in list.iter() {
-            if turn.ended {
+            if walk.ended {
                 break;
             }
-            turn = turn.after(config, budgets, request);
+            walk = walk.after(config, budgets, request);
         }
-        turn
+        walk
     }
 }
 
