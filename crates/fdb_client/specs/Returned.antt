@@ -1,6 +1,7 @@
 -- Which value a call of a client returns for the answer that it logged. (all of this is this
 -- product's own)
 use Rattle.std.specs.Prelude.{◌≡◌, ℕ, true, false, Result, Ok, Err}
+use Rattle.fdb_chain.specs.declared.error.ChainError.{ChainError}
 use Rattle.fdb_chain.specs.declared.error.ChainError.TheVariants as chain
 use Rattle.fdb_history.specs.declared.chain.Issued.{Issued}
 use Rattle.fdb_history.specs.declared.log.CallAnswer.{CallAnswer}
@@ -10,10 +11,15 @@ use Rattle.fdb_history.specs.declared.log.Refusal.{Refusal}
 use Rattle.fdb_history.specs.declared.log.Refusal.TheVariants as refusal
 use Rattle.fdb_live.specs.declared.ack.Ack.{Ack}
 use Rattle.fdb_live.specs.declared.error.LiveError.TheVariants as live
+use Rattle.fdb_proxy.specs.declared.cause.Cause.{Cause}
+use Rattle.fdb_proxy.specs.declared.cause.Cause.TheVariants as cause
+use Rattle.fdb_proxy.specs.declared.error.ProxyError.{ProxyError}
+use Rattle.fdb_proxy.specs.declared.error.ProxyError.TheVariants as desk
 use Rattle.fdb_queue.specs.declared.error.QueueError.TheVariants as queue
 use Rattle.fdb_client.specs.declared.error.ClientError.{ClientError}
 use Rattle.fdb_client.specs.declared.error.ClientError.TheVariants.{Locked, Stranger, ProxyClosed}
 use Rattle.fdb_client.specs.declared.error.ClientError.TheVariants.{Chain, Queue, NotIssued, Live}
+use Rattle.fdb_client.specs.declared.error.ClientError.TheVariants.{Memory}
 use Rattle.fdb_client.specs.declared.read.ReadVersion.{ReadVersion}
 
 -- the error for a refusal that was logged
@@ -29,6 +35,22 @@ error_of refusal.ProxyClosed = ProxyClosed
 error_of refusal.NotIssued = NotIssued
 error_of refusal.Stranger = Stranger
 error_of refusal.TooLarge = Live live.TooLarge
+
+-- the error where a desk does not take a request: for memory that is not the desk's end
+abbrev pub error_of_desk : ProxyError → ClientError
+error_of_desk desk.Memory = Memory
+error_of_desk desk.Closed = ProxyClosed
+
+-- the error where a GRV proxy does not start a request
+abbrev pub error_of_proxy : Cause → ClientError
+error_of_proxy (cause.Queue queue.Memory) = Memory
+error_of_proxy (cause.Queue refused) = Queue refused
+error_of_proxy cause.Closed = ProxyClosed
+
+-- the error where the sequencer does not answer
+abbrev pub error_of_sequencer : ChainError → ClientError
+error_of_sequencer chain.Memory = Memory
+error_of_sequencer refused = Chain refused
 
 -- A read returns what was read, at the position after it; the version alone, where it is turned
 -- away by the lock.

@@ -1,28 +1,26 @@
 //! A client of the service.
 
 ghost use Rattle.std.specs.Prelude.{◌≡◌, ◌≢◌, [], length};
-ghost use Rattle.std.specs.Prelude.{IfOk, IfErr, IfNone, IfSome, OnOk, OnErr, Result, None, Some};
+ghost use Rattle.std.specs.Prelude.{IfOk, IfErr, OnOk, OnErr, None, Some};
 ghost use Rattle.fdb_client.specs.Account.{Account, new_account, sight};
 ghost use Rattle.fdb_client.specs.Calls.{Asks, Learns, Reads, Reports, Tells};
 ghost use Rattle.fdb_client.specs.Calls.{next_number, request_of};
-ghost use Rattle.fdb_chain.specs.ChainCore.{IsAnswer, IsFor};
-ghost use Rattle.fdb_history.specs.declared.log.Refusal.{Refusal};
-ghost use Rattle.fdb_history.specs.declared.chain.Issued.{Issued};
+ghost use Rattle.fdb_chain.specs.ChainCore.{IsFor};
 ghost use Rattle.fdb_history.specs.Log.{position_after_calls};
 ghost use Rattle.fdb_live.specs.Seen.{own_positions};
 
 use crate::error::ClientError;
-use crate::exchange::NoReply;
+use crate::exchange::Mark;
 use crate::journal::Journal;
 use crate::read::ReadVersion;
 use crate::{exchange, reply};
-use fdb_chain::{ChainError, Sequencer};
+use fdb_chain::Sequencer;
 use fdb_history::{
-    Ask, Call, CallAnswer, ClientLog, Gate, GrvOpts, Input, Issued, Record, Refusal, Sequence,
+    Ask, Call, CallAnswer, ClientLog, Gate, GrvOpts, Input, Issued, Record, Sequence,
 };
 use fdb_live::{Ack, Live, LiveRecord, Seen};
 use fdb_proxy::{Desk, Request};
-use std::alloc::{AllocError, Global};
+use std::alloc::Global;
 use std::marker::Model;
 use std::sync::Wait;
 
@@ -134,18 +132,23 @@ impl<'a, J: Live> Client<'a, J> {
         ensures memory { result ≡ Err ClientError.Memory → self.new ≡ self.old }
     {
         self.journal.reserve()?;
-        let logged = copy_of(&opts)?;
+        let logged = opts.clone()?;
         let (reply, answers) = crossbeam_channel::bounded(self.alloc, 1)?;
-        let asked = self.seen.position();
-        let request = Request {
+        let own = Mark {
             client: self.id,
             serial: self.journal.len(),
-            asked,
+            asked: self.seen.position(),
+        };
+        let request = Request {
+            client: own.client,
+            serial: own.serial,
+            asked: own.asked,
             seen: self.live.split(&mut self.seen),
             opts,
             reply,
         };
-        match exchange::reply_to(rt, gate, desk, request, answers) {
+        let answer = exchange::answer_to(rt, gate, desk, request, answers);
+        match answer.and_then(|answer| exchange::judge(own, answer)) {
             Ok(reply) => reply::take_reply(
                 rt,
                 self.live,
@@ -154,10 +157,10 @@ impl<'a, J: Live> Client<'a, J> {
                 logged,
                 reply,
             ),
-            Err(NoReply::Refused(cause)) => {
-                Err(self.journal.add_refused(Input::Grv(logged), asked, cause))
+            Err(error) => {
+                let input = Input::Grv(logged);
+                Err(self.journal.add_refused(input, own.asked, error))
             }
-            Err(NoReply::Memory) => Err(ClientError::Memory),
         }
     }
 
@@ -217,10 +220,10 @@ impl<'a, J: Live> Client<'a, J> {
                 self.journal.add_answer(input, position, issued);
                 Ok(issued)
             }
-            Err(cause) => match refusal_of(cause) {
-                Some(refusal) => Err(self.journal.add_refused(input, position, refusal)),
-                None => Err(ClientError::Memory),
-            },
+            Err(cause) => {
+                let error = ClientError::from(cause);
+                Err(self.journal.add_refused(input, position, error))
+            }
         }
     }
 
@@ -249,7 +252,8 @@ impl<'a, J: Live> Client<'a, J> {
         };
         let asked = self.seen.position();
         let Some(version) = self.journal.version_under(num) else {
-            return Err(self.journal.add_refused(input, asked, Refusal::NotIssued));
+            let error = ClientError::NotIssued;
+            return Err(self.journal.add_refused(input, asked, error));
         };
         let rec = Record {
             version,
@@ -340,29 +344,5 @@ impl<'a, J: Live> Client<'a, J> {
         } = self;
         let calls = Sequence::from(journal.calls);
         (ClientLog { calls }, seen)
-    }
-}
-
-/// A copy of what a read says.
-fn copy_of(opts: &GrvOpts) -> Result<GrvOpts, AllocError>
-    ensures { IfOk result (λ copy. copy ≡ opts.now) }
-{
-    opts.clone()
-}
-
-/// How a refusal of the sequencer is logged: not at all, where it is for memory.
-fn refusal_of(cause: ChainError) -> Option<Refusal>
-    requires { (answer : Result Issued Refusal) × IsAnswer answer (Err cause) }
-    ensures some { (answer : Result Issued Refusal) → IsAnswer answer (Err cause)
-        → IfSome result (λ refusal. answer ≡ Err refusal) }
-    ensures none { IfNone result (cause ≡ ChainError.Memory) }
-{
-    match cause {
-        ChainError::UnknownProxy => Some(Refusal::UnknownProxy),
-        ChainError::Early { expected } => Some(Refusal::Early { expected }),
-        ChainError::Forgotten => Some(Refusal::Forgotten),
-        ChainError::Exhausted => Some(Refusal::Exhausted),
-        ChainError::Memory => None,
-        ChainError::BadEpoch | ChainError::NoProxy => unreachable!(),
     }
 }

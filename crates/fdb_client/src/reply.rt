@@ -1,9 +1,10 @@
 //! The reply to a read: what the client learns from it, logs and returns.
 
-ghost use Rattle.std.specs.Prelude.{◌≡◌, ◌≢◌, ℕ, ◌<◌, ◌≤◌, IfOk, None, Some, length};
+ghost use Rattle.std.specs.Prelude.{◌≡◌, ◌≢◌, ℕ, ◌<◌, ◌≤◌, ◌++◌, ◌∷◌, [], IfOk, None, Some, length};
 ghost use Rattle.std.specs.Prelude.{vec_len, vec_capacity};
 ghost use Rattle.fdb_client.specs.Calls.{Reads};
 ghost use Rattle.fdb_client.specs.Returned.{ReadReturns};
+ghost use Rattle.fdb_client.specs.private.Exchange.{answer_of};
 ghost use Rattle.fdb_history.specs.Log.{position_after_calls};
 ghost use Rattle.fdb_live.specs.Seen.{own_positions};
 ghost use mathlib.Core.List.{IsPrefix};
@@ -29,6 +30,15 @@ pub(crate) fn take_reply<J: Live, R: Wait>(
 ) -> Result<ReadVersion, ClientError>
     requires capacity { vec_len journal.old.calls < vec_capacity journal.old.calls }
     requires asked { reply.asked ≡ length seen.old.raises }
+    ensures entry { result ≢ Err ClientError.Memory
+        → journal.new.calls.items ≡ journal.old.calls.items ++ record {
+          input = Input.Grv opts;
+          asked = reply.asked;
+          position = reply.position;
+          answer = answer_of reply opts;
+        } ∷ [] }
+    ensures returned { result ≢ Err ClientError.Memory
+        → ReadReturns reply.position (answer_of reply opts) result }
     ensures logged { result ≢ Err ClientError.Memory → (number begun : ℕ)
         → seen.old.reporter ≡ Some number
         → position_after_calls begun journal.old.calls.items ≡ length seen.old.raises

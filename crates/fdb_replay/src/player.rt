@@ -1,6 +1,6 @@
 //! A client of a run.
 
-ghost use Rattle.std.specs.Prelude.{◌≡◌, ◌≢◌, ◌+◌, ◌++◌, ◌∷◌, [], Err, Some, true, false, OnOk, IfOk, IfErr, drop, length};
+ghost use Rattle.std.specs.Prelude.{◌≡◌, ◌≢◌, ◌+◌, ◌++◌, ◌∷◌, [], Err, Some, true, false, OnOk, IfErr, drop, length};
 ghost use Rattle.fdb_history.specs.Added.{AddsCall};
 ghost use Rattle.fdb_history.specs.Log.{fresh_answers};
 ghost use Rattle.fdb_history.specs.declared.log.Input.TheVariants as input;
@@ -14,7 +14,7 @@ use fdb_client::{Client, ClientError};
 use fdb_history::{ClientLog, Gate, GrvOpts};
 use fdb_live::{Live, LiveRecord, Seen};
 use fdb_script::Act;
-use std::alloc::{AllocError, Global};
+use std::alloc::Global;
 use std::marker::Model;
 use std::sync::Wait;
 
@@ -100,7 +100,7 @@ impl<'a, J: Live> Player<'a, J> {
         ensures ok { OnOk result (AddsCall self.old (input.Grv opts.now) self.new) }
         ensures err { IfErr result (λ fault. fault ≡ RunFault.Memory) }
     {
-        let opts = copy_of(opts)?;
+        let opts = opts.clone()?;
         let desk = world.desks.route(number, self.reads);
         let answer = self.client.read_version(rt, world.gate, desk, opts);
         if !is_logged(&answer) {
@@ -190,13 +190,6 @@ impl<'a, J: Live> Player<'a, J> {
             Err(_) => Err(RunFault::Memory),
         }
     }
-}
-
-/// A copy of what a read says.
-fn copy_of(opts: &GrvOpts) -> Result<GrvOpts, AllocError>
-    ensures { IfOk result (λ copy. copy ≡ opts.now) }
-{
-    opts.clone()
 }
 
 /// Whether a call with this answer is in the log.

@@ -20,7 +20,7 @@ pub returns-clause-ok : goal.returns-clause-ok
 returns-clause-ok g c =
     let read = c.read_version-answer.ensures.logged (c.is_logged.ensures.logged c.if-not-is_logged.false) in
     let after = c.read_version-answer.new.self.calls in
-    let opts : c.in_ok-opts.opts ≡ c.args.opts.now = c.in_ok-opts.ensures in
+    let opts : c.in_ok-opts.opts ≡ c.args.opts.now = c.in_ok-opts.ensures.cases in
     let before : c.self.inside.client.calls ≡ c.args.self.now = search rules in
     let added = adds_read _ _ _ _ _ c.self.invariant.0 read in
     on_ok_weaker c.settled.result
