@@ -1,3 +1,4 @@
 pub mod Versions
 pub mod Exchange
 pub mod Refusals
+pub mod Serving

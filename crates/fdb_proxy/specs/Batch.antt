@@ -11,7 +11,8 @@ use Rattle.fdb_proxy.specs.declared.answer.Answer.TheVariants as answer
 use Rattle.fdb_proxy.specs.declared.answer.Reply.{Reply}
 use Rattle.fdb_proxy.specs.declared.request.Request.{Request}
 use Rattle.fdb_queue.specs.declared.request.Req.{Req}
-use Rattle.fdb_queue.specs.Throttles.{Throttle, limits_of}
+use Rattle.fdb_queue.specs.Throttles.{limits_of}
+use Rattle.fdb_queue.specs.declared.throttles.Throttle.{Throttle}
 
 module _ {J : Type 0} {live : LiveGhosts J} {service : ServiceGhosts J} where
   -- what throttles the tags of a request, at its own priority and moment

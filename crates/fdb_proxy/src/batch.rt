@@ -6,7 +6,7 @@ ghost use Rattle.std.specs.List.{AllZip};
 ghost use mathlib.Core.List.{IsPrefix};
 ghost use Rattle.fdb_live.specs.Seen.{last_record, own_positions};
 ghost use Rattle.fdb_proxy.specs.Batch.{IsReplyTo, Replies, own_limits};
-ghost use Rattle.fdb_queue.specs.Throttles.{Throttle};
+ghost use Rattle.fdb_queue.specs.declared.throttles.Throttle.{Throttle};
 
 use crate::answer::{Answer, Reply};
 use crate::error::ProxyError;

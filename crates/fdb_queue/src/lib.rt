@@ -25,4 +25,5 @@ pub use config::{
 pub use error::QueueError;
 pub use queue::GrvQueue;
 pub use request::Req;
+pub use throttles::Throttle;
 pub use waiting::Lengths;

@@ -1,4 +1,4 @@
 pub mod Asked
 pub mod Rounds
 pub mod Routing
-pub mod Throttling
+pub mod Configured

@@ -4,7 +4,6 @@
 
 mod arguments;
 mod clients;
-mod desks;
 mod driving;
 mod fault;
 mod player;
@@ -13,7 +12,6 @@ mod rounds;
 mod running;
 mod serving;
 mod tell;
-mod throttles;
 mod world;
 
 pub use arguments::command_line;

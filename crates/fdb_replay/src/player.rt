@@ -101,7 +101,7 @@ impl<'a, J: Live> Player<'a, J> {
         ensures err { IfErr result (λ fault. fault ≡ RunFault.Memory) }
     {
         let opts = opts.clone()?;
-        let desk = world.desks.route(number, self.reads);
+        let desk = world.route(number, self.reads);
         let answer = self.client.read_version(rt, world.gate, desk, opts);
         if !is_logged(&answer) {
             return Err(RunFault::Memory);
@@ -125,10 +125,8 @@ impl<'a, J: Live> Player<'a, J> {
             (input.Ask (length (fresh_answers self.old) + 1) processed at) self.new) }
         ensures err { IfErr result (λ fault. fault ≡ RunFault.Memory) }
     {
-        settled(
-            self.client
-                .ask(rt, world.gate, world.sequencer, processed, at),
-        )
+        let sequencer = world.cluster.sequencer();
+        settled(self.client.ask(rt, world.gate, sequencer, processed, at))
     }
 
     /// Asks for the commit version under a number.
@@ -143,9 +141,10 @@ impl<'a, J: Live> Player<'a, J> {
         ensures ok { OnOk result (AddsCall self.old (input.Ask num processed at) self.new) }
         ensures err { IfErr result (λ fault. fault ≡ RunFault.Memory) }
     {
+        let sequencer = world.cluster.sequencer();
         settled(
             self.client
-                .reask(rt, world.gate, world.sequencer, num, processed, at),
+                .reask(rt, world.gate, sequencer, num, processed, at),
         )
     }
 

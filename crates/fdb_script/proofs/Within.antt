@@ -18,7 +18,7 @@ use Rattle.fdb_script.specs.declared.error.ScriptError.{ScriptError}
 use Rattle.fdb_script.specs.declared.script.Act.{Act}
 use Rattle.fdb_script.specs.declared.script.Act.TheVariants.{Tell}
 use Rattle.fdb_script.specs.declared.script.Command.{Command}
-use Rattle.fdb_script.specs.declared.script.Throttle.{Throttle}
+use Rattle.fdb_queue.specs.declared.throttles.Throttle.{Throttle}
 use Rattle.fdb_script.specs.declared.script.TheConstants.{MAX_CLIENTS, MAX_THROTTLES, MAX_ROUNDS, MAX_TAGS}
 
 -- ---- what passes a test, and lists

@@ -18,7 +18,7 @@ use Rattle.fdb_script.specs.declared.script.Act.{Act}
 use Rattle.fdb_script.specs.declared.script.Act.TheVariants.{Grv, Ask, Reask, Report, Tell}
 use Rattle.fdb_script.specs.declared.script.Command.{Command}
 use Rattle.fdb_script.specs.declared.script.Setup.{Setup}
-use Rattle.fdb_script.specs.declared.script.Throttle.{Throttle}
+use Rattle.fdb_queue.specs.declared.throttles.Throttle.{Throttle}
 use Rattle.fdb_script.specs.declared.script.TheConstants.{MAX_CLIENTS, MAX_THROTTLES, MAX_ROUNDS, MAX_COMMANDS, MAX_TAGS}
 
 -- ---- what a value stands for

@@ -2,8 +2,8 @@
 
 use crate::same::same_text;
 use fdb_history::{GrvOpts, Tag};
-use fdb_queue::QueueConfig;
-use fdb_script::{Act, Command, Script, ScriptError, Setup, Throttle, read_script};
+use fdb_queue::{QueueConfig, Throttle};
+use fdb_script::{Act, Command, Script, ScriptError, Setup, read_script};
 use std::alloc::{AllocError, Global};
 use std::process::Abort;
 use std::str::from_utf8;

@@ -3,7 +3,7 @@ use Rattle.std.proofs.lemmas.List.{append-nil}
 use Rattle.std.proofs.lemmas.List.Elements.{All-head, All-tail}
 use mathlib.Core.List.{IsPrefix}
 use Rattle.fdb_proxy.specs.Batch.{own_limits, IsReplyTo}
-use Rattle.fdb_queue.specs.Throttles.{Throttle}
+use Rattle.fdb_queue.specs.declared.throttles.Throttle.{Throttle}
 use Rattle.fdb_proxy.specs.declared.answer.Answer.TheVariants.{Reply}
 use Rattle.fdb_proxy.proofs.Batches.{none_left, same_head}
 use Rattle.fdb_proxy.proofs.batch.reply_all.Goals as goal

@@ -3,7 +3,7 @@ use Rattle.std.specs.List.{AllZip}
 use Rattle.std.specs.VecDeque.{deque_len}
 use mathlib.Core.List.{IsPrefix}
 use Rattle.fdb_proxy.specs.Batch.{Replies, own_limits}
-use Rattle.fdb_queue.specs.Throttles.{Throttle}
+use Rattle.fdb_queue.specs.declared.throttles.Throttle.{Throttle}
 use Rattle.fdb_proxy.proofs.batch.reply_all.Given as goal
 
 -- whatever answers the requests that are left, with the answers so far it answers all
