@@ -6,6 +6,7 @@ mod arguments;
 mod clients;
 mod driving;
 mod fault;
+mod input;
 mod player;
 mod replaying;
 mod rounds;

@@ -1,7 +1,7 @@
 use Rattle.std.proofs.Common.{arith}
 use Rattle.std.proofs.lemmas.List.{length-append, length-drop, length-take}
-use Rattle.fdb_replay.proofs.Input.{read_more, read_whole, takes_more}
-use Rattle.fdb_replay.proofs.driving.read_all.Goals as goal
+use Rattle.fdb_replay.proofs.Pieces.{read_more, read_whole, takes_more}
+use Rattle.fdb_replay.proofs.input.read_all.Goals as goal
 
 pub returns-in_err-more-clause-few : goal.returns-in_err-more-clause-few
 returns-in_err-more-clause-few g c =

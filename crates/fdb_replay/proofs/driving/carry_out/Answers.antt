@@ -1,7 +1,7 @@
 use Rattle.std.proofs.Common.{map, string_bytes}
 use Rattle.fdb_replay.specs.private.Asked.{AskReplay}
 use Rattle.fdb_replay.proofs.Given.{file_named}
-use Rattle.fdb_replay.proofs.driving.answer.Goals as goal
+use Rattle.fdb_replay.proofs.driving.carry_out.Goals as goal
 
 pub returns-clause-left : goal.returns-clause-left
 returns-clause-left g c =

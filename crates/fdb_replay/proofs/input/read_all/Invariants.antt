@@ -1,8 +1,8 @@
 use Rattle.std.proofs.Common.{◌≡◌, ◌≤◌, vec_len, length}
 use Rattle.std.specs.Io.KnownBytes.{Consumes}
 use Rattle.fdb_script.specs.declared.script.TheConstants.{MAX_SCRIPT_BYTES}
-use Rattle.fdb_replay.specs.declared.driving.TheConstants.{PIECE}
-use Rattle.fdb_replay.proofs.driving.read_all.Given as goal
+use Rattle.fdb_replay.specs.declared.input.TheConstants.{PIECE}
+use Rattle.fdb_replay.proofs.input.read_all.Given as goal
 
 -- what was read so far is what is gone from the input
 abbrev pub invariant-loop : goal.invariant-loop
