@@ -3,10 +3,12 @@
 
 ghost use Rattle.std.specs.Prelude.{◌≡◌};
 
+mod gates;
 mod held;
 pub mod steps;
 mod threads;
 
+use crate::live::gates::{pass_each, pass_one_by_one};
 use crate::live::held::read_beside_report;
 use crate::live::steps::{learn_crosswise, unlocked, work_through};
 use crate::live::threads::run_all;
@@ -28,6 +30,10 @@ pub(crate) enum Case {
     Crosswise,
     /// A reader reads while a reporter holds the lock of the reports.
     ReadBesideReport,
+    /// Each report of a reporter passes the gate.
+    PassEach,
+    /// All reporters report, each in a thread of its own, and pass the gate one by one.
+    PassOneByOne,
     /// All reporters report and so many readers read, each in a thread of its own.
     Threads { readers: u32 },
 }
@@ -91,6 +97,8 @@ fn play_at<J: Live + Send + Sync, R: Threads + Wait + Abort + Sync>(
         Case::Worked => work_through(rt, parts),
         Case::Crosswise => learn_crosswise(rt, parts),
         Case::ReadBesideReport => read_beside_report(rt, parts),
+        Case::PassEach => pass_each(rt, parts),
+        Case::PassOneByOne => pass_one_by_one(rt, parts),
         Case::Threads { readers } => return run_all(rt, alloc, parts, readers),
     }
     Ok(())
@@ -107,6 +115,14 @@ fn reads_and_reports(rt: HostRuntime) -> Result<(), Fail> {
     play(&rt, rt.alloc(), 2, Case::Worked)?;
     play(&rt, rt.alloc(), 2, Case::Crosswise)?;
     play(&rt, rt.alloc(), 2, Case::ReadBesideReport)?;
+    Ok(())
+}
+
+#[test]
+fn each_report_passes_the_gate_alone(rt: HostRuntime) -> Result<(), Fail> {
+    play(&rt, rt.alloc(), 1, Case::PassEach)?;
+    play(&rt, rt.alloc(), 2, Case::PassOneByOne)?;
+    play(&rt, rt.alloc(), 4, Case::PassOneByOne)?;
     Ok(())
 }
 

@@ -4,7 +4,7 @@ ghost use Rattle.std.specs.Prelude.{◌≡◌};
 
 use crate::client::{Case, Service, client_of, play, unlocked};
 use crate::line::tag;
-use crate::same::same;
+use crate::same::{holds, same};
 use fdb_chain::ChainError;
 use fdb_client::{Client, ClientError, ReadVersion};
 use fdb_history::{GrvOpts, OpenGate, Priority, Sequence};
@@ -248,7 +248,7 @@ fn ask_again<J: Live, R: Wait + Abort>(
 }
 
 /// A client reads through a proxy in a thread of its own. It hears nothing where the proxy is
-/// refused memory.
+/// refused memory, which then ends.
 fn serve<J: Live + Send + Sync, R: Threads + Wait + Abort + Sync>(
     rt: &R,
     reader: &mut Caller<'_, J>,
@@ -262,24 +262,41 @@ fn serve<J: Live + Send + Sync, R: Threads + Wait + Abort + Sync>(
         let running = scope.spawn(move || proxy.run(rt).is_ok())?;
         let found = reader.reads(rt);
         desk.close(rt);
-        running.join(rt);
-        is_read(rt, reader, found)
+        let served = running.join(rt);
+        is_read(rt, reader, found, served)
     })
 }
 
-/// Checks what was read, unless memory was refused.
+/// Checks what was read, and what of it is logged.
 fn is_read<J: Live>(
     rt: &impl Abort,
     reader: &Caller<'_, J>,
     found: Result<ReadVersion, ClientError>,
+    served: bool,
 ) -> Result<(), AllocError> {
-    let Ok(read) = found else {
-        return Err(AllocError);
+    let read = match found {
+        Ok(read) => read,
+        Err(cause) => return is_refused(rt, reader, cause, served),
     };
     same(rt, &(read.rec, read.position), &(unlocked(103), 1), &"read");
     same(rt, &read.limits.len(), &1, &"limits");
     reader.is_at(rt, 1, 1);
     Ok(())
+}
+
+/// Checks that a read failed for memory, of which its log has nothing, or that its proxy ended for
+/// that, and then the log says that the proxy is closed.
+fn is_refused<J: Live>(
+    rt: &impl Abort,
+    reader: &Caller<'_, J>,
+    cause: ClientError,
+    served: bool,
+) -> Result<(), AllocError> {
+    let closed = cause == ClientError::ProxyClosed;
+    holds(rt, closed || cause == ClientError::Memory, &cause);
+    holds(rt, !closed || !served, &"closed, though it served");
+    reader.is_at(rt, usize::from(closed), 0);
+    Err(AllocError)
 }
 
 /// A queue with a throttle of the tag `t`.

@@ -24,8 +24,19 @@ pub(crate) fn report_at<J: Live, R: Wait + Abort, G: Gate>(
     seen: &mut Seen<J>,
     version: u64,
 ) -> Result<Ack, LiveError> {
+    report_as(rt, live, gate, seen, unlocked(version))
+}
+
+/// Reports a record by the token of a reporter.
+pub(crate) fn report_as<J: Live, R: Wait + Abort, G: Gate>(
+    rt: &R,
+    live: &LiveRecord<J>,
+    gate: &G,
+    seen: &mut Seen<J>,
+    rec: Record,
+) -> Result<Ack, LiveError> {
     let who = seen.reporter().expect(rt, "a reporter's token");
-    live.report(rt, gate, who, seen, unlocked(version))
+    live.report(rt, gate, who, seen, rec)
 }
 
 /// Checks what the report of a version is answered, and its token's position.
