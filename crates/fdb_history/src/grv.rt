@@ -41,6 +41,9 @@ pub struct GrvOpts {
     pub lock_aware: bool,
     /// The moment of the request, in microseconds.
     pub at: u64,
+    /// Whether the read version is to be the minimum known committed version, and not the live
+    /// one. No queue looks at it. (this product's own)
+    pub use_min: bool,
 }
 
 impl Clone for GrvOpts {

@@ -3,7 +3,7 @@ use Rattle.std.proofs.Common.{◌≡◌, ℕ, ◌+◌, ◌<◌, ◌≤◌, true,
 use Rattle.crossbeam_utils.specs.Register.{Turns, Forks, Merges}
 use Rattle.fdb_history.specs.declared.register.Record.{Record}
 use Rattle.fdb_history.specs.declared.register.TheConstants.{MAX_VERSION}
-use Rattle.fdb_history.specs.Register.{after_report, raises}
+use Rattle.fdb_history.specs.Register.{after_report, changes}
 use Rattle.fdb_live.specs.Seen.{last_record}
 use Rattle.fdb_live.specs.declared.fetched.Fetched.{Fetched}
 use Rattle.fdb_live.specs.declared.held.Held.{Held}
@@ -30,7 +30,7 @@ pub opens_in_words : (reporters pass : ℕ) (v : View) (held : Held) (new : Fetc
 opens_in_words reporters pass v held new is at_start none in_range =
     writes (Opens reporters) held is (opens reporters pass v new at_start none in_range)
 
-pub adds_in_words : (rec named : Record) (pass : ℕ) (v : View) (held : Held) (new : Fetched) → fetched_of held ≡ new → rec ≡ named → v.replaces ≡ true → v.low < v.high → new.position ≡ length v.seen + 1 → raises (last_record v.start v.seen) rec ≡ true → new.rec ≡ after_report (last_record v.start v.seen) rec → rec.version ≤ MAX_VERSION → Turns Keeps pass v (λ _. held) (InWords (Adds named))
+pub adds_in_words : (rec named : Record) (pass : ℕ) (v : View) (held : Held) (new : Fetched) → fetched_of held ≡ new → rec ≡ named → v.replaces ≡ true → v.low < v.high → new.position ≡ length v.seen + 1 → changes (last_record v.start v.seen) rec ≡ true → new.rec ≡ after_report (last_record v.start v.seen) rec → rec.version ≤ MAX_VERSION → Turns Keeps pass v (λ _. held) (InWords (Adds named))
 adds_in_words rec named pass v held new is same replaces some_number position up becomes in_range =
     writes (Adds named) held is (adds_named pass v new same replaces some_number position up becomes in_range)
 

@@ -21,7 +21,7 @@ at_end [] new = refl
 at_end (item ∷ items) new = at_end items new
 
 abbrev pub token_of : ℕ → Sight
-token_of number = record { reporter = Some number; raises = [] }
+token_of number = record { reporter = Some number; changes = [] }
 
 abbrev pub AreTokens : List Sight → ℕ → Type 0
 AreTokens items n = (k : ℕ) → k < n → slice_get items k ≡ Some (token_of k)

@@ -4,7 +4,7 @@ use Rattle.std.specs.Prelude.{nat_lt}
 use Rattle.std.proofs.lemmas.Bool.Decides.{nat_tests}
 use mathlib.Core.List.{IsPrefix}
 use Rattle.fdb_live.specs.Seen.{longer}
-use Rattle.fdb_live.specs.declared.raise.Raise.{Raise}
+use Rattle.fdb_live.specs.declared.change.Change.{Change}
 
 module _ {A : Type 0} where
   pub prefix_same : (xs : List A) → IsPrefix xs xs
@@ -36,12 +36,12 @@ module _ {A : Type 0} where
       let rest = prefix_whole xs ys (p.0, cc (p.1)) (omega arith) in cc (p.1, rest)
 
 -- the longer of two that begin one list
-pub record IsLonger (xs ys zs long : List Raise) : Type 0 where
+pub record IsLonger (xs ys zs long : List Change) : Type 0 where
   pub these : IsPrefix xs long
   pub those : IsPrefix ys long
   pub all : IsPrefix long zs
 
-pub prefix_longer : (xs ys zs : List Raise) → IsPrefix xs zs → IsPrefix ys zs → IsLonger xs ys zs (longer xs ys)
+pub prefix_longer : (xs ys zs : List Change) → IsPrefix xs zs → IsPrefix ys zs → IsLonger xs ys zs (longer xs ys)
 prefix_longer xs ys zs p q = go (nat_lt (length xs) (length ys)) refl
   where
     go : (b : Bool) → nat_lt (length xs) (length ys) ≡ b → IsLonger xs ys zs (if b then ys else xs)
@@ -49,7 +49,7 @@ prefix_longer xs ys zs p q = go (nat_lt (length xs) (length ys)) refl
     go false e = record { these = prefix_same xs; those = prefix_shorter ys xs zs q p (grind (arith, nat_tests)); all = p }
 
 -- of two that begin one list, one begins the other
-pub prefix_either : (xs ys zs : List Raise) → IsPrefix xs zs → IsPrefix ys zs → (IsPrefix xs ys) ⊎ (IsPrefix ys xs)
+pub prefix_either : (xs ys zs : List Change) → IsPrefix xs zs → IsPrefix ys zs → (IsPrefix xs ys) ⊎ (IsPrefix ys xs)
 prefix_either xs ys zs p q = go (nat_lt (length xs) (length ys)) refl
   where
     go : (b : Bool) → nat_lt (length xs) (length ys) ≡ b → (IsPrefix xs ys) ⊎ (IsPrefix ys xs)

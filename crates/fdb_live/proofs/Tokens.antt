@@ -5,7 +5,7 @@ use mathlib.Core.List.{IsPrefix}
 use Rattle.fdb_history.specs.declared.register.Record.{Record}
 use Rattle.fdb_history.specs.declared.register.TheConstants.{MAX_VERSION}
 use Rattle.fdb_live.specs.declared.fetched.Fetched.{Fetched}
-use Rattle.fdb_live.specs.declared.raise.Raise.{Raise}
+use Rattle.fdb_live.specs.declared.change.Change.{Change}
 use Rattle.fdb_live.specs.declared.view.View.{View}
 use Rattle.fdb_live.specs.Seen.{IsLog, own_among, longer}
 use Rattle.fdb_live.specs.private.Rule.{having_seen, joined, copy_of, Tells, Looks, Settles, IsRegister}
@@ -14,7 +14,7 @@ use Rattle.fdb_live.proofs.Logs.{position_below_version, last_in_range}
 use Rattle.fdb_live.proofs.Prefixes.{prefix_either}
 
 -- a holder's own positions are those of the list that it had seen itself
-own_stays : (number : Option ℕ) (v : View) (list : List Raise) → HasNumber number v → Tells v list → own_among number list ≡ own_among number v.mine
+own_stays : (number : Option ℕ) (v : View) (list : List Change) → HasNumber number v → Tells v list → own_among number list ≡ own_among number v.mine
 own_stays None v list h t = refl
 own_stays (Some n) v list h t = sym (t.own n (omega (arith, h.0)) (omega (arith, h.1)))
 
@@ -37,7 +37,7 @@ pub unchanged : (start : Record) (reporters : ℕ) (number : Option ℕ) (v w : 
 unchanged start reporters number v w h is = subst (IsHolder start reporters number) (sym is) h
 
 -- once a list is seen
-settled_as : (start : Record) (reporters : ℕ) (number : Option ℕ) (v w : View) (list : List Raise) → v.start ≡ start → v.reporters ≡ reporters → 0 < reporters → HasNumber number v → w ≡ having_seen v list → IsLog start reporters list → IsHolder start reporters number w
+settled_as : (start : Record) (reporters : ℕ) (number : Option ℕ) (v w : View) (list : List Change) → v.start ≡ start → v.reporters ≡ reporters → 0 < reporters → HasNumber number v → w ≡ having_seen v list → IsLog start reporters list → IsHolder start reporters number w
 settled_as start reporters number v w list begun count some numbers is log = record {
   start_is = ap (λ u. u.start) is ∙ begun;
   reporters_is = ap (λ u. u.reporters) is ∙ count;
@@ -88,7 +88,7 @@ pub record HasLearnt (start : Record) (reporters : ℕ) (number : Option ℕ) (v
   pub theirs : IsPrefix u.seen w.seen
   pub own : own_among number w.seen ≡ own_among number v.seen
 
-log_of_longer : (start : Record) (reporters : ℕ) (xs ys : List Raise) → IsLog start reporters xs → IsLog start reporters ys → IsLog start reporters (longer xs ys)
+log_of_longer : (start : Record) (reporters : ℕ) (xs ys : List Change) → IsLog start reporters xs → IsLog start reporters ys → IsLog start reporters (longer xs ys)
 log_of_longer start reporters xs ys these those = go (nat_lt (length xs) (length ys))
   where
     go : (b : Bool) → IsLog start reporters (if b then ys else xs)
@@ -105,13 +105,13 @@ learnt start reporters number other v u t w x h k joins s =
     record {
       holder = settled_as start reporters number both w (longer v.seen u.seen) h.start_is h.reporters_is h.opened (same_numbers number v both refl refl h.numbers) s'.is (log_of_longer start reporters v.seen u.seen h.legal k.legal);
       seen = seen;
-      mine = subst (λ (p : List Raise × List Raise). IsPrefix p.0 p.1) (λ i. (h.settled i, sym seen i)) mine;
+      mine = subst (λ (p : List Change × List Change). IsPrefix p.0 p.1) (λ i. (h.settled i, sym seen i)) mine;
       theirs = subst (IsPrefix u.seen) (sym seen) tells.theirs;
       own = ap (own_among number) seen ∙ (own_stays number both (longer v.seen u.seen) (same_numbers number v both refl refl h.numbers) tells ∙ ap (own_among number) h.settled);
     }
 
 -- the length of the longer is the greater
-pub longer_length : (xs ys : List Raise) (n m : ℕ) → n ≡ length xs → m ≡ length ys → length (longer xs ys) ≡ (if nat_lt n m then m else n)
+pub longer_length : (xs ys : List Change) (n m : ℕ) → n ≡ length xs → m ≡ length ys → length (longer xs ys) ≡ (if nat_lt n m then m else n)
 longer_length xs ys n m e f = subst (λ (p : ℕ × ℕ). length (longer xs ys) ≡ (if nat_lt p.0 p.1 then p.1 else p.0)) (λ i. (sym e i, sym f i)) (go (nat_lt (length xs) (length ys)))
   where
     go : (b : Bool) → length (if b then ys else xs) ≡ (if b then length ys else length xs)

@@ -9,6 +9,9 @@ pub enum LiveError {
     /// The version is above the greatest one.
     #[error("the version is out of range")]
     TooLarge,
+    /// The minimum known committed version is above the version.
+    #[error("the minimum known committed version is above the version")]
+    MinAbove,
     /// Memory was refused.
     #[error("want of memory")]
     Memory,

@@ -15,6 +15,6 @@ pub returns-clause-log : goal.returns-clause-log
 returns-clause-log g c =
     let all = has_reported c.seen.view_is c.requires.numbered c.requires.in_range c.self.invariant.1 c.seen.invariant.2 c.give_all-token.ensures.given.1 c.take.ensures.1 c.report-ack.ensures.reported c.give_lowest.ensures.kept.1 c.give_lowest.ensures.given.1 in all.holder.legal
 
-pub returns-clause-raised : goal.returns-clause-raised
-returns-clause-raised g c =
-    let all = has_reported c.seen.view_is c.requires.numbered c.requires.in_range c.self.invariant.1 c.seen.invariant.2 c.give_all-token.ensures.given.1 c.take.ensures.1 c.report-ack.ensures.reported c.give_lowest.ensures.kept.1 c.give_lowest.ensures.given.1 in all.raised_is
+pub returns-clause-changed : goal.returns-clause-changed
+returns-clause-changed g c =
+    let all = has_reported c.seen.view_is c.requires.numbered c.requires.in_range c.self.invariant.1 c.seen.invariant.2 c.give_all-token.ensures.given.1 c.take.ensures.1 c.report-ack.ensures.reported c.give_lowest.ensures.kept.1 c.give_lowest.ensures.given.1 in all.changed_is

@@ -1,11 +1,11 @@
-//! A report that raised the live committed version.
+//! A report that changed the live record.
 
 use fdb_history::Record;
 
-/// A report that raised the record, as the model of a token has it. Running code keeps no list of
+/// A report that changed the record, as the model of a token has it. Running code keeps no list of
 /// them.
 #[derive(Clone, Copy, Debug, PartialEq, Eq)]
-pub struct Raise {
+pub struct Change {
     /// The number of the reporter that made it.
     pub reporter: u32,
     /// The record that it reported.
