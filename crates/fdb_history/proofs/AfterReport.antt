@@ -1,6 +1,6 @@
 -- What follows of the rule of the register, a report at a time.
-use Rattle.std.proofs.Common.{◌≡◌, ℕ, ◌+◌, ◌<◌, ◌≤◌, ◌||◌, Bool, true, false, cond, ap, ◌∙◌, inl, inr, arith, le_refl, ltb, ltb-true, ltb-false}
-use Rattle.std.proofs.lemmas.Bool.{cond_both, cond-true, cond-false, cases_Bool, or_cases, or_parts}
+use Rattle.std.proofs.Common.{◌≡◌, ℕ, ◌+◌, ◌≤◌, true, false, cond, ap, ◌∙◌, inl, inr, arith, le_refl, ltb, ltb-true, ltb-false}
+use Rattle.std.proofs.lemmas.Bool.{cond_both, cond-true, cond-false, or_cases, or_parts}
 use Rattle.fdb_history.specs.Register.{raises, changes, after_report}
 use Rattle.fdb_history.specs.declared.register.Record.{Record}
 

@@ -1,5 +1,5 @@
 -- Faults that are judged by a table of the register stand where they stand by the register itself.
-use Rattle.std.proofs.Common.{◌≡◌, ℕ, ◌-◌, ◌≤◌, ◌<◌, true, false, List, Option, None, Some, slice_get, sym, subst, inl, inr, arith}
+use Rattle.std.proofs.Common.{◌≡◌, ℕ, ◌-◌, ◌≤◌, true, false, List, Option, None, Some, slice_get, sym, subst, inl, inr, arith}
 use Rattle.std.proofs.lemmas.Bool.{cases_lt}
 use Rattle.fdb_history.specs.Audit.{IsNotAbove, Low}
 use Rattle.fdb_history.specs.private.Auditing.{AreRegisters, IsFirstCall, by_table}

@@ -1,5 +1,5 @@
 -- The changes of the logs are those of a linear history, and the register that they make answers its events.
-use Rattle.std.proofs.Common.{◌≡◌, ℕ, ◌+◌, ◌-◌, ◌<◌, ◌≤◌, true, false, List, [], ◌∷◌, refl, ap, sym, ◌∙◌, subst, arith}
+use Rattle.std.proofs.Common.{◌≡◌, ℕ, ◌+◌, ◌-◌, ◌<◌, true, false, List, [], ◌∷◌, refl, ap, sym, ◌∙◌, subst, arith}
 use Rattle.std.specs.List.{AllByRecursion}
 use Rattle.fdb_history.specs.Event.{stamped, IsTrueOf, IsLegal, after_event}
 use Rattle.fdb_history.specs.Faults.{changes_at, after_changes}

@@ -5,7 +5,7 @@ use Rattle.std.specs.Option.{option_map}
 use Rattle.std.proofs.lemmas.Bool.{cond_both, cond-true, cond-false, eq-eqb, ne_eqb, eqb-false, or_cases, or_left, or_right}
 use Rattle.std.proofs.lemmas.Option.{cond_some, same_Some, none-some, slice_get_within}
 use Rattle.std.proofs.lemmas.List.Sums.{sum_by-cons}
-use Rattle.fdb_history.specs.Register.{raises, changes, after_report}
+use Rattle.fdb_history.specs.Register.{raises, after_report}
 use Rattle.fdb_history.specs.Event.{after_event, register_after, IsTrueOf, IsLegal, is_change, position_after, positions_from, change_count}
 use Rattle.fdb_history.specs.Laws.{seen_version, seen_at, reports_of}
 use Rattle.fdb_history.specs.declared.register.Record.{Record}

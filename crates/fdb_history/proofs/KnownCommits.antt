@@ -1,5 +1,5 @@
 -- A read never misses a commit that its client knows of.
-use Rattle.std.proofs.Common.{◌≡◌, ℕ, zero, suc, ◌<◌, ◌≤◌, ◌==◌, Bool, true, false, IsTrue, List, [], ◌∷◌, filter, flat_map, Some, slice_get, refl, ap, sym, ◌∙◌, subst, inl, inr, arith, le_refl, le_trans, ltb, ltb-false}
+use Rattle.std.proofs.Common.{◌≡◌, ℕ, zero, suc, ◌<◌, ◌≤◌, ◌==◌, Bool, true, false, IsTrue, List, [], ◌∷◌, filter, flat_map, Some, slice_get, refl, sym, ◌∙◌, subst, inl, inr, arith, le_refl, le_trans, ltb, ltb-false}
 use Rattle.std.specs.List.{AllByRecursion}
 use Rattle.std.proofs.lemmas.Bool.{cases_Bool, cases_lt, eq-eqb, false≢true, or_parts}
 use Rattle.std.proofs.lemmas.Option.{same_Some, none-some}
