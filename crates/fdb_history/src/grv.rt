@@ -58,6 +58,7 @@ impl Clone for GrvOpts {
             tags: self.tags.clone()?,
             lock_aware: self.lock_aware,
             at: self.at,
+            use_min: self.use_min,
         })
     }
 }
