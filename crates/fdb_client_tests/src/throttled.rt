@@ -59,6 +59,7 @@ impl ReadTagged {
             count: 1,
             tags,
             lock_aware: false,
+            use_min: false,
             at: 4_999,
         };
         let read = client.read_version(rt, &OpenGate, desk, opts).ok()?;
@@ -101,6 +102,7 @@ fn each_proxy_has_the_throttles(rt: HostRuntime) -> Result<(), Fail> {
             version: 100,
             locked: false,
             metadata: None,
+            min_known: 0,
         },
         clients: 1,
         grv_proxies: 2,

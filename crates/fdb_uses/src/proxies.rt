@@ -136,8 +136,8 @@ fn read<J: Live, R: Print + Wait>(
         count: 1,
         tags: Sequence::new(alloc),
         lock_aware: false,
-        use_min: false,
         at: 0,
+        use_min: false,
     };
     let read = client.read_version(rt, &OpenGate, desk, opts)?;
     println!(rt;
