@@ -1,5 +1,5 @@
 -- What keeps the rule of a record and its position keeps it of the words that say them.
-use Rattle.std.proofs.Common.{◌≡◌, ℕ, ◌+◌, ◌<◌, ◌≤◌, true, length, sym, subst}
+use Rattle.std.proofs.Common.{◌≡◌, ℕ, ◌+◌, ◌<◌, true, length, sym, subst}
 use Rattle.crossbeam_utils.specs.Register.{Turns, Forks, Merges}
 use Rattle.fdb_history.specs.declared.register.Record.{Record}
 use Rattle.fdb_history.specs.Register.{after_report, changes}
