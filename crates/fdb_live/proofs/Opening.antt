@@ -1,11 +1,10 @@
 -- The tokens that are made for the reporters, one after another.
-use Rattle.std.proofs.Common.{◌≡◌, ℕ, zero, suc, ◌+◌, ◌<◌, ◌≤◌, Bool, true, false, List, [], ◌∷◌, ◌++◌, length, Some, slice_get, refl, sym, ap, ◌∙◌, subst, arith}
+use Rattle.std.proofs.Common.{◌≡◌, ℕ, zero, suc, ◌+◌, ◌<◌, Bool, true, false, List, [], ◌∷◌, ◌++◌, length, Some, slice_get, refl, sym, ap, ◌∙◌, subst, arith}
 use Rattle.std.specs.Prelude.{nat_lt}
 use Rattle.std.proofs.lemmas.Bool.Decides.{nat_tests}
 use Rattle.std.proofs.lemmas.List.Elements.{All-nil}
 use Rattle.fdb_history.specs.declared.register.Record.{Record}
-use Rattle.fdb_history.specs.declared.register.TheConstants.{MAX_VERSION}
-use Rattle.fdb_live.specs.Seen.{Sight}
+use Rattle.fdb_live.specs.Seen.{IsRecord, Sight}
 use Rattle.fdb_live.specs.private.Rule.{view, lowest_of}
 use Rattle.fdb_live.specs.private.Token.{IsHolder}
 use Rattle.fdb_live.specs.declared.view.View.{View}
@@ -38,12 +37,12 @@ one_more items n new long all is k below = go (nat_lt k n) refl
         ap (slice_get (items ++ new ∷ [])) (after ∙ sym long) ∙ (at_end items new ∙ (ap Some is ∙ ap (λ (j : ℕ). Some (token_of j)) (sym after)))
 
 -- the view of such a token
-pub token_holds : (start : Record) (reporters number : ℕ) (w : View) → number < reporters → start.version ≤ MAX_VERSION → w ≡ lowest_of (view start reporters number reporters true [] [] []) → IsHolder start reporters (Some number) w
-token_holds start reporters number w below in_range is = subst (IsHolder start reporters (Some number)) (sym is) (record {
+pub token_holds : (start : Record) (reporters number : ℕ) (w : View) → number < reporters → IsRecord start → w ≡ lowest_of (view start reporters number reporters true [] [] []) → IsHolder start reporters (Some number) w
+token_holds start reporters number w below taken is = subst (IsHolder start reporters (Some number)) (sym is) (record {
   start_is = refl;
   reporters_is = refl;
   opened = omega arith;
   settled = refl;
   numbers = (refl, refl);
-  legal = record { rises = refl; numbered = All-nil _; in_range = All-nil _; start_in_range = in_range };
+  legal = record { all_change = refl; numbered = All-nil _; taken = All-nil _; start_taken = taken };
 })

@@ -1,16 +1,15 @@
 -- What the steps make of a token.
-use Rattle.std.proofs.Common.{◌≡◌, ◌⊎◌, ℕ, ◌<◌, ◌≤◌, Bool, true, false, List, length, if◌then◌else◌, Option, None, Some, refl, sym, ap, ◌∙◌, subst, arith}
+use Rattle.std.proofs.Common.{◌≡◌, ◌⊎◌, ℕ, ◌*◌, ◌<◌, ◌≤◌, Bool, true, false, List, length, if◌then◌else◌, Option, None, Some, refl, sym, ap, ◌∙◌, subst, arith}
 use Rattle.std.specs.Prelude.{nat_lt}
 use mathlib.Core.List.{IsPrefix}
 use Rattle.fdb_history.specs.declared.register.Record.{Record}
-use Rattle.fdb_history.specs.declared.register.TheConstants.{MAX_VERSION}
 use Rattle.fdb_live.specs.declared.fetched.Fetched.{Fetched}
 use Rattle.fdb_live.specs.declared.change.Change.{Change}
 use Rattle.fdb_live.specs.declared.view.View.{View}
-use Rattle.fdb_live.specs.Seen.{IsLog, own_among, longer}
+use Rattle.fdb_live.specs.Seen.{IsLog, IsRecord, own_among, longer}
 use Rattle.fdb_live.specs.private.Rule.{having_seen, joined, copy_of, Tells, Looks, Settles, IsRegister}
 use Rattle.fdb_live.specs.private.Token.{HasNumber, IsHolder}
-use Rattle.fdb_live.proofs.Logs.{position_below_version, last_in_range}
+use Rattle.fdb_live.proofs.Logs.{position_below, taken_last}
 use Rattle.fdb_live.proofs.Prefixes.{prefix_either}
 
 -- a holder's own positions are those of the list that it had seen itself
@@ -65,20 +64,19 @@ looked start reporters number v w x h l =
       own = own_stays number v w.seen h.numbers l.tells ∙ ap (own_among number) h.settled;
     }
 
--- positions never exceed versions
-pub looked_below : {start : Record} {reporters : ℕ} {number : Option ℕ} {v w : View} {x : Fetched} → IsHolder start reporters number v → Looks v x x w → x.position ≤ x.rec.version
+-- a position never exceeds twice the version
+pub looked_below : {start : Record} {reporters : ℕ} {number : Option ℕ} {v w : View} {x : Fetched} → IsHolder start reporters number v → Looks v x x w → x.position ≤ 2 * x.rec.version
 looked_below {start} {reporters} {number} {v} {w} {x} h l =
     let all = looked start reporters number v w x h l in
-    let below = position_below_version start w.seen all.holder.legal.rises in
+    let below = position_below all.holder.legal in
     let at = all.register.position in
     let same = ap (λ (r : Record). r.version) all.register.rec in
     omega arith
 
-pub looked_in_range : {start : Record} {reporters : ℕ} {number : Option ℕ} {v w : View} {x : Fetched} → IsHolder start reporters number v → Looks v x x w → x.rec.version ≤ MAX_VERSION
-looked_in_range {start} {reporters} {number} {v} {w} {x} h l =
+pub looked_taken : {start : Record} {reporters : ℕ} {number : Option ℕ} {v w : View} {x : Fetched} → IsHolder start reporters number v → Looks v x x w → IsRecord x.rec
+looked_taken {start} {reporters} {number} {v} {w} {x} h l =
     let all = looked start reporters number v w x h l in
-    let log = all.holder.legal in
-    subst (λ (r : Record). r.version ≤ MAX_VERSION) (sym all.register.rec) (last_in_range start w.seen log.start_in_range log.in_range)
+    subst IsRecord (sym all.register.rec) (taken_last all.holder.legal)
 
 -- what a join and a look make of two tokens
 pub record HasLearnt (start : Record) (reporters : ℕ) (number : Option ℕ) (v u w : View) : Type 0 where

@@ -7,20 +7,19 @@ use mathlib.Core.Option.{some}
 use lib.ListN.{get_elem?}
 use Rattle.crossbeam_utils.specs.Register.{Turns}
 use Rattle.fdb_history.specs.declared.register.Record.{Record}
-use Rattle.fdb_history.specs.declared.register.TheConstants.{MAX_VERSION}
 use Rattle.fdb_history.specs.Register.{after_report, changes}
 use Rattle.fdb_live.specs.declared.fetched.Fetched.{Fetched}
 use Rattle.fdb_live.specs.declared.change.Change.{Change}
 use Rattle.fdb_live.specs.declared.view.View.{View}
-use Rattle.fdb_live.specs.Seen.{last_record, rises, IsLog, changed_by}
+use Rattle.fdb_live.specs.Seen.{last_record, all_change, IsLog, IsRecord, changed_by}
 use Rattle.fdb_live.specs.private.Rule.{IsRegister, Fits, Kept, first, opened, having_seen, Tells, Looks, Settles, Adds, Opens}
 use Rattle.fdb_live.proofs.Prefixes.{prefix_same, prefix_trans}
-use Rattle.fdb_live.proofs.Logs.{rises-push, last_record-push, changed_by-push_other, changed_by-between}
+use Rattle.fdb_live.proofs.Logs.{all_change-push, last_record-push, changed_by-push_other, changed_by-between}
 use Rattle.fdb_live.proofs.Fitting.{prefix_nil, fits_set}
 
 -- the service is opened
-pub opens : (reporters pass : ℕ) (v : View) (y : Fetched) → v ≡ first → y.position ≡ 0 → y.rec.version ≤ MAX_VERSION → Turns Kept pass v (λ _. y) (Opens reporters)
-opens reporters pass v y is at_first in_range x views k at =
+pub opens : (reporters pass : ℕ) (v : View) (y : Fetched) → v ≡ first → y.position ≡ 0 → IsRecord y.rec → Turns Kept pass v (λ _. y) (Opens reporters)
+opens reporters pass v y is at_first allowed x views k at =
     let f = subst (Fits k.start k.reporters k.log k.seat k.holder pass) is (k.each pass v at) in
     let right = f.right refl in
     let closed : (u : View) (j : ℕ) → get_elem? views j ≡ some u → 0 < u.reporters → ⊥ = λ u j e o. (let same = ((k.each j u e).opened o).1 in let none = right.1 in omega arith) in
@@ -44,7 +43,7 @@ opens reporters pass v y is at_first in_range x views k at =
         seat = k.seat;
         holder = λ n. pass;
         register = λ o. record { position = at_first; rec = refl };
-        legal = record { rises = refl; numbered = All-nil _; in_range = All-nil _; start_in_range = in_range };
+        legal = record { all_change = refl; numbered = All-nil _; taken = All-nil _; start_taken = allowed };
         each = fits_set y.rec reporters [] k.seat (λ n. pass) views pass (opened y.rec reporters) others mine;
       },
       refl,
@@ -97,8 +96,8 @@ settles pass v x views k at =
     (having_seen v v.seen, s.kept, record { is = refl; tells = s.tells })
 
 -- the pass with the right changes
-pub adds : (rec : Record) (pass : ℕ) (v : View) (y : Fetched) → v.replaces ≡ true → v.low < v.high → y.position ≡ length v.seen + 1 → changes (last_record v.start v.seen) rec ≡ true → y.rec ≡ after_report (last_record v.start v.seen) rec → rec.version ≤ MAX_VERSION → Turns Kept pass v (λ _. y) (Adds rec)
-adds rec pass v y replaces some_number position up becomes in_range x views k at =
+pub adds : (rec : Record) (pass : ℕ) (v : View) (y : Fetched) → v.replaces ≡ true → v.low < v.high → y.position ≡ length v.seen + 1 → changes (last_record v.start v.seen) rec ≡ true → y.rec ≡ after_report (last_record v.start v.seen) rec → IsRecord rec → Turns Kept pass v (λ _. y) (Adds rec)
+adds rec pass v y replaces some_number position up becomes allowed x views k at =
     let f = k.each pass v at in
     let right = f.right replaces in
     let numbers = f.numbers in
@@ -108,7 +107,7 @@ adds rec pass v y replaces some_number position up becomes in_range x views k at
     let log : List Change = v.seen ++ new ∷ [] in
     let longer : IsPrefix k.log log = subst (λ l. IsPrefix l log) right.2 (new ∷ [], refl) in
     let legal = subst (λ (l : List Change). IsLog k.start k.reporters l) (sym right.2) k.legal in
-    let rises' : rises k.start log ≡ true = rises-push k.start v.seen new legal.rises (subst (λ (start : Record). changes (last_record start v.seen) rec ≡ true) same up) in
+    let all_change' : all_change k.start log ≡ true = all_change-push k.start v.seen new legal.all_change (subst (λ (start : Record). changes (last_record start v.seen) rec ≡ true) same up) in
     let numbered : All (λ r. r.reporter < k.reporters) log = All-append (λ r. r.reporter < k.reporters) v.seen (new ∷ []) legal.numbered (All-cons (λ r. r.reporter < k.reporters) new [] (let c = right.1 in omega arith) (All-nil _)) in
     let others : (j : ℕ) (u : View) → j ≢ pass → get_elem? views j ≡ some u → Fits k.start k.reporters log k.seat k.holder j u =
     λ j u apart e. (let g = k.each j u e in record {
@@ -130,13 +129,13 @@ adds rec pass v y replaces some_number position up becomes in_range x views k at
         seat = k.seat;
         holder = k.holder;
         register = λ o. record { position = position ∙ (sym (length-append v.seen (new ∷ []))); rec = becomes ∙ (ap (λ (start : Record). after_report (last_record start v.seen) rec) same ∙ sym (last_record-push k.start v.seen new)) };
-        legal = record { rises = rises'; numbered = numbered; in_range = All-append (λ r. r.rec.version ≤ MAX_VERSION) v.seen (new ∷ []) legal.in_range (All-cons (λ r. r.rec.version ≤ MAX_VERSION) new [] in_range (All-nil _)); start_in_range = legal.start_in_range };
+        legal = record { all_change = all_change'; numbered = numbered; taken = All-append (λ r. IsRecord r.rec) v.seen (new ∷ []) legal.taken (All-cons (λ r. IsRecord r.rec) new [] allowed (All-nil _)); start_taken = legal.start_taken };
         each = fits_set k.start k.reporters log k.seat k.holder views pass (having_seen v log) others mine;
       },
       refl,
     )
 
 -- the same of a report that a name stands for
-pub adds_named : {rec named : Record} (pass : ℕ) (v : View) (y : Fetched) → rec ≡ named → v.replaces ≡ true → v.low < v.high → y.position ≡ length v.seen + 1 → changes (last_record v.start v.seen) rec ≡ true → y.rec ≡ after_report (last_record v.start v.seen) rec → rec.version ≤ MAX_VERSION → Turns Kept pass v (λ _. y) (Adds named)
-adds_named {rec} pass v y is replaces some_number position up becomes in_range =
-    subst (λ (z : Record). Turns Kept pass v (λ _. y) (Adds z)) is (adds rec pass v y replaces some_number position up becomes in_range)
+pub adds_named : {rec named : Record} (pass : ℕ) (v : View) (y : Fetched) → rec ≡ named → v.replaces ≡ true → v.low < v.high → y.position ≡ length v.seen + 1 → changes (last_record v.start v.seen) rec ≡ true → y.rec ≡ after_report (last_record v.start v.seen) rec → IsRecord rec → Turns Kept pass v (λ _. y) (Adds named)
+adds_named {rec} pass v y is replaces some_number position up becomes allowed =
+    subst (λ (z : Record). Turns Kept pass v (λ _. y) (Adds z)) is (adds rec pass v y replaces some_number position up becomes allowed)

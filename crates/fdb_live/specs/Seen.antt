@@ -59,8 +59,9 @@ longer these those = if nat_lt (length these) (length those) then those else the
 
 -- The holder of a token reported a record, and changed the live record with it: this change is the
 -- last that it has now seen, it made of the record what the rule says, and it is the one position
--- that became its own. Where it raised the record, its version is above all before it, and all but
--- the minimum known committed version is what was reported.
+-- that became its own. Where it raised the record, its version is above all before it, and the
+-- record is what was reported but for the minimum known committed version, which is the greater of
+-- the two. Where it did not, the record is as it was but for that, which is what was reported.
 pub record IsChangedBy (start rec : Record) (raised : Bool) (old new : Sight) : Type 0 where
   pub number : ℕ
   pub before : List Change
@@ -68,10 +69,12 @@ pub record IsChangedBy (start rec : Record) (raised : Bool) (old new : Sight) : 
   pub seen : IsPrefix old.changes before
   pub last : new.changes ≡ before ++ record { reporter = number; rec = rec } ∷ []
   pub changes : changes (last_record start before) rec ≡ true
-  pub raised : raised ≡ raises (last_record start before) rec
+  pub raised_is : raised ≡ raises (last_record start before) rec
   pub becomes : last_record start new.changes ≡ after_report (last_record start before) rec
   pub stands : raised ≡ true → last_record start new.changes
       ≡ record rec { min_known = (last_record start new.changes).min_known }
+  pub stays : raised ≡ false → last_record start new.changes
+      ≡ record (last_record start before) { min_known = rec.min_known }
   pub above_start : raised ≡ true → start.version < rec.version
   pub above_all : raised ≡ true → All (λ r. r.rec.version < rec.version) before
   pub own : own_positions new ≡ own_positions old ++ length new.changes ∷ []
@@ -81,7 +84,7 @@ pub record IsChangedBy (start rec : Record) (raised : Bool) (old new : Sight) : 
 -- record stays as it is.
 pub record IsNotChangedBy (start rec : Record) (raised : Bool) (old new : Sight) : Type 0 where
   pub changes : changes (last_record start new.changes) rec ≡ false
-  pub raised : raised ≡ false
+  pub raised_is : raised ≡ false
   pub stays : after_report (last_record start new.changes) rec ≡ last_record start new.changes
   pub not_above : rec.version ≤ (last_record start new.changes).version
   pub not_later : rec.min_known ≤ (last_record start new.changes).min_known

@@ -30,8 +30,9 @@ pub struct LiveRecord<J: Live> {
 }
 
 impl<J: Live> LiveRecord<J> {
-    /// The record and its position (`getLiveCommittedVersion` of masterserver). The holder of the
-    /// token has then seen each change up to that position.
+    /// The record and its position (`getLiveCommittedVersion` of masterserver): version, lock,
+    /// metadata version and minimum known committed version are those of one moment. The holder of
+    /// the token has then seen each change up to that position.
     ///
     /// It waits for a replacement that is under way, and not for the lock of the reports. That it
     /// sees a report of which its caller had seen nothing, no clause says.
@@ -54,9 +55,11 @@ impl<J: Live> LiveRecord<J> {
 
     /// Reports a committed version (`reportLiveCommittedVersion` of masterserver) for the reporter
     /// whose token it is. The record becomes what [`Record::after_report`] makes of it: where the
-    /// version is greater it is replaced, and in either case the minimum known committed version
-    /// becomes the greater of the two. A report that changes nothing writes nothing. It is
-    /// acknowledged in each case.
+    /// version is greater, it is replaced with its lock and metadata version, and in either case
+    /// the minimum known committed version becomes the greater of the two
+    /// (`minKnownCommittedVersion` of `ReportRawCommittedVersionRequest`). Each report that changes
+    /// the record has a position of its own; one that does not writes no word. It is acknowledged
+    /// in each case.
     ///
     /// It is refused as `TooLarge` where the version is above the greatest one, else as `MinAbove`
     /// where the minimum known committed version is above the version, and for nothing else. It

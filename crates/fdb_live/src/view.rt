@@ -1,7 +1,7 @@
 //! What each pass of the cell knows. It exists in proofs alone: no value of these types is made.
 
-use crate::held::Held;
 use crate::change::Change;
+use crate::held::Held;
 use atomic_table::{Join, Split};
 use crossbeam_utils::atomic::seq_cell::RuledSeqCell;
 use crossbeam_utils::rule::{Outcome, Protocol};
