@@ -24,7 +24,7 @@ impl Service for FromHundred {
 
     ghost recovery = { 100 };
 
-    ghost start = { record { version = 100; locked = false; metadata = None } };
+    ghost start = { record { version = 100; locked = false; metadata = None; min_known = 0 } };
 
     ghost reporters = { 4 };
 }
@@ -39,7 +39,7 @@ impl Service for AtTheEnd {
 
     ghost recovery = { 9223372036854775806 };
 
-    ghost start = { record { version = 9223372036854775806; locked = false; metadata = None } };
+    ghost start = { record { version = 9223372036854775806; locked = false; metadata = None; min_known = 0 } };
 
     ghost reporters = { 4 };
 }
@@ -208,7 +208,7 @@ impl Service for OfSixtyFour {
 
     ghost recovery = { 100 };
 
-    ghost start = { record { version = 100; locked = false; metadata = None } };
+    ghost start = { record { version = 100; locked = false; metadata = None; min_known = 0 } };
 
     ghost reporters = { 64 };
 }
