@@ -118,10 +118,9 @@ logs-answer : Answers plan logs
 logs-answer = (between, first_answered, (logs, second_answered, refl))
 
 -- The reply to that read has the record that was read, and the version that the client gets:
--- '1 1 0 grv 2100 unlocked none min 100 used 100 pos 1'.
-read-text : reply_text 1 1 0 (Grv min_read) read
-    ≡ decimal 1 ++ codes " " ++ decimal 1 ++ codes " " ++ decimal 0 ++ codes " " ++ codes "grv" ++ codes " "
-    ++ (decimal 2100 ++ codes " unlocked " ++ codes "none" ++ codes " min " ++ decimal 100) ++ (codes " used " ++ decimal 100) ++ codes " pos " ++ decimal 1 ++ []
+-- '2100 unlocked none min 100 used 100 pos 1'.
+read-text : answer_text read.input read.position read.answer
+    ≡ decimal 2100 ++ codes " unlocked " ++ codes "none" ++ (codes " min " ++ decimal 100) ++ (codes " used " ++ decimal 100) ++ codes " pos " ++ decimal 1 ++ []
 read-text = refl
 
 -- A report of a version that is not greater, with a greater minimum known committed version, raises that alone: '2100 min raised pos 2'.
