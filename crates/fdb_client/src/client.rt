@@ -264,22 +264,27 @@ impl<'a, J: Live> Client<'a, J> {
             metadata,
             min_known,
         };
-        // The chain has no version that is too large.
-        let Ok(ack) = self.live.report(rt, gate, self.id, &mut self.seen, rec) else {
-            let error = ClientError::Live(LiveError::MinAbove);
-            return Err(self.journal.add_refused(input, asked, error));
-        };
-        self.journal.add(Call {
-            input,
-            asked,
-            position: ack.position,
-            answer: CallAnswer::Acked {
-                rec,
-                raised: ack.raised,
-                changed: ack.changed,
-            },
-        });
-        Ok(ack)
+        match self.live.report(rt, gate, self.id, &mut self.seen, rec) {
+            Ok(ack) => {
+                self.journal.add(Call {
+                    input,
+                    asked,
+                    position: ack.position,
+                    answer: CallAnswer::Acked {
+                        rec,
+                        raised: ack.raised,
+                        changed: ack.changed,
+                    },
+                });
+                Ok(ack)
+            }
+            Err(LiveError::MinAbove) => {
+                let error = ClientError::Live(LiveError::MinAbove);
+                Err(self.journal.add_refused(input, asked, error))
+            }
+            // The chain has no version that is too large, and a report takes no memory.
+            Err(LiveError::TooLarge | LiveError::Memory) => unreachable!(),
+        }
     }
 
     /// A token that has seen what the client has, for another client to learn.
