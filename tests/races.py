@@ -120,6 +120,17 @@ def sure_texts(program):
             yield f"untold, {proxies} proxies, run {time}", fault_of(run([program, *untold.arguments_for(proxies)], untold.given), untold.wanted)
 
 
+# So many rounds in which each desk has one read.
+TURNS = 400
+
+
+def each_desk(program):
+    """As many clients read in each round as there are proxies with room for one: two reads at one desk could find its queue full."""
+    for proxies in range(2, 17):
+        given = written([[do("grv", who, count=9) for who in range(proxies)]] * TURNS, clients=proxies, room=1, normal=3)
+        yield f"{proxies} clients and proxies", fault_of(run([program, "--history", "--proxies", str(proxies)], given), expected(given, True))
+
+
 def limits():
     """Names scripts at their limits, with the number of proxies, the rounds and the further members of the top level."""
     third = lambda who, at: (do("ask", who, at=9 * at), do("report", who, num=at // 3 + 1), do("grv", who))[at % 3]

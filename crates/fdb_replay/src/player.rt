@@ -13,7 +13,7 @@ use fdb_client::{Client, ClientError};
 use fdb_history::{ClientLog, Gate, GrvOpts};
 use fdb_live::{Live, LiveRecord, Seen};
 use fdb_script::Act;
-use std::alloc::Global;
+use std::alloc::{AllocError, Global};
 use std::marker::Model;
 use std::sync::Wait;
 
