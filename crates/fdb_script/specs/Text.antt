@@ -43,7 +43,7 @@ raised_text true changed = codes "raised"
 raised_text false true = codes "min raised"
 raised_text false false = codes "not raised"
 
--- the version that a read got which asked for the minimum known committed version
+-- the version that a read got, which is told where it asked for the minimum known committed version
 abbrev pub used_text : Input → Record → List ℕ
 used_text (input.Grv opts) rec =
     if opts.use_min then codes " used " ++ decimal (version_for opts.use_min rec) else []

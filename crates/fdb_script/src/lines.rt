@@ -46,7 +46,8 @@ impl fmt::Display for LimitsText<'_> {
     }
 }
 
-/// The version that a read got which asked for the minimum known committed version.
+/// The version that a read got, which is told where it asked for the minimum known committed
+/// version, with a space before it.
 #[derive(Clone, Copy)]
 struct UsedText<'a> {
     /// What was called.
