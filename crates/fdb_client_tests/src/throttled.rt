@@ -70,12 +70,7 @@ impl ReadTagged {
 }
 
 /// A throttle of the tag `t`, at the default priority.
-fn throttle(
-    rt: &impl Abort,
-    alloc: Global,
-    rate: u64,
-    expires: u64,
-) -> Result<Throttle, AllocError>
+fn throttle(rt: &impl Abort, alloc: Global, rate: u64, expires: u64) -> Result<Throttle, AllocError>
     ensures { IfOk result (λ throttle. IsTrue (is_throttle throttle)) }
 {
     let throttle = Throttle {

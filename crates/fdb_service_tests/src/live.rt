@@ -116,7 +116,12 @@ fn refusal_of<R: Wait>(rt: &R, alloc: Global, version: u64) -> Option<LiveError>
 }
 
 /// Why a live record is not opened with a minimum known committed version, if it is not.
-fn refusal_of_minimum<R: Wait>(rt: &R, alloc: Global, version: u64, min_known: u64) -> Option<LiveError> {
+fn refusal_of_minimum<R: Wait>(
+    rt: &R,
+    alloc: Global,
+    version: u64,
+    min_known: u64,
+) -> Option<LiveError> {
     let start = Record {
         min_known,
         ..unlocked(version)

@@ -286,11 +286,13 @@ fn issued_text(alloc: Global, found: Result<Issued, ClientError>) -> Result<Stri
 
 fn acked_text(alloc: Global, found: Result<Ack, ClientError>) -> Result<String, AllocError> {
     match found {
-        Ok(Ack {
-            raised,
-            changed,
-            position,
-        }) => {
+        Ok(
+            Ack {
+                raised,
+                changed,
+                position,
+            },
+        ) => {
             let what = match (raised, changed) {
                 (true, true) => "raised",
                 (false, true) => "changed",
