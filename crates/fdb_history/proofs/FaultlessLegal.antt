@@ -3,7 +3,6 @@ use Rattle.std.proofs.Common.{◌≡◌, ◌≢◌, ℕ, zero, suc, ◌-◌, ◌
 use Rattle.std.specs.List.{AllByRecursion}
 use Rattle.std.proofs.lemmas.Bool.{and_parts, not-true, eqb-true, cases_eq, cases_Bool, true≢false, false≢true}
 use Rattle.std.proofs.lemmas.List.{nil_from_length}
-use Rattle.std.proofs.lemmas.Option.{same_Some, none-some}
 use Rattle.fdb_history.specs.Register.{raises, changes}
 use Rattle.fdb_history.specs.Event.{IsTrueOf, IsLegal, is_change}
 use Rattle.fdb_history.specs.declared.event.Placed.{Placed}

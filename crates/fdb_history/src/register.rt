@@ -88,12 +88,12 @@ impl fmt::Display for Digits {
     fn fmt<W: fmt::Write>(&self, f: &mut fmt::Formatter<W>) -> fmt::Result {
         let mut digits = [0; 20];
         let Ok(()) = hex::encode_to_slice(self.0, &mut digits) else {
-            return Err(fmt::Error);
+            unreachable!();
         };
-        match str::from_utf8(&digits) {
-            Ok(text) => f.write_str(text),
-            Err(_) => Err(fmt::Error),
-        }
+        let Ok(text) = str::from_utf8(&digits) else {
+            unreachable!();
+        };
+        f.write_str(text)
     }
 }
 
