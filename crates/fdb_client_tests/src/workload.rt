@@ -23,7 +23,7 @@ use std::thread::Threads;
 const START: Record = Record {
     version: 100,
     locked: true,
-    metadata: Some(7),
+    metadata: Some([1, 2, 3, 4, 5, 6, 7, 8, 9, 10]),
     min_known: 100,
 };
 
