@@ -42,7 +42,8 @@ whole_within low high value =
 abbrev pub whole_below : ℕ → Data → Option ℕ
 whole_below limit value = checked (λ number. nat_lt number limit) (whole value)
 
--- a metadata version: a text of twenty hexadecimal digits, of either case, two for each of its bytes
+-- a metadata version: a text of twenty hexadecimal digits, of either case, two for each of the ten
+-- bytes
 abbrev pub metadata_of : Data → Option (List ℕ)
 metadata_of value = option_and_then (λ digits. result_ok (decode_sized digits 10)) (as_str value)
 
