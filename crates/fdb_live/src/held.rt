@@ -23,7 +23,8 @@ pub(crate) struct Held {
     pub(crate) version: u64,
     /// Whether the database is locked, and whether there is a metadata version.
     pub(crate) flags: u64,
-    /// The first eight bytes of the metadata version, the greatest first, and 0 where there is none.
+    /// The first eight bytes of the metadata version as a number, the first byte the highest, and 0
+    /// where there is none.
     pub(crate) first_metadata: u64,
     /// The last two bytes of the metadata version, likewise.
     pub(crate) second_metadata: u64,

@@ -13,8 +13,8 @@ has_metadata (Some metadata) = 2
 abbrev pub flags_of : Record → ℕ
 flags_of rec = (if rec.locked then 1 else 0) + has_metadata rec.metadata
 
--- The first eight bytes of the metadata version as a number, the greatest first, and 0 where there
--- is none.
+-- The first eight bytes of the metadata version as a number, the first byte the highest, and 0
+-- where there is none.
 abbrev pub first_word : Option (List ℕ) → ℕ
 first_word None = 0
 first_word (Some metadata) = from_be_bytes w64 (take 8 metadata)
@@ -46,7 +46,10 @@ fetched_of held = record {
   rec = record {
     version = held.version;
     locked = is_set 1 held.flags;
-    metadata = if is_set 2 held.flags then Some (metadata_of held.first_metadata held.second_metadata) else None;
+    metadata =
+        if is_set 2 held.flags
+        then Some (metadata_of held.first_metadata held.second_metadata)
+        else None;
     min_known = held.min_known;
   };
   position = held.position;
