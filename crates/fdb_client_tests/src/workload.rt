@@ -64,7 +64,7 @@ impl CommitAndRead {
         mut client: Client<'_, J>,
     ) -> Result<ClientLog, ClientError> {
         client.ask(rt, &OpenGate, cluster.sequencer(), 0, 1_000)?;
-        client.report(rt, &OpenGate, 1, true, Some(8), 90)?;
+        client.report(rt, &OpenGate, 1, true, Some([8; 10]), 90)?;
         for number in 0..self.grv_proxies {
             client.read_version(rt, &OpenGate, cluster.desk(number), one_read(self.alloc))?;
         }
