@@ -9,6 +9,7 @@ use Rattle.fdb_client.specs.declared.cluster.ClusterConfig.{ClusterConfig}
 -- Each member is within its limits.
 pub record IsClusterConfig (config : ClusterConfig) : Type 0 where
   pub epoch : IsEpoch config.epoch_end config.start.version
+  pub start : config.start.min_known ≤ config.start.version
   pub clients : IsProxyCount config.clients
   pub some_proxy : 0 < config.grv_proxies
   pub few_proxies : config.grv_proxies ≤ 16

@@ -20,7 +20,8 @@ use std::sync::Wait;
 pub struct ClusterConfig<'c> {
     /// The last version of the epoch before, below that of `start`.
     pub epoch_end: u64,
-    /// The live committed version before any report. Its version is the first commit version.
+    /// The live committed version before any report. Its version is the first commit version, and
+    /// its minimum known committed version is not above that.
     pub start: Record,
     /// The number of clients, 1 to 64. There is a commit proxy for each.
     pub clients: u32,

@@ -116,6 +116,7 @@ impl ClientError {
             ClientError::NotIssued => Some(Refusal::NotIssued),
             ClientError::Stranger => Some(Refusal::Stranger),
             ClientError::Live(LiveError::TooLarge) => Some(Refusal::TooLarge),
+            ClientError::Live(LiveError::MinAbove) => Some(Refusal::MinAbove),
             _ => None,
         }
     }

@@ -72,7 +72,7 @@ pub fn run_workload<R: Threads + Wait + Sync, W: Workload<R> + Drop>(
     match LiveRecord::<Brand>::open(rt, alloc, config.start, config.clients) {
         Ok(opened) => run_named::<Brand, R, W>(rt, alloc, config, opened, workload),
         Err(LiveError::Memory) => Err(AllocError),
-        Err(LiveError::TooLarge) => unreachable!(),
+        Err(LiveError::TooLarge | LiveError::MinAbove) => unreachable!(),
     }
 }
 
@@ -120,7 +120,7 @@ fn started<J: Live + Send + Sync, R: Threads + Wait + Sync, W: Workload<R> + Dro
     requires few { vec_len tokens ≤ 64 }
     requires count { vec_len tokens ≡ J.reporters }
     requires tokens { (k : ℕ) → k < vec_len tokens
-        → slice_get tokens.items k ≡ Some (record { reporter = Some k; raises = [] }) }
+        → slice_get tokens.items k ≡ Some (record { reporter = Some k; changes = [] }) }
     ensures gives { IfOk result (λ ran. W.gives workload ran.0) }
 {
     let clients = clients_of(alloc, cluster.live(), tokens)?;
@@ -146,7 +146,7 @@ fn clients_of<'a, J: Live>(
 ) -> Result<Vec<Client<'a, J>>, AllocError>
     requires few { vec_len tokens ≤ 64 }
     requires tokens { (k : ℕ) → k < vec_len tokens
-        → slice_get tokens.items k ≡ Some (record { reporter = Some k; raises = [] }) }
+        → slice_get tokens.items k ≡ Some (record { reporter = Some k; changes = [] }) }
     ensures count { IfOk result (λ clients. vec_len clients ≡ vec_len tokens) }
     ensures new { IfOk result (λ clients. (k : ℕ) → k < vec_len clients
         → slice_get clients.items k ≡ Some (new_account k [])) }
@@ -167,7 +167,7 @@ fn new_client<J: Live>(
     live: &LiveRecord<J>,
     seen: Seen<J>,
 ) -> Client<'_, J>
-    requires { seen ≡ record { reporter = Some number; raises = [] } }
+    requires { seen ≡ record { reporter = Some number; changes = [] } }
     ensures { result ≡ new_account number [] }
 {
     Client::new(alloc, number, live, seen)

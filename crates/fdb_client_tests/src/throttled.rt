@@ -59,6 +59,7 @@ impl ReadTagged {
             count: 1,
             tags,
             lock_aware: false,
+            use_min: false,
             at: 4_999,
         };
         let read = client.read_version(rt, &OpenGate, desk, opts).ok()?;
@@ -69,12 +70,7 @@ impl ReadTagged {
 }
 
 /// A throttle of the tag `t`, at the default priority.
-fn throttle(
-    rt: &impl Abort,
-    alloc: Global,
-    rate: u64,
-    expires: u64,
-) -> Result<Throttle, AllocError>
+fn throttle(rt: &impl Abort, alloc: Global, rate: u64, expires: u64) -> Result<Throttle, AllocError>
     ensures { IfOk result (λ throttle. IsTrue (is_throttle throttle)) }
 {
     let throttle = Throttle {
@@ -101,6 +97,7 @@ fn each_proxy_has_the_throttles(rt: HostRuntime) -> Result<(), Fail> {
             version: 100,
             locked: false,
             metadata: None,
+            min_known: 0,
         },
         clients: 1,
         grv_proxies: 2,

@@ -24,6 +24,7 @@ const START: Record = Record {
     version: 100,
     locked: true,
     metadata: Some(7),
+    min_known: 100,
 };
 
 /// Each client in turn draws a commit version, reports it, and reads through each GRV proxy. The
@@ -63,7 +64,7 @@ impl CommitAndRead {
         mut client: Client<'_, J>,
     ) -> Result<ClientLog, ClientError> {
         client.ask(rt, &OpenGate, cluster.sequencer(), 0, 1_000)?;
-        client.report(rt, &OpenGate, 1, true, Some(8))?;
+        client.report(rt, &OpenGate, 1, true, Some(8), 90)?;
         for number in 0..self.grv_proxies {
             client.read_version(rt, &OpenGate, cluster.desk(number), one_read(self.alloc))?;
         }
@@ -79,6 +80,7 @@ fn one_read(alloc: Global) -> GrvOpts {
         tags: Sequence::new(alloc),
         lock_aware: true,
         at: 0,
+        use_min: false,
     }
 }
 

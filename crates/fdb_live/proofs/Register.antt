@@ -1,6 +1,6 @@
 -- What follows of the register's rule. No other proof looks into the rule.
 use Rattle.std.proofs.Common.{◌≡◌, ℕ, ◌+◌, ◌<◌, ◌≤◌, true, false, cond, ap, ◌∙◌, inl, inr, arith, le_refl, ltb, ltb-true, ltb-false}
-use Rattle.std.proofs.lemmas.Bool.{cond_both, cond-true, cond-false, or_cases, or_parts}
+use Rattle.std.proofs.lemmas.Bool.{cond_both, cond-true, cond-false, or_cases}
 use Rattle.fdb_history.specs.declared.register.Record.{Record}
 use Rattle.fdb_history.specs.declared.register.TheConstants.{MAX_VERSION}
 use Rattle.fdb_history.specs.Register.{after_report, raises, changes}
@@ -25,20 +25,6 @@ not_raised_stands a b up e =
     ] in
     ap (λ (r : Record). record r { min_known = least a b }) (cond-false (raises a b) b a e)
     ∙ ap (λ (n : ℕ). record a { min_known = n }) (cond-true (ltb a.min_known b.min_known) b.min_known a.min_known later)
-
-pub not_changed_stays : (a b : Record) → changes a b ≡ false → after_report a b ≡ a
-not_changed_stays a b e =
-    let parts = or_parts (raises a b) (ltb a.min_known b.min_known) e in
-    ap (λ (r : Record). record r { min_known = least a b }) (cond-false (raises a b) b a parts.0)
-    ∙ ap (λ (n : ℕ). record a { min_known = n }) (cond-false (ltb a.min_known b.min_known) b.min_known a.min_known parts.1)
-
-pub not_changed_raises : (a b : Record) → changes a b ≡ false → raises a b ≡ false
-not_changed_raises a b e = (or_parts (raises a b) (ltb a.min_known b.min_known) e).0
-
-pub not_changed_lower : (a b : Record) → changes a b ≡ false → (b.version ≤ a.version) × (b.min_known ≤ a.min_known)
-not_changed_lower a b e =
-    let parts = or_parts (raises a b) (ltb a.min_known b.min_known) e in
-    (ltb-false a.version b.version parts.0, ltb-false a.min_known b.min_known parts.1)
 
 pub version_at_least : (a b : Record) → (a.version ≤ (after_report a b).version) × (b.version ≤ (after_report a b).version)
 version_at_least a b =

@@ -96,12 +96,12 @@ impl<'a, J: Live> GrvProxy<'a, J> {
     /// that is refused so, and the proxy goes on.
     pub fn run<R: Wait>(self, rt: &R) -> Result<Seen<J>, (ProxyError, Seen<J>)>
         ensures reporter { IfOk result (λ seen. seen.reporter ≡ self.entry.seen.reporter) }
-        ensures extends { IfOk result (λ seen. IsPrefix self.entry.seen.raises seen.raises) }
+        ensures extends { IfOk result (λ seen. IsPrefix self.entry.seen.changes seen.changes) }
         ensures memory { IfErr result (λ ended. ended.0 ≡ ProxyError.Memory) }
         ensures reporter_back { IfErr result
             (λ ended. ended.1.reporter ≡ self.entry.seen.reporter) }
         ensures extends_back { IfErr result
-            (λ ended. IsPrefix self.entry.seen.raises ended.1.raises) }
+            (λ ended. IsPrefix self.entry.seen.changes ended.1.changes) }
     {
         let GrvProxy {
             alloc,
@@ -142,7 +142,7 @@ fn serve_desk<J: Live, R: Wait, O: Outbox<Answer<J>>>(
     ensures left { OnOk result (row line.new.queue.waiting ≡ []) }
     ensures elapsed { OnOk result (line.new.elapsed ≡ line.old.elapsed) }
     ensures reporter { seen.new.reporter ≡ seen.old.reporter }
-    ensures extends { IsPrefix seen.old.raises seen.new.raises }
+    ensures extends { IsPrefix seen.old.changes seen.new.changes }
     ensures memory { IfErr result (λ cause. cause ≡ ProxyError.Memory) }
 {
     for _ in rt.forever() {
@@ -169,11 +169,11 @@ fn serve_taken<J: Live, R: Wait, O: Outbox<Answer<J>>>(
     ensures last { IfOk result (λ last. last ≡ taken.closed) }
     ensures served { OnOk result
         (IsServedOrLast O.sends taken.closed line.old.elapsed line.old.queue taken.requests.items
-        seen.new.raises line.new.queue out.old out.new) }
+        seen.new.changes line.new.queue out.old out.new) }
     ensures elapsed { OnOk result (line.new.elapsed ≡ line.old.elapsed) }
     ensures left { taken.closed ≡ true → OnOk result (row line.new.queue.waiting ≡ []) }
     ensures reporter { seen.new.reporter ≡ seen.old.reporter }
-    ensures extends { IsPrefix seen.old.raises seen.new.raises }
+    ensures extends { IsPrefix seen.old.changes seen.new.changes }
     ensures memory { IfErr result (λ cause. cause ≡ ProxyError.Memory) }
 {
     let Taken { requests, closed } = taken;
@@ -196,10 +196,10 @@ fn serve_turn<J: Live, R: Wait, O: Outbox<Answer<J>>>(
 ) -> Result<(), ProxyError>
     ensures served { OnOk result
         (IsServed O.sends line.old.elapsed line.old.queue requests.items
-        seen.new.raises line.new.queue out.old out.new) }
+        seen.new.changes line.new.queue out.old out.new) }
     ensures elapsed { OnOk result (line.new.elapsed ≡ line.old.elapsed) }
     ensures reporter { seen.new.reporter ≡ seen.old.reporter }
-    ensures extends { IsPrefix seen.old.raises seen.new.raises }
+    ensures extends { IsPrefix seen.old.changes seen.new.changes }
     ensures memory { IfErr result (λ cause. cause ≡ ProxyError.Memory) }
 {
     let room = Vec::with_capacity(alloc, requests.len())?;

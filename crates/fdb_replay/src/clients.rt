@@ -40,7 +40,7 @@ impl<'a, J: Live + Send + Sync> Clients<'a, J> {
         tokens: Vec<Seen<J>>,
     ) -> Result<Self, AllocError>
         requires numbered { (k : ℕ) → k < vec_len tokens
-            → slice_get tokens.items k ≡ Some (record { reporter = Some k; raises = [] }) }
+            → slice_get tokens.items k ≡ Some (record { reporter = Some k; changes = [] }) }
         requires few { vec_len tokens ≤ 64 }
         ensures { IfOk result (λ clients. clients ≡ replicate (vec_len tokens) []) }
     {

@@ -13,7 +13,7 @@ use fdb_client::{Client, ClientError};
 use fdb_history::{ClientLog, Gate, GrvOpts};
 use fdb_live::{Live, LiveRecord, Seen};
 use fdb_script::Act;
-use std::alloc::Global;
+use std::alloc::{AllocError, Global};
 use std::marker::Model;
 use std::sync::Wait;
 
@@ -43,7 +43,7 @@ impl<'a, J: Live> Model for Player<'a, J> {
 impl<'a, J: Live> Player<'a, J> {
     /// A client that has called nobody yet.
     pub(crate) fn new(alloc: Global, number: u32, live: &'a LiveRecord<J>, seen: Seen<J>) -> Self
-        requires { seen ≡ record { reporter = Some number; raises = [] } }
+        requires { seen ≡ record { reporter = Some number; changes = [] } }
         ensures { result ≡ [] }
     {
         Player {
@@ -82,7 +82,8 @@ impl<'a, J: Live> Player<'a, J> {
                 num,
                 locked,
                 metadata,
-            } => self.report(rt, world, *num, *locked, *metadata),
+                min_known,
+            } => self.report(rt, world, *num, *locked, *metadata, *min_known),
             Act::Tell { to } => self.tell(number, *to, tells),
         }
     }
@@ -151,10 +152,15 @@ impl<'a, J: Live> Player<'a, J> {
         num: u64,
         locked: bool,
         metadata: Option<u64>,
+        min_known: u64,
     ) -> Result<(), AllocError>
-        ensures { OnOk result (AddsCall self.old (input.Report num locked metadata) self.new) }
+        ensures { OnOk result
+            (AddsCall self.old (input.Report num locked metadata min_known) self.new) }
     {
-        settled(self.client.report(rt, world.gate, num, locked, metadata))
+        settled(
+            self.client
+                .report(rt, world.gate, num, locked, metadata, min_known),
+        )
     }
 
     /// Tells another what it has seen.

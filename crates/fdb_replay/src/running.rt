@@ -48,7 +48,7 @@ pub fn run<R: Threads + Wait + Sync, G: Gate>(
     match LiveRecord::<Brand>::open(rt, alloc, config.start, config.clients) {
         Ok(opened) => run_named::<Brand, R, G>(rt, alloc, opened, script, config, gate),
         Err(LiveError::Memory) => Err(RunFault::Memory),
-        Err(LiveError::TooLarge) => unreachable!(),
+        Err(LiveError::TooLarge | LiveError::MinAbove) => unreachable!(),
     }
 }
 
@@ -117,7 +117,7 @@ fn logs_at<'a, J: Live + Send + Sync, R: Threads + Wait + Sync, G: Gate>(
     requires plan { IsPlan script.now }
     requires count { vec_len tokens ≡ script.now.setup.clients }
     requires numbered { (k : ℕ) → k < vec_len tokens
-        → slice_get tokens.items k ≡ Some (record { reporter = Some k; raises = [] }) }
+        → slice_get tokens.items k ≡ Some (record { reporter = Some k; changes = [] }) }
     ensures answers { IfOk result (λ logs. Answers script.now logs.items) }
     ensures few { IfOk result (λ logs. length logs.items ≤ 64) }
 {
@@ -134,6 +134,7 @@ fn opening(recovery: u64) -> Record
         version: recovery,
         locked: false,
         metadata: None,
+        min_known: 0,
     }
 }
 

@@ -53,6 +53,8 @@ pub enum Act {
         locked: bool,
         /// The metadata version, if there is one.
         metadata: Option<u64>,
+        /// The minimum known committed version, 0 where none is told.
+        min_known: u64,
     },
     /// Tell another client what was seen.
     Tell {

@@ -24,7 +24,7 @@ impl Service for FromHundred {
 
     ghost recovery = { 100 };
 
-    ghost start = { record { version = 100; locked = false; metadata = None } };
+    ghost start = { record { version = 100; locked = false; metadata = None; min_known = 0 } };
 
     ghost reporters = { 4 };
 }
@@ -39,7 +39,7 @@ impl Service for AtTheEnd {
 
     ghost recovery = { 9223372036854775806 };
 
-    ghost start = { record { version = 9223372036854775806; locked = false; metadata = None } };
+    ghost start = { record { version = 9223372036854775806; locked = false; metadata = None; min_known = 0 } };
 
     ghost reporters = { 4 };
 }
@@ -208,7 +208,7 @@ impl Service for OfSixtyFour {
 
     ghost recovery = { 100 };
 
-    ghost start = { record { version = 100; locked = false; metadata = None } };
+    ghost start = { record { version = 100; locked = false; metadata = None; min_known = 0 } };
 
     ghost reporters = { 64 };
 }
@@ -222,7 +222,8 @@ fn asked_by(alloc: Global, proxy: u64) -> Result<String, AllocError> {
     let prev = first.saturating_add(99);
     let (one, two) = (prev.saturating_add(1), prev.saturating_add(2));
     let three = prev.saturating_add(3);
-    format!(in alloc; "
+    format!(in alloc;
+        "
 ask {proxy} 1 0 0 => {first} {proxy} 1 0 {prev} {one} 0 fresh
 ask {proxy} 2 0 0 => {second} {proxy} 2 0 {one} {two} 0 fresh
 ask {proxy} 1 1 0 => {first} {proxy} 1 0 {prev} {one} 0 kept
@@ -232,7 +233,8 @@ ask {proxy} 2 0 0 => {second} {proxy} 2 0 {one} {two} 0 kept
 ask {proxy} 3 0 0 => {third} {proxy} 3 1 {two} {three} 0 kept
 ask {proxy} 5 3 0 => the next request number is 4
 ask 64 1 0 0 => there is no such commit proxy
-")
+"
+    )
 }
 
 #[test]

@@ -15,6 +15,7 @@ const START: Record = Record {
     version: 100,
     locked: false,
     metadata: None,
+    min_known: 0,
 };
 
 /// Has two clients work at a cluster of two GRV proxies, and explains what they were answered by
@@ -102,7 +103,7 @@ fn commit<J: Live, R: Print + Wait>(
 ) -> Result<()> {
     client.ask(rt, &OpenGate, cluster.sequencer(), 0, 1_000)?;
     client.ask(rt, &OpenGate, cluster.sequencer(), 0, 3_000)?;
-    let ack = client.report(rt, &OpenGate, 2, false, None)?;
+    let ack = client.report(rt, &OpenGate, 2, false, None, 0)?;
     println!(rt;
         "committed: raised {}, position {}",
         ack.raised, ack.position
@@ -136,11 +137,12 @@ fn read<J: Live, R: Print + Wait>(
         tags: Sequence::new(alloc),
         lock_aware: false,
         at: 0,
+        use_min: false,
     };
     let read = client.read_version(rt, &OpenGate, desk, opts)?;
     println!(rt;
         "read version {} at position {}",
-        read.rec.version, read.position
+        read.version, read.position
     )?;
     Ok(())
 }

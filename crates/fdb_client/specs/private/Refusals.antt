@@ -25,6 +25,7 @@ refusal_for ProxyClosed = Some refusal.ProxyClosed
 refusal_for NotIssued = Some refusal.NotIssued
 refusal_for Stranger = Some refusal.Stranger
 refusal_for (Live live.TooLarge) = Some refusal.TooLarge
+refusal_for (Live live.MinAbove) = Some refusal.MinAbove
 refusal_for _ = None
 
 -- A read may fail so, whatever its options: it is refused, or for memory alone it is not logged.

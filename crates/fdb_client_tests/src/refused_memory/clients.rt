@@ -74,10 +74,10 @@ impl<'a, J: Live> Caller<'a, J> {
         wanted: Result<Ack, ClientError>,
     ) -> Result<(), AllocError> {
         let (calls, position) = (self.client.calls().len(), self.client.position());
-        let mut found = self.client.report(rt, &OpenGate, num, false, None);
+        let mut found = self.client.report(rt, &OpenGate, num, false, None, 0);
         if found == Err(ClientError::Memory) {
             self.is_at(rt, calls, position);
-            found = self.client.report(rt, &OpenGate, num, false, None);
+            found = self.client.report(rt, &OpenGate, num, false, None, 0);
         }
         is_wanted(rt, found, wanted, "report")
     }
@@ -146,6 +146,7 @@ fn tagged(alloc: Global) -> Result<GrvOpts, AllocError> {
         tags,
         lock_aware: false,
         at: 0,
+        use_min: false,
     })
 }
 
@@ -200,8 +201,12 @@ fn commit<J: Live, R: Wait + Abort>(rt: &R, client: &mut Caller<'_, J>) -> Resul
     for version in 100..104 {
         client.asks(rt, 0, Ok(version))?;
     }
-    let (raised, position) = (true, 1);
-    client.reports(rt, 4, Ok(Ack { raised, position }))
+    let first = Ack {
+        raised: true,
+        changed: true,
+        position: 1,
+    };
+    client.reports(rt, 4, Ok(first))
 }
 
 /// One client tells another, which learns.

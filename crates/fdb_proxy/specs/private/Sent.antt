@@ -3,7 +3,7 @@ use Rattle.std.specs.Prelude.{◌≡◌, ℕ, Bool, true, false, List}
 use Rattle.std.specs.List.{AllZip, FoldsTo}
 use Rattle.fdb_history.specs.declared.service.Service.{Ghosts as ServiceGhosts}
 use Rattle.fdb_live.specs.declared.live.Live.{Ghosts as LiveGhosts}
-use Rattle.fdb_live.specs.declared.raise.Raise.{Raise}
+use Rattle.fdb_live.specs.declared.change.Change.{Change}
 use Rattle.fdb_proxy.specs.Batch.{Replies}
 use Rattle.fdb_proxy.specs.declared.answer.Answer.{Answer}
 use Rattle.fdb_proxy.specs.declared.answer.Answer.TheVariants as answer
@@ -52,9 +52,9 @@ module _ {J : Type 0} {live : LiveGhosts J} {service : ServiceGhosts J} where
 
     -- One turn with some requests leads from one queue to another, and all that it decides is sent,
     -- and nothing else: whoever it turned away gets a refusal, and then whoever it started a reply,
-    -- from one read that saw these raises.
+    -- from one read that saw these changes.
     pub record IsServed (elapsed : ℕ) (before : Queue (Request J live service))
-        (offered : List (Req (Request J live service))) (raises : List Raise)
+        (offered : List (Req (Request J live service))) (changes : List Change)
         (after : Queue (Request J live service)) (one next : O) : Type 0 where
       pub started : List (Req (Request J live service))
       pub turned_away : List (TurnedAway (Request J live service))
@@ -62,18 +62,18 @@ module _ {J : Type 0} {live : LiveGhosts J} {service : ServiceGhosts J} where
       pub between : O
       pub turn : IsTurn elapsed before offered started turned_away after
       pub refused : AreTurnedAway one turned_away between
-      pub replies : AllZip (Replies after.throttles raises) started answers
+      pub replies : AllZip (Replies after.throttles changes) started answers
       pub sent : FoldsTo sends between answers next
 
     -- The same; after the last turn all that are left leave the queue, and are told that the desk
     -- was closed, and nothing else is done there.
     abbrev pub IsServedOrLast : Bool → ℕ → Queue (Request J live service)
-        → List (Req (Request J live service)) → List Raise
+        → List (Req (Request J live service)) → List Change
         → Queue (Request J live service) → O → O → Type 0
-    IsServedOrLast false elapsed before offered raises after one next =
-        IsServed elapsed before offered raises after one next
-    IsServedOrLast true elapsed before offered raises after one next =
+    IsServedOrLast false elapsed before offered changes after one next =
+        IsServed elapsed before offered changes after one next
+    IsServedOrLast true elapsed before offered changes after one next =
         (turned : Queue (Request J live service)) × (between : O)
-        × IsServed elapsed before offered raises turned one between
+        × IsServed elapsed before offered changes turned one between
         × AreClosed between (row turned.waiting) next
         × (after ≡ emptied turned)

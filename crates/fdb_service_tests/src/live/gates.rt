@@ -100,6 +100,7 @@ pub(crate) fn pass_each<J: Live, R: Wait + Abort>(rt: &R, parts: &mut Parts<J>) 
                 version,
                 locked,
                 metadata,
+                min_known: 0,
             };
             pass_twice(rt, &parts.live, &gate, &mut token, rec);
         }

@@ -13,6 +13,7 @@ pub(crate) fn unlocked(version: u64) -> Record {
         version,
         locked: false,
         metadata: None,
+        min_known: 0,
     }
 }
 
@@ -47,8 +48,13 @@ fn reports<J: Live, R: Wait + Abort>(
     version: u64,
     (raised, position): (bool, u64),
 ) {
+    let wanted = Ack {
+        raised,
+        changed: raised,
+        position,
+    };
     let found = report_at(rt, live, &OpenGate, seen, version);
-    same(rt, &found, &Ok(Ack { raised, position }), &version);
+    same(rt, &found, &Ok(wanted), &version);
     same(rt, &seen.position(), &position, &version);
 }
 

@@ -100,6 +100,7 @@ fn record(rt: &impl Abort, line: &mut Line<'_>) -> Record {
         version,
         locked,
         metadata: line.word(rt).parse().ok(),
+        min_known: 0,
     }
 }
 

@@ -21,7 +21,7 @@ loop-request-init g c = record {
 pub reply_of-reply-requires-clause-told : goal.reply_of-reply-requires-clause-told
 reply_of-reply-requires-clause-told g c =
     let told = rw c.in-Some.ensures.items at c.loop-request.invariant.told in
-    rw c.loop-request.invariant.same (All-head (λ request. IsPrefix request.payload.seen.raises c.args.seen.now.raises) c.in-Some.request c.pop_front.new.self.items told)
+    rw c.loop-request.invariant.same (All-head (λ request. IsPrefix request.payload.seen.changes c.args.seen.now.changes) c.in-Some.request c.pop_front.new.self.items told)
 
 pub loop-request-preserved : goal.loop-request-preserved
 loop-request-preserved g c =
@@ -35,18 +35,18 @@ loop-request-preserved g c =
     λ throttles e. sym c.in-Some-pop_front.ensures.items ∙ inv.limits throttles e ∙ ap (map (own_limits throttles)) items in
     record {
       same = c.reply_of-reply.ensures.same ∙ inv.same;
-      told = All-tail (λ asker. IsPrefix asker.payload.seen.raises c.args.seen.now.raises) request rest told;
+      told = All-tail (λ asker. IsPrefix asker.payload.seen.changes c.args.seen.now.changes) request rest told;
       limits = λ throttles e. ap (drop 1) (both throttles e);
       forwards = λ throttles e last h.
-          let here : IsReplyTo throttles c.args.seen.now.raises request c.reply_of-reply.result = record {
+          let here : IsReplyTo throttles c.args.seen.now.changes request c.reply_of-reply.result = record {
             client = c.reply_of-reply.ensures.client;
             serial = c.reply_of-reply.ensures.serial;
             asked = c.reply_of-reply.ensures.asked;
             limits = c.reply_of-reply.ensures.limits ∙ same_head (both throttles e);
             rec = c.reply_of-reply.ensures.rec ∙ c.requires.rec;
             position = c.reply_of-reply.ensures.position ∙ c.requires.position;
-            seen = c.reply_of-reply.ensures.seen ∙ ap (λ sight. sight.raises) inv.same;
-            extends = All-head (λ asker. IsPrefix asker.payload.seen.raises c.args.seen.now.raises) request rest told;
+            seen = c.reply_of-reply.ensures.seen ∙ ap (λ sight. sight.changes) inv.same;
+            extends = All-head (λ asker. IsPrefix asker.payload.seen.changes c.args.seen.now.changes) request rest told;
           } in
           let all = inv.forwards throttles e (Reply c.reply_of-reply.result ∷ last) (rw items (here, h)) in
           rw (c.add.ensures.last, append_assoc) all;

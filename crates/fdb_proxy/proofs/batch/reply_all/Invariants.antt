@@ -10,11 +10,11 @@ use Rattle.fdb_proxy.proofs.batch.reply_all.Given as goal
 abbrev pub invariant-loop-request : goal.invariant-loop-request
 invariant-loop-request g l = record {
   same : l.seen ≡ l.fn.seen;
-  told : All (λ request. IsPrefix request.payload.seen.raises l.fn.seen.raises) l.requests.items;
+  told : All (λ request. IsPrefix request.payload.seen.changes l.fn.seen.changes) l.requests.items;
   limits : (throttles : List Throttle) → l.fn.room.limits.items ≡ map (own_limits throttles) l.fn.requests.items → l.limits.items ≡ map (own_limits throttles) l.requests.items;
   forwards : (throttles : List Throttle) → l.fn.room.limits.items ≡ map (own_limits throttles) l.fn.requests.items → (last : List _)
-      → AllZip (Replies throttles l.fn.seen.raises) l.requests.items last
-      → AllZip (Replies throttles l.fn.seen.raises) l.fn.requests.items (l.answers.items ++ last);
+      → AllZip (Replies throttles l.fn.seen.changes) l.requests.items last
+      → AllZip (Replies throttles l.fn.seen.changes) l.fn.requests.items (l.answers.items ++ last);
   pairs : deque_len l.limits ≡ deque_len l.requests;
   room : vec_len l.answers + deque_len l.requests ≤ vec_capacity l.answers;
 }

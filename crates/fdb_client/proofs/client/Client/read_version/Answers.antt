@@ -9,7 +9,7 @@ use Rattle.fdb_client.proofs.client.Client.read_version.Goals as goal
 pub returns-in-Ok-clause-logged : goal.returns-in-Ok-clause-logged
 returns-in-Ok-clause-logged g c not_memory =
     let logged = c.take_reply.ensures.logged not_memory c.self.inside.id c.self.inside.begun (search rules) (search rules) in
-    let account : Account = record { number = c.self.inside.id; begun = c.self.inside.begun; calls = c.reserve.new.self.calls.items; raises = c.split.new.seen.raises } in
+    let account : Account = record { number = c.self.inside.id; begun = c.self.inside.begun; calls = c.reserve.new.self.calls.items; changes = c.split.new.seen.changes } in
     let before : account ≡ c.args.self.now = cc (c.reserve.ensures.calls, c.split.ensures.same, c.self.view_is) in
     reads_alike c.in_ok-logged.ensures.cases before logged
 
