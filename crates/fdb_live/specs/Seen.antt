@@ -20,7 +20,7 @@ last_record start [] = start
 last_record start (r ∷ rs) = last_record (after_report start r.rec) rs
 
 -- A record that a live record takes: its version is not above the greatest one, and its minimum
--- known committed version not above that.
+-- known committed version not above that. (the latter is this product's own)
 pub record IsRecord (rec : Record) : Type 0 where
   pub in_range : rec.version ≤ MAX_VERSION
   pub within : rec.min_known ≤ rec.version
@@ -31,6 +31,7 @@ all_change start [] = true
 all_change start (r ∷ rs) = changes start r.rec && all_change (after_report start r.rec) rs
 
 -- The changes of a service: each did change the record, and was reported by one of its reporters.
+-- The record before them and each that was reported is one that a live record takes.
 pub record IsLog (start : Record) (reporters : ℕ) (log : List Change) : Type 0 where
   pub all_change : all_change start log ≡ true
   pub numbered : All (λ r. r.reporter < reporters) log
