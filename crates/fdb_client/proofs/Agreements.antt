@@ -1,5 +1,5 @@
 -- Each call leaves what a client has logged in agreement with its token.
-use Rattle.std.proofs.Common.{◌≡◌, ℕ, suc, ◌+◌, ◌-◌, ◌<◌, ◌≤◌, Bool, true, false, IsTrue, List, [], ◌∷◌, ◌++◌, length, Option, Some, Result, Ok, Err, if◌then◌else◌, refl, sym, ap, ◌∙◌, arith, slice_get, take, subst, inl, inr, length-append}
+use Rattle.std.proofs.Common.{◌≡◌, ℕ, zero, suc, ◌+◌, ◌-◌, ◌<◌, ◌≤◌, Bool, true, false, IsTrue, List, [], ◌∷◌, ◌++◌, length, Option, Some, Result, Ok, Err, if◌then◌else◌, refl, sym, ap, ◌∙◌, arith, slice_get, take, subst, inl, inr, length-append}
 use Rattle.std.specs.List.{AllByRecursion}
 use Rattle.std.proofs.lemmas.Grind.{flat_map-append}
 use Rattle.std.proofs.lemmas.List.{append-nil, take-append-le}
@@ -47,7 +47,7 @@ record_alike start log more position within = ap (last_record start) (take-appen
 
 get_alike : {A : Type 0} (xs ys : List A) (i : ℕ) (x : A) → slice_get xs i ≡ Some x → slice_get (xs ++ ys) i ≡ Some x
 get_alike [] ys i x is = absurd (cc is)
-get_alike (y ∷ xs) ys 0 x is = is
+get_alike (y ∷ xs) ys zero x is = is
 get_alike (y ∷ xs) ys (suc i) x is = get_alike xs ys i x is
 
 made_alike : (number : ℕ) (log more : List Change) (position : ℕ) (answer : CallAnswer) → IsMade number log position answer → IsMade number (log ++ more) position answer
@@ -69,7 +69,7 @@ agrees_alike start number log more call within agrees = record {
 
 pub comes_to : (before : ℕ) (calls : List Call) → NeverGoesBack before calls → before ≤ position_after_calls before calls
 comes_to before [] order = omega arith
-comes_to before (call ∷ calls) order = let rest = comes_to call.position calls order.3 in let (least, more) = (order.0, order.1) in omega arith
+comes_to before (call ∷ calls) order = let rest = comes_to call.position calls order.3 in let least = order.0 in let more = order.1 in omega arith
 
 order_added : (before : ℕ) (calls : List Call) (call : Call) → NeverGoesBack before calls → position_after_calls before calls ≤ call.asked → call.asked ≤ call.position
     → (IsTrue (answer_changes call.answer) → call.asked < call.position) → NeverGoesBack before (calls ++ call ∷ [])
@@ -193,8 +193,8 @@ change_last start rec raised before after changed =
     }
   where
     misanswered : (current : Record) → raised ≡ raises current rec → changes current rec ≡ true → IsMisanswered current rec raised true → ⊥
-    misanswered current same up (inl no) = no same
-    misanswered current same up (inr no) = no (sym up)
+    misanswered current same up (inl differs) = differs same
+    misanswered current same up (inr differs) = differs (sym up)
 
 not_raised : (current rec : Record) → changes current rec ≡ false → raises current rec ≡ false
 not_raised current rec same = go (raises current rec) refl
@@ -219,8 +219,8 @@ report_agrees start num locked metadata min_known version (Acked rec raised fals
     none : changes (record_at start after.changes (length after.changes)) rec ≡ false
     none = ap (λ (r : Record). changes r rec) (last_at start after.changes) ∙ answered.5.changes
     right : IsMisanswered (record_at start after.changes (length after.changes)) rec raised false → ⊥
-    right (inl no) = no (answered.5.raised_is ∙ sym (not_raised (record_at start after.changes (length after.changes)) rec none))
-    right (inr no) = no (sym none)
+    right (inl differs) = differs (answered.5.raised_is ∙ sym (not_raised (record_at start after.changes (length after.changes)) rec none))
+    right (inr differs) = differs (sym none)
 
 pub agrees_reported : (start : Record) (num : ℕ) (locked : Bool) (metadata : Option ℕ) (min_known : ℕ) (before after : Account) (result : Result Ack ClientError) → Agrees start before
     → Reports start num locked metadata min_known before after result → Agrees start after

@@ -346,7 +346,7 @@ module _ (start : Record) (logs : List ClientLog) (log : List Change) (settled :
   reached client place call is =
       let agrees = settled.each client (inside logs client place call is) in
       let order = in_order 0 (calls_of logs client) place call agrees.order is in
-      let (most, come) = (order.most, agrees.come_to) in
+      let most = order.most in let come = agrees.come_to in
       (order, omega arith)
 
   no_gap : (position : ℕ) → IsGap logs position → ⊥
