@@ -74,6 +74,8 @@ TOP_READ = replies("0 0 0 grv 9223372036854775807 unlocked none pos 0", events=1
 BAD_COUNT = replies("0 0 0 grv refused BadCount")
 NOT_ISSUED = replies("0 0 0 report refused NotIssued")
 EARLY = replies("0 0 0 reask refused Early 1")
+ABOVE = replies("0 0 0 ask prev 0 version 100 ordinal 0 fresh", "0 0 1 report refused MinAbove", versions=1)
+NO_MINIMUM = replies("0 0 0 grv 100 unlocked none used 0 pos 0", events=1)
 
 
 def one(*commands):
@@ -103,6 +105,11 @@ REPORTED = [
     ("locked", {"locked": "true"}, "locked none"),
     ("metadata 0", {"metadata": "0"}, "unlocked 0"),
     ("the greatest metadata", {"metadata": "18446744073709551615"}, "unlocked 18446744073709551615"),
+    ("minimum 0", {"min_known": "0"}, "unlocked none"),
+    ("minimum 1", {"min_known": "1"}, "unlocked none min 1"),
+    ("the greatest minimum", {"metadata": "0", "min_known": "101"}, "unlocked 0 min 101"),
+    ("a minimum twice", {"min_known": '102,"min_known":7'}, "unlocked none min 7"),
+    ("an ignored use_min", {"use_min": "5"}, "unlocked none"),
 ]
 
 
@@ -120,7 +127,7 @@ IGNORED = ["null", "true", "0", "-1.5e3", '"\\u00e9\\n"', '"é"', "[]", '[[1,{}]
 def ignoring(text):
     """Writes a script with this value in members that are not looked at: of no meaning, or of one elsewhere."""
     throttle = members(priority='"batch"', tag='"t"', rate="5", expires="6", note=text, at=text, count=text)
-    read = command("grv", note=text, num=text, to=text, processed=text, locked=text, metadata=text)
+    read = command("grv", note=text, num=text, to=text, processed=text, locked=text, metadata=text, min_known=text)
     return script(one(read), throttles=f"[{throttle}]", note=text, Clients=text, at=text, tags=text)
 
 
@@ -148,9 +155,12 @@ ACCEPTED = [
     ("a reask of the greatest number", script(one(command("reask", num="18446744073709551615", at="1"))), EARLY),
     ("the greatest number in a report", script(one(command("report", num="18446744073709551615"))), NOT_ISSUED),
     ("a report of number 0", script(one(command("report", num="0"))), NOT_ISSUED),
-    ("a report with the usual members", script(one(command("report", num="7", locked="false", metadata="null"))), NOT_ISSUED),
+    ("a report with the usual members", script(one(command("report", num="7", locked="false", metadata="null", min_known="0"))), NOT_ISSUED),
+    ("a report of no answer with the greatest minimum", script(one(command("report", num="7", min_known="18446744073709551615"))), NOT_ISSUED),
+    *[(f"a minimum of {it}, above its version", script(one(ASK, command("report", num="1", min_known=it))), ABOVE) for it in ("101", "18446744073709551615")],
     *[(f"a report {name}", *reported(said, record)) for name, said, record in REPORTED],
-    ("a read with the usual members", script(one(command("grv", at="0", priority='"default"', count="1", tags="[]", lock_aware="false"))), ONE_READ),
+    ("a read with the usual members", script(one(command("grv", at="0", priority='"default"', count="1", tags="[]", lock_aware="false", use_min="false"))), ONE_READ),
+    ("a read that asks for the minimum, before any report", script(one(command("grv", use_min="true"))), NO_MINIMUM),
     ("a read at the greatest moment", script(one(command("grv", at="18446744073709551615"))), ONE_READ),
     *[(f"a read of priority {it}", script(one(command("grv", priority=f'"{it}"'))), ONE_READ) for it in ("system", "default", "batch")],
     *[(f"a read for {it} transactions", script(one(command("grv", count=it))), wanted) for it, wanted in COUNTS.items()],
@@ -284,6 +294,8 @@ def large():
     yield "each ask with its report", [[it for at in range(half) for it in (do("ask", at=9 * at), do("report", num=at + 1))]], {}
     yield "reports from the last to the first", [[*asks[:half], *late]], {}
     yield "repeats of kept answers", [[*asks[:300], *repeats]], {}
+    minima = [it for at in range(half // 2) for it in (do("report", num=half, min_known=at), do("grv", use_min=at % 2 == 0))]
+    yield "minima that rise alone, each with a read", [[*asks[:half], *minima]], {}
 
 
 def crowd_at_all_limits(size):

@@ -2,10 +2,12 @@
 import re
 from collections import Counter
 
-from judge import POSITION, RANKS
-from model import FULL, Event, Record, Run, in_order, line_of
+from judge import POSITION, RANKS, is_change
+from model import FULL, UNCHANGED, Event, Record, Run, in_order, line_of
 
-READ = re.compile(r"(?:(\d+) (un)?locked (\w+)|refused Locked (\d+)) pos (\d+)(.*)")
+READ = re.compile(r"(?:(\d+) (un)?locked (\w+)(?: min (\d+))?(?: used (\d+))?|refused Locked (\d+)) pos (\d+)(.*)")
+# The position of a read that gives a record. One that is refused gives the version alone, which several positions may have.
+GIVEN = re.compile(r"\d+ (?:un)?locked .* pos (\d+)(?= |$)")
 FRESH = re.compile(r"prev (\d+) version (\d+) ordinal (\d+) fresh")
 
 
@@ -35,12 +37,11 @@ class Text:
                 number = at
             position, read = POSITION.match(said), READ.match(said)
             if it.do == "report" and position:
-                raised = position[1] is None
-                run.events.append(Event(it.client, calls[it.client], int(position[2]), record_of(it, said), raised))
-                run.position += raised
+                change = f"{position[1] or ''}raised"
+                run.events.append(Event(it.client, calls[it.client], int(position[2]), record_of(it, said), change))
             elif it.do == "grv" and read:
-                record = records.get(int(read[5]), records[0]) if read[4] else record_read(read)
-                run.events.append(Event(it.client, calls[it.client], int(read[5]), record, None))
+                record = records.get(int(read[7]), records[0]) if read[6] else record_read(read)
+                run.events.append(Event(it.client, calls[it.client], int(read[7]), record, None))
             calls[it.client] += 1
         run.chain = [said for said in replies if said.endswith(" fresh")]
         return self.whole(replies, run.audit(), run.history())
@@ -51,20 +52,23 @@ class Text:
 
     def records(self, replies):
         """Returns the record at each position, as the reports say."""
-        found = {0: Record(self.script.recovery, False, None)}
+        record, reported = Record(self.script.recovery, False, None), {}
         for (_, _, it), said in zip(self.calls, replies):
             position = POSITION.match(said)
-            if it.do == "report" and position and position[1] is None:
-                found[int(position[2])] = record_of(it, said)
+            if position and is_change(it, position):
+                reported[int(position[2])] = record_of(it, said)
+        found = {0: record}
+        for position in sorted(reported):
+            found[position] = record = record.after(reported[position])
         return found
 
 
 def record_read(read):
-    return Record(int(read[1]), not read[2], None if read[3] == "none" else int(read[3]))
+    return Record(int(read[1]), not read[2], None if read[3] == "none" else int(read[3]), int(read[4] or 0))
 
 
 def record_of(it, said):
-    return Record(int(said.split()[0]), it.locked, it.metadata)
+    return Record(int(said.split()[0]), it.locked, it.metadata, it.min_known)
 
 
 def number_moved(pattern, group, by):
@@ -92,6 +96,7 @@ def other_refusal(text, index, said):
     """Puts another refusal in the place of one."""
     do = text.calls[index][2].do
     others = {"refused BadCount": "refused BatchThrottled", "refused BatchThrottled": "refused BadCount", FULL: "refused BadCount"}
+    others |= {"refused NotIssued": "refused MinAbove", "refused MinAbove": "refused NotIssued"}
     if do == "reask" and said == "refused Forgotten":
         return "refused Early 1"
     return "refused Forgotten" if do == "reask" and said.startswith("refused Early") else others.get(said)
@@ -99,22 +104,77 @@ def other_refusal(text, index, said):
 
 def issued_after_all(text, index, said):
     """Reports what was not answered."""
-    at = text.audit.split()[5]
-    return f"{text.script.recovery} not raised pos {at}" if said == "refused NotIssued" else None
+    at = max(text.records(text.replies))
+    return f"{text.script.recovery} {UNCHANGED} pos {at}" if said == "refused NotIssued" else None
 
 
-def not_issued(text, index, said):
-    """Refuses a report as of no answer."""
-    return "refused NotIssued" if text.calls[index][2].do == "report" and not said.startswith("refused") else None
+def above_after_all(text, index, said):
+    """Takes a report whose minimum is above its version."""
+    it, at = text.calls[index][2], max(text.records(text.replies))
+    return f"{it.min_known - 1} min raised pos {at + 1}" if said == "refused MinAbove" else None
+
+
+def report_refused(cause):
+    """Refuses a report that was taken."""
+
+    def change(text, index, said):
+        return f"refused {cause}" if text.calls[index][2].do == "report" and not said.startswith("refused") else None
+
+    return change
 
 
 def raised_or_not(text, index, said):
-    """Says that a report raised where it did not, or the other way round, at the position that goes with that."""
-    position = POSITION.match(said)
-    if text.calls[index][2].do != "report" or not position:
+    """Says that a report raised where it did not, or that it did nothing where it did, at the position that goes with that."""
+    it, position = text.calls[index][2], POSITION.match(said)
+    if it.do != "report" or not position:
         return None
-    version, by = said.split()[0], 1 if position[1] else -1
-    return f"{version} {'raised' if by > 0 else 'not raised'} pos {int(position[2]) + by}"
+    word, by = (UNCHANGED, -1) if is_change(it, position) else ("raised", 1)
+    return f"{said.split()[0]} {word} pos {int(position[2]) + by}"
+
+
+def other_raise(text, index, said):
+    """Says that a report raised the minimum alone where it raised the version, or the other way round."""
+    it, position = text.calls[index][2], POSITION.match(said)
+    if not position or not is_change(it, position):
+        return None
+    return f"{said.split()[0]} {'' if position[1] else 'min '}raised pos {position[2]}"
+
+
+def min_raised_or_not(text, index, said):
+    """Says that a report raised the minimum where it did nothing, or the other way round, at the position that goes with that."""
+    it, position = text.calls[index][2], POSITION.match(said)
+    if it.do != "report" or not position or position[1] is None:
+        return None
+    word, by = (UNCHANGED, -1) if is_change(it, position) else ("min raised", 1)
+    return f"{said.split()[0]} {word} pos {int(position[2]) + by}"
+
+
+def changed_in_place(text, index, said):
+    """Says that a report raised the minimum, at the position that stood before."""
+    return said.replace(UNCHANGED, "min raised") if UNCHANGED in said else None
+
+
+def used_or_not(text, index, said):
+    """Says what a read used where it did not ask for the minimum, or leaves that out where it did."""
+    read = READ.match(said)
+    if text.calls[index][2].do != "grv" or not read or read[6]:
+        return None
+    return said.replace(f" used {read[5]}", "") if read[5] else said.replace(" pos ", f" used {read[4] or 0} pos ", 1)
+
+
+def minimum_left_out(text, index, said):
+    """Leaves out the minimum that a read gave, or gives 0 where it gave none."""
+    read = READ.match(said)
+    if text.calls[index][2].do != "grv" or not read or read[6]:
+        return None
+    record = f"{read[1]} {read[2] or ''}locked {read[3]}"
+    return said.replace(f" min {read[4]}", "", 1) if read[4] else said.replace(record, f"{record} min 0", 1)
+
+
+def live_version_used(text, index, said):
+    """Says that a read which asked for the minimum used the live version."""
+    read = READ.match(said)
+    return said.replace(f" used {read[5]} ", f" used {read[1]} ", 1) if read and read[5] else None
 
 
 def read_at(text, index, position):
@@ -125,26 +185,27 @@ def read_at(text, index, position):
         return None
     if record.locked and not it.lock_aware:
         return f"refused Locked {record.version} pos {position}"
-    limits = found[6] if found[4] is None else ""
-    return f"{record} pos {position}{limits}"
+    limits = found[8] if found[6] is None else ""
+    used = f" used {record.min_known}" if it.use_min else ""
+    return f"{record}{used} pos {position}{limits}"
 
 
-def raised_in(text, is_wanted):
-    """Returns the positions that reports of some rounds raised."""
-    ends = [POSITION.match(said) for (number, _, it), said in zip(text.calls, text.replies) if it.do == "report" and is_wanted(number)]
-    return [int(end[2]) for end in ends if end and end[1] is None]
+def changes_in(text, is_wanted):
+    """Returns the positions of the changes that reports of some rounds made."""
+    ends = [(it, POSITION.match(said)) for (number, _, it), said in zip(text.calls, text.replies) if it.do == "report" and is_wanted(number)]
+    return [int(end[2]) for it, end in ends if end and is_change(it, end)]
 
 
 def stale_in_a_later_round(text, index, said):
-    """Lets a read give the record before the last one that a round before it raised."""
-    raised = raised_in(text, lambda number: number < text.calls[index][0])
-    return read_at(text, index, max(raised) - 1) if raised else None
+    """Lets a read give the record before the last change of the rounds before it."""
+    changed = changes_in(text, lambda number: number < text.calls[index][0])
+    return read_at(text, index, max(changed) - 1) if changed else None
 
 
 def ahead_of_its_round(text, index, said):
-    """Lets a read give a record that a later round raised."""
-    raised = raised_in(text, lambda number: number > text.calls[index][0])
-    return read_at(text, index, min(raised)) if raised else None
+    """Lets a read give a record of a later round."""
+    changed = changes_in(text, lambda number: number > text.calls[index][0])
+    return read_at(text, index, min(changed)) if changed else None
 
 
 def stale_after_own(text, index, said):
@@ -204,15 +265,23 @@ REPLIES = {
     "another ordinal": number_moved(FRESH, 3, 1),
     "a fresh answer called kept": word_for("fresh", "kept"),
     "a kept answer called fresh": word_for("kept", "fresh"),
-    "a read's position lowered": number_moved(READ, 5, -1),
-    "a read's position raised": number_moved(READ, 5, 1),
+    "a read's position lowered": number_moved(GIVEN, 1, -1),
+    "a read's position raised": number_moved(GIVEN, 1, 1),
     "a read version lower by one": number_moved(READ, 1, -1),
-    "the version of a locked record lower by one": number_moved(READ, 4, -1),
+    "a minimum that was read, lower by one": number_moved(READ, 4, -1),
+    "a minimum that was read, left out": minimum_left_out,
+    "a minimum that was used, lower by one": number_moved(READ, 5, -1),
+    "the live version used for the minimum": live_version_used,
+    "used for not used, or the other way round": used_or_not,
+    "the version of a locked record lower by one": number_moved(READ, 6, -1),
     "a stale read in a later round": stale_in_a_later_round,
     "a stale read after what its client had seen": stale_after_own,
     "a read ahead of its round": ahead_of_its_round,
-    "the position of a report that raises, raised": number_moved(re.compile(r"\d+ raised pos (\d+)$"), 1, 1),
-    "raised for not raised, or the other way round": raised_or_not,
+    "the position of a change, raised": number_moved(re.compile(r"\d+ (?:min )?raised pos (\d+)$"), 1, 1),
+    "raised for not raised, or not raised for a change": raised_or_not,
+    "min raised for raised, or the other way round": other_raise,
+    "min raised for not raised, or the other way round": min_raised_or_not,
+    "a minimum that is raised at its position": changed_in_place,
     "a tell's position raised": number_moved(re.compile(r"\d+ pos (\d+)$"), 1, 1),
     "another receiver": number_moved(re.compile(r"(\d+) pos \d+$"), 1, 1),
     "a limit dropped": without_last_limit,
@@ -221,7 +290,9 @@ REPLIES = {
     "another refusal": other_refusal,
     "another expected number": number_moved(re.compile(r"refused Early (\d+)$"), 1, 1),
     "a report of what was not answered": issued_after_all,
-    "a report refused as not issued": not_issued,
+    "a report refused as not issued": report_refused("NotIssued"),
+    "a report refused as above its version": report_refused("MinAbove"),
+    "a report of a minimum above its version": above_after_all,
     "full where there was room": full_with_room,
     **{f"a read refused as {name}": in_place_of_reads(f"refused {name}") for name in ("ProxyClosed", "Stranger", "TooLarge", "NotIssued")},
 }

@@ -13,6 +13,8 @@ ACTS = ["grv", "ask", "ask", "reask", "report", "report", "tell"]
 COUNTS = [0, 1, 100_001, HIGHEST]
 # What may be said of the queue; no read that is let in waits for long, since its count is 1.
 QUEUE = {"normal": [1, 100_000], "batch": [0, 100_000], "room": [1, 100_000], "elapsed": [1, 10_000_000]}
+# Minimum known committed versions that reports tell, some of them above the version that is reported.
+MINIMA = [0, 0, 1, 2, 99, 100, 101, 102, 1107, 10**9, LAST_VERSION - 20_000_000, LAST_VERSION - 6, LAST_VERSION, HIGHEST]
 IGNORED = {"note": {"client": [None, 1e-3]}, "to ": "é😀\n", "Do": -1, "": [[], {}]}
 
 
@@ -38,7 +40,8 @@ class Drawing:
     def grv(self, _):
         tags = [self.dice.choice(TAGS) for _ in range(self.dice.choice([0, 1, 2, 5]))]
         count, priority, at = self.dice.choice(self.counts), self.dice.choice(PRIORITIES), self.dice.choice(MOMENTS)
-        return {}, {"at": at, "priority": priority, "count": count, "tags": tags, "lock_aware": self.dice.choice([True, False])}
+        lock_aware, use_min = self.dice.choice([True, False]), self.dice.choice([True, False])
+        return {}, {"at": at, "priority": priority, "count": count, "tags": tags, "lock_aware": lock_aware, "use_min": use_min}
 
     def ask(self, client):
         self.asks[client] += 1
@@ -51,7 +54,8 @@ class Drawing:
 
     def report(self, client):
         metadata = self.dice.choice([None, None, 0, 7, HIGHEST])
-        return {"num": self.num(client)}, {"locked": self.dice.random() < 0.4, "metadata": metadata}
+        locked, min_known = self.dice.random() < 0.4, self.dice.choice(MINIMA)
+        return {"num": self.num(client)}, {"locked": locked, "metadata": metadata, "min_known": min_known}
 
     def tell(self, client):
         return {"to": self.dice.choice([it for it in range(self.clients) if it != client])}, {}
@@ -130,7 +134,7 @@ MARKS = list("[]{},:")
 NUMBERS = ["0", "1", "2", "63", "64", "65", "-0", "-1", "1.0", "1e3", "18446744073709551615", "18446744073709551616", "1e309", "01"]
 LISTS = ["[]", "{}", "[[]]", '["t"]', '["t","t","t","t","t","t"]', "[{}]", "5", "null", "true", "false"]
 TEXTS = ['""', '" "', '"t"', '"\\u0074"', '"\\ud800"', '"seventeen-bytes-ab"', '"\u00e9"', '"grv"', '"ask"', '"reask"', '"tell"', '"batch"']
-NAMES = ['"do"', '"client"', '"clients"', '"at"', '"num"', '"to"', '"rounds"', '"throttles"', '"tags"', '"tag"', '"locked"', '"priority"', '"x"']
+NAMES = ['"do"', '"client"', '"clients"', '"at"', '"num"', '"to"', '"rounds"', '"throttles"', '"tags"', '"tag"', '"locked"', '"min_known"', '"use_min"', '"priority"', '"x"']
 
 
 def spoilt(dice, text):

@@ -3,8 +3,8 @@
 The clients of a round race, so that most scripts have many lawful texts. A text says where its calls stood: a commit version by
 its ordinal, a call that the register answered by its position. So a judge looks for an order of the calls, each client's in
 its own order and round after round, in which the plainest run answers each call as the text says. It takes the calls one by one:
-each that changes nothing for others as soon as the run is where its line says; a report that raises once no other call of the
-round is to be answered at the position that it leaves; and a fresh commit version where nothing else can go on. None of these
+each that changes nothing for others as soon as the run is where its line says; a report that changes the record once no other call
+of the round is to be answered at the position that it leaves; and a fresh commit version where nothing else can go on. None of these
 steps shuts out an order that the one before allowed, so where they stop short there is none.
 
 The one reply that such an order does not explain is a read that found its queue full. `crowd_fault` asks what has to be so where
@@ -21,7 +21,8 @@ from harness import DONE, Ran, fault_of, refused, without_history
 from model import FULL, LAST_VERSION, Run, in_order, line_of, printed
 from reader import Refused, script_of
 
-POSITION = re.compile(r"(?:\d+ (not )?raised|refused Locked \d+|\d+ (?:un)?locked \w+) pos (\d{1,20})(?= |$)")
+RECORD = r"\d+ (?:un)?locked \w+(?: min \d+)?(?: used \d+)?"
+POSITION = re.compile(rf"(?:\d+ (not |min )?raised|refused Locked \d+|{RECORD}) pos (\d{{1,20}})(?= |$)")
 ORDINAL = re.compile(r"prev \d+ version \d+ ordinal (\d{1,20}) fresh$")
 RANKS = {"batch": 0, "default": 1, "system": 2}
 
@@ -44,13 +45,17 @@ def stood(it, said):
     """Returns where the end of a line says that its call stood."""
     position, ordinal = POSITION.match(said), ORDINAL.match(said)
     if it.do in ("grv", "report") and position:
-        is_raise = it.do == "report" and position[1] is None
-        return "raises" if is_raise else "at a position", int(position[2])
+        return "changes" if is_change(it, position) else "at a position", int(position[2])
     if it.do in ("ask", "reask") and ordinal:
         return "draws", int(ordinal[1])
     if it.do in ("ask", "reask") and said == "refused Exhausted":
         return "exhausted", 0
     return ("full" if it.do == "grv" and said == FULL else "anywhere"), 0
+
+
+def is_change(it, position):
+    """Whether this is the position of a report that changed the record."""
+    return it.do == "report" and position[1] != "not "
 
 
 class Judge:
@@ -99,7 +104,7 @@ class Judge:
 
     def next_of(self, waiting):
         """Returns the calls of the client that goes on next."""
-        for may_go in (self.goes_on, self.raises, self.draws):
+        for may_go in (self.goes_on, self.changes, self.draws):
             for calls in waiting.values():
                 if may_go(calls[0]):
                     return calls
@@ -114,9 +119,9 @@ class Judge:
             return self.run.next_version(call.it.at)[1] > LAST_VERSION
         return call.when in ("anywhere", "full")
 
-    def raises(self, call):
-        """Whether a report can raise now, since nobody is left at this position."""
-        return call.when == "raises" and call.at == self.run.position + 1 and self.held[self.run.position] == 0
+    def changes(self, call):
+        """Whether a report can change the record now, since nobody is left at this position."""
+        return call.when == "changes" and call.at == self.run.position + 1 and self.held[self.run.position] == 0
 
     def draws(self, call):
         return call.when == "draws" and call.at == len(self.run.chain)
@@ -166,11 +171,11 @@ class Read(NamedTuple):
 def befores(order):
     """Returns, for each client and each of its calls, how many calls of each client were through before it began.
 
-    The commit versions are drawn one after the other, and so are positions raised, with what is answered at a position
+    The commit versions are drawn one after the other, and so are changes made, with what is answered at a position
     between two of these. With the order of each client's calls this says what came before what, in any schedule.
     """
     own, found = defaultdict(Counter), defaultdict(list)
-    drawn, raised, answered = Counter(), Counter(), Counter()
+    drawn, changed, answered = Counter(), Counter(), Counter()
     for call in order:
         client = call.it.client
         mine = own[client]
@@ -179,11 +184,11 @@ def befores(order):
         if call.when == "draws":
             mine |= drawn
             drawn = mine.copy()
-        elif call.when == "raises":
+        elif call.when == "changes":
             mine |= answered
-            raised, answered = mine.copy(), mine.copy()
+            changed, answered = mine.copy(), mine.copy()
         elif call.when == "at a position":
-            mine |= raised
+            mine |= changed
             answered = answered | mine
         own[client] = mine
     return found

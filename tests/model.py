@@ -11,15 +11,29 @@ from reader import LAST_VERSION, Refused, script_of
 LONGEST_STEP = 5_000_000
 MOST_COUNT, IDLE_BURST = 100_000, 10
 FULL = "refused Full"
+UNCHANGED = "not raised"
 
 
 class Record(NamedTuple):
     version: int
     locked: bool
     metadata: Optional[int]
+    min_known: int = 0
 
     def __str__(self):
-        return f"{self.version} {'locked' if self.locked else 'unlocked'} {'none' if self.metadata is None else self.metadata}"
+        lock, metadata = "locked" if self.locked else "unlocked", "none" if self.metadata is None else self.metadata
+        return f"{self.version} {lock} {metadata}{f' min {self.min_known}' if self.min_known else ''}"
+
+    def after(self, reported):
+        """Returns the record after a report: that of the greater version, with the greater minimum of the two."""
+        newest = reported if reported.version > self.version else self
+        return newest._replace(min_known=max(self.min_known, reported.min_known))
+
+    def change(self, reported):
+        """Returns how a report of this record changes it, in the words of its line."""
+        if reported.version > self.version:
+            return "raised"
+        return "min raised" if reported.min_known > self.min_known else UNCHANGED
 
 
 class Answer(NamedTuple):
@@ -38,17 +52,21 @@ class Answer(NamedTuple):
 
 
 class Event(NamedTuple):
-    """A call that the register answered, with the position then. A read has None for `raised`."""
+    """A call that the register answered, with the position then. `change` is what a report did, and None for a read."""
 
     client: int
     call: int
     position: int
     record: Record
-    raised: Optional[bool]
+    change: Optional[str]
+
+    @property
+    def is_change(self):
+        return self.change not in (None, UNCHANGED)
 
     def __str__(self):
-        what = {None: f"read {self.record}", True: f"report {self.record} raised", False: f"report {self.record} not raised"}
-        return f"client {self.client} call {self.call} {what[self.raised]}"
+        what = f"read {self.record}" if self.change is None else f"report {self.record} {self.change}"
+        return f"client {self.client} call {self.call} {what}"
 
 
 class Log:
@@ -69,11 +87,11 @@ class Run:
         self.record, self.position = Record(script.recovery, False, None), 0
         self.logs = [Log() for _ in range(script.clients)]
 
-    def answered(self, client, record, raised):
+    def answered(self, client, record, change):
         """Notes that the register answered this client's call, which has then come to the register's position."""
         log = self.logs[client]
         log.position = self.position
-        self.events.append(Event(client, log.calls, self.position, record, raised))
+        self.events.append(Event(client, log.calls, self.position, record, change))
 
     def turned_away(self, it):
         """Returns why a read may not wait in a queue, whoever else waits there, or None."""
@@ -92,7 +110,8 @@ class Run:
             return f"refused Locked {self.record.version} pos {self.position}"
         held = [self.throttles.get((it.priority, tag)) for tag in it.tags]
         limits = [f" limit {one['tag']} {one['rate']} {one['expires']}" for one in held if one and one["expires"] > it.at]
-        return f"{self.record} pos {self.position}{''.join(limits)}"
+        used = f" used {self.record.min_known}" if it.use_min else ""
+        return f"{self.record}{used} pos {self.position}{''.join(limits)}"
 
     def ask(self, it):
         return self.drawn(it.client, self.latest(it.client) + 1, it)
@@ -141,11 +160,16 @@ class Run:
         version = self.logs[it.client].versions.get(it.num)
         if version is None:
             return "refused NotIssued"
-        record, raised = Record(version, it.locked, it.metadata), version > self.record.version
-        if raised:
-            self.record, self.position = record, self.position + 1
-        self.answered(it.client, record, raised)
-        return f"{version} {'raised' if raised else 'not raised'} pos {self.position}"
+        if it.min_known > version:
+            return "refused MinAbove"
+        return self.reported(it.client, Record(version, it.locked, it.metadata, it.min_known))
+
+    def reported(self, client, record):
+        """Takes a client's report of a record. A position is the number of reports that changed the record."""
+        change = self.record.change(record)
+        self.record, self.position = self.record.after(record), self.position + (change != UNCHANGED)
+        self.answered(client, record, change)
+        return f"{record.version} {change} pos {self.position}"
 
     def tell(self, it):
         return f"{it.to} pos {self.logs[it.client].position}"
@@ -180,11 +204,12 @@ class Run:
         return lines
 
     def audit(self):
-        return f"audit ok events {len(self.events)} raised {self.position} versions {len(self.chain)}"
+        raised = sum(it.change == "raised" for it in self.events)
+        return f"audit ok events {len(self.events)} raised {raised} versions {len(self.chain)}"
 
     def history(self):
-        """Returns the events by position, at each position first the raise and then the others, by client and by call."""
-        ordered = sorted(self.events, key=lambda it: (it.position, not it.raised, it.client, it.call))
+        """Returns the events by position, at each position first the change and then the others, by client and by call."""
+        ordered = sorted(self.events, key=lambda it: (it.position, not it.is_change, it.client, it.call))
         return [f"history {number} {event}" for number, event in enumerate(ordered)]
 
 

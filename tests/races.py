@@ -45,6 +45,7 @@ def turns(clients, times, what):
 TOLD = [[*both(*commit(0, 1)), do("tell", 0, to=1), do("tell", 1, to=0)], both(do("grv"), do("tell", to=2))]
 LOCKS = [[do("ask", at=5), *commit(0, 2, locked=True), *turns(1, 3, lambda _, at: do("grv", 1, lock_aware=at == 1)), *[do("grv", 2)] * 3]]
 RANKED = [turns(9, 10, lambda who, at: do("grv", who, priority=["system", "default", "batch"][(who + at) % 3]))]
+MINIMA = [[it for who in range(3) for it in (*commit(who, 1, min_known=who), do("report", who, num=1, min_known=30 * who), do("grv", who, use_min=True))]]
 REPEATED = [[it for who in range(4) for it in (do("ask", who, at=9), do("reask", who, num=1, at=99), *commit(who, 2))]]
 # Worked scripts of clients that race, and the further members of their top level.
 WORKED = {
@@ -56,6 +57,7 @@ WORKED = {
     "reads through a room of one": ([turns(8, 10, lambda who, _: do("grv", who))], {"clients": 8, "room": 1, "normal": 1}),
     "priorities through a room of two": (RANKED, {"clients": 9, "room": 2, "normal": 2, "batch": 1}),
     "repeats beside commits": (REPEATED, {"clients": 4}),
+    "minima that rise alone": (MINIMA, {"clients": 3}),
     "the last versions": ([turns(4, 3, lambda who, at: do("ask", who, at=at))], {"clients": 4, "recovery": 2**63 - 6}),
 }
 
@@ -116,6 +118,17 @@ def sure_texts(program):
     for proxies in (1, 4):
         for time in range(AGAIN):
             yield f"untold, {proxies} proxies, run {time}", fault_of(run([program, *untold.arguments_for(proxies)], untold.given), untold.wanted)
+
+
+# So many rounds in which each desk has one read.
+TURNS = 400
+
+
+def each_desk(program):
+    """As many clients read in each round as there are proxies with room for one: two reads at one desk could find its queue full."""
+    for proxies in range(2, 17):
+        given = written([[do("grv", who, count=9) for who in range(proxies)]] * TURNS, clients=proxies, room=1, normal=3)
+        yield f"{proxies} clients and proxies", fault_of(run([program, "--history", "--proxies", str(proxies)], given), expected(given, True))
 
 
 def limits():

@@ -112,10 +112,11 @@ COMMANDS = {
         "count": (whole(), 1),
         "tags": (list_of(5, tag), []),
         "lock_aware": (flag, False),
+        "use_min": (flag, False),
     },
     "ask": {"at": (whole(), REQUIRED), "processed": (whole(), 0)},
     "reask": {"num": (whole(), REQUIRED), "at": (whole(), REQUIRED), "processed": (whole(), 0)},
-    "report": {"num": (whole(), REQUIRED), "locked": (flag, False), "metadata": (metadata, None)},
+    "report": {"num": (whole(), REQUIRED), "locked": (flag, False), "metadata": (metadata, None), "min_known": (whole(), 0)},
     "tell": {"to": (whole(), REQUIRED)},
 }
 

@@ -178,10 +178,10 @@ def limits(program):
 REQUIRED = {"grv": {}, "ask": {"at": "1"}, "reask": {"num": "1", "at": "1"}, "report": {"num": "1"}, "tell": {"to": "1"}}
 NO_TAG_LISTS = [*NO_LISTS, '"t"', '["t","t","t","t","t","t"]', '[["t"]]', '["t",5]', *[f'["t",{it}]' for it in NO_TAGS]]
 WRONG_FIELDS = {
-    "grv": {"at": NO_NUMBERS, "priority": NO_PRIORITIES, "count": NO_NUMBERS, "tags": NO_TAG_LISTS, "lock_aware": NO_FLAGS},
+    "grv": {"at": NO_NUMBERS, "priority": NO_PRIORITIES, "count": NO_NUMBERS, "tags": NO_TAG_LISTS, "lock_aware": NO_FLAGS, "use_min": NO_FLAGS},
     "ask": {"at": NO_NUMBERS, "processed": NO_NUMBERS},
     "reask": {"num": NO_NUMBERS, "at": NO_NUMBERS, "processed": NO_NUMBERS},
-    "report": {"num": NO_NUMBERS, "locked": NO_FLAGS, "metadata": [it for it in NO_NUMBERS if it != "null"]},
+    "report": {"num": NO_NUMBERS, "locked": NO_FLAGS, "metadata": [it for it in NO_NUMBERS if it != "null"], "min_known": NO_NUMBERS},
     "tell": {"to": [*NO_NUMBERS, "0", "3", "64", "18446744073709551615"]},
 }
 

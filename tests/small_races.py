@@ -9,8 +9,8 @@ def ask(client, at=1000):
     return {"do": "ask", "client": client, "at": at}
 
 
-def report(client, num=1):
-    return {"do": "report", "client": client, "num": num}
+def report(client, num=1, **said):
+    return {"do": "report", "client": client, "num": num, **said}
 
 
 def reads(*priorities, **top):
@@ -33,6 +33,7 @@ BOTH = [[ask(0), report(0), grv(0), ask(1), report(1), grv(1)]], {}
 SEEN = [[ask(0), ask(0), report(0, 2), grv(1), ask(1)]], {}
 AFTER = [[ask(0), ask(0), report(0, 2), ask(0), ask(1), grv(1)]], {}
 ROUNDS = [[ask(0), ask(0), report(0, 2)], [grv(1), ask(1)], [grv(0)]], {}
+MINIMA = [[ask(0), report(0, min_known=50), ask(1), report(1, min_known=40), grv(1, use_min=True)]], {}
 APART = [[grv(0), ask(0), ask(1), grv(1)]], {"room": 1}
 OFTEN = [[grv(0), grv(0), grv(1)]], {"room": 1}
 LONG = [[grv(0), grv(0), grv(1, count=30)]], {"room": 1, "normal": 1}
@@ -87,6 +88,30 @@ RACES = [
     (
         *("a request of a later round that is drawn before one of an earlier round", ROUNDS, 4, "3 1 3", False),
         [FIRST, THIRD, "102 raised pos 1", "102 unlocked none pos 1", SECOND, "102 unlocked none pos 1"],
+    ),
+    (
+        *("a minimum alone and then a version, which leaves the greater minimum", MINIMA, 1, "3 1 2", True),
+        [FIRST, "100 min raised pos 1", SECOND, "101 raised pos 2", "101 unlocked none min 50 used 50 pos 2"],
+    ),
+    (
+        *("a version and then a minimum alone, and a read between them", MINIMA, 1, "3 1 2", True),
+        [FIRST, "100 min raised pos 2", SECOND, "101 raised pos 1", "101 unlocked none min 40 used 40 pos 1"],
+    ),
+    (
+        *("a version and then a minimum alone, and a read after them", MINIMA, 1, "3 1 2", True),
+        [FIRST, "100 min raised pos 2", SECOND, "101 raised pos 1", "101 unlocked none min 50 used 50 pos 2"],
+    ),
+    (
+        *("a greater minimum that raises nothing", MINIMA, 1, "3 1 2", False),
+        [FIRST, "100 not raised pos 1", SECOND, "101 raised pos 1", "101 unlocked none min 40 used 40 pos 1"],
+    ),
+    (
+        *("the last minimum in place of the greatest", MINIMA, 1, "3 1 2", False),
+        [FIRST, "100 min raised pos 1", SECOND, "101 raised pos 2", "101 unlocked none min 40 used 40 pos 2"],
+    ),
+    (
+        *("two changes at one position", MINIMA, 1, "3 1 2", False),
+        [FIRST, "100 min raised pos 1", SECOND, "101 raised pos 1", "101 unlocked none min 50 used 50 pos 1"],
     ),
     ("two of three find a queue of one full", reads("default", "default", "default", room=1), 1, "1 0 0", True, [FULL, READ, FULL]),
     ("nobody finds room", reads("default", "default", "default", room=1), 1, "0 0 0", False, [FULL, FULL, FULL]),

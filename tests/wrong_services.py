@@ -2,7 +2,7 @@
 from contextlib import contextmanager
 from types import SimpleNamespace
 
-from model import LAST_VERSION, Record, Run
+from model import LAST_VERSION, UNCHANGED, Record, Run
 from schedules import Proxy, Schedule
 
 
@@ -39,22 +39,98 @@ class LowPositions(Run):
 class LaterReplaces(Run):
     """A report replaces the record whatever its version is."""
 
-    def report(self, it):
-        version = self.logs[it.client].versions.get(it.num)
-        kept, self.record = self.record, Record(-1, False, None) if version is not None else self.record
-        said = super().report(it)
-        self.record = kept if version is None else self.record
-        return said
+    def reported(self, client, record):
+        self.record = Record(-1, False, None)
+        return super().reported(client, record)
 
 
 class NeverRaises(Run):
     """A report answers that it did not raise, and changes nothing."""
 
-    def report(self, it):
-        kept, self.record = self.record, Record(LAST_VERSION, False, None)
-        said = super().report(it)
+    def reported(self, client, record):
+        kept, self.record = self.record, Record(LAST_VERSION, False, None, LAST_VERSION)
+        said = super().reported(client, record)
         self.record = kept
         return said
+
+
+class LastMinimum(Run):
+    """A report replaces the minimum whatever that was."""
+
+    def reported(self, client, record):
+        said = super().reported(client, record)
+        self.record = self.record._replace(min_known=record.min_known)
+        return said
+
+
+class MinimumOfRaises(Run):
+    """A report of a version that is not greater changes nothing."""
+
+    def reported(self, client, record):
+        is_above = record.version > self.record.version
+        return super().reported(client, record if is_above else record._replace(min_known=0))
+
+
+class MinimumInPlace(Run):
+    """A minimum that is raised alone makes no position."""
+
+    def reported(self, client, record):
+        kept, change = self.position, self.record.change(record)
+        said = super().reported(client, record)
+        if change != "min raised":
+            return said
+        self.position = kept
+        return f"{record.version} {UNCHANGED} pos {kept}"
+
+
+class ChangesReplace(Run):
+    """A report that raises the minimum replaces all but the version."""
+
+    def reported(self, client, record):
+        is_change = self.record.change(record) != UNCHANGED
+        said = super().reported(client, record)
+        self.record = self.record._replace(locked=record.locked, metadata=record.metadata) if is_change else self.record
+        return said
+
+
+class AboveTaken(Run):
+    """A minimum above its version is taken for that version."""
+
+    def report(self, it):
+        version = self.logs[it.client].versions.get(it.num, it.min_known)
+        with changed(it, min_known=min(it.min_known, version)):
+            return super().report(it)
+
+
+class AboveByOne(Run):
+    """A minimum has to be below its version."""
+
+    def report(self, it):
+        is_same = it.min_known == self.logs[it.client].versions.get(it.num)
+        return "refused MinAbove" if is_same else super().report(it)
+
+
+class AboveFirst(Run):
+    """A report is looked at for its minimum before its number."""
+
+    def report(self, it):
+        said = super().report(it)
+        return "refused MinAbove" if said == "refused NotIssued" and it.min_known > self.recovery else said
+
+
+class UsesTheLive(Run):
+    """A read that asks for the minimum gets the live version."""
+
+    def grv(self, it):
+        return super().grv(it).replace(f" used {self.record.min_known} ", f" used {self.record.version} ")
+
+
+class UsesForAll(Run):
+    """Each read says the minimum that it could have used."""
+
+    def grv(self, it):
+        with changed(it, use_min=True):
+            return super().grv(it)
 
 
 class KeepsLock(Run):
@@ -290,7 +366,8 @@ class CachedReads(Run):
 
 # Where one of these says anything else than the right service in the same schedule, no schedule gives that.
 ALWAYS = [
-    *(LowPositions, LaterReplaces, NeverRaises, KeepsLock, ForgottenRepeats, KeepsAll, SaysFresh, DrawsForRepeats, EarlyByTwo),
+    *(LowPositions, LaterReplaces, NeverRaises, LastMinimum, MinimumOfRaises, MinimumInPlace, ChangesReplace, AboveTaken, AboveByOne),
+    *(AboveFirst, UsesTheLive, UsesForAll, KeepsLock, ForgottenRepeats, KeepsAll, SaysFresh, DrawsForRepeats, EarlyByTwo),
     *(OneNumbering, Forks, NoCap, StepsOfTwo, PassesTheLast, ExhaustedFromTheFirst, NoLimits, LimitsForAll, LimitsAtExpiry),
     *(LocksOutAll, LocksOutNobody, CountsFromNought, ThrottledFirst, ReportsAnything, ReportsKeptAlone),
     *(TellsTheLatest, LosesLearns, LearnsBlindly, CachedReads),

@@ -36,10 +36,10 @@ fn first_out_of_order(logs: &[Log]) -> Option<(u32, u64)> {
     for (client, log) in logs.iter().enumerate() {
         let mut before = 0;
         for (place, call) in log.iter().enumerate() {
-            let is_raise = matches!(call.answer, CallAnswer::Acked { raised: true, .. });
+            let is_change = matches!(call.answer, CallAnswer::Acked { changed: true, .. });
             if call.asked < before
                 || call.position < call.asked
-                || is_raise && call.position == call.asked
+                || is_change && call.position == call.asked
             {
                 return Some((client as u32, place as u64));
             }
@@ -60,32 +60,35 @@ fn first_call(logs: &[Log], is_fault: impl Fn(&Call) -> bool) -> Option<(u32, u6
 
 /// The register at each position that a call has reached.
 fn registers_of(start: Record, logs: &[Log]) -> Result<Vec<Record>, AuditFault> {
-    let mut raises = Vec::new();
+    let mut changes = Vec::new();
     let mut greatest = 0;
     for call in logs.iter().flatten() {
         greatest = greatest.max(call.position);
-        if let CallAnswer::Acked { rec, raised: true } = call.answer {
-            raises.push((call.position, rec));
+        if let CallAnswer::Acked {
+            rec, changed: true, ..
+        } = call.answer
+        {
+            changes.push((call.position, rec));
         }
     }
-    raises.sort_unstable_by_key(|raise| raise.0);
-    if let Some(pair) = raises.windows(2).find(|pair| pair[0].0 == pair[1].0) {
+    changes.sort_unstable_by_key(|change| change.0);
+    if let Some(pair) = changes.windows(2).find(|pair| pair[0].0 == pair[1].0) {
         return Err(AuditFault::Clash {
             position: pair[0].0,
         });
     }
-    let places = raises.iter().zip(1..);
+    let places = changes.iter().zip(1..);
     let missing = places
         .into_iter()
-        .find(|(raise, position)| raise.0 != *position);
-    let missing = missing.map_or(raises.len() as u64 + 1, |(_, position)| position);
+        .find(|(change, position)| change.0 != *position);
+    let missing = missing.map_or(changes.len() as u64 + 1, |(_, position)| position);
     if missing <= greatest {
         return Err(AuditFault::Gap { position: missing });
     }
-    let mut registers = Vec::with_capacity(raises.len() + 1);
+    let mut registers = Vec::with_capacity(changes.len() + 1);
     let mut current = start;
     registers.push(current);
-    for (_, rec) in raises {
+    for (_, rec) in changes {
         current = current.after_report(rec);
         registers.push(current);
     }
@@ -96,8 +99,14 @@ fn is_wrong(registers: &[Record], call: &Call) -> bool {
     let at = |position: u64| registers[position as usize];
     match &call.answer {
         CallAnswer::Version { rec, .. } => *rec != at(call.position),
-        CallAnswer::Acked { rec, raised: true } => rec.version <= at(call.position - 1).version,
-        CallAnswer::Acked { rec, raised: false } => rec.version > at(call.position).version,
+        CallAnswer::Acked {
+            rec,
+            raised,
+            changed,
+        } => {
+            let met = at(call.position - u64::from(*changed));
+            *raised != met.raises(*rec) || *changed != met.changes(*rec)
+        }
         _ => false,
     }
 }
@@ -179,7 +188,13 @@ fn is_borne_out(chain: &[Issued], client: u32, own: &Drawn, call: &Call) -> bool
             num,
             locked,
             metadata,
-        } => is_report(chain, own, (num, locked, metadata), &call.answer),
+            min_known,
+        } => is_report(
+            chain,
+            own,
+            (num, locked, metadata, min_known),
+            &call.answer,
+        ),
         Input::Tell { .. } | Input::Learn { .. } => matches!(call.answer, CallAnswer::Told),
     }
 }
@@ -253,7 +268,7 @@ fn is_commit_version(
 fn is_report(
     chain: &[Issued],
     own: &Drawn,
-    (num, locked, metadata): (u64, bool, Option<u64>),
+    (num, locked, metadata, min_known): (u64, bool, Option<u64>, u64),
     answer: &CallAnswer,
 ) -> bool {
     let drawn = own.any(num).and_then(|place| chain.get(place));
@@ -262,13 +277,17 @@ fn is_report(
             drawn.is_some_and(|entry| entry.version == rec.version)
                 && rec.locked == locked
                 && rec.metadata == metadata
+                && rec.min_known == min_known
         }
         CallAnswer::Refused(Refusal::NotIssued) => drawn.is_none(),
+        CallAnswer::Refused(Refusal::MinAbove) => {
+            drawn.is_some_and(|entry| entry.version < min_known)
+        }
         _ => false,
     }
 }
 
-/// The events position by position: at each the raise, and then the others by client and by call.
+/// The events position by position: at each the change, and then the others by client and by call.
 fn explain(logs: &[Log]) -> Vec<Event> {
     let mut events = Vec::new();
     for (client, log) in (0..).zip(logs) {
@@ -277,7 +296,11 @@ fn explain(logs: &[Log]) -> Vec<Event> {
                 CallAnswer::Version { rec, .. } => {
                     events.push((it.position, Event::Read { client, call, rec }));
                 }
-                CallAnswer::Acked { rec, raised } => {
+                CallAnswer::Acked {
+                    rec,
+                    raised,
+                    changed,
+                } => {
                     events.push((
                         it.position,
                         Event::Report {
@@ -285,6 +308,7 @@ fn explain(logs: &[Log]) -> Vec<Event> {
                             call,
                             rec,
                             raised,
+                            changed,
                         },
                     ));
                 }
@@ -292,6 +316,6 @@ fn explain(logs: &[Log]) -> Vec<Event> {
             }
         }
     }
-    events.sort_by_key(|(position, event)| (*position, !event.is_raise()));
+    events.sort_by_key(|(position, event)| (*position, !event.is_change()));
     events.into_iter().map(|(_, event)| event).collect()
 }

@@ -2,7 +2,7 @@
 
 use crate::chain::{Ask, ChainCore, ChainError};
 use crate::history::{Call, CallAnswer, GrvOpts, Input, Log, Record, Refusal};
-use crate::live::{LiveRecord, Seen};
+use crate::live::{Ack, LiveRecord, Seen};
 use crate::proxy::{Answer, Desk, Request};
 use crate::queue::Req;
 use crate::script::Act;
@@ -62,7 +62,8 @@ impl Client {
                 num,
                 locked,
                 metadata,
-            } => self.report(service, num, locked, metadata),
+                min_known,
+            } => self.report(service, num, (locked, metadata, min_known)),
             Act::Tell { to } => {
                 let seen = service.live.split(&self.seen);
                 self.told.push(Told { to, seen });
@@ -149,25 +150,34 @@ impl Client {
         &mut self,
         service: &Service,
         num: u64,
-        locked: bool,
-        metadata: Option<u64>,
+        (locked, metadata, min_known): (bool, Option<u64>, u64),
     ) -> (Input, CallAnswer) {
         let input = Input::Report {
             num,
             locked,
             metadata,
+            min_known,
         };
         let place = num.checked_sub(1).map(|place| place as usize);
         let Some(&version) = place.and_then(|place| self.versions.get(place)) else {
             return (input, CallAnswer::Refused(Refusal::NotIssued));
         };
+        if min_known > version {
+            return (input, CallAnswer::Refused(Refusal::MinAbove));
+        }
         let rec = Record {
             version,
             locked,
             metadata,
+            min_known,
         };
-        let raised = service.live.report(&mut self.seen, rec);
-        (input, CallAnswer::Acked { rec, raised })
+        let Ack { raised, changed } = service.live.report(&mut self.seen, rec);
+        let answer = CallAnswer::Acked {
+            rec,
+            raised,
+            changed,
+        };
+        (input, answer)
     }
 }
 

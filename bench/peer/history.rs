@@ -9,14 +9,35 @@ pub struct Record {
     pub version: u64,
     pub locked: bool,
     pub metadata: Option<u64>,
+    pub min_known: u64,
 }
 
 impl Record {
+    pub fn raises(self, reported: Record) -> bool {
+        reported.version > self.version
+    }
+
+    pub fn changes(self, reported: Record) -> bool {
+        self.raises(reported) || reported.min_known > self.min_known
+    }
+
     pub fn after_report(self, reported: Record) -> Record {
-        if reported.version > self.version {
+        let newest = if self.raises(reported) {
             reported
         } else {
             self
+        };
+        Record {
+            min_known: self.min_known.max(reported.min_known),
+            ..newest
+        }
+    }
+
+    pub fn version_for(self, use_min: bool) -> u64 {
+        if use_min {
+            self.min_known
+        } else {
+            self.version
         }
     }
 }
@@ -25,8 +46,12 @@ impl fmt::Display for Record {
     fn fmt(&self, f: &mut fmt::Formatter) -> fmt::Result {
         let lock = if self.locked { "locked" } else { "unlocked" };
         match self.metadata {
-            None => write!(f, "{} {lock} none", self.version),
-            Some(metadata) => write!(f, "{} {lock} {metadata}", self.version),
+            None => write!(f, "{} {lock} none", self.version)?,
+            Some(metadata) => write!(f, "{} {lock} {metadata}", self.version)?,
+        }
+        match self.min_known {
+            0 => Ok(()),
+            min_known => write!(f, " min {min_known}"),
         }
     }
 }
@@ -38,6 +63,7 @@ pub struct GrvOpts {
     pub tags: Vec<Vec<u8>>,
     pub lock_aware: bool,
     pub at: u64,
+    pub use_min: bool,
 }
 
 impl GrvOpts {
@@ -49,6 +75,7 @@ impl GrvOpts {
             tags: Vec::new(),
             lock_aware: false,
             at: 0,
+            use_min: false,
         }
     }
 }
@@ -64,6 +91,7 @@ pub enum Input {
         num: u64,
         locked: bool,
         metadata: Option<u64>,
+        min_known: u64,
     },
     Tell {
         to: u32,
@@ -84,6 +112,7 @@ pub enum CallAnswer {
     Acked {
         rec: Record,
         raised: bool,
+        changed: bool,
     },
     Told,
     Refused(Refusal),
@@ -103,6 +132,7 @@ pub enum Refusal {
     NotIssued,
     Stranger,
     TooLarge,
+    MinAbove,
 }
 
 impl fmt::Display for Refusal {
@@ -119,6 +149,7 @@ impl fmt::Display for Refusal {
             Refusal::NotIssued => "NotIssued",
             Refusal::Stranger => "Stranger",
             Refusal::TooLarge => "TooLarge",
+            Refusal::MinAbove => "MinAbove",
         };
         f.write_str(name)
     }
@@ -140,6 +171,7 @@ pub enum Event {
         call: u64,
         rec: Record,
         raised: bool,
+        changed: bool,
     },
     Read {
         client: u32,
@@ -156,9 +188,10 @@ impl fmt::Display for Event {
                 call,
                 rec,
                 raised,
+                changed,
             } => {
-                let raised = if *raised { "raised" } else { "not raised" };
-                write!(f, "client {client} call {call} report {rec} {raised}")
+                let change = change_words(*raised, *changed);
+                write!(f, "client {client} call {call} report {rec} {change}")
             }
             Event::Read { client, call, rec } => {
                 write!(f, "client {client} call {call} read {rec}")
@@ -170,5 +203,18 @@ impl fmt::Display for Event {
 impl Event {
     pub fn is_raise(&self) -> bool {
         matches!(self, Event::Report { raised: true, .. })
+    }
+
+    pub fn is_change(&self) -> bool {
+        matches!(self, Event::Report { changed: true, .. })
+    }
+}
+
+/// How a report changed the record, as lines say it.
+pub fn change_words(raised: bool, changed: bool) -> &'static str {
+    match (raised, changed) {
+        (true, _) => "raised",
+        (false, true) => "min raised",
+        (false, false) => "not raised",
     }
 }

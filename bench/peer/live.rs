@@ -7,7 +7,7 @@ use std::sync::atomic::{AtomicU64, Ordering, fence};
 const LOCKED: u64 = 1;
 const HAS_METADATA: u64 = 2;
 
-/// A record, and the number of reports that had raised it by then.
+/// A record, and the number of reports that had changed it by then.
 #[derive(Clone, Copy)]
 pub struct Fetched {
     pub rec: Record,
@@ -15,26 +15,40 @@ pub struct Fetched {
 }
 
 impl Fetched {
-    fn to_words(self) -> [u64; 4] {
+    fn to_words(self) -> [u64; 5] {
         let locked = if self.rec.locked { LOCKED } else { 0 };
         let (flags, metadata) = match self.rec.metadata {
             None => (locked, 0),
             Some(metadata) => (locked | HAS_METADATA, metadata),
         };
-        [self.position, self.rec.version, flags, metadata]
+        [
+            self.position,
+            self.rec.version,
+            flags,
+            metadata,
+            self.rec.min_known,
+        ]
     }
 
-    fn from_words([position, version, flags, metadata]: [u64; 4]) -> Fetched {
+    fn from_words([position, version, flags, metadata, min_known]: [u64; 5]) -> Fetched {
         let rec = Record {
             version,
             locked: flags & LOCKED != 0,
             metadata: (flags & HAS_METADATA != 0).then_some(metadata),
+            min_known,
         };
         Fetched { rec, position }
     }
 }
 
-/// What the holder of a token has seen: the number of raises.
+/// Whether a report raised the live committed version, and whether it changed the record.
+#[derive(Clone, Copy)]
+pub struct Ack {
+    pub raised: bool,
+    pub changed: bool,
+}
+
+/// What the holder of a token has seen: the number of changes.
 #[derive(Default)]
 pub struct Seen {
     pub position: u64,
@@ -44,7 +58,7 @@ pub struct Seen {
 pub struct LiveRecord {
     /// Odd while the words are being replaced.
     sequence: AtomicU64,
-    words: [AtomicU64; 4],
+    words: [AtomicU64; 5],
     /// What the words say, for the reports.
     reports: Mutex<Fetched>,
 }
@@ -65,17 +79,16 @@ impl LiveRecord {
         fetched
     }
 
-    /// Answers whether the report raised the record.
-    pub fn report(&self, seen: &mut Seen, rec: Record) -> bool {
+    pub fn report(&self, seen: &mut Seen, rec: Record) -> Ack {
         let mut live = self.reports.lock().expect("no reporter panics");
-        let raised = rec.version > live.rec.version;
-        if raised {
-            let position = live.position + 1;
+        let (raised, changed) = (live.rec.raises(rec), live.rec.changes(rec));
+        if changed {
+            let (rec, position) = (live.rec.after_report(rec), live.position + 1);
             *live = Fetched { rec, position };
             self.store(*live);
         }
         seen.position = live.position;
-        raised
+        Ack { raised, changed }
     }
 
     pub fn split(&self, seen: &Seen) -> Seen {
@@ -96,7 +109,7 @@ impl LiveRecord {
             let before = self.sequence.load(Ordering::Acquire);
             if before % 2 == 0 {
                 let words =
-                    [0, 1, 2, 3].map(|place: usize| self.words[place].load(Ordering::Relaxed));
+                    [0, 1, 2, 3, 4].map(|place: usize| self.words[place].load(Ordering::Relaxed));
                 fence(Ordering::Acquire);
                 if self.sequence.load(Ordering::Relaxed) == before {
                     return Fetched::from_words(words);

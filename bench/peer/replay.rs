@@ -41,6 +41,7 @@ fn opening(recovery: u64) -> Record {
         version: recovery,
         locked: false,
         metadata: None,
+        min_known: 0,
     }
 }
 

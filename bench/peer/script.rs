@@ -45,6 +45,7 @@ pub enum Act {
         num: u64,
         locked: bool,
         metadata: Option<u64>,
+        min_known: u64,
     },
     Tell {
         to: u32,
@@ -164,6 +165,7 @@ fn command_of(value: &Value, clients: u32) -> Option<Command> {
                 None | Some(Value::Null) => None,
                 Some(metadata) => Some(metadata.whole()?),
             },
+            min_known: whole_or(value, "min_known", 0)?,
         },
         "tell" => Act::Tell {
             to: whole(value, "to").filter(|&it| it < clients.into() && it != client.into())? as u32,
@@ -186,6 +188,7 @@ fn opts_of(value: &Value) -> Option<GrvOpts> {
         },
         lock_aware: flag(value, "lock_aware")?,
         at: whole_or(value, "at", 0)?,
+        use_min: flag(value, "use_min")?,
     })
 }
 

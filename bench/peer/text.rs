@@ -1,6 +1,6 @@
 //! The printed text of a run.
 
-use crate::history::{Call, CallAnswer, Event, Input, Log};
+use crate::history::{Call, CallAnswer, Event, Input, Log, change_words};
 use crate::script::Script;
 use std::fmt::{self, Write};
 
@@ -70,7 +70,13 @@ fn write_reply(text: &mut String, call: &Call, is_reask: bool) -> fmt::Result {
             ..
         } => writeln!(text, "refused Locked {} pos {position}", rec.version),
         CallAnswer::Version { rec, limits, .. } => {
-            write!(text, "{rec} pos {position}")?;
+            write!(text, "{rec}")?;
+            if let Input::Grv(opts) = &call.input
+                && opts.use_min
+            {
+                write!(text, " used {}", rec.version_for(opts.use_min))?;
+            }
+            write!(text, " pos {position}")?;
             for limit in limits {
                 let tag = str::from_utf8(&limit.tag).map_err(|_| fmt::Error)?;
                 write!(text, " limit {tag} {} {}", limit.rate, limit.expires)?;
@@ -85,9 +91,13 @@ fn write_reply(text: &mut String, call: &Call, is_reask: bool) -> fmt::Result {
                 "prev {prev} version {version} ordinal {ordinal} {fresh}"
             )
         }
-        CallAnswer::Acked { rec, raised } => {
-            let raised = if *raised { "raised" } else { "not raised" };
-            writeln!(text, "{} {raised} pos {position}", rec.version)
+        CallAnswer::Acked {
+            rec,
+            raised,
+            changed,
+        } => {
+            let change = change_words(*raised, *changed);
+            writeln!(text, "{} {change} pos {position}", rec.version)
         }
         CallAnswer::Told => match call.input {
             Input::Tell { to } => writeln!(text, "{to} pos {position}"),

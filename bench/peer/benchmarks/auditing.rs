@@ -25,6 +25,7 @@ const OPENING: Record = Record {
     version: RECOVERY,
     locked: false,
     metadata: None,
+    min_known: 0,
 };
 
 fn event_word(event: &Event) -> u64 {
@@ -41,6 +42,7 @@ fn event_word(event: &Event) -> u64 {
             call,
             rec,
             raised,
+            ..
         } => word(*client, *call, rec).wrapping_mul(31) ^ u64::from(*raised),
         Event::Read { client, call, rec } => word(*client, *call, rec),
     }
@@ -106,9 +108,9 @@ impl Run {
             .last()
             .map_or(0, |issued| issued.version);
         let rec = Record { version, ..OPENING };
-        let raised = version > self.live.version;
-        if raised {
-            self.live = rec;
+        let (raised, changed) = (self.live.raises(rec), self.live.changes(rec));
+        if changed {
+            self.live = self.live.after_report(rec);
             self.position += 1;
         }
         (
@@ -116,8 +118,13 @@ impl Run {
                 num,
                 locked: false,
                 metadata: None,
+                min_known: 0,
             },
-            CallAnswer::Acked { rec, raised },
+            CallAnswer::Acked {
+                rec,
+                raised,
+                changed,
+            },
         )
     }
 

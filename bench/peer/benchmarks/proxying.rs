@@ -90,6 +90,7 @@ fn open() -> LiveRecord {
         version: RECOVERY,
         locked: false,
         metadata: None,
+        min_known: 0,
     })
 }
 

@@ -85,6 +85,7 @@ fn unlocked(version: u64) -> Record {
         version,
         locked: false,
         metadata: None,
+        min_known: 0,
     }
 }
 
@@ -92,6 +93,7 @@ fn record_word(rec: &Record) -> u64 {
     rec.version
         .wrapping_add(u64::from(rec.locked))
         .wrapping_add(rec.metadata.unwrap_or(0))
+        .wrapping_add(rec.min_known)
 }
 
 fn read_in_turn(live: &LiveRecord, reads: u64) -> Tally {
@@ -112,8 +114,8 @@ fn report_in_turn(live: &LiveRecord, first: u64, step: u64, reports: u32) -> Tal
     let mut tally = Tally::default();
     let mut version = first;
     for _ in 0..reports {
-        let raised = live.report(&mut seen, unlocked(version));
-        tally.add_call(version, raised);
+        let ack = live.report(&mut seen, unlocked(version));
+        tally.add_call(version, ack.raised);
         version += step;
     }
     tally.begun_at(begun)

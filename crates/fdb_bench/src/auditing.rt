@@ -28,6 +28,7 @@ const OPENING: Record = Record {
     version: RECOVERY,
     locked: false,
     metadata: None,
+    min_known: 0,
 };
 
 /// Audits the logs of 64 clients with so many calls in all, a few times.
@@ -84,6 +85,7 @@ fn event_word(event: &Event) -> u64 {
             call,
             rec,
             raised,
+            ..
         } => place_word(*client, *call, rec).wrapping_mul(31) ^ u64::from(*raised),
         Event::Read { client, call, rec } => place_word(*client, *call, rec),
     }
@@ -103,7 +105,7 @@ fn place_word(client: u32, call: u64, rec: &Record) -> u64 {
 struct Run {
     chain: ChainCore,
     live: Record,
-    /// How many reports have raised the live record.
+    /// How many reports have changed the live record.
     position: u64,
     logs: Vec<ClientLog>,
 }
@@ -169,22 +171,24 @@ impl Run {
             Some(issued) => issued.version,
             None => 0,
         };
-        let rec = Record {
-            version,
-            locked: false,
-            metadata: None,
-        };
-        let raised = version > self.live.version;
-        if raised {
-            self.live = rec;
+        let rec = Record { version, ..OPENING };
+        let (raised, changed) = (self.live.raises(rec), self.live.changes(rec));
+        if changed {
+            self.live = self.live.after_report(rec);
             self.position = self.position.saturating_add(1);
         }
         let input = Input::Report {
             num,
             locked: false,
             metadata: None,
+            min_known: 0,
         };
-        self.log(client, input, CallAnswer::Acked { rec, raised })
+        let answer = CallAnswer::Acked {
+            rec,
+            raised,
+            changed,
+        };
+        self.log(client, input, answer)
     }
 
     /// A client's read of the live record.
@@ -195,6 +199,7 @@ impl Run {
             tags: Sequence::new(alloc),
             lock_aware: false,
             at: 0,
+            use_min: false,
         });
         let answer = CallAnswer::Version {
             rec: self.live,

@@ -19,7 +19,8 @@ pub(crate) fn read_in_turn<J: Live, R: Wait>(
             .rec
             .version
             .wrapping_add(u64::from(fetched.rec.locked))
-            .wrapping_add(fetched.rec.metadata.unwrap_or(0));
+            .wrapping_add(fetched.rec.metadata.unwrap_or(0))
+            .wrapping_add(fetched.rec.min_known);
         tally = tally.with_call(word, fetched.position < before);
     }
     tally

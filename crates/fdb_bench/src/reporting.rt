@@ -59,6 +59,7 @@ fn report<J: Live, R: Wait>(
         version,
         locked: false,
         metadata: None,
+        min_known: 0,
     };
     match live.report(rt, &OpenGate, who, seen, rec) {
         Ok(ack) => Ok(tally.with_call(version, ack.raised)),

@@ -50,6 +50,7 @@ pub(crate) fn request<J: Live>(
             tags: Sequence::new(alloc),
             lock_aware: false,
             at: 0,
+            use_min: false,
         },
         reply,
     };

@@ -23,7 +23,7 @@ impl Service for Shared {
 
     ghost recovery = { 100 };
 
-    ghost start = { record { version = 100; locked = false; metadata = None } };
+    ghost start = { record { version = 100; locked = false; metadata = None; min_known = 0 } };
 
     ghost reporters = { 1 };
 }

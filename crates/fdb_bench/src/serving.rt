@@ -52,6 +52,7 @@ pub(crate) fn measure<R: Clock + CpuClock + Threads + Wait + Sync>(
         version: START,
         locked: false,
         metadata: None,
+        min_known: 0,
     };
     match LiveRecord::<Brand>::open(rt, alloc, start, REPORTERS) {
         Ok(opened) => measure_named::<Brand, R>(rt, alloc, opened, load, size),

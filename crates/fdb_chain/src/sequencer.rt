@@ -20,29 +20,29 @@ use std::sync::{Mutex, Wait};
 /// of a request stands on what the lock holds; here stands what is true of every answer.
 #[derive(Drop)]
 pub struct Sequencer<S: Service> {
-    held: Mutex<Held<S>>,
+    held: Mutex<NamedCore<S>>,
 }
 
 /// What the lock holds: a chain of the service that `S` names. Contracts see it as that chain.
 #[derive(Drop)]
-struct Held<S: Service> {
+struct NamedCore<S: Service> {
     core: ChainCore,
     name: PhantomData<S>,
 }
 
-impl<S: Service> Model for Held<S> {
+impl<S: Service> Model for NamedCore<S> {
     ghost use Rattle.std.specs.Prelude.{◌≡◌};
     ghost use Rattle.fdb_history.specs.Issuing.{Chain};
 
     ghost Value = { Chain };
 
-    ghost view = { λ held. held.core };
+    ghost view = { λ named. named.core };
 
-    ghost invariant = { λ held. (held.core.epoch_end ≡ S.epoch_end)
-        × (held.core.recovery ≡ S.recovery) };
+    ghost invariant = { λ named. (named.core.epoch_end ≡ S.epoch_end)
+        × (named.core.recovery ≡ S.recovery) };
 }
 
-impl<S: Service> Held<S> {
+impl<S: Service> NamedCore<S> {
     /// Answers a request, as [`ChainCore::ask`] does.
     fn ask(&mut self, ask: Ask) -> Result<Issued, ChainError>
         ensures answer { IsAnswer (answer_to self.old ask) result }
@@ -65,7 +65,7 @@ impl<S: Service> Held<S> {
         ensures epoch_end { result.epoch_end ≡ S.epoch_end }
         ensures recovery { result.recovery ≡ S.recovery }
     {
-        let Held { core, name: _ } = self;
+        let NamedCore { core, name: _ } = self;
         core
     }
 }
@@ -77,7 +77,7 @@ impl<S: Service> Sequencer<S> {
         requires recovery { core.recovery ≡ S.recovery }
     {
         Sequencer {
-            held: Mutex::new(Held {
+            held: Mutex::new(NamedCore {
                 core,
                 name: PhantomData,
             }),

@@ -4,3 +4,4 @@ pub mod Longer
 pub mod Numbered
 pub mod Own
 pub mod Reading
+pub mod Refused

@@ -2,30 +2,30 @@
 use Rattle.std.specs.Prelude.{◌≡◌, ℕ, Bool, true, false, Some, List, [], ◌∷◌, ◌++◌, length}
 use mathlib.Core.List.{IsPrefix}
 use Rattle.fdb_history.specs.Added.{may_advance}
-use Rattle.fdb_history.specs.Log.{answer_raises, position_after_calls}
+use Rattle.fdb_history.specs.Log.{answer_changes, position_after_calls}
 use Rattle.fdb_history.specs.declared.log.Call.{Call}
 use Rattle.fdb_history.specs.declared.log.CallAnswer.{CallAnswer}
 use Rattle.fdb_history.specs.declared.log.Input.{Input}
 use Rattle.fdb_history.specs.declared.log.Input.TheVariants.{Learn}
 use Rattle.fdb_live.specs.Seen.{Sight, own_positions}
-use Rattle.fdb_live.specs.declared.raise.Raise.{Raise}
+use Rattle.fdb_live.specs.declared.change.Change.{Change}
 
--- A client: its number, the position that it began with, its calls in order, and the raises that it
--- has seen.
+-- A client: its number, the position that it began with, its calls in order, and the changes that
+-- it has seen.
 pub record Account : Type 0 where
   pub number : ℕ
   pub begun : ℕ
   pub calls : List Call
-  pub raises : List Raise
+  pub changes : List Change
 
 -- what its token proves
 abbrev pub sight : Account → Sight
-sight account = record { reporter = Some account.number; raises = account.raises }
+sight account = record { reporter = Some account.number; changes = account.changes }
 
 -- a client that has called nobody yet
-abbrev pub new_account : ℕ → List Raise → Account
-new_account number raises =
-    record { number = number; begun = length raises; calls = []; raises = raises }
+abbrev pub new_account : ℕ → List Change → Account
+new_account number changes =
+    record { number = number; begun = length changes; calls = []; changes = changes }
 
 -- whether a client may have seen more after a call than before it: where the register answered, and
 -- after a learn
@@ -36,21 +36,21 @@ may_see_more input answer = may_advance input answer
 -- A call with this input was logged, with this answer: as the last of the client's calls, from the
 -- position that it had seen before to the one that it has seen since, which are those of its token.
 -- It has seen more only where it may have, and forgets nothing. A position became its own exactly
--- where the answer says that the call raised the register.
+-- where the answer says that the call changed the register.
 pub record Logs (before : Account) (input : Input) (answer : CallAnswer) (after : Account)
     : Type 0 where
   pub number : after.number ≡ before.number
   pub begun : after.begun ≡ before.begun
   pub calls : after.calls ≡ before.calls ++ record {
     input = input;
-    asked = length before.raises;
-    position = length after.raises;
+    asked = length before.changes;
+    position = length after.changes;
     answer = answer;
   } ∷ []
-  pub come_to : position_after_calls before.begun before.calls ≡ length before.raises
-  pub extends : IsPrefix before.raises after.raises
-  pub stays : may_see_more input answer ≡ false → after.raises ≡ before.raises
-  pub own : answer_raises answer ≡ false
+  pub come_to : position_after_calls before.begun before.calls ≡ length before.changes
+  pub extends : IsPrefix before.changes after.changes
+  pub stays : may_see_more input answer ≡ false → after.changes ≡ before.changes
+  pub own : answer_changes answer ≡ false
       → own_positions (sight after) ≡ own_positions (sight before)
-  pub raised : answer_raises answer ≡ true
-      → own_positions (sight after) ≡ own_positions (sight before) ++ length after.raises ∷ []
+  pub changed : answer_changes answer ≡ true
+      → own_positions (sight after) ≡ own_positions (sight before) ++ length after.changes ∷ []

@@ -1,5 +1,5 @@
 -- What a client's calls may log. (all of this is this product's own)
-use Rattle.std.specs.Prelude.{◌≡◌, ℕ, ◌+◌, ◌≤◌, Bool, true, ◌&&◌, not, List, length, Option, None, Some, Result}
+use Rattle.std.specs.Prelude.{◌≡◌, ℕ, ◌+◌, ◌<◌, Bool, true, ◌&&◌, not, List, length, Option, None, Some, Result}
 use Rattle.std.specs.Bool.{MatchBool}
 use mathlib.Core.List.{IsPrefix}
 use Rattle.fdb_chain.specs.ChainCore.{IsOf}
@@ -12,12 +12,12 @@ use Rattle.fdb_history.specs.declared.grv.GrvOpts.{GrvOpts}
 use Rattle.fdb_history.specs.declared.log.CallAnswer.{CallAnswer}
 use Rattle.fdb_history.specs.declared.log.CallAnswer.TheVariants.{Version, Acked, Told, Refused}
 use Rattle.fdb_history.specs.declared.log.Input.TheVariants as input
+use Rattle.fdb_history.specs.declared.log.Refusal.{Refusal}
 use Rattle.fdb_history.specs.declared.log.Refusal.TheVariants as refusal
 use Rattle.fdb_history.specs.declared.register.Record.{Record}
-use Rattle.fdb_history.specs.declared.register.TheConstants.{MAX_VERSION}
-use Rattle.fdb_live.specs.Seen.{IsNotRaisedBy, IsRaisedBy, last_record, longer}
+use Rattle.fdb_live.specs.Seen.{IsChangedBy, IsNotChangedBy, IsRecord, last_record, longer}
 use Rattle.fdb_live.specs.declared.ack.Ack.{Ack}
-use Rattle.fdb_live.specs.declared.raise.Raise.{Raise}
+use Rattle.fdb_live.specs.declared.change.Change.{Change}
 use Rattle.fdb_client.specs.Account.{Account, Logs, sight}
 use Rattle.fdb_client.specs.Returned.{ReadReturns, AskReturns, ReportReturns}
 use Rattle.fdb_client.specs.declared.error.ClientError.{ClientError}
@@ -29,7 +29,7 @@ use Rattle.fdb_client.specs.declared.read.ReadVersion.{ReadVersion}
 -- is locked and the read is not lock-aware. Else it was refused as a read may be.
 abbrev pub IsReadAnswer : Record → GrvOpts → Account → CallAnswer → Type 0
 IsReadAnswer start opts after (Version rec limits locked_out) =
-    (rec ≡ last_record start after.raises) × (locked_out ≡ (rec.locked && not opts.lock_aware))
+    (rec ≡ last_record start after.changes) × (locked_out ≡ (rec.locked && not opts.lock_aware))
 IsReadAnswer start opts after (Refused cause) = may_refuse (input.Grv opts) cause ≡ true
 IsReadAnswer start opts after _ = ⊥
 
@@ -39,7 +39,7 @@ pub record Reads (start : Record) (opts : GrvOpts) (before after : Account)
   pub answer : CallAnswer
   pub logged : Logs before (input.Grv opts) answer after
   pub answered : IsReadAnswer start opts after answer
-  pub returned : ReadReturns (length after.raises) answer result
+  pub returned : ReadReturns opts (length after.changes) answer result
 
 -- ---- requests for a commit version
 
@@ -66,28 +66,35 @@ pub record Asks (epoch_end recovery num processed at : ℕ) (before after : Acco
 
 -- ---- reports
 
--- A report is of the version that the client's calls have under its number, with the flags that it
--- was given. It raises the record as the client, or finds one that is not below it. It is refused
--- as `NotIssued` alone, where there is no such version.
-abbrev pub IsReportAnswer : Record → Option ℕ → Bool → Option ℕ → Account → Account → CallAnswer
-    → Type 0
-IsReportAnswer start version locked metadata before after (Acked rec raised) =
+-- A report is refused as `NotIssued` where the client's calls have no version under its number, and
+-- as `MinAbove` where its minimum known committed version is above the version that they have.
+abbrev pub IsReportRefusal : Option ℕ → ℕ → Refusal → Type 0
+IsReportRefusal None min_known refusal.NotIssued = Unit {0}
+IsReportRefusal (Some version) min_known refusal.MinAbove = version < min_known
+IsReportRefusal version min_known _ = ⊥
+
+-- A report is of the version that the client's calls have under its number, with the flags and the
+-- minimum known committed version that it was given. It changes the record as the client, or finds
+-- one that it does not change.
+abbrev pub IsReportAnswer : Record → Option ℕ → Bool → Option ℕ → ℕ → Account → Account
+    → CallAnswer → Type 0
+IsReportAnswer start version locked metadata min_known before after (Acked rec raised changed) =
     (version ≡ Some rec.version) × (rec.locked ≡ locked) × (rec.metadata ≡ metadata)
-    × (rec.version ≤ MAX_VERSION)
-    × MatchBool raised (IsRaisedBy start rec (sight before) (sight after))
-    (IsNotRaisedBy start rec (sight before) (sight after))
-IsReportAnswer start version locked metadata before after (Refused refusal.NotIssued) =
-    version ≡ None
-IsReportAnswer start version locked metadata before after _ = ⊥
+    × (rec.min_known ≡ min_known) × IsRecord rec
+    × MatchBool changed (IsChangedBy start rec raised (sight before) (sight after))
+    (IsNotChangedBy start rec raised (sight before) (sight after))
+IsReportAnswer start version locked metadata min_known before after (Refused cause) =
+    IsReportRefusal version min_known cause
+IsReportAnswer start version locked metadata min_known before after _ = ⊥
 
 -- A report was logged, and returned what it logged.
-pub record Reports (start : Record) (num : ℕ) (locked : Bool) (metadata : Option ℕ)
+pub record Reports (start : Record) (num : ℕ) (locked : Bool) (metadata : Option ℕ) (min_known : ℕ)
     (before after : Account) (result : Result Ack ClientError) : Type 0 where
   pub answer : CallAnswer
-  pub logged : Logs before (input.Report num locked metadata) answer after
-  pub answered : IsReportAnswer start (issued_under before.calls num) locked metadata before after
-      answer
-  pub returned : ReportReturns (length after.raises) answer result
+  pub logged : Logs before (input.Report num locked metadata min_known) answer after
+  pub answered : IsReportAnswer start (issued_under before.calls num) locked metadata min_known
+      before after answer
+  pub returned : ReportReturns (length after.changes) answer result
 
 -- ---- tells and learns
 
@@ -97,7 +104,7 @@ Tells to before after = Logs before (input.Tell to) Told after
 
 -- A learn was logged, and the client has then seen the longer of its own list and the one that it
 -- was told.
-pub record Learns (from : ℕ) (told : List Raise) (before after : Account) : Type 0 where
+pub record Learns (from : ℕ) (told : List Change) (before after : Account) : Type 0 where
   pub logged : Logs before (input.Learn from) Told after
-  pub seen : after.raises ≡ longer before.raises told
-  pub knows : IsPrefix told after.raises
+  pub seen : after.changes ≡ longer before.changes told
+  pub knows : IsPrefix told after.changes

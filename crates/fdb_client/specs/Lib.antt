@@ -1,4 +1,5 @@
 pub mod Account
 pub mod Returned
 pub mod Calls
+pub mod Cluster
 pub mod private

@@ -1,2 +1,4 @@
 pub mod Versions
 pub mod Exchange
+pub mod Refusals
+pub mod Serving

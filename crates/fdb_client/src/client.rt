@@ -1,35 +1,33 @@
 //! A client of the service.
 
 ghost use Rattle.std.specs.Prelude.{◌≡◌, ◌≢◌, [], length};
-ghost use Rattle.std.specs.Prelude.{IfOk, IfErr, IfNone, IfSome, OnOk, OnErr, Result, None, Some};
+ghost use Rattle.std.specs.Prelude.{IfOk, IfErr, OnOk, OnErr, None, Some};
 ghost use Rattle.fdb_client.specs.Account.{Account, new_account, sight};
 ghost use Rattle.fdb_client.specs.Calls.{Asks, Learns, Reads, Reports, Tells};
 ghost use Rattle.fdb_client.specs.Calls.{next_number, request_of};
-ghost use Rattle.fdb_chain.specs.ChainCore.{IsAnswer, IsFor};
-ghost use Rattle.fdb_history.specs.declared.log.Refusal.{Refusal};
-ghost use Rattle.fdb_history.specs.declared.chain.Issued.{Issued};
+ghost use Rattle.fdb_chain.specs.ChainCore.{IsFor};
 ghost use Rattle.fdb_history.specs.Log.{position_after_calls};
 ghost use Rattle.fdb_live.specs.Seen.{own_positions};
 
 use crate::error::ClientError;
-use crate::exchange::NoReply;
+use crate::exchange::Mark;
 use crate::journal::Journal;
 use crate::read::ReadVersion;
 use crate::{exchange, reply};
-use fdb_chain::{ChainError, Sequencer};
+use fdb_chain::Sequencer;
 use fdb_history::{
-    Ask, Call, CallAnswer, ClientLog, Gate, GrvOpts, Input, Issued, Record, Refusal, Sequence,
+    Ask, Call, CallAnswer, ClientLog, Gate, GrvOpts, Input, Issued, Record, Sequence,
 };
-use fdb_live::{Ack, Live, LiveRecord, Seen};
+use fdb_live::{Ack, Live, LiveError, LiveRecord, Seen};
 use fdb_proxy::{Desk, Request};
-use std::alloc::{AllocError, Global};
+use std::alloc::Global;
 use std::marker::Model;
 use std::sync::Wait;
 
 /// A client of the service `J`, with the log of its calls. It plays the commit proxy of its own
 /// number.
 ///
-/// Contracts see it as its number, the position that it began with, its calls, and the raises that
+/// Contracts see it as its number, the position that it began with, its calls, and the changes that
 /// it has seen. Each call below adds one entry to the log, and returns what `specs/Returned.antt`
 /// says for the answer that it logged. A call that is refused for memory is not logged, and leaves
 /// the client as it was; a refused call changes nothing but the log.
@@ -55,12 +53,12 @@ impl<'a, J: Live> Model for Client<'a, J> {
       number = client.id;
       begun = client.begun;
       calls = client.journal.calls.items;
-      raises = client.seen.raises;
+      changes = client.seen.changes;
     } };
 
     ghost invariant = { λ client. (client.seen.reporter ≡ Some client.id)
         × (position_after_calls client.begun client.journal.calls.items
-        ≡ length client.seen.raises) };
+        ≡ length client.seen.changes) };
 }
 
 impl<'a, J: Live> Client<'a, J> {
@@ -69,7 +67,7 @@ impl<'a, J: Live> Client<'a, J> {
     pub fn new(alloc: Global, id: u32, live: &'a LiveRecord<J>, seen: Seen<J>) -> Self
         requires number { seen.reporter ≡ Some id }
         requires owns_none { own_positions seen ≡ [] }
-        ensures { result ≡ new_account id seen.raises }
+        ensures { result ≡ new_account id seen.changes }
     {
         let begun = seen.position();
         Client {
@@ -96,9 +94,9 @@ impl<'a, J: Live> Client<'a, J> {
         self.begun
     }
 
-    /// The position that it has come to: the number of raises that it has seen.
+    /// The position that it has come to: the number of changes that it has seen.
     pub fn position(&self) -> u64
-        ensures seen { result ≡ length self.now.raises }
+        ensures seen { result ≡ length self.now.changes }
         ensures logged { result ≡ position_after_calls self.now.begun self.now.calls }
     {
         self.seen.position()
@@ -134,18 +132,23 @@ impl<'a, J: Live> Client<'a, J> {
         ensures memory { result ≡ Err ClientError.Memory → self.new ≡ self.old }
     {
         self.journal.reserve()?;
-        let logged = copy_of(&opts)?;
+        let logged = opts.clone()?;
         let (reply, answers) = crossbeam_channel::bounded(self.alloc, 1)?;
-        let asked = self.seen.position();
-        let request = Request {
+        let own = Mark {
             client: self.id,
             serial: self.journal.len(),
-            asked,
+            asked: self.seen.position(),
+        };
+        let request = Request {
+            client: own.client,
+            serial: own.serial,
+            asked: own.asked,
             seen: self.live.split(&mut self.seen),
             opts,
             reply,
         };
-        match exchange::reply_to(rt, gate, desk, request, answers) {
+        let answer = exchange::answer_to(rt, gate, desk, request, answers);
+        match answer.and_then(|answer| exchange::judge(own, answer)) {
             Ok(reply) => reply::take_reply(
                 rt,
                 self.live,
@@ -154,10 +157,10 @@ impl<'a, J: Live> Client<'a, J> {
                 logged,
                 reply,
             ),
-            Err(NoReply::Refused(cause)) => {
-                Err(self.journal.add_refused(Input::Grv(logged), asked, cause))
+            Err(error) => {
+                let input = Input::Grv(logged);
+                Err(self.journal.add_refused(input, own.asked, error))
             }
-            Err(NoReply::Memory) => Err(ClientError::Memory),
         }
     }
 
@@ -217,18 +220,19 @@ impl<'a, J: Live> Client<'a, J> {
                 self.journal.add_answer(input, position, issued);
                 Ok(issued)
             }
-            Err(cause) => match refusal_of(cause) {
-                Some(refusal) => Err(self.journal.add_refused(input, position, refusal)),
-                None => Err(ClientError::Memory),
-            },
+            Err(cause) => {
+                let error = ClientError::from(cause);
+                Err(self.journal.add_refused(input, position, error))
+            }
         }
     }
 
-    /// Reports the commit version that its log has under a request number, with these flags: the
-    /// first, where there are several.
+    /// Reports the commit version that its log has under a request number, with these flags and
+    /// this minimum known committed version: the first, where there are several.
     ///
-    /// It is refused as `NotIssued` where the log has none, else for memory alone. It waits for the
-    /// other reports, and takes constant time, the growth of the log aside.
+    /// It is refused as `NotIssued` where the log has none, else as `Live` with `MinAbove` where the
+    /// minimum known committed version is above that version, else for memory alone. It waits for
+    /// the other reports, and takes constant time, the growth of the log aside.
     pub fn report<R: Wait, G: Gate>(
         &mut self,
         rt: &R,
@@ -236,9 +240,10 @@ impl<'a, J: Live> Client<'a, J> {
         num: u64,
         locked: bool,
         metadata: Option<u64>,
+        min_known: u64,
     ) -> Result<Ack, ClientError>
         ensures logged { result ≢ Err ClientError.Memory
-            → Reports J.start num locked metadata self.old self.new result }
+            → Reports J.start num locked metadata min_known self.old self.new result }
         ensures memory { result ≡ Err ClientError.Memory → self.new ≡ self.old }
     {
         self.journal.reserve()?;
@@ -246,30 +251,40 @@ impl<'a, J: Live> Client<'a, J> {
             num,
             locked,
             metadata,
+            min_known,
         };
         let asked = self.seen.position();
         let Some(version) = self.journal.version_under(num) else {
-            return Err(self.journal.add_refused(input, asked, Refusal::NotIssued));
+            let error = ClientError::NotIssued;
+            return Err(self.journal.add_refused(input, asked, error));
         };
         let rec = Record {
             version,
             locked,
             metadata,
+            min_known,
         };
-        // the chain has no version that is too large
-        let Ok(ack) = self.live.report(rt, gate, self.id, &mut self.seen, rec) else {
-            unreachable!()
-        };
-        self.journal.add(Call {
-            input,
-            asked,
-            position: ack.position,
-            answer: CallAnswer::Acked {
-                rec,
-                raised: ack.raised,
-            },
-        });
-        Ok(ack)
+        match self.live.report(rt, gate, self.id, &mut self.seen, rec) {
+            Ok(ack) => {
+                self.journal.add(Call {
+                    input,
+                    asked,
+                    position: ack.position,
+                    answer: CallAnswer::Acked {
+                        rec,
+                        raised: ack.raised,
+                        changed: ack.changed,
+                    },
+                });
+                Ok(ack)
+            }
+            Err(LiveError::MinAbove) => {
+                let error = ClientError::Live(LiveError::MinAbove);
+                Err(self.journal.add_refused(input, asked, error))
+            }
+            // The chain has no version that is too large, and a report takes no memory.
+            Err(LiveError::TooLarge | LiveError::Memory) => unreachable!(),
+        }
     }
 
     /// A token that has seen what the client has, for another client to learn.
@@ -278,7 +293,7 @@ impl<'a, J: Live> Client<'a, J> {
     pub fn tell(&mut self, to: u32) -> Result<Seen<J>, ClientError>
         ensures logged { OnOk result (Tells to self.old self.new) }
         ensures given { IfOk result (λ told.
-            told ≡ record { reporter = None; raises = self.old.raises }) }
+            told ≡ record { reporter = None; changes = self.old.changes }) }
         ensures memory { IfErr result (λ cause. cause ≡ ClientError.Memory) }
         ensures unchanged { OnErr result (self.new ≡ self.old) }
     {
@@ -304,7 +319,7 @@ impl<'a, J: Live> Client<'a, J> {
         told: Seen<J>,
     ) -> Result<(), (ClientError, Seen<J>)>
         requires { told.reporter ≡ None }
-        ensures logged { OnOk result (Learns from told.raises self.old self.new) }
+        ensures logged { OnOk result (Learns from told.changes self.old self.new) }
         ensures memory { IfErr result (λ refused. refused.0 ≡ ClientError.Memory) }
         ensures handed_back { IfErr result (λ refused. refused.1 ≡ told) }
         ensures unchanged { OnErr result (self.new ≡ self.old) }
@@ -328,7 +343,7 @@ impl<'a, J: Live> Client<'a, J> {
         ensures log { result.0 ≡ record { calls = self.entry.calls } }
         ensures seen { result.1 ≡ sight self.entry }
         ensures come_to { position_after_calls self.entry.begun self.entry.calls
-            ≡ length self.entry.raises }
+            ≡ length self.entry.changes }
     {
         let Client {
             alloc: _,
@@ -340,29 +355,5 @@ impl<'a, J: Live> Client<'a, J> {
         } = self;
         let calls = Sequence::from(journal.calls);
         (ClientLog { calls }, seen)
-    }
-}
-
-/// A copy of what a read says.
-fn copy_of(opts: &GrvOpts) -> Result<GrvOpts, AllocError>
-    ensures { IfOk result (λ copy. copy ≡ opts.now) }
-{
-    opts.clone()
-}
-
-/// How a refusal of the sequencer is logged: not at all, where it is for memory.
-fn refusal_of(cause: ChainError) -> Option<Refusal>
-    requires { (answer : Result Issued Refusal) × IsAnswer answer (Err cause) }
-    ensures some { (answer : Result Issued Refusal) → IsAnswer answer (Err cause)
-        → IfSome result (λ refusal. answer ≡ Err refusal) }
-    ensures none { IfNone result (cause ≡ ChainError.Memory) }
-{
-    match cause {
-        ChainError::UnknownProxy => Some(Refusal::UnknownProxy),
-        ChainError::Early { expected } => Some(Refusal::Early { expected }),
-        ChainError::Forgotten => Some(Refusal::Forgotten),
-        ChainError::Exhausted => Some(Refusal::Exhausted),
-        ChainError::Memory => None,
-        ChainError::BadEpoch | ChainError::NoProxy => unreachable!(),
     }
 }

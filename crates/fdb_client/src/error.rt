@@ -1,8 +1,13 @@
 //! Why a call of a client has no answer that serves it.
 
+ghost use Rattle.std.specs.Prelude.{◌≡◌, IfSome};
+ghost use Rattle.fdb_client.specs.Returned.{error_of};
+ghost use Rattle.fdb_client.specs.private.Refusals.{refusal_for};
+
 use fdb_chain::ChainError;
 use fdb_history::Refusal;
 use fdb_live::LiveError;
+use fdb_proxy::{Cause, ProxyError};
 use fdb_queue::QueueError;
 use std::alloc::AllocError;
 use thiserror::Error;
@@ -50,25 +55,69 @@ impl From<AllocError> for ClientError {
     }
 }
 
-impl From<Refusal> for ClientError {
+impl From<ProxyError> for ClientError {
     ghost use Rattle.std.specs.Prelude.{◌≡◌};
-    ghost use Rattle.fdb_client.specs.Returned.{error_of};
+    ghost use Rattle.fdb_client.specs.Returned.{error_of_desk};
 
-    ghost from_gives = { λ cause error. error ≡ error_of cause };
+    ghost from_gives = { λ cause error. error ≡ error_of_desk cause };
 
-    fn from(cause: Refusal) -> Self {
+    fn from(cause: ProxyError) -> Self {
         match cause {
-            Refusal::Early { expected } => ClientError::Chain(ChainError::Early { expected }),
-            Refusal::Forgotten => ClientError::Chain(ChainError::Forgotten),
-            Refusal::UnknownProxy => ClientError::Chain(ChainError::UnknownProxy),
-            Refusal::Exhausted => ClientError::Chain(ChainError::Exhausted),
-            Refusal::BadCount => ClientError::Queue(QueueError::BadCount),
-            Refusal::BatchThrottled => ClientError::Queue(QueueError::BatchThrottled),
-            Refusal::Full => ClientError::Queue(QueueError::Full),
-            Refusal::ProxyClosed => ClientError::ProxyClosed,
-            Refusal::NotIssued => ClientError::NotIssued,
-            Refusal::Stranger => ClientError::Stranger,
-            Refusal::TooLarge => ClientError::Live(LiveError::TooLarge),
+            ProxyError::Memory => ClientError::Memory,
+            ProxyError::Closed => ClientError::ProxyClosed,
+        }
+    }
+}
+
+impl From<Cause> for ClientError {
+    ghost use Rattle.std.specs.Prelude.{◌≡◌};
+    ghost use Rattle.fdb_client.specs.Returned.{error_of_proxy};
+
+    ghost from_gives = { λ cause error. error ≡ error_of_proxy cause };
+
+    fn from(cause: Cause) -> Self {
+        match cause {
+            Cause::Queue(QueueError::Memory) => ClientError::Memory,
+            Cause::Queue(cause) => ClientError::Queue(cause),
+            Cause::Closed => ClientError::ProxyClosed,
+        }
+    }
+}
+
+impl From<ChainError> for ClientError {
+    ghost use Rattle.std.specs.Prelude.{◌≡◌};
+    ghost use Rattle.fdb_client.specs.Returned.{error_of_sequencer};
+
+    ghost from_gives = { λ cause error. error ≡ error_of_sequencer cause };
+
+    fn from(cause: ChainError) -> Self {
+        match cause {
+            ChainError::Memory => ClientError::Memory,
+            cause => ClientError::Chain(cause),
+        }
+    }
+}
+
+impl ClientError {
+    /// How a call that is refused so is logged: not at all, where memory was refused.
+    pub(crate) fn refusal(self) -> Option<Refusal>
+        ensures value { result ≡ refusal_for self }
+        ensures error { IfSome result (λ cause. self ≡ error_of cause) }
+    {
+        match self {
+            ClientError::Chain(ChainError::Early { expected }) => Some(Refusal::Early { expected }),
+            ClientError::Chain(ChainError::Forgotten) => Some(Refusal::Forgotten),
+            ClientError::Chain(ChainError::UnknownProxy) => Some(Refusal::UnknownProxy),
+            ClientError::Chain(ChainError::Exhausted) => Some(Refusal::Exhausted),
+            ClientError::Queue(QueueError::BadCount) => Some(Refusal::BadCount),
+            ClientError::Queue(QueueError::BatchThrottled) => Some(Refusal::BatchThrottled),
+            ClientError::Queue(QueueError::Full) => Some(Refusal::Full),
+            ClientError::ProxyClosed => Some(Refusal::ProxyClosed),
+            ClientError::NotIssued => Some(Refusal::NotIssued),
+            ClientError::Stranger => Some(Refusal::Stranger),
+            ClientError::Live(LiveError::TooLarge) => Some(Refusal::TooLarge),
+            ClientError::Live(LiveError::MinAbove) => Some(Refusal::MinAbove),
+            _ => None,
         }
     }
 }

@@ -1,8 +1,9 @@
 //! The log of a client, and what makes it quick to look into.
 
-ghost use Rattle.std.specs.Prelude.{◌≡◌, ℕ, ◌+◌, ◌<◌, ◌≤◌, ◌++◌, ◌∷◌, [], IfSome, OnOk, Some};
+ghost use Rattle.std.specs.Prelude.{◌≡◌, ℕ, ◌+◌, ◌<◌, ◌≤◌, ◌++◌, ◌∷◌, [], IfNone, IfSome, OnOk, Some};
 ghost use Rattle.std.specs.Prelude.{filter, length, vec_len, vec_capacity};
 ghost use Rattle.fdb_client.specs.Returned.{error_of};
+ghost use Rattle.fdb_client.specs.private.Refusals.{refusal_for};
 ghost use Rattle.fdb_client.specs.private.Versions.{HasCapacityUnder, version_under};
 ghost use Rattle.fdb_history.specs.Log.{answer_in, fresh_answers, position_after_calls};
 ghost use Rattle.fdb_history.specs.Strays.{issued_under};
@@ -10,7 +11,7 @@ ghost use Rattle.fdb_history.specs.declared.register.TheConstants.{MAX_VERSION};
 
 use crate::error::ClientError;
 use crate::versions::Versions;
-use fdb_history::{Call, CallAnswer, Input, Issued, Refusal};
+use fdb_history::{Call, CallAnswer, Input, Issued};
 use std::alloc::{AllocError, Global};
 
 /// The calls of a client, how many commit versions it drew, and the version under each request
@@ -96,25 +97,36 @@ impl Journal {
         self.calls.push_reserved(call);
     }
 
-    /// Adds a call that was refused, and says so.
-    pub(crate) fn add_refused(&mut self, input: Input, position: u64, cause: Refusal) -> ClientError
+    /// Adds a call that was refused, but for memory, and hands on why.
+    pub(crate) fn add_refused(
+        &mut self,
+        input: Input,
+        position: u64,
+        error: ClientError,
+    ) -> ClientError
         requires { vec_len self.old.calls < vec_capacity self.old.calls }
-        ensures calls { self.new.calls.items ≡ self.old.calls.items ++ record {
-          input = input;
-          asked = position;
-          position = position;
-          answer = CallAnswer.Refused cause;
-        } ∷ [] }
-        ensures come_to { (begun : ℕ) → position_after_calls begun self.new.calls.items ≡ position }
-        ensures error { result ≡ error_of cause }
+        ensures calls { IfSome (refusal_for error)
+            (λ cause. self.new.calls.items ≡ self.old.calls.items ++ record {
+              input = input;
+              asked = position;
+              position = position;
+              answer = CallAnswer.Refused cause;
+            } ∷ []) }
+        ensures come_to { IfSome (refusal_for error)
+            (λ _. (begun : ℕ) → position_after_calls begun self.new.calls.items ≡ position) }
+        ensures unlogged { IfNone (refusal_for error) (self.new ≡ self.old) }
+        ensures error { IfSome (refusal_for error) (λ cause. error ≡ error_of cause) }
+        ensures same { result ≡ error }
     {
-        self.add(Call {
-            input,
-            asked: position,
-            position,
-            answer: CallAnswer::Refused(cause),
-        });
-        ClientError::from(cause)
+        if let Some(cause) = error.refusal() {
+            self.add(Call {
+                input,
+                asked: position,
+                position,
+                answer: CallAnswer::Refused(cause),
+            });
+        }
+        error
     }
 
     /// Adds a request that was answered.

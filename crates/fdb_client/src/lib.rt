@@ -9,15 +9,19 @@
 #![tactic(auto)]
 
 mod client;
+mod cluster;
 mod error;
 mod exchange;
 mod journal;
 mod read;
 mod reply;
+mod serving;
 mod versions;
 mod workload;
 
 pub use client::Client;
+pub use cluster::{Cluster, ClusterConfig};
 pub use error::ClientError;
 pub use read::ReadVersion;
-pub use workload::{Cluster, ClusterConfig, Workload, run_workload};
+pub use serving::serve_while;
+pub use workload::{Workload, WorkloadOutcome, run_workload};

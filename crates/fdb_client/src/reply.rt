@@ -1,9 +1,10 @@
 //! The reply to a read: what the client learns from it, logs and returns.
 
-ghost use Rattle.std.specs.Prelude.{◌≡◌, ◌≢◌, ℕ, ◌<◌, ◌≤◌, IfOk, None, Some, length};
+ghost use Rattle.std.specs.Prelude.{◌≡◌, ◌≢◌, ℕ, ◌<◌, ◌≤◌, ◌++◌, ◌∷◌, [], IfOk, None, Some, length};
 ghost use Rattle.std.specs.Prelude.{vec_len, vec_capacity};
 ghost use Rattle.fdb_client.specs.Calls.{Reads};
 ghost use Rattle.fdb_client.specs.Returned.{ReadReturns};
+ghost use Rattle.fdb_client.specs.private.Exchange.{answer_of};
 ghost use Rattle.fdb_history.specs.Log.{position_after_calls};
 ghost use Rattle.fdb_live.specs.Seen.{own_positions};
 ghost use mathlib.Core.List.{IsPrefix};
@@ -28,34 +29,43 @@ pub(crate) fn take_reply<J: Live, R: Wait>(
     reply: Reply<J>,
 ) -> Result<ReadVersion, ClientError>
     requires capacity { vec_len journal.old.calls < vec_capacity journal.old.calls }
-    requires asked { reply.asked ≡ length seen.old.raises }
+    requires asked { reply.asked ≡ length seen.old.changes }
+    ensures entry { result ≢ Err ClientError.Memory
+        → journal.new.calls.items ≡ journal.old.calls.items ++ record {
+          input = Input.Grv opts;
+          asked = reply.asked;
+          position = reply.position;
+          answer = answer_of reply opts;
+        } ∷ [] }
+    ensures returned { result ≢ Err ClientError.Memory
+        → ReadReturns opts reply.position (answer_of reply opts) result }
     ensures logged { result ≢ Err ClientError.Memory → (number begun : ℕ)
         → seen.old.reporter ≡ Some number
-        → position_after_calls begun journal.old.calls.items ≡ length seen.old.raises
+        → position_after_calls begun journal.old.calls.items ≡ length seen.old.changes
         → Reads J.start opts
         (record {
           number = number;
           begun = begun;
           calls = journal.old.calls.items;
-          raises = seen.old.raises;
+          changes = seen.old.changes;
         })
         (record {
           number = number;
           begun = begun;
           calls = journal.new.calls.items;
-          raises = seen.new.raises;
+          changes = seen.new.changes;
         })
         result }
     ensures come_to { result ≢ Err ClientError.Memory
         → (begun : ℕ) → position_after_calls begun journal.new.calls.items
-        ≡ length seen.new.raises }
+        ≡ length seen.new.changes }
     ensures reporter { seen.new.reporter ≡ seen.old.reporter }
     ensures seen { result ≡ Err ClientError.Memory → seen.new ≡ seen.old }
     ensures calls { result ≡ Err ClientError.Memory
         → journal.new.calls.items ≡ journal.old.calls.items }
 {
     let locked_out = reply.rec.locked && !opts.lock_aware;
-    let value = value_of(&reply, locked_out)?;
+    let value = value_of(&reply, &opts, locked_out)?;
     let Reply {
         client: _,
         serial: _,
@@ -83,10 +93,10 @@ pub(crate) fn take_reply<J: Live, R: Wait>(
 #[tactic(auto, using(crate::proofs::Longer::longer_of_no_less))]
 fn hear<J: Live, R: Wait>(rt: &R, live: &LiveRecord<J>, seen: &mut Seen<J>, told: Seen<J>)
     requires unnumbered { told.reporter ≡ None }
-    requires no_less { length seen.old.raises ≤ length told.raises }
+    requires no_less { length seen.old.changes ≤ length told.changes }
     ensures reporter { seen.new.reporter ≡ seen.old.reporter }
-    ensures raises { seen.new.raises ≡ told.raises }
-    ensures extends { IsPrefix seen.old.raises seen.new.raises }
+    ensures changes { seen.new.changes ≡ told.changes }
+    ensures extends { IsPrefix seen.old.changes seen.new.changes }
     ensures own { own_positions seen.new ≡ own_positions seen.old }
 {
     live.learn(rt, seen, told);
@@ -95,9 +105,10 @@ fn hear<J: Live, R: Wait>(rt: &R, live: &LiveRecord<J>, seen: &mut Seen<J>, told
 /// What a read returns for its reply. It takes memory for a copy of the limits alone.
 fn value_of<J: Live>(
     reply: &Reply<J>,
+    opts: &GrvOpts,
     locked_out: bool,
 ) -> Result<Result<ReadVersion, ClientError>, AllocError>
-    ensures value { IfOk result (ReadReturns reply.now.position
+    ensures value { IfOk result (ReadReturns opts.now reply.now.position
         (CallAnswer.Version reply.now.rec reply.now.limits locked_out)) }
     ensures not_memory { IfOk result (λ value. value ≢ Err ClientError.Memory) }
 {
@@ -107,6 +118,7 @@ fn value_of<J: Live>(
         }));
     }
     Ok(Ok(ReadVersion {
+        version: reply.rec.version_for(opts.use_min),
         rec: reply.rec,
         position: reply.position,
         limits: reply.limits.clone()?,

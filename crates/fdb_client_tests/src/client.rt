@@ -61,6 +61,7 @@ pub(crate) fn unlocked(version: u64) -> Record {
         version,
         locked: false,
         metadata: None,
+        min_known: 0,
     }
 }
 
@@ -166,7 +167,7 @@ reask 0 1 0 9000 => 100 after 0, kept
 reask 0 5 0 9000 => the next request number is 3
 report 0 3 => no commit version was issued under this number
 report 0 2 => raised at 1
-report 0 1 => not raised at 1
+report 0 1 => not changed at 1
 reask 0 2 1 9000 => 2100 after 100, kept
 ask 0 2 9000 => 8100 after 2100, fresh
 reask 0 1 0 9000 => the answer is not kept any more
@@ -234,6 +235,38 @@ meet => ok
 #[test]
 fn reads_at_a_desk(rt: HostRuntime) -> Result<(), Fail> {
     play(&rt, rt.alloc(), 2, 1, Case::Lines(READS))?;
+    Ok(())
+}
+
+/// The minimum known committed version, which is the greatest that was reported. The numbers 1 and
+/// 2 are the versions 100 and 2100.
+const MINIMUM: &str = "
+ask 0 0 1000 => 100 after 0, fresh
+ask 0 0 3000 => 2100 after 100, fresh
+least 0 3 0 => no commit version was issued under this number
+least 0 2 100 => raised at 1
+known 0 served => 100 of (2100, 100) at 1
+least 0 2 2000 => changed at 2
+least 0 1 50 => not changed at 2
+read 0 served => 2100 at 2
+least 0 1 101 => the minimum known committed version is above the version
+log 0 => 9 calls, at 2
+known 1 served => 2000 of (2100, 2000) at 2
+ask 0 0 4000 => 3100 after 2100, fresh
+report 0 3 => raised at 3
+known 1 served => 2000 of (3100, 2000) at 3
+least 0 3 3100 => changed at 4
+known 1 served => 3100 at 4
+ask 0 0 5000 => 4100 after 3100, fresh
+lock 0 4 => raised at 5
+# the lock names the live committed version
+known 1 served => the database is locked at version 4100
+meet => ok
+";
+
+#[test]
+fn minimum_known_versions(rt: HostRuntime) -> Result<(), Fail> {
+    play(&rt, rt.alloc(), 2, 1, Case::Lines(MINIMUM))?;
     Ok(())
 }
 

@@ -10,4 +10,6 @@ mod refused_memory;
 #[cfg(test)]
 mod same;
 #[cfg(test)]
+mod throttled;
+#[cfg(test)]
 mod workload;

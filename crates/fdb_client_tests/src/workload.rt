@@ -1,11 +1,12 @@
 //! Workloads at a cluster.
 
-ghost use Rattle.std.specs.Prelude.{◌≡◌};
-ghost use Rattle.fdb_chain.specs.ChainCore.{IsEpoch};
-ghost use Rattle.fdb_queue.specs.Config.{IsConfig, IsElapsed};
+ghost use Rattle.fdb_client.specs.Cluster.{IsClusterConfig};
 
-use crate::same::same;
-use fdb_client::{Client, ClientError, Cluster, ClusterConfig, Workload, run_workload};
+use crate::same::{holds, same};
+use fdb_chain::ChainError;
+use fdb_client::{
+    Client, ClientError, Cluster, ClusterConfig, Workload, WorkloadOutcome, run_workload,
+};
 use fdb_history::{
     Ask, AuditFault, ClientLog, GrvOpts, Issued, OpenGate, Priority, Record, Sequence, audit,
 };
@@ -23,6 +24,7 @@ const START: Record = Record {
     version: 100,
     locked: true,
     metadata: Some(7),
+    min_known: 100,
 };
 
 /// Each client in turn draws a commit version, reports it, and reads through each GRV proxy. The
@@ -39,7 +41,7 @@ impl<R: Wait> Workload<R> for CommitAndRead {
     fn start<J: Live>(
         self,
         rt: &R,
-        cluster: &Cluster<J>,
+        cluster: &Cluster<'_, J>,
         clients: Vec<Client<'_, J>>,
     ) -> Result<Vec<ClientLog>, ClientError> {
         let mut logs = Vec::new(self.alloc);
@@ -58,11 +60,11 @@ impl CommitAndRead {
     fn log_of<J: Live, R: Wait>(
         &self,
         rt: &R,
-        cluster: &Cluster<J>,
+        cluster: &Cluster<'_, J>,
         mut client: Client<'_, J>,
     ) -> Result<ClientLog, ClientError> {
         client.ask(rt, &OpenGate, cluster.sequencer(), 0, 1_000)?;
-        client.report(rt, &OpenGate, 1, true, Some(8))?;
+        client.report(rt, &OpenGate, 1, true, Some(8), 90)?;
         for number in 0..self.grv_proxies {
             client.read_version(rt, &OpenGate, cluster.desk(number), one_read(self.alloc))?;
         }
@@ -78,17 +80,19 @@ fn one_read(alloc: Global) -> GrvOpts {
         tags: Sequence::new(alloc),
         lock_aware: true,
         at: 0,
+        use_min: false,
     }
 }
 
 /// A cluster for so many clients, with so many GRV proxies.
-fn config_of(clients: u32, grv_proxies: u32) -> ClusterConfig
-    ensures clients { result.clients ≡ clients }
-    ensures grv_proxies { result.grv_proxies ≡ grv_proxies }
-    ensures epoch { IsEpoch result.epoch_end result.start.version }
-    ensures queue { IsConfig result.queue }
-    ensures elapsed { IsElapsed result.elapsed }
+fn config_of(rt: &impl Abort, clients: u32, grv_proxies: u32) -> ClusterConfig<'static>
+    ensures { IsClusterConfig result }
 {
+    assert!(rt; clients > 0 && clients <= 64, "clients in range");
+    assert!(rt;
+        grv_proxies > 0 && grv_proxies <= 16,
+        "GRV proxies in range"
+    );
     ClusterConfig {
         epoch_end: 60,
         start: START,
@@ -99,29 +103,36 @@ fn config_of(clients: u32, grv_proxies: u32) -> ClusterConfig
             batch: 1_000,
             room: 1_000,
         },
+        throttles: &[],
         elapsed: 1_000_000,
     }
 }
 
 /// Runs that at a new cluster. Each client has a log, the chain a version for each, and one history
-/// explains all. It fails where memory is refused.
+/// explains all. It fails where memory is refused: to a GRV proxy, if it is one that is closed.
 pub(crate) fn commit_and_read<R: Threads + Wait + Abort + Sync>(
     rt: &R,
     alloc: Global,
     clients: u32,
     grv_proxies: u32,
 ) -> Result<(), AllocError> {
-    assert!(rt; clients > 0 && clients <= 64, "clients in range");
-    assert!(rt;
-        grv_proxies > 0 && grv_proxies <= 16,
-        "GRV proxies in range"
-    );
-    let config = config_of(clients, grv_proxies);
-    let (logs, chain) = run_workload(rt, alloc, config, CommitAndRead { alloc, grv_proxies })?;
-    match logs {
-        Ok(logs) => explained(rt, alloc, &logs, &chain, clients, grv_proxies),
-        Err(ClientError::Memory | ClientError::ProxyClosed) => Err(AllocError),
-        Err(cause) => panic!(rt; "{cause}"),
+    let config = config_of(rt, clients, grv_proxies);
+    let WorkloadOutcome {
+        output,
+        chain,
+        all_served,
+    } = run_workload(rt, alloc, config, CommitAndRead { alloc, grv_proxies })?;
+    match output {
+        Ok(logs) => {
+            holds(rt, all_served, &"each GRV proxy has served");
+            explained(rt, alloc, &logs, &chain, clients, grv_proxies)
+        }
+        Err(ClientError::Memory) => Err(AllocError),
+        Err(cause) => {
+            same(rt, &cause, &ClientError::ProxyClosed, &"a refused call");
+            holds(rt, !all_served, &"a GRV proxy has ended");
+            Err(AllocError)
+        }
     }
 }
 
@@ -147,84 +158,113 @@ fn explained(
     Ok(())
 }
 
-/// Closes the first of three desks, and reads at each of them and at the one after.
+/// Closes one of the desks, and reads at each of them and at the one after the last.
 #[derive(Drop)]
 struct CloseAndRead {
     alloc: Global,
+    grv_proxies: u32,
+    closed: u32,
 }
 
 impl<R: Wait> Workload<R> for CloseAndRead {
-    type Output = Option<[bool; 4]>;
+    type Output = Option<u32>;
 
-    /// Answers at which desks the read was served.
+    /// Answers the first desk at which a read came to something else than it should, if there is
+    /// one.
     fn start<J: Live>(
         self,
         rt: &R,
-        cluster: &Cluster<J>,
+        cluster: &Cluster<'_, J>,
         mut clients: Vec<Client<'_, J>>,
-    ) -> Option<[bool; 4]> {
+    ) -> Option<u32> {
         let mut client = clients.pop()?;
-        cluster.desk(0).close(rt);
-        let mut served = [false; 4];
-        for number in 0..4 {
-            let opts = one_read(self.alloc);
-            let read = client.read_version(rt, &OpenGate, cluster.desk(number), opts);
-            served[number as usize] = read.is_ok();
+        cluster.desk(self.closed).close(rt);
+        for number in 0..=self.grv_proxies {
+            let desk = cluster.desk(number);
+            let read = client.read_version(rt, &OpenGate, desk, one_read(self.alloc));
+            if read.err() != self.refusal_at(number) {
+                return Some(number);
+            }
         }
-        Some(served)
+        None
     }
 }
 
-/// The desks are three, and the one after the last is the first.
+impl CloseAndRead {
+    /// How a read at a desk is refused, if it is. The desk after the last one is the first.
+    fn refusal_at(&self, number: u32) -> Option<ClientError> {
+        let place = if number == self.grv_proxies {
+            0
+        } else {
+            number
+        };
+        (place == self.closed).then_some(ClientError::ProxyClosed)
+    }
+}
+
+/// Each desk of 1 to 16 is another one, and the one after the last is the first.
 #[test]
-fn desks_begin_anew(rt: HostRuntime) -> Result<(), Fail> {
+fn each_desk_is_closed_alone(rt: HostRuntime) -> Result<(), Fail> {
     let alloc = rt.alloc();
-    let (served, _) = run_workload(&rt, alloc, config_of(1, 3), CloseAndRead { alloc })?;
-    same(&rt, &served, &Some([false, true, true, false]), &"served");
+    for grv_proxies in 1..=16 {
+        for closed in 0..grv_proxies {
+            let workload = CloseAndRead {
+                alloc,
+                grv_proxies,
+                closed,
+            };
+            let ran = run_workload(&rt, alloc, config_of(&rt, 1, grv_proxies), workload)?;
+            same(&rt, &ran.output, &None, &grv_proxies);
+            holds(&rt, ran.all_served, &grv_proxies);
+        }
+    }
     Ok(())
 }
 
-/// Draws a version as each commit proxy of a cluster, and as one more.
+/// Draws a version as each commit proxy of a cluster in turn.
 #[derive(Drop)]
 struct AskAsEach;
 
 impl<R: Wait> Workload<R> for AskAsEach {
-    type Output = [bool; 3];
+    type Output = Option<(u32, ChainError)>;
 
-    /// Answers which of them the sequencer knows.
+    /// Answers the first commit proxy that is refused a version, and why.
     fn start<J: Live>(
         self,
         rt: &R,
-        cluster: &Cluster<J>,
+        cluster: &Cluster<'_, J>,
         _clients: Vec<Client<'_, J>>,
-    ) -> [bool; 3] {
-        let mut known = [false; 3];
-        for proxy in 0..3 {
+    ) -> Option<(u32, ChainError)> {
+        for proxy in 0..100 {
             let ask = Ask {
                 proxy,
                 num: 1,
                 processed: 0,
                 at: 0,
             };
-            let asked = cluster.sequencer().ask(rt, &OpenGate, ask);
-            known[proxy as usize] = asked.is_ok();
+            if let Err(cause) = cluster.sequencer().ask(rt, &OpenGate, ask) {
+                return Some((proxy, cause));
+            }
         }
-        known
+        None
     }
 }
 
 /// There is a commit proxy for each client, and no more.
 #[test]
 fn a_commit_proxy_for_each_client(rt: HostRuntime) -> Result<(), Fail> {
-    let (known, chain) = run_workload(&rt, rt.alloc(), config_of(2, 1), AskAsEach)?;
-    same(&rt, &known, &[true, true, false], &"known");
-    same(&rt, &chain.len(), &2, &"chain");
+    for clients in 1..=64 {
+        let ran = run_workload(&rt, rt.alloc(), config_of(&rt, clients, 1), AskAsEach)?;
+        let wanted = Some((clients, ChainError::UnknownProxy));
+        same(&rt, &ran.output, &wanted, &"the first that is refused");
+        same(&rt, &ran.chain.len(), &(clients as usize), &"chain");
+    }
     Ok(())
 }
 
 #[test]
 fn each_client_reads_through_each_proxy(rt: HostRuntime) -> Result<(), Fail> {
-    for (clients, grv_proxies) in [(1, 1), (2, 2), (3, 16), (64, 3)] {
+    for (clients, grv_proxies) in [(1, 1), (2, 2), (3, 16), (64, 16)] {
         commit_and_read(&rt, rt.alloc(), clients, grv_proxies)?;
     }
     Ok(())

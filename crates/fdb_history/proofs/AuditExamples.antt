@@ -14,7 +14,7 @@ use Rattle.fdb_history.specs.declared.log.CallAnswer.TheVariants.{Version, Answe
 use Rattle.fdb_history.specs.declared.log.ClientLog.{ClientLog}
 use Rattle.fdb_history.specs.declared.log.Input.{Input}
 use Rattle.fdb_history.specs.declared.log.Input.TheVariants as input
-use Rattle.fdb_history.specs.declared.log.Refusal.TheVariants.{Early, Forgotten, Exhausted, Full, NotIssued}
+use Rattle.fdb_history.specs.declared.log.Refusal.TheVariants.{Early, Forgotten, Exhausted, Full, NotIssued, MinAbove}
 use Rattle.fdb_history.specs.declared.register.Record.{Record}
 use Rattle.fdb_history.specs.declared.register.TheConstants.{MAX_VERSION}
 
@@ -29,13 +29,16 @@ greatest_step = refl
 -- ---- what a call's answer is justified by
 
 abbrev plain : ℕ → Record
-plain version = record { version = version; locked = false; metadata = None }
+plain version = record { version = version; locked = false; metadata = None; min_known = 0 }
 
 abbrev locked : ℕ → Record
-locked version = record { version = version; locked = true; metadata = None }
+locked version = record { version = version; locked = true; metadata = None; min_known = 0 }
 
 abbrev with_metadata : ℕ → ℕ → Record
-with_metadata version metadata = record { version = version; locked = false; metadata = Some metadata }
+with_metadata version metadata = record { version = version; locked = false; metadata = Some metadata; min_known = 0 }
+
+abbrev knowing : ℕ → ℕ → Record
+knowing version min_known = record { version = version; locked = false; metadata = None; min_known = min_known }
 
 -- a call at position 0
 abbrev called : Input → CallAnswer → Call
@@ -44,7 +47,7 @@ called asked answer = record { input = asked; asked = 0; position = 0; answer = 
 -- a read of a client that is lock-aware or not, and its answer
 abbrev reads : Bool → Record → Bool → Call
 reads lock_aware rec locked_out =
-    called (input.Grv (record { priority = Default; count = 1; tags = []; lock_aware = lock_aware; at = 0 })) (Version rec [] locked_out)
+    called (input.Grv (record { priority = Default; count = 1; tags = []; lock_aware = lock_aware; at = 0; use_min = false })) (Version rec [] locked_out)
 
 -- Of a locked database a client that is not lock-aware is turned away, and no other.
 turned_away : is_justified [] 0 [] (reads false (locked 100) true) ≡ true
@@ -73,10 +76,10 @@ tell_done = refl
 tell_refused : is_justified [] 0 [] (called (input.Tell 1) (Refused Full)) ≡ false
 tell_refused = refl
 
-report_full : is_justified [] 0 [] (called (input.Report 1 false None) (Refused Full)) ≡ false
+report_full : is_justified [] 0 [] (called (input.Report 1 false None 0) (Refused Full)) ≡ false
 report_full = refl
 
-report_told : goes_with (input.Report 1 false None) Told ≡ false
+report_told : goes_with (input.Report 1 false None 0) Told ≡ false
 report_told = refl
 
 -- commit proxy 0 is given versions 100 and 2100, the second where it has processed this number
@@ -191,29 +194,42 @@ repeat_exhausted : is_justified (up_to 9223372036849775808) 0 (drew_first ∷ []
 repeat_exhausted = refl
 
 -- A report is of the version that was issued under its number, with the flags that it was told.
-report_of_issued : is_justified entries 0 (drew_first ∷ []) (called (input.Report 1 false None) (Acked (plain 100) true)) ≡ true
+report_of_issued : is_justified entries 0 (drew_first ∷ []) (called (input.Report 1 false None 0) (Acked (plain 100) true true)) ≡ true
 report_of_issued = refl
 
-report_of_another_version : is_justified entries 0 (drew_first ∷ []) (called (input.Report 1 false None) (Acked (plain 101) true)) ≡ false
+report_of_another_version : is_justified entries 0 (drew_first ∷ []) (called (input.Report 1 false None 0) (Acked (plain 101) true true)) ≡ false
 report_of_another_version = refl
 
-report_of_another_number : is_justified entries 0 (drew_first ∷ []) (called (input.Report 2 false None) (Acked (plain 100) true)) ≡ false
+report_of_another_number : is_justified entries 0 (drew_first ∷ []) (called (input.Report 2 false None 0) (Acked (plain 100) true true)) ≡ false
 report_of_another_number = refl
 
-report_of_another_lock : is_justified entries 0 (drew_first ∷ []) (called (input.Report 1 true None) (Acked (plain 100) true)) ≡ false
+report_of_another_lock : is_justified entries 0 (drew_first ∷ []) (called (input.Report 1 true None 0) (Acked (plain 100) true true)) ≡ false
 report_of_another_lock = refl
 
-report_of_metadata : is_justified entries 0 (drew_first ∷ []) (called (input.Report 1 false (Some 7)) (Acked (with_metadata 100 7) true)) ≡ true
+report_of_metadata : is_justified entries 0 (drew_first ∷ []) (called (input.Report 1 false (Some 7) 0) (Acked (with_metadata 100 7) true true)) ≡ true
 report_of_metadata = refl
 
-report_of_other_metadata : is_justified entries 0 (drew_first ∷ []) (called (input.Report 1 false (Some 7)) (Acked (with_metadata 100 8) true)) ≡ false
+report_of_other_metadata : is_justified entries 0 (drew_first ∷ []) (called (input.Report 1 false (Some 7) 0) (Acked (with_metadata 100 8) true true)) ≡ false
 report_of_other_metadata = refl
 
+report_of_another_minimum : is_justified entries 0 (drew_first ∷ []) (called (input.Report 1 false None 7) (Acked (knowing 100 8) true true)) ≡ false
+report_of_another_minimum = refl
+
+-- A minimum known committed version is above the version that was issued, or not.
+min_above : is_justified entries 0 (drew_first ∷ []) (called (input.Report 1 false None 101) (Refused MinAbove)) ≡ true
+min_above = refl
+
+min_above_untrue : is_justified entries 0 (drew_first ∷ []) (called (input.Report 1 false None 100) (Refused MinAbove)) ≡ false
+min_above_untrue = refl
+
+min_above_of_nothing : is_justified entries 0 (drew_first ∷ []) (called (input.Report 2 false None 101) (Refused MinAbove)) ≡ false
+min_above_of_nothing = refl
+
 -- It is refused only where none was.
-not_issued : is_justified entries 0 (drew_first ∷ []) (called (input.Report 2 false None) (Refused NotIssued)) ≡ true
+not_issued : is_justified entries 0 (drew_first ∷ []) (called (input.Report 2 false None 0) (Refused NotIssued)) ≡ true
 not_issued = refl
 
-not_issued_untrue : is_justified entries 0 (drew_first ∷ []) (called (input.Report 1 false None) (Refused NotIssued)) ≡ false
+not_issued_untrue : is_justified entries 0 (drew_first ∷ []) (called (input.Report 1 false None 0) (Refused NotIssued)) ≡ false
 not_issued_untrue = refl
 
 -- The call drew the first entry, and neither the second nor the first at another place.
@@ -238,78 +254,94 @@ not_below : (a b : ℕ) → ltb a b ≡ false → a < b → ⊥
 not_below a b above below = both_ways (ltb a b) above (lt-ltb a b below)
 
 abbrev answered : ℕ → ℕ → CallAnswer → Call
-answered asked position answer = record { input = input.Report 1 false None; asked = asked; position = position; answer = answer }
+answered asked position answer = record { input = input.Report 1 false None 0; asked = asked; position = position; answer = answer }
 
 abbrev log_of : List Call → ClientLog
 log_of calls = record { calls = calls }
 
--- A call goes on from where its client had come to, and a raise goes further.
-goes_on : IsOutOfOrder (answered 0 1 (Acked (plain 200) true) ∷ []) (answered 1 1 (Acked (plain 100) false)) → ⊥
+-- A call goes on from where its client had come to, and a change goes further.
+goes_on : IsOutOfOrder (answered 0 1 (Acked (plain 200) true true) ∷ []) (answered 1 1 (Acked (plain 100) false false)) → ⊥
 goes_on (inl before) = not_below 1 1 refl before
 goes_on (inr (inl back)) = not_below 1 1 refl back
 goes_on (inr (inr stays)) = false≢true stays.0
 
-falls : IsOutOfOrder [] (answered 2 1 (Acked (plain 100) false))
+falls : IsOutOfOrder [] (answered 2 1 (Acked (plain 100) false false))
 falls = inr (inl (omega arith))
 
-raise_goes_further : IsOutOfOrder [] (answered 0 1 (Acked (plain 200) true)) → ⊥
-raise_goes_further (inl before) = not_below 0 0 refl before
-raise_goes_further (inr (inl back)) = not_below 1 0 refl back
-raise_goes_further (inr (inr stays)) = not_at_most 1 0 refl (omega (arith, stays.1))
+change_goes_further : IsOutOfOrder [] (answered 0 1 (Acked (plain 200) true true)) → ⊥
+change_goes_further (inl before) = not_below 0 0 refl before
+change_goes_further (inr (inl back)) = not_below 1 0 refl back
+change_goes_further (inr (inr stays)) = not_at_most 1 0 refl (omega (arith, stays.1))
 
-raise_stays : IsOutOfOrder [] (answered 1 1 (Acked (plain 200) true))
-raise_stays = inr (inr (refl, refl))
+change_stays : IsOutOfOrder [] (answered 1 1 (Acked (plain 200) true true))
+change_stays = inr (inr (refl, refl))
 
--- One client raises the register at position 1 from version 100 to 200, and another has come to position 2.
-abbrev one_raise : List ClientLog
-one_raise = log_of (answered 0 1 (Acked (plain 200) true) ∷ []) ∷ log_of (answered 2 2 (Acked (plain 100) false) ∷ []) ∷ []
+-- One client changes the register at position 1 from version 100 to 200, and another has come to position 2.
+abbrev one_change : List ClientLog
+one_change = log_of (answered 0 1 (Acked (plain 200) true true) ∷ []) ∷ log_of (answered 2 2 (Acked (plain 100) false false) ∷ []) ∷ []
 
 -- So position 2 is a gap.
-gap : IsGap one_raise 2
-gap = (omega arith, refl, (1, 0, answered 2 2 (Acked (plain 100) false), refl, omega arith))
+gap : IsGap one_change 2
+gap = (omega arith, refl, (1, 0, answered 2 2 (Acked (plain 100) false false), refl, omega arith))
 
 -- Neither position 0 is one,
-start-no_gap : IsGap one_raise 0 → ⊥
+start-no_gap : IsGap one_change 0 → ⊥
 start-no_gap gap = not_at_most 1 0 refl gap.0
 
--- nor position 1, which has its raise,
-raised-no_gap : IsGap one_raise 1 → ⊥
+-- nor position 1, which has its change,
+raised-no_gap : IsGap one_change 1 → ⊥
 raised-no_gap gap = not_at_most 1 0 refl (omega (arith, ap length gap.1))
 
 -- nor position 3, to which no call has come.
-beyond-reached : IsReached one_raise 3 → ⊥
-beyond-reached (zero, zero, call, at, reached) = let same = ap (λ (c : Call). c.position) (same_Some (answered 0 1 (Acked (plain 200) true)) call at) in absurd (omega (arith, reached))
+beyond-reached : IsReached one_change 3 → ⊥
+beyond-reached (zero, zero, call, at, reached) = let same = ap (λ (c : Call). c.position) (same_Some (answered 0 1 (Acked (plain 200) true true)) call at) in absurd (omega (arith, reached))
 beyond-reached (zero, suc later, call, at, reached) = absurd (none-some call at)
-beyond-reached (suc zero, zero, call, at, reached) = let same = ap (λ (c : Call). c.position) (same_Some (answered 2 2 (Acked (plain 100) false)) call at) in absurd (omega (arith, reached))
+beyond-reached (suc zero, zero, call, at, reached) = let same = ap (λ (c : Call). c.position) (same_Some (answered 2 2 (Acked (plain 100) false false)) call at) in absurd (omega (arith, reached))
 beyond-reached (suc zero, suc later, call, at, reached) = absurd (none-some call at)
 beyond-reached (suc (suc client), later, call, at, reached) = absurd (none-some call at)
 
-beyond-no_gap : IsGap one_raise 3 → ⊥
+beyond-no_gap : IsGap one_change 3 → ⊥
 beyond-no_gap gap = beyond-reached gap.2
 
 -- A read of another record than the register's at its position is wrong, be it the lock flag alone.
-read-right : IsWrongAnswer (plain 100) one_raise 1 (Version (plain 200) [] false) → ⊥
+read-right : IsWrongAnswer (plain 100) one_change 1 (Version (plain 200) [] false) → ⊥
 read-right wrong = wrong refl
 
-read-locked : IsWrongAnswer (plain 100) one_raise 1 (Version (locked 200) [] false)
+read-locked : IsWrongAnswer (plain 100) one_change 1 (Version (locked 200) [] false)
 read-locked = λ same. false≢true (sym (ap (λ (rec : Record). rec.locked) same))
 
-read-early : IsWrongAnswer (plain 100) one_raise 0 (Version (plain 200) [] false)
+read-early : IsWrongAnswer (plain 100) one_change 0 (Version (plain 200) [] false)
 read-early = λ same. not_at_most 200 100 refl (omega (arith, ap (λ (rec : Record). rec.version) same))
 
--- A raise at position 1 is of a version above 100, the one before.
-raise-right : IsWrongAnswer (plain 100) one_raise 1 (Acked (plain 101) true) → ⊥
-raise-right wrong = not_at_most 101 100 refl wrong
+-- A report that changed the register at position 1 raised it above 100, the one before, and says so.
+change-right : IsWrongAnswer (plain 100) one_change 1 (Acked (plain 101) true true) → ⊥
+change-right (inl raised) = raised refl
+change-right (inr changed) = changed refl
 
-raise-wrong : IsWrongAnswer (plain 100) one_raise 1 (Acked (plain 100) true)
-raise-wrong = omega arith
+change-wrong : IsWrongAnswer (plain 100) one_change 1 (Acked (plain 100) false true)
+change-wrong = inr (λ same. false≢true (sym same))
 
--- A report that did not raise the register at position 1 is of a version that is not above 200.
-unraised-right : IsWrongAnswer (plain 100) one_raise 1 (Acked (plain 200) false) → ⊥
-unraised-right wrong = not_below 200 200 refl wrong
+change-unsaid : IsWrongAnswer (plain 100) one_change 1 (Acked (plain 101) false true)
+change-unsaid = inl false≢true
 
-unraised-wrong : IsWrongAnswer (plain 100) one_raise 1 (Acked (plain 201) false)
-unraised-wrong = omega arith
+-- Or it told of a greater minimum known committed version alone, and does not say that it raised it.
+known-right : IsWrongAnswer (plain 100) one_change 1 (Acked (knowing 100 1) false true) → ⊥
+known-right (inl raised) = raised refl
+known-right (inr changed) = changed refl
+
+known-raised : IsWrongAnswer (plain 100) one_change 1 (Acked (knowing 100 1) true true)
+known-raised = inl (λ same. false≢true (sym same))
+
+-- A report that did not change the register at position 1 is of a version that is not above 200, and of no greater minimum.
+unchanged-right : IsWrongAnswer (plain 100) one_change 1 (Acked (plain 200) false false) → ⊥
+unchanged-right (inl raised) = raised refl
+unchanged-right (inr changed) = changed refl
+
+unchanged-wrong : IsWrongAnswer (plain 100) one_change 1 (Acked (plain 201) true false)
+unchanged-wrong = inr false≢true
+
+unchanged-known : IsWrongAnswer (plain 100) one_change 1 (Acked (knowing 200 1) false false)
+unchanged-known = inr false≢true
 
 -- ---- low versions
 
@@ -317,15 +349,15 @@ abbrev drawn : ℕ → ℕ → Bool → CallAnswer
 drawn ordinal version fresh = Answered (record { ordinal = ordinal; proxy = 0; num = 1; processed = 0; prev = 0; version = version; at = 0; fresh = fresh })
 
 -- A version that was drawn at position 1 is above 200,
-above : IsNotAbove (register_at (plain 100) one_raise) 1 (drawn 1 201 true) → ⊥
+above : IsNotAbove (register_at (plain 100) one_change) 1 (drawn 1 201 true) → ⊥
 above low = not_at_most 201 200 refl low.2
 
-not_above : IsNotAbove (register_at (plain 100) one_raise) 1 (drawn 1 200 true)
+not_above : IsNotAbove (register_at (plain 100) one_change) 1 (drawn 1 200 true)
 not_above = (refl, (λ same. not_at_most 1 0 refl (omega (arith, same))), omega arith)
 
 -- but for the first of the chain, and one that is given again.
-first-exempt : IsNotAbove (register_at (plain 100) one_raise) 0 (drawn 0 100 true) → ⊥
+first-exempt : IsNotAbove (register_at (plain 100) one_change) 0 (drawn 0 100 true) → ⊥
 first-exempt low = low.1 refl
 
-again-exempt : IsNotAbove (register_at (plain 100) one_raise) 1 (drawn 1 200 false) → ⊥
+again-exempt : IsNotAbove (register_at (plain 100) one_change) 1 (drawn 1 200 false) → ⊥
 again-exempt low = false≢true low.0

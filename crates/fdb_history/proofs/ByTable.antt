@@ -1,9 +1,9 @@
 -- Faults that are judged by a table of the register stand where they stand by the register itself.
-use Rattle.std.proofs.Common.{◌≡◌, ℕ, ◌-◌, ◌≤◌, ◌<◌, true, false, List, Option, None, Some, slice_get, sym, subst, inl, inr, arith}
+use Rattle.std.proofs.Common.{◌≡◌, ℕ, ◌-◌, ◌≤◌, true, false, List, Option, None, Some, slice_get, sym, subst, inl, inr, arith}
 use Rattle.std.proofs.lemmas.Bool.{cases_lt}
 use Rattle.fdb_history.specs.Audit.{IsNotAbove, Low}
 use Rattle.fdb_history.specs.private.Auditing.{AreRegisters, IsFirstCall, by_table}
-use Rattle.fdb_history.specs.Faults.{OutOfOrder, WronglyAnswered, StandsAt, IsReached, IsWrongBy, Nowhere, register_at}
+use Rattle.fdb_history.specs.Faults.{OutOfOrder, WronglyAnswered, StandsAt, IsReached, IsMisanswered, IsWrongBy, Nowhere, register_at}
 use Rattle.fdb_history.specs.Log.{calls_of}
 use Rattle.fdb_history.specs.declared.auditing.found.CallName.{CallName}
 use Rattle.fdb_history.specs.declared.auditing.registers.Registers.{Registers}
@@ -26,15 +26,15 @@ same_first P Q to from (Some name) first =
 -- two registers that agree where an answer is judged judge it alike
 wrong_alike : (f g : ℕ → Record) (position : ℕ) (answer : CallAnswer) → f position ≡ g position → f (position - 1) ≡ g (position - 1) → IsWrongBy f position answer → IsWrongBy g position answer
 wrong_alike f g position (Version rec limits locked_out) here before wrong = subst (λ r. rec ≡ r → ⊥) here wrong
-wrong_alike f g position (Acked rec true) here before wrong = subst (λ (r : Record). rec.version ≤ r.version) before wrong
-wrong_alike f g position (Acked rec false) here before wrong = subst (λ (r : Record). r.version < rec.version) here wrong
+wrong_alike f g position (Acked rec raised true) here before wrong = subst (λ (r : Record). IsMisanswered r rec raised true) before wrong
+wrong_alike f g position (Acked rec raised false) here before wrong = subst (λ (r : Record). IsMisanswered r rec raised false) here wrong
 wrong_alike f g position (Answered issued) here before wrong = wrong
 wrong_alike f g position Told here before wrong = wrong
 wrong_alike f g position (Refused cause) here before wrong = wrong
 
 low_alike : (f g : ℕ → Record) (asked : ℕ) (answer : CallAnswer) → f asked ≡ g asked → IsNotAbove f asked answer → IsNotAbove g asked answer
 low_alike f g asked (Version rec limits locked_out) here low = low
-low_alike f g asked (Acked rec raised) here low = low
+low_alike f g asked (Acked rec raised changed) here low = low
 low_alike f g asked (Answered issued) here low = subst (λ (r : Record). (issued.fresh ≡ true) × (issued.ordinal ≡ 0 → ⊥) × (issued.version ≤ r.version)) here low
 low_alike f g asked Told here low = low
 low_alike f g asked (Refused cause) here low = low

@@ -2,7 +2,7 @@
 use Rattle.std.proofs.Common.{◌≡◌, ℕ, true, false, List, [], ◌∷◌, map, length, None, Ok, Err, Result, refl, ap, inl, arith}
 use Rattle.fdb_history.specs.Event.{register_after, IsLegal, positions_from}
 use Rattle.fdb_history.specs.Explained.{explained}
-use Rattle.fdb_history.specs.Faults.{raises_at, register_at, IsOutOfOrder, IsWrongAnswer}
+use Rattle.fdb_history.specs.Faults.{changes_at, register_at, IsOutOfOrder, IsWrongAnswer}
 use Rattle.fdb_history.specs.Strays.{goes_with}
 use Rattle.fdb_history.specs.declared.grv.GrvOpts.{GrvOpts}
 use Rattle.fdb_history.specs.declared.grv.Priority.TheVariants.{Default}
@@ -21,15 +21,15 @@ use Rattle.fdb_history.specs.declared.log.Refusal.TheVariants.{UnknownProxy, Ear
 
 -- an unlocked record with no metadata version
 abbrev plain : ℕ → Record
-plain version = record { version = version; locked = false; metadata = None }
+plain version = record { version = version; locked = false; metadata = None; min_known = 0 }
 
--- One client reads, reports version 100, reports version 2100 and reads again: the second report raises the register.
+-- One client reads, reports version 100, reports version 2100 and reads again: the second report changes the register.
 abbrev one_client : List Event
-one_client = Read 0 0 (plain 100) ∷ Report 0 2 (plain 100) false ∷ Report 0 4 (plain 2100) true ∷ Read 0 5 (plain 2100) ∷ []
+one_client = Read 0 0 (plain 100) ∷ Report 0 2 (plain 100) false false ∷ Report 0 4 (plain 2100) true true ∷ Read 0 5 (plain 2100) ∷ []
 
 -- Its replies are the register's.
 one_client-legal : IsLegal (plain 100) one_client
-one_client-legal = (refl, (refl, (refl, (refl, tt))))
+one_client-legal = (refl, ((refl, refl), ((refl, refl), (refl, tt))))
 
 -- The position rises where the register does.
 one_client-positions : positions_from 0 one_client ≡ 0 ∷ 0 ∷ 1 ∷ 1 ∷ []
@@ -157,32 +157,32 @@ spent-kept = refl
 -- ---- logs
 
 abbrev plain_read : GrvOpts
-plain_read = record { priority = Default; count = 1; tags = []; lock_aware = false; at = 0 }
+plain_read = record { priority = Default; count = 1; tags = []; lock_aware = false; at = 0; use_min = false }
 
 -- a read of a version, and a report that raised the register
 abbrev reads : ℕ → ℕ → ℕ → Call
 reads asked position version = record { input = input.Grv plain_read; asked = asked; position = position; answer = Version (plain version) [] false }
 
 abbrev raised : ℕ → ℕ → ℕ → Call
-raised asked position version = record { input = input.Report 1 false None; asked = asked; position = position; answer = Acked (plain version) true }
+raised asked position version = record { input = input.Report 1 false None 0; asked = asked; position = position; answer = Acked (plain version) true true }
 
 abbrev log_of : List Call → ClientLog
 log_of calls = record { calls = calls }
 
--- Client 0 raises the register twice; client 1 reads before that, and then after the first raise.
+-- Client 0 changes the register twice; client 1 reads before that, and then after the first change.
 abbrev two_clients : List ClientLog
 two_clients = log_of (raised 0 1 200 ∷ raised 1 2 300 ∷ []) ∷ log_of (reads 0 0 100 ∷ reads 0 1 200 ∷ []) ∷ []
 
--- The history goes by position, the raise first.
-two_clients-explained : explained two_clients ≡ Read 1 0 (plain 100) ∷ Report 0 0 (plain 200) true ∷ Read 1 1 (plain 200) ∷ Report 0 1 (plain 300) true ∷ []
+-- The history goes by position, the change first.
+two_clients-explained : explained two_clients ≡ Read 1 0 (plain 100) ∷ Report 0 0 (plain 200) true true ∷ Read 1 1 (plain 200) ∷ Report 0 1 (plain 300) true true ∷ []
 two_clients-explained = refl
 
 -- The register at each position.
 two_clients-register : map (register_at (plain 100) two_clients) (0 ∷ 1 ∷ 2 ∷ 3 ∷ []) ≡ plain 100 ∷ plain 200 ∷ plain 300 ∷ plain 300 ∷ []
 two_clients-register = refl
 
--- A raise in each of two logs at position 1: both stand there.
-two_at_one : length (raises_at (log_of (raised 0 1 200 ∷ []) ∷ log_of (raised 0 1 300 ∷ []) ∷ []) 1) ≡ 2
+-- A change in each of two logs at position 1: both stand there.
+two_at_one : length (changes_at (log_of (raised 0 1 200 ∷ []) ∷ log_of (raised 0 1 300 ∷ []) ∷ []) 1) ≡ 2
 two_at_one = refl
 
 apart : (a b : ℕ) → a ≡ 300 → b ≡ 100 → a ≡ b → ⊥
@@ -200,5 +200,5 @@ second-out_of_order = inl (omega arith)
 read_may : goes_with (input.Grv plain_read) (Refused BadCount) ≡ true
 read_may = refl
 
-report_may_not : goes_with (input.Report 1 false None) (Refused BadCount) ≡ false
+report_may_not : goes_with (input.Report 1 false None 0) (Refused BadCount) ≡ false
 report_may_not = refl

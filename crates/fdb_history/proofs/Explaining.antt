@@ -1,5 +1,5 @@
--- The events of the logs, sorted by position and each raise before the others there, are the blocks of the positions,
--- and the raises among them stand by position.
+-- The events of the logs, sorted by position and each change before the others there, are the blocks of the positions,
+-- and the changes among them stand by position.
 use Rattle.std.proofs.Common.{◌≡◌, ℕ, zero, suc, ◌+◌, ◌<◌, ◌≤◌, not, Bool, true, false, ltb, List, [], ◌∷◌, ◌++◌, filter, flat_map, map, slice_index_or, count_by, None, Ordering, Less, Equal, Greater, is_lt, nat_cmp, refl, ap, sym, subst, ◌∙◌, arith, le_trans}
 use Rattle.std.specs.Cmp.{ranked}
 use Rattle.std.specs.List.{AllByRecursion}
@@ -8,32 +8,32 @@ use Rattle.std.specs.Ordering.{MatchOrdering, bool_cmp, ordering_then}
 use Rattle.std.proofs.lemmas.Bool.{lt-ltb, le-ltb}
 use Rattle.std.proofs.lemmas.List.Elements.{All-from_recursion, recursion_from_All}
 use Rattle.std.proofs.lemmas.List.Sorted.{All-permutation}
-use Rattle.fdb_history.specs.private.Auditing.{AreByPosition, AreRaisesOf, IsWithin}
-use Rattle.fdb_history.specs.Event.{is_raise}
+use Rattle.fdb_history.specs.private.Auditing.{AreByPosition, AreChangesOf, IsWithin}
+use Rattle.fdb_history.specs.Event.{is_change}
 use Rattle.fdb_history.specs.declared.event.Placed.{Placed}
 use Rattle.fdb_history.specs.Explained.{placed_in, explained}
-use Rattle.fdb_history.specs.private.Explaining.{AreEventsByPosition, raise_of_event, raises_of}
-use Rattle.fdb_history.specs.declared.auditing.raises.PlacedRaise.{PlacedRaise}
+use Rattle.fdb_history.specs.private.Explaining.{AreEventsByPosition, change_of_event, changes_of}
+use Rattle.fdb_history.specs.declared.auditing.changes.PlacedChange.{PlacedChange}
 use Rattle.fdb_history.specs.declared.event.Event.{Event}
 use Rattle.fdb_history.specs.declared.event.Event.TheVariants.{Report, Read}
 use Rattle.fdb_history.specs.declared.log.ClientLog.{ClientLog}
 use Rattle.fdb_history.specs.declared.register.Record.{Record}
 use Rattle.fdb_history.proofs.Faultless.{events-blocks}
-use Rattle.fdb_history.proofs.FaultlessBlocks.{is_raise_at, block, blocks_up_to}
-use Rattle.fdb_history.proofs.FaultlessLogs.{raise_of, filter-raises, raises-at}
-use Rattle.fdb_history.proofs.FaultlessRaises.{events_of}
+use Rattle.fdb_history.proofs.FaultlessBlocks.{is_change_at, block, blocks_up_to}
+use Rattle.fdb_history.proofs.FaultlessLogs.{change_of, filter-changes, changes-at}
+use Rattle.fdb_history.proofs.FaultlessChanges.{events_of}
 use Rattle.fdb_history.proofs.Grouped.{Rising, rising_from, from_rising, in_order, same_group}
-use Rattle.fdb_history.proofs.Ranks.{rank, rank-least, rank-most, rank_of, of_rank, raises-rank, block-rank, RisesByRank, back_in_order}
+use Rattle.fdb_history.proofs.Ranks.{rank, rank-least, rank-most, rank_of, of_rank, changes-rank, block-rank, RisesByRank, back_in_order}
 
 -- ---- the sort, by ranks
 
--- the order of the sort, of a position and of whether it is no raise
+-- the order of the sort, of a position and of whether it is no change
 abbrev pub pair_order : ℕ × Bool → ℕ × Bool → Ordering
 pair_order x y = ordering_then (nat_cmp x.0 y.0) (bool_cmp x.1 y.1)
 
 -- what the sort goes by
 abbrev pub sort_key : Placed → ℕ × Bool
-sort_key p = (p.position, not (is_raise p.event))
+sort_key p = (p.position, not (is_change p.event))
 
 -- the order of the sort is that of the ranks
 less : (o : Ordering) (m n : ℕ) (a b : Bool) → MatchOrdering o (m < n) (m ≡ n) (n < m)
@@ -57,7 +57,7 @@ is_before x y = is_lt (pair_order (sort_key x) (sort_key y))
 
 -- it does so by the ranks
 by_rank : (x y : Placed) → is_before x y ≡ ltb (rank_of x) (rank_of y)
-by_rank x y = less (nat_cmp x.position y.position) x.position y.position (is_raise x.event) (is_raise y.event) (ranked x.position y.position (nat_cmp x.position y.position) refl)
+by_rank x y = less (nat_cmp x.position y.position) x.position y.position (is_change x.event) (is_change y.event) (ranked x.position y.position (nat_cmp x.position y.position) refl)
 
 -- ---- what the sort leaves
 
@@ -73,11 +73,11 @@ rises ys sorted = rising_from rank_of 0 ys (λ d some. omega arith) (in_order ra
 
 -- a record, of which only the place in an event counts
 abbrev blank : Record
-blank = record { version = 0; locked = false; metadata = None }
+blank = record { version = 0; locked = false; metadata = None; min_known = 0 }
 
--- a raise at a position, and another event there
-abbrev a_raise : ℕ → Placed
-a_raise position = record { event = Report 0 0 blank true; position = position }
+-- a change at a position, and another event there
+abbrev a_change : ℕ → Placed
+a_change position = record { event = Report 0 0 blank true true; position = position }
 
 abbrev an_other : ℕ → Placed
 an_other position = record { event = Read 0 0 blank; position = position }
@@ -86,16 +86,16 @@ an_other position = record { event = Read 0 0 blank; position = position }
 abbrev pub IsFrom : List Placed → List Placed → Type 0
 IsFrom all ys = IsStableByKey sort_key pair_order all ys
 
--- the sort leaves the raises at a position as they were
-same_raises : (position : ℕ) (all ys : List Placed) → IsFrom all ys → of_rank (position + position) ys ≡ of_rank (position + position) all
-same_raises position all ys stable = same_group rank_of is_before by_rank all ys stable (a_raise position)
+-- the sort leaves the changes at a position as they were
+same_changes : (position : ℕ) (all ys : List Placed) → IsFrom all ys → of_rank (position + position) ys ≡ of_rank (position + position) all
+same_changes position all ys stable = same_group rank_of is_before by_rank all ys stable (a_change position)
 
 -- the sort leaves each block as it was
 same_block : (position : ℕ) (all ys : List Placed) → IsFrom all ys → block position ys ≡ block position all
 same_block position all ys stable =
     let others : of_rank (position + position + 1) ys ≡ of_rank (position + position + 1) all = same_group rank_of is_before by_rank all ys stable (an_other position) in
     block-rank position ys
-    ∙ ap (λ l. l ++ of_rank (position + position + 1) ys) (same_raises position all ys stable)
+    ∙ ap (λ l. l ++ of_rank (position + position + 1) ys) (same_changes position all ys stable)
     ∙ ap (λ l. of_rank (position + position) all ++ l) others
     ∙ sym (block-rank position all)
 
@@ -105,7 +105,7 @@ same_blocks zero all ys stable = same_block 0 all ys stable
 same_blocks (suc count) all ys stable =
     ap (λ l. l ++ block (suc count) ys) (same_blocks count all ys stable) ∙ ap (λ l. blocks_up_to count all ++ l) (same_block (suc count) all ys stable)
 
--- ---- the raises
+-- ---- the changes
 
 -- the sorted events stand by position
 pub sorted_by_position : (ys : List Placed) → IsInOrder ys → AreEventsByPosition ys
@@ -113,38 +113,38 @@ sorted_by_position ys sorted = λ i j d before below.
     let x = slice_index_or ys i d in
     let y = slice_index_or ys j d in
     let ranks = in_order rank_of is_before by_rank ys sorted i j d before below in
-    let least = rank-least x.position (is_raise x.event) in
-    let most = rank-most y.position (is_raise y.event) in
+    let least = rank-least x.position (is_change x.event) in
+    let most = rank-most y.position (is_change y.event) in
     omega arith
 
 -- what rises from a position rises from each below it
-rises_below : (before later : ℕ) (raises : List PlacedRaise) → before ≤ later → Rising (λ (raise : PlacedRaise). raise.position) later raises → Rising (λ (raise : PlacedRaise). raise.position) before raises
+rises_below : (before later : ℕ) (changes : List PlacedChange) → before ≤ later → Rising (λ (change : PlacedChange). change.position) later changes → Rising (λ (change : PlacedChange). change.position) before changes
 rises_below before later [] below up = tt
-rises_below before later (raise ∷ raises) below up = (le_trans below up.0, up.1)
+rises_below before later (change ∷ changes) below up = (le_trans below up.0, up.1)
 
--- the raise of an event, and then what rises from its position
-rises_more : (low position : ℕ) (event : Event) (raises : List PlacedRaise) → low ≤ position → Rising (λ (raise : PlacedRaise). raise.position) position raises
-    → Rising (λ (raise : PlacedRaise). raise.position) low (raise_of_event position event ++ raises)
-rises_more low position (Report client call rec true) raises least up = (least, up)
-rises_more low position (Report client call rec false) raises least up = rises_below low position raises least up
-rises_more low position (Read client call rec) raises least up = rises_below low position raises least up
+-- the change of an event, and then what rises from its position
+rises_more : (low position : ℕ) (event : Event) (changes : List PlacedChange) → low ≤ position → Rising (λ (change : PlacedChange). change.position) position changes
+    → Rising (λ (change : PlacedChange). change.position) low (change_of_event position event ++ changes)
+rises_more low position (Report client call rec raised true) changes least up = (least, up)
+rises_more low position (Report client call rec raised false) changes least up = rises_below low position changes least up
+rises_more low position (Read client call rec) changes least up = rises_below low position changes least up
 
--- the raises among events that rise do so too
-rises_among : (low : ℕ) (ys : List Placed) → Rising (λ (p : Placed). p.position) low ys → Rising (λ (raise : PlacedRaise). raise.position) low (raises_of ys)
+-- the changes among events that rise do so too
+rises_among : (low : ℕ) (ys : List Placed) → Rising (λ (p : Placed). p.position) low ys → Rising (λ (change : PlacedChange). change.position) low (changes_of ys)
 rises_among low [] up = tt
-rises_among low (p ∷ ys) up = rises_more low p.position p.event (raises_of ys) up.0 (rises_among p.position ys up.1)
+rises_among low (p ∷ ys) up = rises_more low p.position p.event (changes_of ys) up.0 (rises_among p.position ys up.1)
 
--- The raises among events by position stand by position.
-pub raises_by_position : (ys : List Placed) → AreEventsByPosition ys → AreByPosition (raises_of ys)
-raises_by_position ys up =
-    from_rising (λ (raise : PlacedRaise). raise.position) 0 (raises_of ys) (rises_among 0 ys (rising_from (λ (p : Placed). p.position) 0 ys (λ d some. omega arith) up))
+-- The changes among events by position stand by position.
+pub changes_by_position : (ys : List Placed) → AreEventsByPosition ys → AreByPosition (changes_of ys)
+changes_by_position ys up =
+    from_rising (λ (change : PlacedChange). change.position) 0 (changes_of ys) (rises_among 0 ys (rising_from (λ (p : Placed). p.position) 0 ys (λ d some. omega arith) up))
 
--- The raises among the sorted events are those of the logs, at each position.
-pub sorted_raises : (logs : List ClientLog) (all ys : List Placed) → all ≡ placed_in 0 logs → IsFrom all ys → AreRaisesOf logs (raises_of ys)
-sorted_raises logs all ys is stable position =
-    filter-raises position ys
-    ∙ ap (flat_map raise_of) (raises-rank position ys ∙ same_raises position all ys stable ∙ sym (raises-rank position all) ∙ ap (filter (is_raise_at position)) is)
-    ∙ sym (raises-at logs position)
+-- The changes among the sorted events are those of the logs, at each position.
+pub sorted_changes : (logs : List ClientLog) (all ys : List Placed) → all ≡ placed_in 0 logs → IsFrom all ys → AreChangesOf logs (changes_of ys)
+sorted_changes logs all ys is stable position =
+    filter-changes position ys
+    ∙ ap (flat_map change_of) (changes-rank position ys ∙ same_changes position all ys stable ∙ sym (changes-rank position all) ∙ ap (filter (is_change_at position)) is)
+    ∙ sym (changes-at logs position)
 
 -- ---- the whole
 
@@ -159,7 +159,7 @@ sorted_blocks count all ys moved sorted stable within =
 pub sorted_explained : (logs : List ClientLog) (all ys : List Placed) → all ≡ placed_in 0 logs → IsWithin logs → IsPermutation all ys → IsInOrder ys → IsFrom all ys
     → map (λ p. p.event) ys ≡ explained logs
 sorted_explained logs all ys is within moved sorted stable =
-    let count = count_by (λ p. is_raise p.event) (placed_in 0 logs) in
+    let count = count_by (λ p. is_change p.event) (placed_in 0 logs) in
     let P : List Placed → Type 0 = λ l. AllByRecursion (λ p. p.position ≤ count) l in
     ap events_of (sorted_blocks count all ys moved sorted stable (subst P (sym is) within) ∙ ap (blocks_up_to count) is)
     ∙ sym (events-blocks count (placed_in 0 logs))

@@ -1,33 +1,33 @@
--- Block by block: at each position the raises, and then the others.
+-- Block by block: at each position the changes, and then the others.
 use Rattle.std.proofs.Common.{◌≡◌, ℕ, zero, suc, ◌<◌, ◌≤◌, ◌==◌, ◌&&◌, not, Bool, true, false, List, [], ◌∷◌, ◌++◌, filter, refl, ap, sym, ◌∙◌, inl, inr}
 use Rattle.std.proofs.lemmas.Bool.{cond-true, cond-false, cases_Bool}
 use Rattle.std.proofs.lemmas.List.Elements.{filter-append}
-use Rattle.fdb_history.specs.Event.{is_raise}
+use Rattle.fdb_history.specs.Event.{is_change}
 use Rattle.fdb_history.specs.declared.event.Placed.{Placed}
 
 -- ---- the words
 
--- whether an event is a raise at this position
-abbrev pub is_raise_at : ℕ → Placed → Bool
-is_raise_at position p = p.position == position && is_raise p.event
+-- whether an event is a change at this position
+abbrev pub is_change_at : ℕ → Placed → Bool
+is_change_at position p = p.position == position && is_change p.event
 
--- whether it stands at this position and is no raise
+-- whether it stands at this position and is no change
 abbrev pub is_other_at : ℕ → Placed → Bool
-is_other_at position p = p.position == position && not (is_raise p.event)
+is_other_at position p = p.position == position && not (is_change p.event)
 
--- what stands at a position: the raises, and then the others
+-- what stands at a position: the changes, and then the others
 abbrev pub block : ℕ → List Placed → List Placed
-block position all = filter (is_raise_at position) all ++ filter (is_other_at position) all
+block position all = filter (is_change_at position) all ++ filter (is_other_at position) all
 
 -- the blocks of the positions from 0 up to this one
 abbrev pub blocks_up_to : ℕ → List Placed → List Placed
 blocks_up_to zero all = block 0 all
 blocks_up_to (suc position) all = blocks_up_to position all ++ block (suc position) all
 
--- the positions never fall, and a raise has a new one
+-- the positions never fall, and a change has a new one
 abbrev pub Climbing : ℕ → List Placed → Type 0
 Climbing before [] = Unit {0}
-Climbing before (p ∷ all) = (before ≤ p.position) × (is_raise p.event ≡ true → before < p.position) × Climbing p.position all
+Climbing before (p ∷ all) = (before ≤ p.position) × (is_change p.event ≡ true → before < p.position) × Climbing p.position all
 
 -- ---- filters
 
@@ -61,9 +61,9 @@ filter_swap one other (x ∷ xs) =
 -- a filter of a block is the block of the filtered
 block-filter : (test : Placed → Bool) (position : ℕ) (all : List Placed) → filter test (block position all) ≡ block position (filter test all)
 block-filter test position all =
-    filter-append test (filter (is_raise_at position) all) (filter (is_other_at position) all)
-    ∙ ap (λ l. l ++ filter test (filter (is_other_at position) all)) (filter_swap test (is_raise_at position) all)
-    ∙ ap (λ l. filter (is_raise_at position) (filter test all) ++ l) (filter_swap test (is_other_at position) all)
+    filter-append test (filter (is_change_at position) all) (filter (is_other_at position) all)
+    ∙ ap (λ l. l ++ filter test (filter (is_other_at position) all)) (filter_swap test (is_change_at position) all)
+    ∙ ap (λ l. filter (is_change_at position) (filter test all) ++ l) (filter_swap test (is_other_at position) all)
 
 -- a filter of the blocks is the blocks of the filtered
 pub blocks-filter : (test : Placed → Bool) (count : ℕ) (all : List Placed) → filter test (blocks_up_to count all) ≡ blocks_up_to count (filter test all)

@@ -1,25 +1,25 @@
 -- From the logs to their events: what each call keeps to, each event keeps to; whose events they are; and the
--- raises of both.
+-- changes of both.
 use Rattle.std.proofs.Common.{◌≡◌, ℕ, zero, suc, ◌+◌, ◌<◌, ◌≤◌, ◌⊎◌, ◌==◌, Bool, true, false, IsTrue, List, [], ◌∷◌, ◌++◌, map, length, take, filter, flat_map, slice_get, option_to_list, Some, refl, ap, sym, ◌∙◌, append-nil, inl, inr, arith, le_trans}
 use Rattle.std.specs.List.{AllByRecursion}
 use Rattle.std.proofs.lemmas.Bool.{and_from, and_parts, and_left, and_right, eq-eqb, ne_eqb, cases_eq, cases_lt, cases_Bool, false≢true}
 use Rattle.std.proofs.lemmas.List.Elements.{filter-append}
 use Rattle.std.proofs.lemmas.List.Concat.{flat_map-append}
-use Rattle.fdb_history.specs.Event.{is_raise}
+use Rattle.fdb_history.specs.Event.{is_change}
 use Rattle.fdb_history.specs.declared.event.Placed.{Placed}
 use Rattle.fdb_history.specs.Explained.{placed_in}
-use Rattle.fdb_history.specs.private.Explaining.{raise_of_event}
-use Rattle.fdb_history.specs.Faults.{raise_in, raises_in, raises_at, IsOutOfOrder, StandsAt, Nowhere}
+use Rattle.fdb_history.specs.private.Explaining.{change_of_event}
+use Rattle.fdb_history.specs.Faults.{change_in, changes_in, changes_at, IsOutOfOrder, StandsAt, Nowhere}
 use Rattle.fdb_history.specs.Linear.{NeverGoesBack, client_of}
-use Rattle.fdb_history.specs.Log.{event_of_answer, placed_from, calls_of, answer_raises, position_after_calls}
-use Rattle.fdb_history.specs.declared.auditing.raises.PlacedRaise.{PlacedRaise}
+use Rattle.fdb_history.specs.Log.{event_of_answer, placed_from, calls_of, answer_changes, position_after_calls}
+use Rattle.fdb_history.specs.declared.auditing.changes.PlacedChange.{PlacedChange}
 use Rattle.fdb_history.specs.declared.event.Event.{Event}
 use Rattle.fdb_history.specs.declared.event.Event.TheVariants.{Report, Read}
 use Rattle.fdb_history.specs.declared.log.Call.{Call}
 use Rattle.fdb_history.specs.declared.log.CallAnswer.{CallAnswer}
 use Rattle.fdb_history.specs.declared.log.CallAnswer.TheVariants.{Version, Answered, Acked, Told, Refused}
 use Rattle.fdb_history.specs.declared.log.ClientLog.{ClientLog}
-use Rattle.fdb_history.proofs.FaultlessBlocks.{is_raise_at, kept, left_out, Climbing}
+use Rattle.fdb_history.proofs.FaultlessBlocks.{is_change_at, kept, left_out, Climbing}
 
 -- ---- each call, and each event
 
@@ -70,16 +70,16 @@ every_placed P Q passes client (log ∷ logs) each =
 -- a bound on the calls' positions bounds the events'
 pub passes_bound : (bound : ℕ) → Passes (λ position answer. position ≤ bound) (λ p. p.position ≤ bound)
 passes_bound bound client place position (Version rec limits locked_out) within = (within, tt)
-passes_bound bound client place position (Acked rec raised) within = (within, tt)
+passes_bound bound client place position (Acked rec raised changed) within = (within, tt)
 passes_bound bound client place position (Answered issued) within = tt
 passes_bound bound client place position Told within = tt
 passes_bound bound client place position (Refused cause) within = tt
 
--- a raise stands at 1 or later
-pub passes_raised : Passes (λ position answer. IsTrue (answer_raises answer) → 1 ≤ position) (λ p. is_raise p.event ≡ true → 1 ≤ p.position)
+-- a change stands at 1 or later
+pub passes_raised : Passes (λ position answer. IsTrue (answer_changes answer) → 1 ≤ position) (λ p. is_change p.event ≡ true → 1 ≤ p.position)
 passes_raised client place position (Version rec limits locked_out) least = (λ up. absurd (false≢true up), tt)
-passes_raised client place position (Acked rec true) least = (λ up. least refl, tt)
-passes_raised client place position (Acked rec false) least = (λ up. absurd (false≢true up), tt)
+passes_raised client place position (Acked rec raised true) least = (λ up. least refl, tt)
+passes_raised client place position (Acked rec raised false) least = (λ up. absurd (false≢true up), tt)
 passes_raised client place position (Answered issued) least = tt
 passes_raised client place position Told least = tt
 passes_raised client place position (Refused cause) least = tt
@@ -93,7 +93,7 @@ is_of client p = client_of p.event == client
 -- a call's event is its client's own
 own_call : (who client place position : ℕ) (answer : CallAnswer) → who ≡ client → filter (is_of client) (placed_call who place position answer) ≡ placed_call who place position answer
 own_call who client place position (Version rec limits locked_out) same = kept (is_of client) (record { event = Read who place rec; position = position }) [] (eq-eqb who client same)
-own_call who client place position (Acked rec raised) same = kept (is_of client) (record { event = Report who place rec raised; position = position }) [] (eq-eqb who client same)
+own_call who client place position (Acked rec raised changed) same = kept (is_of client) (record { event = Report who place rec raised changed; position = position }) [] (eq-eqb who client same)
 own_call who client place position (Answered issued) same = refl
 own_call who client place position Told same = refl
 own_call who client place position (Refused cause) same = refl
@@ -101,7 +101,7 @@ own_call who client place position (Refused cause) same = refl
 -- and no other client's
 other_call : (who client place position : ℕ) (answer : CallAnswer) → (who ≡ client → ⊥) → filter (is_of client) (placed_call who place position answer) ≡ []
 other_call who client place position (Version rec limits locked_out) apart = left_out (is_of client) (record { event = Read who place rec; position = position }) [] (ne_eqb who client apart)
-other_call who client place position (Acked rec raised) apart = left_out (is_of client) (record { event = Report who place rec raised; position = position }) [] (ne_eqb who client apart)
+other_call who client place position (Acked rec raised changed) apart = left_out (is_of client) (record { event = Report who place rec raised changed; position = position }) [] (ne_eqb who client apart)
 other_call who client place position (Answered issued) apart = refl
 other_call who client place position Told apart = refl
 other_call who client place position (Refused cause) apart = refl
@@ -151,7 +151,7 @@ own_in client from (suc i) (log ∷ logs) is =
 -- no call is out of order, counted from a position
 never_back : (before : ℕ) (calls : List Call)
     → ((place : ℕ) (call : Call) → slice_get calls place ≡ Some call
-    → (call.asked < position_after_calls before (take place calls)) ⊎ ((call.position < call.asked) ⊎ (IsTrue (answer_raises call.answer) × (call.position ≡ call.asked))) → ⊥)
+    → (call.asked < position_after_calls before (take place calls)) ⊎ ((call.position < call.asked) ⊎ (IsTrue (answer_changes call.answer) × (call.position ≡ call.asked))) → ⊥)
     → NeverGoesBack before calls
 never_back before [] none = tt
 never_back before (call ∷ calls) none =
@@ -174,11 +174,11 @@ climbs_below before later [] below climbs = tt
 climbs_below before later (p ∷ all) below climbs = (le_trans below climbs.0, λ up. omega (arith, climbs.1 up), climbs.2)
 
 -- a call's event, and then what climbs from its position
-climbing_call : (client place before position : ℕ) (answer : CallAnswer) (all : List Placed) → before ≤ position → (IsTrue (answer_raises answer) → before < position) → Climbing position all
+climbing_call : (client place before position : ℕ) (answer : CallAnswer) (all : List Placed) → before ≤ position → (IsTrue (answer_changes answer) → before < position) → Climbing position all
     → Climbing before (placed_call client place position answer ++ all)
 climbing_call client place before position (Version rec limits locked_out) all least up climbs = (least, λ e. absurd (false≢true e), climbs)
-climbing_call client place before position (Acked rec true) all least up climbs = (least, λ e. up refl, climbs)
-climbing_call client place before position (Acked rec false) all least up climbs = (least, λ e. absurd (false≢true e), climbs)
+climbing_call client place before position (Acked rec raised true) all least up climbs = (least, λ e. up refl, climbs)
+climbing_call client place before position (Acked rec raised false) all least up climbs = (least, λ e. absurd (false≢true e), climbs)
 climbing_call client place before position (Answered issued) all least up climbs = climbs_below before position all least climbs
 climbing_call client place before position Told all least up climbs = climbs_below before position all least climbs
 climbing_call client place before position (Refused cause) all least up climbs = climbs_below before position all least climbs
@@ -190,88 +190,88 @@ climbing client place before (call ∷ calls) order =
     climbing_call client place before call.position call.answer (placed_from client (place + 1) calls) (le_trans order.0 order.1) (λ up. omega (arith, order.0, order.2 up))
     (climbing client (place + 1) call.position calls order.3)
 
--- ---- the raises
+-- ---- the changes
 
--- the raise of an event with its position, if it is one
-abbrev pub raise_of : Placed → List PlacedRaise
-raise_of p = raise_of_event p.position p.event
+-- the change of an event with its position, if it is one
+abbrev pub change_of : Placed → List PlacedChange
+change_of p = change_of_event p.position p.event
 
--- a call's raise is that of its event
-raises-call : (client place position : ℕ) (answer : CallAnswer) → raise_in position answer ≡ flat_map raise_of (placed_call client place position answer)
-raises-call client place position (Version rec limits locked_out) = refl
-raises-call client place position (Acked rec true) = refl
-raises-call client place position (Acked rec false) = refl
-raises-call client place position (Answered issued) = refl
-raises-call client place position Told = refl
-raises-call client place position (Refused cause) = refl
+-- a call's change is that of its event
+changes-call : (client place position : ℕ) (answer : CallAnswer) → change_in position answer ≡ flat_map change_of (placed_call client place position answer)
+changes-call client place position (Version rec limits locked_out) = refl
+changes-call client place position (Acked rec raised true) = refl
+changes-call client place position (Acked rec raised false) = refl
+changes-call client place position (Answered issued) = refl
+changes-call client place position Told = refl
+changes-call client place position (Refused cause) = refl
 
--- the raises of a log's calls are those of its events
-raises-from : (client place : ℕ) (calls : List Call) → flat_map (λ call. raise_in call.position call.answer) calls ≡ flat_map raise_of (placed_from client place calls)
-raises-from client place [] = refl
-raises-from client place (call ∷ calls) =
+-- the changes of a log's calls are those of its events
+changes-from : (client place : ℕ) (calls : List Call) → flat_map (λ call. change_in call.position call.answer) calls ≡ flat_map change_of (placed_from client place calls)
+changes-from client place [] = refl
+changes-from client place (call ∷ calls) =
     let first = placed_call client place call.position call.answer in
-    ap (λ l. l ++ flat_map (λ (c : Call). raise_in c.position c.answer) calls) (raises-call client place call.position call.answer)
-    ∙ ap (λ l. flat_map raise_of first ++ l) (raises-from client (place + 1) calls)
-    ∙ sym (flat_map-append raise_of first (placed_from client (place + 1) calls))
+    ap (λ l. l ++ flat_map (λ (c : Call). change_in c.position c.answer) calls) (changes-call client place call.position call.answer)
+    ∙ ap (λ l. flat_map change_of first ++ l) (changes-from client (place + 1) calls)
+    ∙ sym (flat_map-append change_of first (placed_from client (place + 1) calls))
 
--- the raises in the logs are those among their events
-raises-in : (client : ℕ) (logs : List ClientLog) → raises_in logs ≡ flat_map raise_of (placed_in client logs)
-raises-in client [] = refl
-raises-in client (log ∷ logs) =
-    ap (λ l. l ++ raises_in logs) (raises-from client 0 log.calls)
-    ∙ ap (λ l. flat_map raise_of (placed_from client 0 log.calls) ++ l) (raises-in (client + 1) logs)
-    ∙ sym (flat_map-append raise_of (placed_from client 0 log.calls) (placed_in (client + 1) logs))
+-- the changes in the logs are those among their events
+changes-in : (client : ℕ) (logs : List ClientLog) → changes_in logs ≡ flat_map change_of (placed_in client logs)
+changes-in client [] = refl
+changes-in client (log ∷ logs) =
+    ap (λ l. l ++ changes_in logs) (changes-from client 0 log.calls)
+    ∙ ap (λ l. flat_map change_of (placed_from client 0 log.calls) ++ l) (changes-in (client + 1) logs)
+    ∙ sym (flat_map-append change_of (placed_from client 0 log.calls) (placed_in (client + 1) logs))
 
--- whether a raise stands at this position
-abbrev stands_at : ℕ → PlacedRaise → Bool
-stands_at position raise = raise.position == position
+-- whether a change stands at this position
+abbrev stands_at : ℕ → PlacedChange → Bool
+stands_at position change = change.position == position
 
--- one event more: its raise stands at the position where the event does
-filter-raise : (position at : ℕ) (event : Event) (all : List Placed) → filter (stands_at position) (flat_map raise_of all) ≡ flat_map raise_of (filter (is_raise_at position) all)
-    → filter (stands_at position) (raise_of_event at event ++ flat_map raise_of all) ≡ flat_map raise_of (filter (is_raise_at position) (record { event = event; position = at } ∷ all))
-filter-raise position at (Report client call rec true) all rest =
-    let p : Placed = record { event = Report client call rec true; position = at } in
-    let raise : PlacedRaise = record { position = at; rec = rec } in
+-- one event more: its change stands at the position where the event does
+filter-change : (position at : ℕ) (event : Event) (all : List Placed) → filter (stands_at position) (flat_map change_of all) ≡ flat_map change_of (filter (is_change_at position) all)
+    → filter (stands_at position) (change_of_event at event ++ flat_map change_of all) ≡ flat_map change_of (filter (is_change_at position) (record { event = event; position = at } ∷ all))
+filter-change position at (Report client call rec raised true) all rest =
+    let p : Placed = record { event = Report client call rec raised true; position = at } in
+    let change : PlacedChange = record { position = at; rec = rec } in
     elim (cases_Bool (at == position)) [
-      | inl here ↦ kept (stands_at position) raise (flat_map raise_of all) here ∙ ap (λ l. raise ∷ l) rest
-          ∙ sym (ap (flat_map raise_of) (kept (is_raise_at position) p all (and_from (at == position) true here refl)))
-      | inr not_here ↦ left_out (stands_at position) raise (flat_map raise_of all) not_here ∙ rest
-          ∙ sym (ap (flat_map raise_of) (left_out (is_raise_at position) p all (and_left (at == position) true not_here)))
+      | inl here ↦ kept (stands_at position) change (flat_map change_of all) here ∙ ap (λ l. change ∷ l) rest
+          ∙ sym (ap (flat_map change_of) (kept (is_change_at position) p all (and_from (at == position) true here refl)))
+      | inr not_here ↦ left_out (stands_at position) change (flat_map change_of all) not_here ∙ rest
+          ∙ sym (ap (flat_map change_of) (left_out (is_change_at position) p all (and_left (at == position) true not_here)))
     ]
-filter-raise position at (Report client call rec false) all rest =
-    let p : Placed = record { event = Report client call rec false; position = at } in
-    rest ∙ sym (ap (flat_map raise_of) (left_out (is_raise_at position) p all (and_right (at == position) false refl)))
-filter-raise position at (Read client call rec) all rest =
+filter-change position at (Report client call rec raised false) all rest =
+    let p : Placed = record { event = Report client call rec raised false; position = at } in
+    rest ∙ sym (ap (flat_map change_of) (left_out (is_change_at position) p all (and_right (at == position) false refl)))
+filter-change position at (Read client call rec) all rest =
     let p : Placed = record { event = Read client call rec; position = at } in
-    rest ∙ sym (ap (flat_map raise_of) (left_out (is_raise_at position) p all (and_right (at == position) false refl)))
+    rest ∙ sym (ap (flat_map change_of) (left_out (is_change_at position) p all (and_right (at == position) false refl)))
 
--- the raises at a position are those of the events that raise there
-pub filter-raises : (position : ℕ) (all : List Placed) → filter (stands_at position) (flat_map raise_of all) ≡ flat_map raise_of (filter (is_raise_at position) all)
-filter-raises position [] = refl
-filter-raises position (p ∷ all) = filter-raise position p.position p.event all (filter-raises position all)
+-- the changes at a position are those of the events that change there
+pub filter-changes : (position : ℕ) (all : List Placed) → filter (stands_at position) (flat_map change_of all) ≡ flat_map change_of (filter (is_change_at position) all)
+filter-changes position [] = refl
+filter-changes position (p ∷ all) = filter-change position p.position p.event all (filter-changes position all)
 
--- the raises in the logs at a position are those among their events
-pub raises-at : (logs : List ClientLog) (position : ℕ) → raises_at logs position ≡ flat_map raise_of (filter (is_raise_at position) (placed_in 0 logs))
-raises-at logs position = ap (filter (stands_at position)) (raises-in 0 logs) ∙ filter-raises position (placed_in 0 logs)
+-- the changes in the logs at a position are those among their events
+pub changes-at : (logs : List ClientLog) (position : ℕ) → changes_at logs position ≡ flat_map change_of (filter (is_change_at position) (placed_in 0 logs))
+changes-at logs position = ap (filter (stands_at position)) (changes-in 0 logs) ∙ filter-changes position (placed_in 0 logs)
 
--- an event that raises has one raise
-length-raise : (at : ℕ) (event : Event) (more : List PlacedRaise) → is_raise event ≡ true → length (raise_of_event at event ++ more) ≡ suc (length more)
-length-raise at (Report client call rec true) more up = refl
-length-raise at (Report client call rec false) more up = absurd (false≢true up)
-length-raise at (Read client call rec) more up = absurd (false≢true up)
+-- an event that changes has one change
+length-change : (at : ℕ) (event : Event) (more : List PlacedChange) → is_change event ≡ true → length (change_of_event at event ++ more) ≡ suc (length more)
+length-change at (Report client call rec raised true) more up = refl
+length-change at (Report client call rec raised false) more up = absurd (false≢true up)
+length-change at (Read client call rec) more up = absurd (false≢true up)
 
--- as many raises as events that raise
-pub length-raises : (position : ℕ) (all : List Placed) → length (flat_map raise_of (filter (is_raise_at position) all)) ≡ length (filter (is_raise_at position) all)
-length-raises position [] = refl
-length-raises position (p ∷ all) =
-    let rest = length-raises position all in
-    elim (cases_Bool (is_raise_at position p)) [
+-- as many changes as events that change
+pub length-changes : (position : ℕ) (all : List Placed) → length (flat_map change_of (filter (is_change_at position) all)) ≡ length (filter (is_change_at position) all)
+length-changes position [] = refl
+length-changes position (p ∷ all) =
+    let rest = length-changes position all in
+    elim (cases_Bool (is_change_at position p)) [
       | inl here ↦
-          let is = kept (is_raise_at position) p all here in
-          ap (λ l. length (flat_map raise_of l)) is
-          ∙ length-raise p.position p.event (flat_map raise_of (filter (is_raise_at position) all)) (and_parts (p.position == position) (is_raise p.event) here).1
+          let is = kept (is_change_at position) p all here in
+          ap (λ l. length (flat_map change_of l)) is
+          ∙ length-change p.position p.event (flat_map change_of (filter (is_change_at position) all)) (and_parts (p.position == position) (is_change p.event) here).1
           ∙ ap suc rest ∙ sym (ap length is)
       | inr not_here ↦
-          let is = left_out (is_raise_at position) p all not_here in
-          ap (λ l. length (flat_map raise_of l)) is ∙ rest ∙ sym (ap length is)
+          let is = left_out (is_change_at position) p all not_here in
+          ap (λ l. length (flat_map change_of l)) is ∙ rest ∙ sym (ap length is)
     ]

@@ -1,23 +1,23 @@
 -- A read never misses a commit that its client knows of.
-use Rattle.std.proofs.Common.{◌≡◌, ℕ, zero, suc, ◌<◌, ◌≤◌, ◌==◌, Bool, true, false, IsTrue, List, [], ◌∷◌, filter, flat_map, Some, slice_get, refl, ap, sym, ◌∙◌, subst, inl, inr, arith, le_refl, le_trans}
+use Rattle.std.proofs.Common.{◌≡◌, ℕ, zero, suc, ◌<◌, ◌≤◌, ◌==◌, Bool, true, false, IsTrue, List, [], ◌∷◌, filter, flat_map, Some, slice_get, refl, sym, ◌∙◌, subst, inl, inr, arith, le_refl, le_trans, ltb, ltb-false}
 use Rattle.std.specs.List.{AllByRecursion}
-use Rattle.std.proofs.lemmas.Bool.{cases_Bool, cases_lt, eq-eqb, false≢true}
+use Rattle.std.proofs.lemmas.Bool.{cases_Bool, cases_lt, eq-eqb, false≢true, or_parts}
 use Rattle.std.proofs.lemmas.Option.{same_Some, none-some}
-use Rattle.fdb_history.specs.Faults.{raise_in, raises_in, raises_at, after_raises, register_at, IsWrongAnswer, IsFaultless}
+use Rattle.fdb_history.specs.Faults.{change_in, changes_in, changes_at, after_changes, register_at, IsWrongAnswer, IsFaultless}
 use Rattle.fdb_history.specs.Linear.{IsLinear, NeverGoesBack}
-use Rattle.fdb_history.specs.Log.{calls_of, answer_raises}
-use Rattle.fdb_history.specs.Register.{after_report}
-use Rattle.fdb_history.specs.declared.auditing.raises.PlacedRaise.{PlacedRaise}
+use Rattle.fdb_history.specs.Log.{calls_of, answer_changes}
+use Rattle.fdb_history.specs.Register.{raises, changes, after_report}
+use Rattle.fdb_history.specs.declared.auditing.changes.PlacedChange.{PlacedChange}
 use Rattle.fdb_history.specs.declared.event.Event.{Event}
 use Rattle.fdb_history.specs.declared.grv.TagLimit.{TagLimit}
 use Rattle.fdb_history.specs.declared.log.Call.{Call}
 use Rattle.fdb_history.specs.declared.log.CallAnswer.TheVariants.{Version, Acked}
 use Rattle.fdb_history.specs.declared.log.ClientLog.{ClientLog}
 use Rattle.fdb_history.specs.declared.register.Record.{Record}
-use Rattle.fdb_history.proofs.HistoryLaws.{after_report-at_least}
+use Rattle.fdb_history.proofs.AfterReport.{version-at_least, min_known-at_least}
 use Rattle.fdb_history.proofs.ExplainedFaultless.{all_parts, all_at, of_client, faultless}
 use Rattle.fdb_history.proofs.FaultlessBlocks.{kept, left_out}
-use Rattle.fdb_history.proofs.FaultlessLegal.{same_record}
+use Rattle.fdb_history.proofs.FaultlessLegal.{same_record, answered_so}
 
 -- ---- of lists
 
@@ -37,43 +37,65 @@ all_passing P keep (x ∷ xs) all =
 
 -- ---- the register at a position
 
--- raises leave at least the version that they found
-after_raises-at_least : (current : Record) (raises : List PlacedRaise) → current.version ≤ (after_raises current raises).version
-after_raises-at_least current [] = le_refl current.version
-after_raises-at_least current (raise ∷ raises) =
-    le_trans (after_report-at_least current raise.rec).0 (after_raises-at_least (after_report current raise.rec) raises)
+-- neither the version nor the minimum known committed version of one record is above the other's
+abbrev pub AtMost : Record → Record → Type 0
+AtMost one other = (one.version ≤ other.version) × (one.min_known ≤ other.min_known)
 
--- and at least the version of each
-each_at_most : (current : Record) (raises : List PlacedRaise) → AllByRecursion (λ raise. raise.rec.version ≤ (after_raises current raises).version) raises
+AtMost-refl : (rec : Record) → AtMost rec rec
+AtMost-refl rec = (le_refl rec.version, le_refl rec.min_known)
+
+AtMost-trans : (a b c : Record) → AtMost a b → AtMost b c → AtMost a c
+AtMost-trans a b c first second = (le_trans first.0 second.0, le_trans first.1 second.1)
+
+after_report-found : (current rec : Record) → AtMost current (after_report current rec)
+after_report-found current rec = ((version-at_least current rec).0, (min_known-at_least current rec).0)
+
+after_report-told : (current rec : Record) → AtMost rec (after_report current rec)
+after_report-told current rec = ((version-at_least current rec).1, (min_known-at_least current rec).1)
+
+-- changes leave at least what they found
+after_changes-at_least : (current : Record) (changes : List PlacedChange) → AtMost current (after_changes current changes)
+after_changes-at_least current [] = AtMost-refl current
+after_changes-at_least current (change ∷ changes) =
+    AtMost-trans current (after_report current change.rec) (after_changes (after_report current change.rec) changes)
+    (after_report-found current change.rec) (after_changes-at_least (after_report current change.rec) changes)
+
+-- and at least what each reported
+each_at_most : (current : Record) (changes : List PlacedChange) → AllByRecursion (λ change. AtMost change.rec (after_changes current changes)) changes
 each_at_most current [] = tt
-each_at_most current (raise ∷ raises) =
-    (le_trans (after_report-at_least current raise.rec).1 (after_raises-at_least (after_report current raise.rec) raises), each_at_most (after_report current raise.rec) raises)
+each_at_most current (change ∷ changes) = (
+  AtMost-trans change.rec (after_report current change.rec) (after_changes (after_report current change.rec) changes)
+      (after_report-told current change.rec) (after_changes-at_least (after_report current change.rec) changes),
+  each_at_most (after_report current change.rec) changes,
+)
 
--- the register's version does not fall from a position to a later one
-register_at-in_order : (start : Record) (logs : List ClientLog) (earlier later : ℕ) → earlier ≤ later → (register_at start logs earlier).version ≤ (register_at start logs later).version
-register_at-in_order start logs zero zero order = le_refl start.version
+-- the register does not fall from a position to a later one
+register_at-in_order : (start : Record) (logs : List ClientLog) (earlier later : ℕ) → earlier ≤ later → AtMost (register_at start logs earlier) (register_at start logs later)
+register_at-in_order start logs zero zero order = AtMost-refl start
 register_at-in_order start logs (suc earlier) zero order = absurd (omega arith)
 register_at-in_order start logs earlier (suc later) order =
     elim (cases_lt later earlier) [
-      | inl beyond ↦ let same : earlier ≡ suc later = omega arith in subst (λ p. (register_at start logs earlier).version ≤ (register_at start logs p).version) same (le_refl (register_at start logs earlier).version)
-      | inr within ↦ le_trans (register_at-in_order start logs earlier later within) (after_raises-at_least (register_at start logs later) (raises_at logs (suc later)))
+      | inl beyond ↦ let same : earlier ≡ suc later = omega arith in subst (λ p. AtMost (register_at start logs earlier) (register_at start logs p)) same (AtMost-refl (register_at start logs earlier))
+      | inr within ↦
+          AtMost-trans (register_at start logs earlier) (register_at start logs later) (register_at start logs (suc later))
+          (register_at-in_order start logs earlier later within) (after_changes-at_least (register_at start logs later) (changes_at logs (suc later)))
     ]
 
--- what holds of each raise at a position holds of each acknowledgement in the logs that raised there
-of_raise : (P : PlacedRaise → Type 0) (logs : List ClientLog) (client place : ℕ) (call : Call) (rec : Record) → AllByRecursion P (raises_at logs call.position)
-    → slice_get (calls_of logs client) place ≡ Some call → call.answer ≡ Acked rec true → P (record { position = call.position; rec = rec })
-of_raise P logs client place call rec all at is =
-    let Q : PlacedRaise → Type 0 = λ raise. (raise.position == call.position) ≡ true → P raise in
-    let each = all_flat Q (λ log. flat_map (λ c. raise_in c.position c.answer) log.calls) logs (all_passing P (λ raise. raise.position == call.position) (raises_in logs) all) in
-    let own = of_client (λ calls. AllByRecursion Q (flat_map (λ c. raise_in c.position c.answer) calls)) tt logs client each in
-    let here = all_at (λ c. AllByRecursion Q (raise_in c.position c.answer)) (calls_of logs client) place call (all_flat Q (λ c. raise_in c.position c.answer) (calls_of logs client) own) at in
-    (subst (λ answer. AllByRecursion Q (raise_in call.position answer)) is here).0 (eq-eqb call.position call.position refl)
+-- what holds of each change at a position holds of each acknowledgement in the logs that changed there
+of_change : (P : PlacedChange → Type 0) (logs : List ClientLog) (client place : ℕ) (call : Call) (rec : Record) (raised : Bool) → AllByRecursion P (changes_at logs call.position)
+    → slice_get (calls_of logs client) place ≡ Some call → call.answer ≡ Acked rec raised true → P (record { position = call.position; rec = rec })
+of_change P logs client place call rec raised all at is =
+    let Q : PlacedChange → Type 0 = λ change. (change.position == call.position) ≡ true → P change in
+    let each = all_flat Q (λ log. flat_map (λ c. change_in c.position c.answer) log.calls) logs (all_passing P (λ change. change.position == call.position) (changes_in logs) all) in
+    let own = of_client (λ calls. AllByRecursion Q (flat_map (λ c. change_in c.position c.answer) calls)) tt logs client each in
+    let here = all_at (λ c. AllByRecursion Q (change_in c.position c.answer)) (calls_of logs client) place call (all_flat Q (λ c. change_in c.position c.answer) (calls_of logs client) own) at in
+    (subst (λ answer. AllByRecursion Q (change_in call.position answer)) is here).0 (eq-eqb call.position call.position refl)
 
--- each raise at a position is at most the register there
+-- each change at a position is at most the register there
 below_register : (start : Record) (logs : List ClientLog) (position : ℕ) → 1 ≤ position
-    → AllByRecursion (λ raise. raise.rec.version ≤ (register_at start logs position).version) (raises_at logs position)
+    → AllByRecursion (λ change. AtMost change.rec (register_at start logs position)) (changes_at logs position)
 below_register start logs zero least = absurd (omega arith)
-below_register start logs (suc position) least = each_at_most (register_at start logs position) (raises_at logs (suc position))
+below_register start logs (suc position) least = each_at_most (register_at start logs position) (changes_at logs (suc position))
 
 -- ---- the order of a log
 
@@ -111,22 +133,27 @@ ends_later start logs fine client place call at =
       | inr enough ↦ enough
     ]
 
--- the register at an acknowledgement's position has at least the version that was reported
-acknowledged : (start : Record) (logs : List ClientLog) → IsFaultless start logs → (client place : ℕ) (call : Call) (rec : Record) (raised : Bool)
-    → slice_get (calls_of logs client) place ≡ Some call → call.answer ≡ Acked rec raised → rec.version ≤ (register_at start logs call.position).version
-acknowledged start logs fine client place call rec true at is =
+-- a report that would not change a record is of no more than that
+no_more : (current rec : Record) → changes current rec ≡ false → AtMost rec current
+no_more current rec stays =
+    let parts = or_parts (raises current rec) (ltb current.min_known rec.min_known) stays in
+    (ltb-false current.version rec.version parts.0, ltb-false current.min_known rec.min_known parts.1)
+
+-- the register at an acknowledgement's position has at least what was reported
+acknowledged : (start : Record) (logs : List ClientLog) → IsFaultless start logs → (client place : ℕ) (call : Call) (rec : Record) (raised changed : Bool)
+    → slice_get (calls_of logs client) place ≡ Some call → call.answer ≡ Acked rec raised changed → AtMost rec (register_at start logs call.position)
+acknowledged start logs fine client place call rec raised true at is =
     let ends = ends_later start logs fine client place call at in
-    let raises : IsTrue (answer_raises call.answer) = subst (λ answer. IsTrue (answer_raises answer)) (sym is) refl in
+    let changes : IsTrue (answer_changes call.answer) = subst (λ answer. IsTrue (answer_changes answer)) (sym is) refl in
     elim (cases_lt 0 call.position) [
       | inl beyond ↦
-          of_raise (λ raise. raise.rec.version ≤ (register_at start logs call.position).version) logs client place call rec (below_register start logs call.position beyond) at is
-      | inr none ↦ absurd (fine.order client place (call, at, inr (inr (raises, omega arith))))
+          of_change (λ change. AtMost change.rec (register_at start logs call.position)) logs client place call rec raised (below_register start logs call.position beyond) at is
+      | inr none ↦ absurd (fine.order client place (call, at, inr (inr (changes, omega arith))))
     ]
-acknowledged start logs fine client place call rec false at is =
-    elim (cases_lt (register_at start logs call.position).version rec.version) [
-      | inl above ↦ absurd (fine.wrong client place (call, at, subst (IsWrongAnswer start logs call.position) (sym is) above))
-      | inr below ↦ below
-    ]
+acknowledged start logs fine client place call rec raised false at is =
+    let register = register_at start logs call.position in
+    let right = answered_so register rec raised false (λ wrong. fine.wrong client place (call, at, subst (IsWrongAnswer start logs call.position) (sym is) wrong)) in
+    no_more register rec (sym right.1)
 
 -- a read is of the register at its position
 read_there : (start : Record) (logs : List ClientLog) → IsFaultless start logs → (client place : ℕ) (call : Call) (rec : Record) (limits : List TagLimit) (locked_out : Bool)
@@ -134,14 +161,15 @@ read_there : (start : Record) (logs : List ClientLog) → IsFaultless start logs
 read_there start logs fine client place call rec limits locked_out at is =
     same_record rec (register_at start logs call.position) (λ apart. fine.wrong client place (call, at, subst (IsWrongAnswer start logs call.position) (sym is) apart))
 
--- a read that begins at least where a commit was acknowledged has at least its version
-pub known : (start : Record) (logs : List ClientLog) (history : List Event) (writer reader committed place : ℕ) (commit read : Call) (reported seen : Record) (raised locked_out : Bool) (limits : List TagLimit)
-    → IsLinear start logs history → slice_get (calls_of logs writer) committed ≡ Some commit → commit.answer ≡ Acked reported raised
-    → slice_get (calls_of logs reader) place ≡ Some read → read.answer ≡ Version seen limits locked_out → commit.position ≤ read.asked → reported.version ≤ seen.version
-known start logs history writer reader committed place commit read reported seen raised locked_out limits linear at_commit is_commit at_read is_read order =
+-- a read that begins at least where a commit was acknowledged has at least what was reported
+pub known : (start : Record) (logs : List ClientLog) (history : List Event) (writer reader committed place : ℕ) (commit read : Call) (reported seen : Record) (raised changed locked_out : Bool) (limits : List TagLimit)
+    → IsLinear start logs history → slice_get (calls_of logs writer) committed ≡ Some commit → commit.answer ≡ Acked reported raised changed
+    → slice_get (calls_of logs reader) place ≡ Some read → read.answer ≡ Version seen limits locked_out → commit.position ≤ read.asked → AtMost reported seen
+known start logs history writer reader committed place commit read reported seen raised changed locked_out limits linear at_commit is_commit at_read is_read order =
     let fine = faultless start logs history linear in
-    let least = acknowledged start logs fine writer committed commit reported raised at_commit is_commit in
+    let least = acknowledged start logs fine writer committed commit reported raised changed at_commit is_commit in
     let ends = ends_later start logs fine reader place read at_read in
     let risen = register_at-in_order start logs commit.position read.position (omega arith) in
-    let same = ap (λ (r : Record). r.version) (read_there start logs fine reader place read seen limits locked_out at_read is_read) in
-    omega arith
+    let same = read_there start logs fine reader place read seen limits locked_out at_read is_read in
+    AtMost-trans reported (register_at start logs commit.position) seen least
+    (subst (AtMost (register_at start logs commit.position)) (sym same) risen)

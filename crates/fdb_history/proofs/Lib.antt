@@ -1,15 +1,16 @@
+pub mod AfterReport
 pub mod HistoryLaws
 pub mod ChainLaws
 mod ChainExamples
 pub mod AnswerLaws
 pub mod ExplainedStamps
 pub mod ExplainedClients
-pub mod ExplainedRaises
+pub mod ExplainedChanges
 pub mod ExplainedFaultless
 pub mod FaultlessBlocks
 pub mod Grouped
 pub mod Ranks
-pub mod FaultlessRaises
+pub mod FaultlessChanges
 pub mod FaultlessLogs
 pub mod FaultlessLegal
 pub mod Faultless
@@ -24,11 +25,11 @@ mod AuditExamples
 pub mod FirstCalls
 pub mod ByTable
 pub mod Audited
-pub mod RaisesAt
+pub mod ChangesAt
 pub mod FirstClash
 pub mod FirstMissing
 pub mod RegisterTable
 pub mod ReachedPositions
-pub mod RaiseFaults
+pub mod ChangeFaults
 pub mod Marks
 pub mod FirstStray

@@ -127,7 +127,7 @@ drawn_too-other chain marks was client calls i d within is are =
 
 pub no_answer : (answer : CallAnswer) → ((issued : Issued) → answer ≡ Answered issued → ⊥) → answer_in answer ≡ []
 no_answer (Version rec limits locked_out) other = refl
-no_answer (Acked rec raised) other = refl
+no_answer (Acked rec raised changed) other = refl
 no_answer (Answered issued) other = absurd (other issued refl)
 no_answer Told other = refl
 no_answer (Refused cause) other = refl

@@ -245,11 +245,11 @@ step-answer : (chain : List Issued) (client : ℕ) (answers fresh : List Issued)
     → goes_with asked answer ≡ true → is_of_chain chain client asked answer ≡ true → is_due chain (length own.places) (reply chain own (number_of asked)) asked answer ≡ true
     → AreOwn chain client (answers ++ answer_in answer) (fresh ++ filter is_fresh (answer_in answer)) (own_after own answer)
 step-answer chain client answers fresh own asked (Version rec limits locked_out) are kind of_chain due = rw (append-nil answers, append-nil fresh) are
-step-answer chain client answers fresh own asked (Acked rec raised) are kind of_chain due = rw (append-nil answers, append-nil fresh) are
+step-answer chain client answers fresh own asked (Acked rec raised changed) are kind of_chain due = rw (append-nil answers, append-nil fresh) are
 step-answer chain client answers fresh own asked Told are kind of_chain due = rw (append-nil answers, append-nil fresh) are
 step-answer chain client answers fresh own asked (Refused cause) are kind of_chain due = rw (append-nil answers, append-nil fresh) are
 step-answer chain client answers fresh own (input.Grv opts) (Answered issued) are kind of_chain due = absurd (false≢true kind)
-step-answer chain client answers fresh own (input.Report num locked metadata) (Answered issued) are kind of_chain due = absurd (false≢true kind)
+step-answer chain client answers fresh own (input.Report num locked metadata min_known) (Answered issued) are kind of_chain due = absurd (false≢true kind)
 step-answer chain client answers fresh own (input.Tell to) (Answered issued) are kind of_chain due = absurd (false≢true kind)
 step-answer chain client answers fresh own (input.Learn from) (Answered issued) are kind of_chain due = absurd (false≢true kind)
 step-answer chain client answers fresh own (input.Ask num processed at) (Answered issued) are kind of_chain due = step-asked chain client answers fresh own num processed at issued are of_chain due
@@ -278,14 +278,14 @@ again-as_fresh : (found : Option Issued) (answer : CallAnswer) → is_again (opt
 again-as_fresh None answer = refl
 again-as_fresh (Some entry) (Answered issued) = refl
 again-as_fresh (Some entry) (Version rec limits locked_out) = refl
-again-as_fresh (Some entry) (Acked rec raised) = refl
+again-as_fresh (Some entry) (Acked rec raised changed) = refl
 again-as_fresh (Some entry) Told = refl
 again-as_fresh (Some entry) (Refused cause) = refl
 
 due-as_fresh : (chain : List Issued) (latest_num : ℕ) (found : Option Issued) (asked : Input) (answer : CallAnswer) → is_due chain latest_num (option_map as_fresh found) asked answer ≡ is_due chain latest_num found asked answer
 due-as_fresh chain latest_num found (input.Ask num processed at) answer = ap (λ b. by_number latest_num num (is_early (latest_num + 1) answer) b (is_fresh_answer chain processed at answer)) (again-as_fresh found answer)
 due-as_fresh chain latest_num found (input.Grv opts) answer = refl
-due-as_fresh chain latest_num found (input.Report num locked metadata) answer = refl
+due-as_fresh chain latest_num found (input.Report num locked metadata min_known) answer = refl
 due-as_fresh chain latest_num found (input.Tell to) answer = refl
 due-as_fresh chain latest_num found (input.Learn from) answer = refl
 

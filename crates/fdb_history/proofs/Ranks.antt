@@ -1,13 +1,13 @@
--- The events of a list by their ranks: a number for each position and kind, the raise at a position before the others
+-- The events of a list by their ranks: a number for each position and kind, the change at a position before the others
 -- there. A list that rises by rank is the blocks of its positions.
 use Rattle.std.proofs.Common.{◌≡◌, ℕ, zero, suc, ◌+◌, ◌<◌, ◌≤◌, ◌==◌, ◌&&◌, not, Bool, true, false, leb, List, [], ◌∷◌, ◌++◌, filter, refl, ap, sym, ◌∙◌, append_assoc, arith}
 use Rattle.std.specs.List.{AllByRecursion}
 use Rattle.std.proofs.lemmas.Bool.{le-leb}
 use Rattle.std.proofs.lemmas.Bool.Decides.{nat_tests}
 use Rattle.std.proofs.lemmas.List.Elements.{filter_agree}
-use Rattle.fdb_history.specs.Event.{is_raise}
+use Rattle.fdb_history.specs.Event.{is_change}
 use Rattle.fdb_history.specs.declared.event.Placed.{Placed}
-use Rattle.fdb_history.proofs.FaultlessBlocks.{is_raise_at, is_other_at, block, blocks_up_to, kept, Climbing}
+use Rattle.fdb_history.proofs.FaultlessBlocks.{is_change_at, is_other_at, block, blocks_up_to, kept, Climbing}
 use Rattle.fdb_history.proofs.Grouped.{Rising, more}
 
 -- the rank of a position and kind
@@ -25,12 +25,12 @@ rank-most position false = omega arith
 
 -- the rank of an event
 abbrev pub rank_of : Placed → ℕ
-rank_of p = rank p.position (is_raise p.event)
+rank_of p = rank p.position (is_change p.event)
 
--- the raises at a position have a rank of their own
-raise_rank : (m position : ℕ) (raised : Bool) → (m == position && raised) ≡ (rank m raised == position + position)
-raise_rank m position true = grind (arith, nat_tests)
-raise_rank m position false = grind (arith, nat_tests)
+-- the changes at a position have a rank of their own
+change_rank : (m position : ℕ) (raised : Bool) → (m == position && raised) ≡ (rank m raised == position + position)
+change_rank m position true = grind (arith, nat_tests)
+change_rank m position false = grind (arith, nat_tests)
 
 -- and so have the others
 other_rank : (m position : ℕ) (raised : Bool) → (m == position && not raised) ≡ (rank m raised == position + position + 1)
@@ -44,16 +44,16 @@ of_rank k all = filter (λ p. rank_of p == k) all
 abbrev to_rank : ℕ → List Placed → List Placed
 to_rank k all = filter (λ p. leb (rank_of p) k) all
 
--- the raises at a position are one rank
-pub raises-rank : (position : ℕ) (all : List Placed) → filter (is_raise_at position) all ≡ of_rank (position + position) all
-raises-rank position all =
-    filter_agree (is_raise_at position) (λ p. rank_of p == position + position) (λ p. raise_rank p.position position (is_raise p.event)) all
+-- the changes at a position are one rank
+pub changes-rank : (position : ℕ) (all : List Placed) → filter (is_change_at position) all ≡ of_rank (position + position) all
+changes-rank position all =
+    filter_agree (is_change_at position) (λ p. rank_of p == position + position) (λ p. change_rank p.position position (is_change p.event)) all
 
 -- a block is two ranks
 pub block-rank : (position : ℕ) (all : List Placed) → block position all ≡ of_rank (position + position) all ++ of_rank (position + position + 1) all
 block-rank position all =
-    let others = filter_agree (is_other_at position) (λ p. rank_of p == position + position + 1) (λ p. other_rank p.position position (is_raise p.event)) all in
-    ap (λ l. l ++ filter (is_other_at position) all) (raises-rank position all) ∙ ap (λ l. of_rank (position + position) all ++ l) others
+    let others = filter_agree (is_other_at position) (λ p. rank_of p == position + position + 1) (λ p. other_rank p.position position (is_change p.event)) all in
+    ap (λ l. l ++ filter (is_other_at position) all) (changes-rank position all) ∙ ap (λ l. of_rank (position + position) all ++ l) others
 
 -- ---- a list that rises by rank
 
@@ -84,7 +84,7 @@ in_blocks (suc count) all up =
 all_to_rank : (count : ℕ) (all : List Placed) → AllByRecursion (λ p. p.position ≤ count) all → to_rank (count + count + 1) all ≡ all
 all_to_rank count [] within = refl
 all_to_rank count (p ∷ all) within =
-    let most = rank-most p.position (is_raise p.event) in
+    let most = rank-most p.position (is_change p.event) in
     let here : p.position ≤ count = within.0 in
     kept (λ q. leb (rank_of q) (count + count + 1)) p all (le-leb (rank_of p) (count + count + 1) (omega arith)) ∙ ap (λ l. p ∷ l) (all_to_rank count all within.1)
 
@@ -97,7 +97,7 @@ back_in_order count all up within = sym (in_blocks count all up) ∙ all_to_rank
 -- it rises by rank, from where an event may stand after another at the position before
 rises_from : (before low : ℕ) (all : List Placed) → low ≤ before + before + 1 → Climbing before all → Rising rank_of low all
 rises_from before low [] least climbs = tt
-rises_from before low (p ∷ all) least climbs = (first (is_raise p.event) climbs.1, rises_from p.position (rank_of p) all (rank-most p.position (is_raise p.event)) climbs.2)
+rises_from before low (p ∷ all) least climbs = (first (is_change p.event) climbs.1, rises_from p.position (rank_of p) all (rank-most p.position (is_change p.event)) climbs.2)
   where
     first : (raised : Bool) → (raised ≡ true → before < p.position) → low ≤ rank p.position raised
     first true up = let above = up refl in omega arith

@@ -11,7 +11,7 @@ use Rattle.fdb_history.specs.declared.log.Input.TheVariants.{Grv, Report}
 -- report that was acknowledged
 abbrev pub may_advance : Input → CallAnswer → Bool
 may_advance (Grv opts) (Version rec limits locked_out) = true
-may_advance (Report num locked metadata) (Acked rec raised) = true
+may_advance (Report num locked metadata min_known) (Acked rec raised changed) = true
 may_advance _ _ = false
 
 -- The log has one more call than before, with this input. The call begins at the position that the

@@ -18,7 +18,7 @@ abbrev pub IsNotAbove : (ℕ → Record) → ℕ → CallAnswer → Type 0
 IsNotAbove register asked (Answered issued) =
     (issued.fresh ≡ true) × (issued.ordinal ≢ 0) × (issued.version ≤ (register asked).version)
 IsNotAbove register asked (Version rec limits locked_out) = ⊥
-IsNotAbove register asked (Acked rec raised) = ⊥
+IsNotAbove register asked (Acked rec raised changed) = ⊥
 IsNotAbove register asked Told = ⊥
 IsNotAbove register asked (Refused cause) = ⊥
 

@@ -1,6 +1,6 @@
 -- Events of the register, one after another. (where no source is named, this product's own)
 use Rattle.std.specs.Prelude.{◌≡◌, ℕ, ◌+◌, Bool, false, if◌then◌else◌, List, [], ◌∷◌, map, fold, count_by}
-use Rattle.fdb_history.specs.Register.{raises, after_report}
+use Rattle.fdb_history.specs.Register.{raises, changes, after_report}
 use Rattle.fdb_history.specs.declared.register.Record.{Record}
 use Rattle.fdb_history.specs.declared.event.Event.{Event}
 use Rattle.fdb_history.specs.declared.event.Placed.{Placed}
@@ -9,7 +9,7 @@ use Rattle.fdb_history.specs.declared.event.Event.TheVariants.{Report, Read}
 -- The register after one event. A read changes nothing. (updateLiveCommittedVersion of
 -- masterserver, FoundationDB 7.1)
 abbrev pub after_event : Record → Event → Record
-after_event current (Report client call rec raised) = after_report current rec
+after_event current (Report client call rec raised changed) = after_report current rec
 after_event current (Read client call rec) = current
 
 -- The register after some events: a fold over them, from the start record.
@@ -18,9 +18,10 @@ abbrev pub register_after : Record → List Event → Record
 register_after start events = fold after_event start events
 
 -- What an event says is so, given the register before it: a read has the register's record, and a
--- report says that it raised the register exactly where it did.
+-- report says that it raised the register, and that it changed it, exactly where it did.
 abbrev pub IsTrueOf : Record → Event → Type 0
-IsTrueOf current (Report client call rec raised) = raised ≡ raises current rec
+IsTrueOf current (Report client call rec raised changed) =
+    (raised ≡ raises current rec) × (changed ≡ changes current rec)
 IsTrueOf current (Read client call rec) = rec ≡ current
 
 -- A list of events is legal from a start record where each of them is true of the register before
@@ -30,18 +31,23 @@ abbrev pub IsLegal : Record → List Event → Type 0
 IsLegal start [] = Unit {0}
 IsLegal start (event ∷ events) = IsTrueOf start event × IsLegal (after_event start event) events
 
+-- whether an event is a report that changed the register
+abbrev pub is_change : Event → Bool
+is_change (Report client call rec raised changed) = changed
+is_change (Read client call rec) = false
+
 -- whether an event is a report that raised the register
 abbrev pub is_raise : Event → Bool
-is_raise (Report client call rec raised) = raised
+is_raise (Report client call rec raised changed) = raised
 is_raise (Read client call rec) = false
 
--- The position after an event, from the position before it: positions count the raises. (this
+-- The position after an event, from the position before it: positions count the changes. (this
 -- product's own)
 abbrev pub position_after : ℕ → Event → ℕ
-position_after before event = if is_raise event then before + 1 else before
+position_after before event = if is_change event then before + 1 else before
 
--- Each event with its position: the number of raises up to and including it, over a position before
--- them all.
+-- Each event with its position: the number of changes up to and including it, over a position
+-- before them all.
 abbrev pub stamped : ℕ → List Event → List Placed
 stamped before [] = []
 stamped before (event ∷ events) =
@@ -52,6 +58,10 @@ stamped before (event ∷ events) =
 abbrev pub positions_from : ℕ → List Event → List ℕ
 positions_from before events = map (λ p. p.position) (stamped before events)
 
--- how many raises there are
+-- how many changes there are
+abbrev pub change_count : List Event → ℕ
+change_count events = count_by is_change events
+
+-- how many of the reports raised the register
 abbrev pub raise_count : List Event → ℕ
 raise_count events = count_by is_raise events

@@ -1,61 +1,61 @@
 -- What can be wrong with the logs of a run, and where. A call is named by its client, which is the
 -- place of its log, and by its place in the log. (all of this is this product's own)
-use Rattle.std.specs.Prelude.{◌≡◌, ◌≢◌, ◌⊎◌, ℕ, zero, suc, ◌-◌, ◌<◌, ◌≤◌, ◌==◌, true, false, IsTrue, List, [], ◌∷◌, length, take, filter, Some, slice_get}
+use Rattle.std.specs.Prelude.{◌≡◌, ◌≢◌, ◌⊎◌, ℕ, Bool, zero, suc, ◌-◌, ◌<◌, ◌≤◌, ◌==◌, true, false, IsTrue, List, [], ◌∷◌, length, take, filter, Some, slice_get}
 use Rattle.std.specs.List.{flat_map}
-use Rattle.fdb_history.specs.Log.{calls_of, position_after_calls, answer_raises}
-use Rattle.fdb_history.specs.Register.{after_report}
-use Rattle.fdb_history.specs.declared.auditing.raises.PlacedRaise.{PlacedRaise}
+use Rattle.fdb_history.specs.Log.{calls_of, position_after_calls, answer_changes}
+use Rattle.fdb_history.specs.Register.{raises, changes, after_report}
+use Rattle.fdb_history.specs.declared.auditing.changes.PlacedChange.{PlacedChange}
 use Rattle.fdb_history.specs.declared.log.Call.{Call}
 use Rattle.fdb_history.specs.declared.log.CallAnswer.{CallAnswer}
 use Rattle.fdb_history.specs.declared.log.CallAnswer.TheVariants.{Version, Answered, Acked, Told, Refused}
 use Rattle.fdb_history.specs.declared.log.ClientLog.{ClientLog}
 use Rattle.fdb_history.specs.declared.register.Record.{Record}
 
--- ---- the raises
+-- ---- the changes
 
-abbrev pub raise_in : ℕ → CallAnswer → List PlacedRaise
-raise_in position (Version rec limits locked_out) = []
-raise_in position (Acked rec true) = record { position = position; rec = rec } ∷ []
-raise_in position (Acked rec false) = []
-raise_in position (Answered issued) = []
-raise_in position Told = []
-raise_in position (Refused cause) = []
+abbrev pub change_in : ℕ → CallAnswer → List PlacedChange
+change_in position (Version rec limits locked_out) = []
+change_in position (Acked rec raised true) = record { position = position; rec = rec } ∷ []
+change_in position (Acked rec raised false) = []
+change_in position (Answered issued) = []
+change_in position Told = []
+change_in position (Refused cause) = []
 
--- the raises in the logs
-abbrev pub raises_in : List ClientLog → List PlacedRaise
-raises_in logs =
-    flat_map (λ log. flat_map (λ call. raise_in call.position call.answer) log.calls) logs
+-- the changes in the logs
+abbrev pub changes_in : List ClientLog → List PlacedChange
+changes_in logs =
+    flat_map (λ log. flat_map (λ call. change_in call.position call.answer) log.calls) logs
 
 -- those at a position
-abbrev pub at_position : ℕ → List PlacedRaise → List PlacedRaise
-at_position position raises = filter (λ raise. raise.position == position) raises
+abbrev pub at_position : ℕ → List PlacedChange → List PlacedChange
+at_position position changes = filter (λ change. change.position == position) changes
 
-abbrev pub raises_at : List ClientLog → ℕ → List PlacedRaise
-raises_at logs position = at_position position (raises_in logs)
+abbrev pub changes_at : List ClientLog → ℕ → List PlacedChange
+changes_at logs position = at_position position (changes_in logs)
 
--- The register at a position: the start, and then each raise up to there in turn, as `after_report`
+-- The register at a position: the start, and then each change up to there in turn, as `after_report`
 -- takes them.
-abbrev pub after_raises : Record → List PlacedRaise → Record
-after_raises current [] = current
-after_raises current (raise ∷ raises) = after_raises (after_report current raise.rec) raises
+abbrev pub after_changes : Record → List PlacedChange → Record
+after_changes current [] = current
+after_changes current (change ∷ changes) = after_changes (after_report current change.rec) changes
 
 abbrev pub register_at : Record → List ClientLog → ℕ → Record
 register_at start logs zero = start
 register_at start logs (suc position) =
-    after_raises (register_at start logs position) (raises_at logs (suc position))
+    after_changes (register_at start logs position) (changes_at logs (suc position))
 
 -- ---- faults of the history
 
--- a call is answered from before what its client had seen, or a raise is not new to its client
+-- a call is answered from before what its client had seen, or a change is not new to its client
 abbrev pub IsOutOfOrder : List Call → Call → Type 0
 IsOutOfOrder before call =
     (call.asked < position_after_calls 0 before)
     ⊎ ((call.position < call.asked)
-    ⊎ (IsTrue (answer_raises call.answer) × (call.position ≡ call.asked)))
+    ⊎ (IsTrue (answer_changes call.answer) × (call.position ≡ call.asked)))
 
--- two raises have one position
+-- two changes have one position
 abbrev pub IsClash : List ClientLog → ℕ → Type 0
-IsClash logs position = 1 < length (raises_at logs position)
+IsClash logs position = 1 < length (changes_at logs position)
 
 -- some call has seen at least so much
 abbrev pub IsReached : List ClientLog → ℕ → Type 0
@@ -63,16 +63,24 @@ IsReached logs position =
     (client place : ℕ) × (call : Call)
     × (slice_get (calls_of logs client) place ≡ Some call) × (position ≤ call.position)
 
--- a position that some call has reached has no raise
+-- a position that some call has reached has no change
 abbrev pub IsGap : List ClientLog → ℕ → Type 0
-IsGap logs position = (1 ≤ position) × (raises_at logs position ≡ []) × IsReached logs position
+IsGap logs position = (1 ≤ position) × (changes_at logs position ≡ []) × IsReached logs position
+
+-- A report would have been answered otherwise by this register: it would have changed it or not, or
+-- raised it or not.
+abbrev pub IsMisanswered : Record → Record → Bool → Bool → Type 0
+IsMisanswered current rec raised changed =
+    (raised ≢ raises current rec) ⊎ (changed ≢ changes current rec)
 
 -- The register would not have answered so at the call's position, given the register at each
--- position.
+-- position. A report that changed the register met the one of the position before its own.
 abbrev pub IsWrongBy : (ℕ → Record) → ℕ → CallAnswer → Type 0
 IsWrongBy register position (Version rec limits locked_out) = rec ≢ register position
-IsWrongBy register position (Acked rec true) = rec.version ≤ (register (position - 1)).version
-IsWrongBy register position (Acked rec false) = (register position).version < rec.version
+IsWrongBy register position (Acked rec raised true) =
+    IsMisanswered (register (position - 1)) rec raised true
+IsWrongBy register position (Acked rec raised false) =
+    IsMisanswered (register position) rec raised false
 IsWrongBy register position (Answered issued) = ⊥
 IsWrongBy register position Told = ⊥
 IsWrongBy register position (Refused cause) = ⊥

@@ -10,7 +10,7 @@ use Rattle.fdb_history.specs.declared.event.Event.TheVariants.{Report, Read}
 -- reported.
 -- (this product's own)
 abbrev pub seen_version : Event → Option ℕ
-seen_version (Report client call rec raised) = if raised then Some rec.version else None
+seen_version (Report client call rec raised changed) = if raised then Some rec.version else None
 seen_version (Read client call rec) = Some rec.version
 
 -- the version that the event at a place shows, if it shows one
@@ -19,7 +19,7 @@ seen_at events place = option_and_then seen_version (slice_get events place)
 
 -- what an event reports, whether or not it raised the register
 abbrev pub reported : Event → Option Record
-reported (Report client call rec raised) = Some rec
+reported (Report client call rec raised changed) = Some rec
 reported (Read client call rec) = None
 
 -- the records that were reported, in order

@@ -2,8 +2,8 @@
 -- reports and reads one at a time.
 use Rattle.std.specs.Prelude.{◌≡◌, ℕ, ◌<◌, ◌≤◌, ◌==◌, List, [], ◌∷◌, map, filter, IsTrue}
 use Rattle.std.specs.List.{AllByRecursion}
-use Rattle.fdb_history.specs.Event.{stamped, IsLegal, raise_count}
-use Rattle.fdb_history.specs.Log.{placed_from, calls_of, answer_raises}
+use Rattle.fdb_history.specs.Event.{stamped, IsLegal, change_count}
+use Rattle.fdb_history.specs.Log.{placed_from, calls_of, answer_changes}
 use Rattle.fdb_history.specs.declared.register.Record.{Record}
 use Rattle.fdb_history.specs.declared.event.Event.{Event}
 use Rattle.fdb_history.specs.declared.event.Event.TheVariants.{Report, Read}
@@ -12,17 +12,17 @@ use Rattle.fdb_history.specs.declared.log.ClientLog.{ClientLog}
 
 -- whose event it is
 abbrev pub client_of : Event → ℕ
-client_of (Report client call rec raised) = client
+client_of (Report client call rec raised changed) = client
 client_of (Read client call rec) = client
 
--- No call was answered from before what its client had seen, and a raise is new to its client: from
+-- No call was answered from before what its client had seen, and a change is new to its client: from
 -- a position, each call begins at least where the one before it ended, ends at least where it
--- began, and beyond that where it raised the register.
+-- began, and beyond that where it changed the register.
 abbrev pub NeverGoesBack : ℕ → List Call → Type 0
 NeverGoesBack before [] = Unit {0}
 NeverGoesBack before (call ∷ calls) =
     (before ≤ call.asked) × (call.asked ≤ call.position)
-    × (IsTrue (answer_raises call.answer) → call.asked < call.position)
+    × (IsTrue (answer_changes call.answer) → call.asked < call.position)
     × NeverGoesBack call.position calls
 
 -- The history explains the logs from the start record. (linearizability of Herlihy and Wing, 1990,
@@ -43,4 +43,4 @@ pub record IsLinear (start : Record) (logs : List ClientLog) (history : List Eve
   -- no call has seen more than there is
   pub bounded :
       AllByRecursion
-      (λ log. AllByRecursion (λ call. call.position ≤ raise_count history) log.calls) logs
+      (λ log. AllByRecursion (λ call. call.position ≤ change_count history) log.calls) logs

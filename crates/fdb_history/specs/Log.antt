@@ -15,7 +15,7 @@ use Rattle.fdb_history.specs.declared.log.ClientLog.{ClientLog}
 -- acknowledgement. This is its event, as the call at this place of this client's log.
 abbrev pub event_of_answer : ℕ → ℕ → CallAnswer → Option Event
 event_of_answer client place (Version rec limits locked_out) = Some (Read client place rec)
-event_of_answer client place (Acked rec raised) = Some (Report client place rec raised)
+event_of_answer client place (Acked rec raised changed) = Some (Report client place rec raised changed)
 event_of_answer client place (Answered issued) = None
 event_of_answer client place Told = None
 event_of_answer client place (Refused cause) = None
@@ -33,13 +33,13 @@ placed_from client place (call ∷ calls) =
 abbrev pub calls_of : List ClientLog → ℕ → List Call
 calls_of logs client = unwrap_or (option_map (λ log. log.calls) (slice_get logs client)) []
 
--- whether a call's answer says that it raised the register
-abbrev pub answer_raises : CallAnswer → Bool
-answer_raises (Version rec limits locked_out) = false
-answer_raises (Acked rec raised) = raised
-answer_raises (Answered issued) = false
-answer_raises Told = false
-answer_raises (Refused cause) = false
+-- whether a call's answer says that it changed the register
+abbrev pub answer_changes : CallAnswer → Bool
+answer_changes (Version rec limits locked_out) = false
+answer_changes (Acked rec raised changed) = changed
+answer_changes (Answered issued) = false
+answer_changes Told = false
+answer_changes (Refused cause) = false
 
 -- The position after some calls, from a position before them: that of the last, if there is one.
 abbrev pub position_after_calls : ℕ → List Call → ℕ
@@ -49,7 +49,7 @@ position_after_calls before (call ∷ calls) = position_after_calls call.positio
 -- the commit version answers in some calls, in order
 abbrev pub answer_in : CallAnswer → List Issued
 answer_in (Version rec limits locked_out) = []
-answer_in (Acked rec raised) = []
+answer_in (Acked rec raised changed) = []
 answer_in (Answered issued) = issued ∷ []
 answer_in Told = []
 answer_in (Refused cause) = []

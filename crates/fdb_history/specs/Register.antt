@@ -1,5 +1,5 @@
 -- The live committed version, as a register that takes reports.
-use Rattle.std.specs.Prelude.{Bool, nat_lt, if◌then◌else◌}
+use Rattle.std.specs.Prelude.{ℕ, Bool, nat_lt, ◌||◌, if◌then◌else◌}
 use Rattle.fdb_history.specs.declared.register.Record.{Record}
 
 -- A report raises the register where its version is strictly greater.
@@ -7,8 +7,23 @@ use Rattle.fdb_history.specs.declared.register.Record.{Record}
 abbrev pub raises : Record → Record → Bool
 raises current reported = nat_lt current.version reported.version
 
--- The register after a report: what was reported, whole, where it raises the register, and else as
--- it was.
+-- A report changes the register where it raises it, or where the minimum known committed version
+-- that it tells is strictly greater.
+-- (minKnownCommittedVersion in updateLiveCommittedVersion of masterserver, FoundationDB 7.1)
+abbrev pub changes : Record → Record → Bool
+changes current reported = raises current reported || nat_lt current.min_known reported.min_known
+
+-- The register after a report: version, lock and metadata version as reported where it raises the
+-- register, and else as they were; and the greater of the two minimum known committed versions.
 -- (updateLiveCommittedVersion of masterserver, FoundationDB 7.1)
 abbrev pub after_report : Record → Record → Record
-after_report current reported = if raises current reported then reported else current
+after_report current reported =
+    record (if raises current reported then reported else current) {
+      min_known = if nat_lt current.min_known reported.min_known then reported.min_known
+          else current.min_known;
+    }
+
+-- The read version that a record gives: its version, or for a request that asks for it the minimum
+-- known committed version. (the flag is this product's own)
+abbrev pub version_for : Bool → Record → ℕ
+version_for use_min rec = if use_min then rec.min_known else rec.version

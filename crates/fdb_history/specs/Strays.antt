@@ -17,7 +17,7 @@ use Rattle.fdb_history.specs.declared.log.ClientLog.{ClientLog}
 use Rattle.fdb_history.specs.declared.log.Input.{Input}
 use Rattle.fdb_history.specs.declared.log.Input.TheVariants as input
 use Rattle.fdb_history.specs.declared.log.Refusal.{Refusal}
-use Rattle.fdb_history.specs.declared.log.Refusal.TheVariants.{Early, Forgotten, Exhausted, BadCount, BatchThrottled, Full, ProxyClosed, NotIssued, Stranger}
+use Rattle.fdb_history.specs.declared.log.Refusal.TheVariants.{Early, Forgotten, Exhausted, BadCount, BatchThrottled, Full, ProxyClosed, NotIssued, Stranger, MinAbove}
 use Rattle.fdb_history.specs.declared.register.TheConstants.{MAX_VERSION}
 
 -- ---- the kind of an answer
@@ -32,14 +32,15 @@ may_refuse (input.Grv opts) Stranger = true
 may_refuse (input.Ask num processed at) (Early expected) = true
 may_refuse (input.Ask num processed at) Forgotten = true
 may_refuse (input.Ask num processed at) Exhausted = true
-may_refuse (input.Report num locked metadata) NotIssued = true
+may_refuse (input.Report num locked metadata min_known) NotIssued = true
+may_refuse (input.Report num locked metadata min_known) MinAbove = true
 may_refuse _ _ = false
 
 -- an answer is of the kind of its input
 abbrev pub goes_with : Input → CallAnswer → Bool
 goes_with (input.Grv opts) (Version rec limits locked_out) = true
 goes_with (input.Ask num processed at) (Answered issued) = true
-goes_with (input.Report num locked metadata) (Acked rec raised) = true
+goes_with (input.Report num locked metadata min_known) (Acked rec raised changed) = true
 goes_with (input.Tell to) Told = true
 goes_with (input.Learn from) Told = true
 goes_with asked (Refused cause) = may_refuse asked cause
@@ -116,13 +117,17 @@ abbrev pub issued_under : List Call → ℕ → Option ℕ
 issued_under before num =
     option_map (λ issued. issued.version) (find (λ issued. issued.num == num) (answers_in before))
 
--- a report is of the version that was issued under its number, with the flags that it was told; it
--- is refused only where none was
+-- a report is of the version that was issued under its number, with the flags and the minimum known
+-- committed version that it was told; it is refused only where none was, or where that minimum is
+-- above it
 abbrev pub is_of_issued : Option ℕ → Input → CallAnswer → Bool
-is_of_issued version (input.Report num locked metadata) (Acked rec raised) =
+is_of_issued version (input.Report num locked metadata min_known) (Acked rec raised changed) =
     option_eq nat_eq version (Some rec.version)
-    && (beq rec.locked locked && option_eq nat_eq rec.metadata metadata)
-is_of_issued version (input.Report num locked metadata) (Refused NotIssued) = is_none version
+    && (beq rec.locked locked && (option_eq nat_eq rec.metadata metadata
+    && (rec.min_known == min_known)))
+is_of_issued version (input.Report num locked metadata min_known) (Refused NotIssued) = is_none version
+is_of_issued version (input.Report num locked metadata min_known) (Refused MinAbove) =
+    option_map_or (λ issued. nat_lt issued min_known) version false
 is_of_issued _ _ _ = true
 
 -- ---- where an answer is stray
@@ -130,7 +135,7 @@ is_of_issued _ _ _ = true
 -- the number that a call is about
 abbrev pub number_of : Input → ℕ
 number_of (input.Ask num processed at) = num
-number_of (input.Report num locked metadata) = num
+number_of (input.Report num locked metadata min_known) = num
 number_of _ = 0
 
 -- A call's answer is justified by its input, by the chain, and by what its client's calls so far

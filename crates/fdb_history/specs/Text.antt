@@ -1,7 +1,7 @@
 -- How a record and a refusal are printed. (this product's own)
-use Rattle.std.specs.Prelude.{ℕ, List, ◌++◌, Option, None, Some, codes, decimal, if◌then◌else◌}
+use Rattle.std.specs.Prelude.{ℕ, List, [], ◌==◌, ◌++◌, Option, None, Some, codes, decimal, if◌then◌else◌}
 use Rattle.fdb_history.specs.declared.log.Refusal.{Refusal}
-use Rattle.fdb_history.specs.declared.log.Refusal.TheVariants.{Early, Forgotten, UnknownProxy, Exhausted, BadCount, BatchThrottled, Full, ProxyClosed, NotIssued, Stranger, TooLarge}
+use Rattle.fdb_history.specs.declared.log.Refusal.TheVariants.{Early, Forgotten, UnknownProxy, Exhausted, BadCount, BatchThrottled, Full, ProxyClosed, NotIssued, Stranger, TooLarge, MinAbove}
 use Rattle.fdb_history.specs.declared.register.Record.{Record}
 
 -- a metadata version, or `none`
@@ -9,11 +9,15 @@ abbrev pub metadata_text : Option ℕ → List ℕ
 metadata_text None = codes "none"
 metadata_text (Some metadata) = decimal metadata
 
--- a record: its version, its lock and its metadata version
+-- a minimum known committed version, which is told where it is not 0
+abbrev pub min_text : ℕ → List ℕ
+min_text min_known = if min_known == 0 then [] else codes " min " ++ decimal min_known
+
+-- a record: its version, its lock, its metadata version and its minimum known committed version
 abbrev pub record_text : Record → List ℕ
 record_text rec =
     decimal rec.version ++ (if rec.locked then codes " locked " else codes " unlocked ")
-    ++ metadata_text rec.metadata
+    ++ metadata_text rec.metadata ++ min_text rec.min_known
 
 -- a refusal: its name, and the number that it tells
 abbrev pub refusal_text : Refusal → List ℕ
@@ -28,3 +32,4 @@ refusal_text ProxyClosed = codes "ProxyClosed"
 refusal_text NotIssued = codes "NotIssued"
 refusal_text Stranger = codes "Stranger"
 refusal_text TooLarge = codes "TooLarge"
+refusal_text MinAbove = codes "MinAbove"

@@ -2,21 +2,21 @@
 
 ghost use Rattle.std.specs.Prelude.{◌≡◌, ◌≤◌, ◌⊎◌, length, List, OnOk, IfOk, IfErr, Ok, Err};
 ghost use Rattle.fdb_history.specs.Audit.{IsAudited, IsFirstFault, Low};
-ghost use Rattle.fdb_history.specs.private.Auditing.{AreRaisesOf, AreRegisters};
-ghost use Rattle.fdb_history.specs.private.Explaining.{AreEventsByPosition, raises_of};
+ghost use Rattle.fdb_history.specs.private.Auditing.{AreChangesOf, AreRegisters};
+ghost use Rattle.fdb_history.specs.private.Explaining.{AreEventsByPosition, changes_of};
 ghost use Rattle.fdb_history.specs.Faults.{IsFaultless, Nowhere, OutOfOrder};
 ghost use Rattle.fdb_history.specs.Linear.{IsLinear};
 ghost use Rattle.fdb_history.specs.Strays.{IsStray};
 ghost use Rattle.fdb_history.specs.declared.chain.Issued.{Issued};
 ghost use Rattle.fdb_history.specs.declared.event.Event.{Event};
 
+mod changes;
 mod explaining;
 mod found;
 mod judging;
 mod justifying;
 mod order;
 mod placed;
-mod raises;
 mod registers;
 mod stray;
 
@@ -89,15 +89,15 @@ fn faultless_registers(
     requires clients { length logs.now ≤ 64 }
     requires order { Nowhere (OutOfOrder logs.now) }
     requires sorted { AreEventsByPosition events.now }
-    requires raises { AreRaisesOf logs.now (raises_of events.now) }
+    requires changes { AreChangesOf logs.now (changes_of events.now) }
     ensures faultless { OnOk result (IsFaultless start logs.now) }
     ensures begins { IfOk result (λ registers. registers.start ≡ start) }
     ensures right { IfOk result (λ registers. AreRegisters start logs.now registers) }
     ensures err { IfErr result
         (λ fault. (chain : List Issued) → IsFirstFault start chain logs.now fault) }
 {
-    let raises = raises::raises_of(alloc, events)?;
-    let registers = registers::registers_of(alloc, start, &raises, logs)?;
+    let changes = changes::changes_of(alloc, events)?;
+    let registers = registers::registers_of(alloc, start, &changes, logs)?;
     if let Some(CallName { client, call }) = judging::first_wrong(&registers, logs) {
         return Err(AuditFault::Wrong { client, call });
     }

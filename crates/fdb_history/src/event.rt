@@ -1,7 +1,7 @@
 //! The events of a history: what the register was told, and what it answered.
 
 ghost use Rattle.std.specs.Prelude.{◌≡◌};
-ghost use Rattle.fdb_history.specs.Event.{is_raise, register_after};
+ghost use Rattle.fdb_history.specs.Event.{is_change, register_after};
 
 use crate::register::Record;
 use crate::sequence::Sequence;
@@ -11,7 +11,7 @@ use crate::sequence::Sequence;
 #[derive(Clone, Copy, Debug, PartialEq, Eq)]
 pub enum Event {
     /// A client reported a record (`reportLiveCommittedVersion`),
-    /// and was told whether it raised the register.
+    /// and was told whether it raised the register, and whether it changed it.
     Report {
         /// The client.
         client: u32,
@@ -19,8 +19,10 @@ pub enum Event {
         call: u64,
         /// What was reported.
         rec: Record,
-        /// Whether the report replaced the record.
+        /// Whether its version was greater than the register's.
         raised: bool,
+        /// Whether its version or its minimum known committed version was greater.
+        changed: bool,
     },
     /// A client read the register (`getLiveCommittedVersion`).
     Read {
@@ -50,16 +52,16 @@ pub struct History {
 }
 
 impl Event {
-    /// Whether it is a report that raised the register.
-    pub(crate) fn is_raise(&self) -> bool
-        ensures { result ≡ is_raise self.now }
+    /// Whether it is a report that changed the register.
+    pub(crate) fn is_change(&self) -> bool
+        ensures { result ≡ is_change self.now }
     {
-        matches!(self, Event::Report { raised: true, .. })
+        matches!(self, Event::Report { changed: true, .. })
     }
 }
 
-/// The record after the events. Each report of a greater
-/// version replaces the whole record; reads change nothing.
+/// The record after the events: each report makes it what `Record::after_report` says, and reads
+/// change nothing.
 ///
 /// It takes the reports as they come, and asks nothing of
 /// the flags and the records that the events claim.

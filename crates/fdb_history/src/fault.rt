@@ -15,13 +15,13 @@ pub enum AuditFault {
         /// The call.
         call: u64,
     },
-    /// Two raises have one position.
+    /// Two changes have one position.
     #[error("Clash {position}")]
     Clash {
         /// The position.
         position: u64,
     },
-    /// No raise has this position, and some call has one at least as great.
+    /// No change has this position, and some call has one at least as great.
     #[error("Gap {position}")]
     Gap {
         /// The position.

@@ -1,6 +1,7 @@
 //! What a client says with a read of the read version, and the limits in the answer.
 
 use crate::sequence::Sequence;
+use std::alloc::AllocError;
 
 /// The priority of a request, and with it its queue at the GRV proxy (`TransactionPriority`).
 #[derive(Clone, Copy, Debug, PartialEq, Eq)]
@@ -28,7 +29,7 @@ pub struct TagLimit {
 }
 
 /// What a client says with a request for a read version (`GetReadVersionRequest`).
-#[derive(Clone, Debug, Drop, PartialEq, Eq)]
+#[derive(Debug, Drop, PartialEq, Eq)]
 pub struct GrvOpts {
     /// The priority.
     pub priority: Priority,
@@ -40,4 +41,24 @@ pub struct GrvOpts {
     pub lock_aware: bool,
     /// The moment of the request, in microseconds.
     pub at: u64,
+    /// Whether the read version is to be the minimum known committed version, and not the live
+    /// one. No queue looks at it. (this product's own)
+    pub use_min: bool,
+}
+
+impl Clone for GrvOpts {
+    ghost use Rattle.std.specs.Prelude.{◌≡◌};
+
+    ghost is_clone = { λ opts copy. copy ≡ opts };
+
+    fn clone(&self) -> Result<Self, AllocError> {
+        Ok(GrvOpts {
+            priority: self.priority,
+            count: self.count,
+            tags: self.tags.clone()?,
+            lock_aware: self.lock_aware,
+            at: self.at,
+            use_min: self.use_min,
+        })
+    }
 }

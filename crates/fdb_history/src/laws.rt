@@ -3,11 +3,11 @@
 //! Each is the contract of a function that does nothing, so that the check proves it. It
 //! holds of every list that the definitions speak of, and so of each that the service makes.
 
-ghost use Rattle.std.specs.Prelude.{◌≡◌, ℕ, Bool, ◌+◌, ◌<◌, ◌≤◌, ◌≢◌, ◌==◌, ◌&&◌, [], ◌∷◌, ◌++◌, List, length, take, slice_get, false, Some, Ok};
-ghost use Rattle.std.specs.List.{All, AllPairs, find};
+ghost use Rattle.std.specs.Prelude.{◌≡◌, ℕ, Bool, ◌+◌, ◌*◌, ◌<◌, ◌≤◌, ◌≢◌, ◌==◌, ◌&&◌, [], ◌∷◌, ◌++◌, List, length, take, slice_get, false, Some, Ok, IsTrue, option_map};
+ghost use Rattle.std.specs.List.{All, AllPairs, find, list_any};
 ghost use Rattle.fdb_history.specs.Issuing.{Chain, kept, answer_to, chain_after, after_asks};
 ghost use Rattle.fdb_history.specs.Chain.{IsChain};
-ghost use Rattle.fdb_history.specs.Event.{IsLegal, register_after, raise_count, positions_from};
+ghost use Rattle.fdb_history.specs.Event.{IsLegal, register_after, change_count, positions_from};
 ghost use Rattle.fdb_history.specs.Explained.{explained};
 ghost use Rattle.fdb_history.specs.Faults.{IsFaultless};
 ghost use Rattle.fdb_history.specs.Laws.{seen_at, reports_of};
@@ -44,7 +44,7 @@ pub fn no_gap_no_fork()
         → AllPairs (λ one other. one.prev ≢ other.prev) answers }
 {}
 
-/// Reads never go back: in a legal history a read or a raise sees at least
+/// Reads never go back: in a legal history a read or a change sees at least
 /// the version that each earlier one saw, and at least that of the start.
 pub fn reads_never_go_back()
     ensures in_order { (start : Record) (events : List Event) (j k : ℕ) (earlier later : ℕ)
@@ -55,30 +55,48 @@ pub fn reads_never_go_back()
         → seen_at events place ≡ Some seen → start.version ≤ seen }
 {}
 
-/// The position of an event is the number of raises up to and including
-/// it, and in a legal history the version of the register has risen by
-/// at least that much. So a position never exceeds the version there.
+/// The position of an event is the number of changes up to and including it, and in a legal history
+/// the version of the register and its minimum known committed version, added up, have risen by at
+/// least that much. So where no report tells of a minimum above its own version, a position is
+/// never above twice the version there.
 pub fn positions_below_versions()
     ensures counts { (events : List Event) (place : ℕ) → place < length events
-        → slice_get (positions_from 0 events) place ≡ Some (raise_count (take (place + 1) events)) }
+        → slice_get (positions_from 0 events) place
+        ≡ Some (change_count (take (place + 1) events)) }
     ensures below { (start : Record) (events : List Event) → IsLegal start events
-        → raise_count events + start.version ≤ (register_after start events).version }
+        → let register = register_after start events in
+        change_count events + (start.version + start.min_known)
+        ≤ register.version + register.min_known }
     ensures at_each_event { (start : Record) (events : List Event) (place position : ℕ)
         → IsLegal start events
         → slice_get (positions_from 0 events) place ≡ Some position
-        → position + start.version ≤ (register_after start (take (place + 1) events)).version }
+        → let register = register_after start (take (place + 1) events) in
+        position + (start.version + start.min_known) ≤ register.version + register.min_known }
+    ensures twice { (start : Record) (events : List Event) (place position : ℕ)
+        → IsLegal start events
+        → All (λ rec. rec.min_known ≤ rec.version) (start ∷ reports_of events)
+        → slice_get (positions_from 0 events) place ≡ Some position
+        → position ≤ 2 * (register_after start (take (place + 1) events)).version }
 {}
 
-/// The register is the first record with the greatest
-/// version, of the start record and all that were reported.
+/// The register has the greatest version and the greatest minimum known committed version, of the
+/// start record and all that were reported; all else of it is that of the first record with its
+/// version.
 pub fn register_is_greatest()
     ensures greatest { (start : Record) (events : List Event)
         → All (λ rec. rec.version ≤ (register_after start events).version)
         (start ∷ reports_of events) }
     ensures first { (start : Record) (events : List Event)
-        → find (λ rec. rec.version == (register_after start events).version)
-        (start ∷ reports_of events)
-        ≡ Some (register_after start events) }
+        → let register = register_after start events in
+        option_map (λ (rec : Record). record rec { min_known = register.min_known })
+        (find (λ rec. rec.version == register.version) (start ∷ reports_of events))
+        ≡ Some register }
+    ensures greatest_known { (start : Record) (events : List Event)
+        → All (λ rec. rec.min_known ≤ (register_after start events).min_known)
+        (start ∷ reports_of events) }
+    ensures known { (start : Record) (events : List Event)
+        → IsTrue (list_any (λ rec. rec.min_known == (register_after start events).min_known)
+        (start ∷ reports_of events)) }
 {}
 
 /// In a chain the kept answer is the first answer that its proxy got under
@@ -114,7 +132,7 @@ pub fn asks_make_a_chain()
 
 /// Logs that a history explains have no fault of the history: where a linear
 /// history exists, no call is answered from before what its client had seen, no
-/// two raises share a position, no position that is reached lacks its raise,
+/// two changes share a position, no position that is reached lacks its change,
 /// and each read and report is answered as the register at its position would.
 pub fn explained_logs_are_faultless()
     ensures { (start : Record) (logs : List ClientLog) (history : List Event)
@@ -127,36 +145,39 @@ pub fn faultless_logs_are_explained()
         → IsLinear start logs (explained logs) }
 {}
 
-/// A read never misses a commit that its client knows of: its version is at
-/// least that of each report that was acknowledged before it in its own log,
-/// or up to a position that its client had come to, by a learn or otherwise.
+/// A read never misses a commit that its client knows of: its version, and its minimum known
+/// committed version, are at least those of each report that was acknowledged before it in its own
+/// log, or up to a position that its client had come to, by a learn or otherwise.
 pub fn reads_see_what_was_acknowledged()
     ensures known { (start : Record) (logs : List ClientLog) (history : List Event)
         (writer reader committed place : ℕ) (commit read : Call)
-        (reported seen : Record) (raised locked_out : Bool) (limits : List TagLimit)
+        (reported seen : Record) (raised changed locked_out : Bool) (limits : List TagLimit)
         → IsLinear start logs history
         → slice_get (calls_of logs writer) committed ≡ Some commit
-        → commit.answer ≡ Acked reported raised
+        → commit.answer ≡ Acked reported raised changed
         → slice_get (calls_of logs reader) place ≡ Some read
         → read.answer ≡ Version seen limits locked_out
-        → commit.position ≤ read.asked → reported.version ≤ seen.version }
+        → commit.position ≤ read.asked
+        → (reported.version ≤ seen.version) × (reported.min_known ≤ seen.min_known) }
     ensures own { (start : Record) (logs : List ClientLog) (history : List Event)
         (client committed place : ℕ) (commit read : Call)
-        (reported seen : Record) (raised locked_out : Bool) (limits : List TagLimit)
+        (reported seen : Record) (raised changed locked_out : Bool) (limits : List TagLimit)
         → IsLinear start logs history
         → slice_get (calls_of logs client) committed ≡ Some commit
-        → commit.answer ≡ Acked reported raised
+        → commit.answer ≡ Acked reported raised changed
         → slice_get (calls_of logs client) place ≡ Some read
         → read.answer ≡ Version seen limits locked_out
-        → committed < place → reported.version ≤ seen.version }
+        → committed < place
+        → (reported.version ≤ seen.version) × (reported.min_known ≤ seen.min_known) }
     ensures learnt { (start : Record) (logs : List ClientLog) (history : List Event)
         (writer reader committed told place : ℕ) (commit learn read : Call)
-        (reported seen : Record) (raised locked_out : Bool) (limits : List TagLimit)
+        (reported seen : Record) (raised changed locked_out : Bool) (limits : List TagLimit)
         → IsLinear start logs history
         → slice_get (calls_of logs writer) committed ≡ Some commit
-        → commit.answer ≡ Acked reported raised
+        → commit.answer ≡ Acked reported raised changed
         → slice_get (calls_of logs reader) told ≡ Some learn → commit.position ≤ learn.position
         → slice_get (calls_of logs reader) place ≡ Some read
         → read.answer ≡ Version seen limits locked_out
-        → told < place → reported.version ≤ seen.version }
+        → told < place
+        → (reported.version ≤ seen.version) × (reported.min_known ≤ seen.min_known) }
 {}

@@ -29,6 +29,8 @@ pub enum Input {
         locked: bool,
         /// The metadata version, if there is one.
         metadata: Option<u64>,
+        /// The minimum known committed version, 0 where none is told.
+        min_known: u64,
     },
     /// It told another client what it has seen.
     Tell {
@@ -62,6 +64,8 @@ pub enum CallAnswer {
         rec: Record,
         /// Whether the report raised the live committed version.
         raised: bool,
+        /// Whether it raised that or the minimum known committed version.
+        changed: bool,
     },
     /// A tell or a learn was done.
     Told,
@@ -97,6 +101,8 @@ pub enum Refusal {
     Stranger,
     /// The version is above the greatest one.
     TooLarge,
+    /// The minimum known committed version is above the version.
+    MinAbove,
 }
 
 /// The refusal's name, and the number that it tells.
@@ -119,6 +125,7 @@ impl fmt::Display for Refusal {
             Refusal::NotIssued => "NotIssued",
             Refusal::Stranger => "Stranger",
             Refusal::TooLarge => "TooLarge",
+            Refusal::MinAbove => "MinAbove",
         };
         f.write_str(name)
     }
@@ -126,7 +133,7 @@ impl fmt::Display for Refusal {
 
 impl Error for Refusal {}
 
-/// One call of a client. A position is the number of raises that had been seen.
+/// One call of a client. A position is the number of changes that had been seen.
 #[derive(Debug, Drop)]
 pub struct Call {
     /// What was called.

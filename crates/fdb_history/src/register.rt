@@ -1,7 +1,7 @@
 //! The live committed version as a register, and what it is after a list of events.
 
 ghost use Rattle.std.specs.Prelude.{◌≡◌};
-ghost use Rattle.fdb_history.specs.Register.{after_report};
+ghost use Rattle.fdb_history.specs.Register.{after_report, changes, raises, version_for};
 
 use std::fmt;
 
@@ -10,10 +10,11 @@ use std::fmt;
 pub const MAX_VERSION: u64 = 9_223_372_036_854_775_807;
 
 /// What the sequencer keeps of the newest commit that was reported: the live committed
-/// version, whether the database is locked, and the version of the metadata, if there is one.
+/// version, whether the database is locked, the version of the metadata, if there is one, and the
+/// minimum known committed version.
 ///
-/// In FoundationDB 7.1 these are `liveCommittedVersion`,
-/// `databaseLocked` and `proxyMetadataVersion` of `MasterData`
+/// In FoundationDB 7.1 these are `liveCommittedVersion`, `databaseLocked`,
+/// `proxyMetadataVersion` and `minKnownCommittedVersion` of `MasterData`
 /// (masterserver), and the members of `GetRawCommittedVersionReply`.
 #[derive(Clone, Copy, Debug, PartialEq, Eq)]
 pub struct Record {
@@ -23,23 +24,59 @@ pub struct Record {
     pub locked: bool,
     /// The metadata version, if there is one.
     pub metadata: Option<u64>,
+    /// The minimum known committed version: each version up to it is known to be committed. It is
+    /// the greatest that was reported, and 0 before any report.
+    pub min_known: u64,
 }
 
 impl Record {
-    /// The record after a report. A report of a greater version replaces the whole record,
-    /// and any other changes nothing (`updateLiveCommittedVersion` of masterserver).
+    /// Whether a report raises this record: its version is greater.
+    pub fn raises(self, reported: Record) -> bool
+        ensures { result ≡ raises self reported }
+    {
+        reported.version > self.version
+    }
+
+    /// Whether a report changes this record: it raises it, or its minimum known committed version
+    /// is greater.
+    pub fn changes(self, reported: Record) -> bool
+        ensures { result ≡ changes self reported }
+    {
+        self.raises(reported) || reported.min_known > self.min_known
+    }
+
+    /// The record after a report. A report of a greater version replaces version, lock and
+    /// metadata version; in either case the minimum known committed version becomes the greater
+    /// one of the two (`updateLiveCommittedVersion` of masterserver).
     pub fn after_report(self, reported: Record) -> Record
         ensures { result ≡ after_report self reported }
     {
-        if reported.version > self.version {
+        let newest = if self.raises(reported) {
             reported
         } else {
             self
+        };
+        Record {
+            min_known: self.min_known.max(reported.min_known),
+            ..newest
+        }
+    }
+
+    /// The read version that this record gives: its version, or for a request that asks for it the
+    /// minimum known committed version.
+    pub fn version_for(self, use_min: bool) -> u64
+        ensures { result ≡ version_for use_min self }
+    {
+        if use_min {
+            self.min_known
+        } else {
+            self.version
         }
     }
 }
 
-/// The version, `locked` or `unlocked`, and the metadata version or `none`.
+/// The version, `locked` or `unlocked`, the metadata version or `none`, and `min` with the minimum
+/// known committed version where that is not 0.
 impl fmt::Display for Record {
     ghost use Rattle.std.specs.Prelude.{Some};
     ghost use Rattle.fdb_history.specs.Text.{record_text};
@@ -54,8 +91,12 @@ impl fmt::Display for Record {
             " unlocked "
         };
         match self.metadata {
-            None => write!(f, "{version}{lock}none"),
-            Some(metadata) => write!(f, "{version}{lock}{metadata}"),
+            None => write!(f, "{version}{lock}none")?,
+            Some(metadata) => write!(f, "{version}{lock}{metadata}")?,
+        }
+        match self.min_known {
+            0 => Ok(()),
+            min_known => write!(f, " min {min_known}"),
         }
     }
 }

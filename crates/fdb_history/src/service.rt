@@ -30,7 +30,7 @@ impl Service for Brand {
 
     ghost recovery = { 0 };
 
-    ghost start = { record { version = 0; locked = false; metadata = None } };
+    ghost start = { record { version = 0; locked = false; metadata = None; min_known = 0 } };
 
     ghost reporters = { 0 };
 }

@@ -6,13 +6,13 @@ use mathlib.Core.Option.{some, some-ne-none, some-injective}
 use lib.ListN.{get_elem?, length-set}
 use Rattle.fdb_history.specs.declared.register.Record.{Record}
 use Rattle.fdb_live.specs.private.Rule.{Fits, spent}
-use Rattle.fdb_live.specs.declared.raise.Raise.{Raise}
+use Rattle.fdb_live.specs.declared.change.Change.{Change}
 use Rattle.fdb_live.specs.declared.view.View.{View}
 
 pub off : false ≡ true → ⊥
 off e = true≢false (sym e)
 
-pub prefix_nil : (xs : List Raise) → IsPrefix [] xs
+pub prefix_nil : (xs : List Change) → IsPrefix [] xs
 prefix_nil xs = (xs, refl)
 
 -- whoever `from` was is now `to`
@@ -43,7 +43,7 @@ at_new [] a b (suc j) e = absurd (some-ne-none b (sym e))
 at_new (x ∷ xs) a b zero e = inl e
 at_new (x ∷ xs) a b (suc j) e = ⊎_elim (λ old. inl old) (λ new. inr (ap suc new.0, new.1)) (at_new xs a b j e)
 
-module _ (start : Record) (reporters : ℕ) (log : List Raise) (seat : ℕ) (holder : ℕ → ℕ) where
+module _ (start : Record) (reporters : ℕ) (log : List Change) (seat : ℕ) (holder : ℕ → ℕ) where
   abbrev pub Fit : ℕ → View → Type 0
   Fit pass v = Fits start reporters log seat holder pass v
 

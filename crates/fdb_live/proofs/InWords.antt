@@ -1,10 +1,9 @@
 -- What keeps the rule of a record and its position keeps it of the words that say them.
-use Rattle.std.proofs.Common.{◌≡◌, ℕ, ◌+◌, ◌<◌, ◌≤◌, true, length, sym, subst}
+use Rattle.std.proofs.Common.{◌≡◌, ℕ, ◌+◌, ◌<◌, true, length, sym, subst}
 use Rattle.crossbeam_utils.specs.Register.{Turns, Forks, Merges}
 use Rattle.fdb_history.specs.declared.register.Record.{Record}
-use Rattle.fdb_history.specs.declared.register.TheConstants.{MAX_VERSION}
-use Rattle.fdb_history.specs.Register.{after_report, raises}
-use Rattle.fdb_live.specs.Seen.{last_record}
+use Rattle.fdb_history.specs.Register.{after_report, changes}
+use Rattle.fdb_live.specs.Seen.{IsRecord, last_record}
 use Rattle.fdb_live.specs.declared.fetched.Fetched.{Fetched}
 use Rattle.fdb_live.specs.declared.held.Held.{Held}
 use Rattle.fdb_live.specs.declared.view.View.{View}
@@ -26,13 +25,13 @@ looks_in_words pass v = loads Looks (looks pass v)
 pub settles_in_words : (pass : ℕ) (v : View) → Turns Keeps pass v (λ x. x) (InWords Settles)
 settles_in_words pass v = loads Settles (settles pass v)
 
-pub opens_in_words : (reporters pass : ℕ) (v : View) (held : Held) (new : Fetched) → fetched_of held ≡ new → v ≡ first → new.position ≡ 0 → new.rec.version ≤ MAX_VERSION → Turns Keeps pass v (λ _. held) (InWords (Opens reporters))
-opens_in_words reporters pass v held new is at_start none in_range =
-    writes (Opens reporters) held is (opens reporters pass v new at_start none in_range)
+pub opens_in_words : (reporters pass : ℕ) (v : View) (held : Held) (new : Fetched) → fetched_of held ≡ new → v ≡ first → new.position ≡ 0 → IsRecord new.rec → Turns Keeps pass v (λ _. held) (InWords (Opens reporters))
+opens_in_words reporters pass v held new is at_start none allowed =
+    writes (Opens reporters) held is (opens reporters pass v new at_start none allowed)
 
-pub adds_in_words : (rec named : Record) (pass : ℕ) (v : View) (held : Held) (new : Fetched) → fetched_of held ≡ new → rec ≡ named → v.replaces ≡ true → v.low < v.high → new.position ≡ length v.seen + 1 → raises (last_record v.start v.seen) rec ≡ true → new.rec ≡ after_report (last_record v.start v.seen) rec → rec.version ≤ MAX_VERSION → Turns Keeps pass v (λ _. held) (InWords (Adds named))
-adds_in_words rec named pass v held new is same replaces some_number position up becomes in_range =
-    writes (Adds named) held is (adds_named pass v new same replaces some_number position up becomes in_range)
+pub adds_in_words : (rec named : Record) (pass : ℕ) (v : View) (held : Held) (new : Fetched) → fetched_of held ≡ new → rec ≡ named → v.replaces ≡ true → v.low < v.high → new.position ≡ length v.seen + 1 → changes (last_record v.start v.seen) rec ≡ true → new.rec ≡ after_report (last_record v.start v.seen) rec → IsRecord rec → Turns Keeps pass v (λ _. held) (InWords (Adds named))
+adds_in_words rec named pass v held new is same replaces some_number position up becomes allowed =
+    writes (Adds named) held is (adds_named pass v new same replaces some_number position up becomes allowed)
 
 pub copies_in_words : (pass : ℕ) (v : View) → Forks Keeps pass v v (copy_of v)
 copies_in_words pass v x = copies pass v (fetched_of x)

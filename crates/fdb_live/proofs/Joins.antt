@@ -4,7 +4,7 @@ use mathlib.Core.List.{IsPrefix}
 use mathlib.Core.Option.{some}
 use lib.ListN.{get_elem?}
 use Rattle.crossbeam_utils.specs.Register.{Merges}
-use Rattle.fdb_live.specs.declared.raise.Raise.{Raise}
+use Rattle.fdb_live.specs.declared.change.Change.{Change}
 use Rattle.fdb_live.specs.declared.view.View.{View}
 use Rattle.fdb_live.specs.Seen.{longer}
 use Rattle.fdb_live.specs.private.Rule.{Fits, Kept, spent, joined, taken}
@@ -16,7 +16,7 @@ still_there : (views : List View) (pass other : ℕ) (both w : View) → ¬ (oth
 still_there views pass other both w apart e = ⊎_elim (λ (x : (other ≡ pass) × (both ≡ w)). absurd (apart x.0)) (λ (x : (other ≢ pass) × (get_elem? views other ≡ some w)). x.1) (at_set views pass other both w e)
 
 -- where one of two is the whole, so is the longer
-longer_whole : (xs ys log : List Raise) → xs ≡ log → IsPrefix ys log → IsPrefix xs log → longer xs ys ≡ log
+longer_whole : (xs ys log : List Change) → xs ≡ log → IsPrefix ys log → IsPrefix xs log → longer xs ys ≡ log
 longer_whole xs ys log whole q p =
     let l = prefix_longer xs ys log p q in
     let long = prefix_length xs (longer xs ys) l.these in

@@ -1,10 +1,10 @@
 -- Lists that begin one list.
-use Rattle.std.proofs.Common.{◌≡◌, ◌⊎◌, ◌≤◌, Bool, true, false, List, [], ◌∷◌, ◌++◌, length, if◌then◌else◌, refl, sym, ap, ◌∙◌, inl, inr, arith, append_assoc, length-append}
+use Rattle.std.proofs.Common.{◌≡◌, ◌≤◌, Bool, true, false, List, [], ◌∷◌, ◌++◌, length, if◌then◌else◌, refl, sym, ap, ◌∙◌, arith, append_assoc, length-append}
 use Rattle.std.specs.Prelude.{nat_lt}
 use Rattle.std.proofs.lemmas.Bool.Decides.{nat_tests}
 use mathlib.Core.List.{IsPrefix}
 use Rattle.fdb_live.specs.Seen.{longer}
-use Rattle.fdb_live.specs.declared.raise.Raise.{Raise}
+use Rattle.fdb_live.specs.declared.change.Change.{Change}
 
 module _ {A : Type 0} where
   pub prefix_same : (xs : List A) → IsPrefix xs xs
@@ -36,22 +36,14 @@ module _ {A : Type 0} where
       let rest = prefix_whole xs ys (p.0, cc (p.1)) (omega arith) in cc (p.1, rest)
 
 -- the longer of two that begin one list
-pub record IsLonger (xs ys zs long : List Raise) : Type 0 where
+pub record IsLonger (xs ys zs long : List Change) : Type 0 where
   pub these : IsPrefix xs long
   pub those : IsPrefix ys long
   pub all : IsPrefix long zs
 
-pub prefix_longer : (xs ys zs : List Raise) → IsPrefix xs zs → IsPrefix ys zs → IsLonger xs ys zs (longer xs ys)
+pub prefix_longer : (xs ys zs : List Change) → IsPrefix xs zs → IsPrefix ys zs → IsLonger xs ys zs (longer xs ys)
 prefix_longer xs ys zs p q = go (nat_lt (length xs) (length ys)) refl
   where
     go : (b : Bool) → nat_lt (length xs) (length ys) ≡ b → IsLonger xs ys zs (if b then ys else xs)
     go true e = record { these = prefix_shorter xs ys zs p q (grind (arith, nat_tests)); those = prefix_same ys; all = q }
     go false e = record { these = prefix_same xs; those = prefix_shorter ys xs zs q p (grind (arith, nat_tests)); all = p }
-
--- of two that begin one list, one begins the other
-pub prefix_either : (xs ys zs : List Raise) → IsPrefix xs zs → IsPrefix ys zs → (IsPrefix xs ys) ⊎ (IsPrefix ys xs)
-prefix_either xs ys zs p q = go (nat_lt (length xs) (length ys)) refl
-  where
-    go : (b : Bool) → nat_lt (length xs) (length ys) ≡ b → (IsPrefix xs ys) ⊎ (IsPrefix ys xs)
-    go true e = inl (prefix_shorter xs ys zs p q (grind (arith, nat_tests)))
-    go false e = inr (prefix_shorter ys xs zs q p (grind (arith, nat_tests)))

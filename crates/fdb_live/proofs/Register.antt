@@ -1,50 +1,66 @@
 -- What follows of the register's rule. No other proof looks into the rule.
-use Rattle.std.proofs.Common.{◌≡◌, ◌≢◌, ◌<◌, ◌≤◌, Bool, true, false, if◌then◌else◌, refl, ap, arith}
-use Rattle.std.proofs.lemmas.Bool.Decides.{nat_tests}
+use Rattle.std.proofs.Common.{◌≡◌, ℕ, ◌+◌, ◌<◌, ◌≤◌, true, false, cond, ap, ◌∙◌, inl, inr, arith, le_refl, ltb, ltb-true, ltb-false}
+use Rattle.std.proofs.lemmas.Bool.{cond_both, cond-true, cond-false, or_cases}
 use Rattle.fdb_history.specs.declared.register.Record.{Record}
 use Rattle.fdb_history.specs.declared.register.TheConstants.{MAX_VERSION}
-use Rattle.fdb_history.specs.Register.{after_report, raises}
+use Rattle.fdb_history.specs.Register.{after_report, raises, changes}
+use Rattle.fdb_live.specs.Seen.{IsRecord}
+
+-- the minimum known committed version after a report
+abbrev least : Record → Record → ℕ
+least a b = cond (ltb a.min_known b.min_known) b.min_known a.min_known
 
 pub raises_higher : (a b : Record) → raises a b ≡ true → a.version < b.version
-raises_higher a b e = grind (arith, nat_tests)
+raises_higher a b e = ltb-true a.version b.version e
 
-pub not_raised_lower : (a b : Record) → raises a b ≡ false → b.version ≤ a.version
-not_raised_lower a b e = grind (arith, nat_tests)
+pub raised_stands : (a b : Record) → raises a b ≡ true → after_report a b ≡ record b { min_known = (after_report a b).min_known }
+raised_stands a b e = ap (λ (r : Record). record r { min_known = least a b }) (cond-true (raises a b) b a e)
 
-pub raised_stands : (a b : Record) → raises a b ≡ true → after_report a b ≡ b
-raised_stands a b e = ap (λ (t : Bool). if t then b else a) e
+-- a change that raises nothing is one of the minimum known committed version alone
+pub not_raised_stands : (a b : Record) → changes a b ≡ true → raises a b ≡ false → after_report a b ≡ record a { min_known = b.min_known }
+not_raised_stands a b up e =
+    let later : ltb a.min_known b.min_known ≡ true = elim (or_cases (raises a b) (ltb a.min_known b.min_known) up) [
+      | inl higher ↦ absurd (cc (higher, e))
+      | inr later ↦ later
+    ] in
+    ap (λ (r : Record). record r { min_known = least a b }) (cond-false (raises a b) b a e)
+    ∙ ap (λ (n : ℕ). record a { min_known = n }) (cond-true (ltb a.min_known b.min_known) b.min_known a.min_known later)
 
-pub not_raised_stays : (a b : Record) → raises a b ≡ false → after_report a b ≡ a
-not_raised_stays a b e = ap (λ (t : Bool). if t then b else a) e
+pub version_at_least : (a b : Record) → (a.version ≤ (after_report a b).version) × (b.version ≤ (after_report a b).version)
+version_at_least a b =
+    cond_both (ltb a.version b.version) b a (λ r. (a.version ≤ r.version) × (b.version ≤ r.version))
+    (λ e. let higher = ltb-true a.version b.version e in (omega arith, le_refl b.version))
+    (λ e. let lower = ltb-false a.version b.version e in (le_refl a.version, lower))
 
-pub after_at_least : (a b : Record) → (a.version ≤ (after_report a b).version) × (b.version ≤ (after_report a b).version)
-after_at_least a b = go (raises a b) refl
-  where
-    go : (t : Bool) → raises a b ≡ t → (a.version ≤ (if t then b else a).version) × (b.version ≤ (if t then b else a).version)
-    go true e = let higher = raises_higher a b e in (omega arith, omega arith)
-    go false e = let lower = not_raised_lower a b e in (omega arith, omega arith)
+min_known_at_least : (a b : Record) → (a.min_known ≤ (after_report a b).min_known) × (b.min_known ≤ (after_report a b).min_known)
+min_known_at_least a b =
+    cond_both (ltb a.min_known b.min_known) b.min_known a.min_known (λ n. (a.min_known ≤ n) × (b.min_known ≤ n))
+    (λ e. let higher = ltb-true a.min_known b.min_known e in (omega arith, le_refl b.min_known))
+    (λ e. let lower = ltb-false a.min_known b.min_known e in (le_refl a.min_known, lower))
 
-pub after_in_range : (a b : Record) → a.version ≤ MAX_VERSION → b.version ≤ MAX_VERSION → (after_report a b).version ≤ MAX_VERSION
-after_in_range a b first second = go (raises a b)
-  where
-    go : (t : Bool) → (if t then b else a).version ≤ MAX_VERSION
-    go true = second
-    go false = first
+-- how far a record has come: its version and its minimum known committed version, added up
+abbrev pub reach : Record → ℕ
+reach rec = rec.version + rec.min_known
 
--- a report raises the record just where it changes it
-pub changed_raises : (a b : Record) → after_report a b ≢ a → raises a b ≡ true
-changed_raises a b apart = go (raises a b) refl
-  where
-    go : (t : Bool) → raises a b ≡ t → raises a b ≡ true
-    go true e = e
-    go false e = absurd (apart (not_raised_stays a b e))
+pub changed_reaches : (a b : Record) → changes a b ≡ true → 1 + reach a ≤ reach (after_report a b)
+changed_reaches a b up =
+    let version = (version_at_least a b).0 in
+    let reported = (version_at_least a b).1 in
+    let min = (min_known_at_least a b).0 in
+    let told = (min_known_at_least a b).1 in
+    elim (or_cases (raises a b) (ltb a.min_known b.min_known) up) [
+      | inl higher ↦ let more = ltb-true a.version b.version higher in omega arith
+      | inr later ↦ let more = ltb-true a.min_known b.min_known later in omega arith
+    ]
 
-pub same_not_raised : (a b : Record) → after_report a b ≡ a → raises a b ≡ false
-same_not_raised a b same = go (raises a b) refl
-  where
-    go : (t : Bool) → raises a b ≡ t → raises a b ≡ false
-    go true e =
-        let higher = raises_higher a b e in
-        let least = after_at_least a b in
-        let is = ap (λ (r : Record). r.version) same in absurd (omega arith)
-    go false e = e
+-- of two records that a live record takes it makes one
+pub after_taken : (a b : Record) → IsRecord a → IsRecord b → IsRecord (after_report a b)
+after_taken a b here there =
+    let version = (version_at_least a b).0 in
+    let reported = (version_at_least a b).1 in
+    let mine = here.within in
+    let theirs = there.within in
+    record {
+      in_range = cond_both (ltb a.version b.version) b a (λ r. r.version ≤ MAX_VERSION) (λ _. there.in_range) (λ _. here.in_range);
+      within = cond_both (ltb a.min_known b.min_known) b.min_known a.min_known (λ n. n ≤ (after_report a b).version) (λ _. omega arith) (λ _. omega arith);
+    }

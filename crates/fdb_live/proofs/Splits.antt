@@ -20,7 +20,7 @@ begins x = record {
   seat = 0;
   holder = λ n. 0;
   register = λ o. absurd (omega arith);
-  legal = record { rises = refl; numbered = All-nil _; in_range = All-nil _; start_in_range = omega arith };
+  legal = record { all_change = refl; numbered = All-nil _; taken = All-nil _; start_taken = record { in_range = omega arith; within = omega arith } };
   each = each;
 }
   where

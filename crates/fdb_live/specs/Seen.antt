@@ -4,76 +4,91 @@ use mathlib.Core.List.{IsPrefix}
 use Rattle.atomic_table.specs.Seated.{TableId}
 use Rattle.fdb_history.specs.declared.register.Record.{Record}
 use Rattle.fdb_history.specs.declared.register.TheConstants.{MAX_VERSION}
-use Rattle.fdb_history.specs.Register.{after_report, raises}
-use Rattle.fdb_live.specs.declared.raise.Raise.{Raise}
+use Rattle.fdb_history.specs.Register.{after_report, raises, changes}
+use Rattle.fdb_live.specs.declared.change.Change.{Change}
 
--- What its holder has seen: the reports that raised the record, from the first on and in order.
+-- What its holder has seen: the reports that changed the record, from the first on and in order.
 -- The token of a reporter has its number. (this product's own)
 pub record Sight : Type 0 where
   pub reporter : Option ℕ
-  pub raises : List Raise
+  pub changes : List Change
 
--- The live record after these raises: what each in its turn made of the one before it.
+-- The live record after these changes: what each in its turn made of the one before it.
 -- (updateLiveCommittedVersion of masterserver, FoundationDB 7.1)
-abbrev pub last_record : Record → List Raise → Record
+abbrev pub last_record : Record → List Change → Record
 last_record start [] = start
 last_record start (r ∷ rs) = last_record (after_report start r.rec) rs
 
--- Each of these did raise the record that it found.
-abbrev pub rises : Record → List Raise → Bool
-rises start [] = true
-rises start (r ∷ rs) = raises start r.rec && rises (after_report start r.rec) rs
+-- A record that a live record takes: its version is not above the greatest one, and its minimum
+-- known committed version not above that. (the latter is this product's own)
+pub record IsRecord (rec : Record) : Type 0 where
+  pub in_range : rec.version ≤ MAX_VERSION
+  pub within : rec.min_known ≤ rec.version
 
--- The raises of a service: each did raise the record, and was reported by one of its reporters. No
--- version is above the greatest one.
-pub record IsLog (start : Record) (reporters : ℕ) (log : List Raise) : Type 0 where
-  pub rises : rises start log ≡ true
+-- Each of these did change the record that it found.
+abbrev pub all_change : Record → List Change → Bool
+all_change start [] = true
+all_change start (r ∷ rs) = changes start r.rec && all_change (after_report start r.rec) rs
+
+-- The changes of a service: each did change the record, and was reported by one of its reporters.
+-- The record before them and each that was reported is one that a live record takes.
+pub record IsLog (start : Record) (reporters : ℕ) (log : List Change) : Type 0 where
+  pub all_change : all_change start log ≡ true
   pub numbered : All (λ r. r.reporter < reporters) log
-  pub in_range : All (λ r. r.rec.version ≤ MAX_VERSION) log
-  pub start_in_range : start.version ≤ MAX_VERSION
+  pub taken : All (λ r. IsRecord r.rec) log
+  pub start_taken : IsRecord start
 
--- The positions of the raises that carry this number. The position of a raise is its place, the
+-- The positions of the changes that carry this number. The position of a change is its place, the
 -- first being `at`.
-abbrev pub raised_by : ℕ → ℕ → List Raise → List ℕ
-raised_by number at [] = []
-raised_by number at (r ∷ rs) =
-    if r.reporter == number then (at ∷ raised_by number (at + 1) rs)
-    else raised_by number (at + 1) rs
+abbrev pub changed_by : ℕ → ℕ → List Change → List ℕ
+changed_by number at [] = []
+changed_by number at (r ∷ rs) =
+    if r.reporter == number then (at ∷ changed_by number (at + 1) rs)
+    else changed_by number (at + 1) rs
 
--- The positions of the raises that its own reporter made; none, where it is nobody's.
-abbrev pub own_among : Option ℕ → List Raise → List ℕ
-own_among None raises = []
-own_among (Some number) raises = raised_by number 1 raises
+-- The positions of the changes that its own reporter made; none, where it is nobody's.
+abbrev pub own_among : Option ℕ → List Change → List ℕ
+own_among None changes = []
+own_among (Some number) changes = changed_by number 1 changes
 
 abbrev pub own_positions : Sight → List ℕ
-own_positions sight = own_among sight.reporter sight.raises
+own_positions sight = own_among sight.reporter sight.changes
 
 -- The longer of two lists.
-abbrev pub longer : List Raise → List Raise → List Raise
+abbrev pub longer : List Change → List Change → List Change
 longer these those = if nat_lt (length these) (length those) then those else these
 
--- The holder of a token reported a record, and raised with it: this raise is the last that it has
--- now seen, it made the record what was reported, it is above all before it, and it is the one
--- position that became its own.
-pub record IsRaisedBy (start rec : Record) (old new : Sight) : Type 0 where
+-- The holder of a token reported a record, and changed the live record with it: this change is the
+-- last that it has now seen, it made of the record what the rule says, and it is the one position
+-- that became its own. Where it raised the record, its version is above all before it, and the
+-- record is what was reported but for the minimum known committed version, which is the greater of
+-- the two. Where it did not, the record is as it was but for that, which is what was reported.
+pub record IsChangedBy (start rec : Record) (raised : Bool) (old new : Sight) : Type 0 where
   pub number : ℕ
-  pub before : List Raise
+  pub before : List Change
   pub reporter : old.reporter ≡ Some number
-  pub seen : IsPrefix old.raises before
-  pub last : new.raises ≡ before ++ record { reporter = number; rec = rec } ∷ []
-  pub raises : raises (last_record start before) rec ≡ true
-  pub becomes : last_record start new.raises ≡ after_report (last_record start before) rec
-  pub stands : last_record start new.raises ≡ rec
-  pub above_start : start.version < rec.version
-  pub above_all : All (λ r. r.rec.version < rec.version) before
-  pub own : own_positions new ≡ own_positions old ++ length new.raises ∷ []
+  pub seen : IsPrefix old.changes before
+  pub last : new.changes ≡ before ++ record { reporter = number; rec = rec } ∷ []
+  pub changes : changes (last_record start before) rec ≡ true
+  pub raised_is : raised ≡ raises (last_record start before) rec
+  pub becomes : last_record start new.changes ≡ after_report (last_record start before) rec
+  pub stands : raised ≡ true → last_record start new.changes
+      ≡ record rec { min_known = (last_record start new.changes).min_known }
+  pub stays : raised ≡ false → last_record start new.changes
+      ≡ record (last_record start before) { min_known = rec.min_known }
+  pub above_start : raised ≡ true → start.version < rec.version
+  pub above_all : raised ≡ true → All (λ r. r.rec.version < rec.version) before
+  pub own : own_positions new ≡ own_positions old ++ length new.changes ∷ []
 
--- The holder of a token reported a record that is not above the last that it has now seen, and
--- raised nothing: the record stays as it is.
-pub record IsNotRaisedBy (start rec : Record) (old new : Sight) : Type 0 where
-  pub raises : raises (last_record start new.raises) rec ≡ false
-  pub stays : after_report (last_record start new.raises) rec ≡ last_record start new.raises
-  pub not_above : rec.version ≤ (last_record start new.raises).version
+-- The holder of a token reported a record of which neither the version nor the minimum known
+-- committed version is above that of the last that it has now seen: nothing was raised, and the
+-- record stays as it is.
+pub record IsNotChangedBy (start rec : Record) (raised : Bool) (old new : Sight) : Type 0 where
+  pub changes : changes (last_record start new.changes) rec ≡ false
+  pub raised_is : raised ≡ false
+  pub stays : after_report (last_record start new.changes) rec ≡ last_record start new.changes
+  pub not_above : rec.version ≤ (last_record start new.changes).version
+  pub not_later : rec.min_known ≤ (last_record start new.changes).min_known
   pub own : own_positions new ≡ own_positions old
 
 -- What a service was opened with, and the table of its cell.

@@ -1,12 +1,15 @@
 //! The acknowledgement of a report.
 
-/// That a report was taken: whether it raised the record, and the number of raises by then (the
-/// reply of `reportLiveCommittedVersion` of masterserver, FoundationDB 7.1; both members are this
-/// product's own).
+/// That a report was taken: whether it raised the record, whether it changed it, and the number of
+/// changes by then (the reply of `reportLiveCommittedVersion` of masterserver, FoundationDB 7.1; all
+/// members are this product's own).
 #[derive(Clone, Copy, Debug, PartialEq, Eq)]
 pub struct Ack {
-    /// Whether the report raised the record.
+    /// Whether the report raised the record: its version was greater.
     pub raised: bool,
-    /// The number of raises.
+    /// Whether it changed the record: its version or its minimum known committed version was
+    /// greater.
+    pub changed: bool,
+    /// The number of changes.
     pub position: u64,
 }

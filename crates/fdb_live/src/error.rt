@@ -9,6 +9,10 @@ pub enum LiveError {
     /// The version is above the greatest one.
     #[error("the version is out of range")]
     TooLarge,
+    /// The minimum known committed version is above the version. (this product's own: masterserver
+    /// takes it as it comes)
+    #[error("the minimum known committed version is above the version")]
+    MinAbove,
     /// Memory was refused.
     #[error("want of memory")]
     Memory,

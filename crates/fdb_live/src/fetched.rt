@@ -2,13 +2,14 @@
 
 use fdb_history::Record;
 
-/// The live committed version, and the number of reports that had raised it by then
-/// (`GetRawCommittedVersionReply` of masterserver, FoundationDB 7.1; the position is this product's
-/// own).
+/// The record, with the live committed version and the minimum known committed version, and the
+/// number of reports that had changed it by then (`version`, `locked`, `metadataVersion` and
+/// `minKnownCommittedVersion` of `GetRawCommittedVersionReply`, FoundationDB 7.1; the position is
+/// this product's own).
 #[derive(Clone, Copy, Debug, PartialEq, Eq)]
 pub struct Fetched {
     /// The record.
     pub rec: Record,
-    /// The number of raises.
+    /// The number of changes.
     pub position: u64,
 }

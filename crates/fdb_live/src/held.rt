@@ -13,11 +13,11 @@ const LOCKED: u64 = 1;
 /// The flag of a record with a metadata version.
 const HAS_METADATA: u64 = 2;
 
-/// The record and its position in four words. They have no gaps, which a copy of a [`Fetched`]
+/// The record and its position in five words. They have no gaps, which a copy of a [`Fetched`]
 /// would move as well, a few bytes at a time.
 #[derive(Clone, Copy)]
 pub(crate) struct Held {
-    /// The number of raises.
+    /// The number of changes.
     pub(crate) position: u64,
     /// The live committed version.
     pub(crate) version: u64,
@@ -25,6 +25,8 @@ pub(crate) struct Held {
     pub(crate) flags: u64,
     /// The metadata version, and 0 where there is none.
     pub(crate) metadata: u64,
+    /// The minimum known committed version.
+    pub(crate) min_known: u64,
 }
 
 impl Held {
@@ -44,6 +46,7 @@ impl Held {
             version: fetched.rec.version,
             flags,
             metadata,
+            min_known: fetched.rec.min_known,
         }
     }
 
@@ -62,30 +65,38 @@ impl Held {
                 version: self.version,
                 locked: self.flags & LOCKED != 0,
                 metadata,
+                min_known: self.min_known,
             },
             position: self.position,
         }
     }
 }
 
-impl Words<4> for Held {
+impl Words<5> for Held {
     ghost use Rattle.fdb_live.specs.private.Words.{words_of};
 
     ghost words = { words_of };
 
     #[inline]
-    fn to_words(self) -> [u64; 4] {
-        [self.position, self.version, self.flags, self.metadata]
+    fn to_words(self) -> [u64; 5] {
+        [
+            self.position,
+            self.version,
+            self.flags,
+            self.metadata,
+            self.min_known,
+        ]
     }
 
     #[inline]
-    fn from_words(bits: &[u64; 4]) -> Held {
-        let [position, version, flags, metadata] = *bits;
+    fn from_words(bits: &[u64; 5]) -> Held {
+        let [position, version, flags, metadata, min_known] = *bits;
         Held {
             position,
             version,
             flags,
             metadata,
+            min_known,
         }
     }
 }

@@ -3,6 +3,7 @@
 #![tactic(auto)]
 
 mod ack;
+mod change;
 mod error;
 mod fetched;
 mod held;
@@ -11,17 +12,16 @@ mod live_record;
 mod named;
 mod opened;
 mod passes;
-mod raise;
 mod right;
 mod seen;
 mod view;
 
 pub use ack::Ack;
+pub use change::Change;
 pub use error::LiveError;
 pub use fetched::Fetched;
 pub use live::Live;
 pub use live_record::LiveRecord;
 pub use named::UnderName;
 pub use opened::{MAX_REPORTERS, Opened};
-pub use raise::Raise;
 pub use seen::Seen;

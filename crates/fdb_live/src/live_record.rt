@@ -1,8 +1,8 @@
 //! The live record.
 
-ghost use Rattle.std.specs.Prelude.{◌≡◌, ◌≢◌, ◌<◌, ◌≤◌, ◌⊎◌, ◌↔◌, length, Option, None, IsSome, IfOk, OnOk, OnErr, true, false};
+ghost use Rattle.std.specs.Prelude.{◌≡◌, ◌≢◌, ◌*◌, ◌<◌, ◌≤◌, ◌⊎◌, ◌↔◌, length, Option, None, IsSome, IfOk, OnOk, OnErr, true, false};
 ghost use mathlib.Core.List.{IsPrefix};
-ghost use Rattle.fdb_live.specs.Seen.{IsLog, IsNotRaisedBy, IsRaisedBy, last_record, longer, own_positions};
+ghost use Rattle.fdb_live.specs.Seen.{IsLog, IsNotChangedBy, IsChangedBy, last_record, longer, own_positions};
 
 use crate::ack::Ack;
 use crate::error::LiveError;
@@ -19,7 +19,7 @@ use std::sync::{Mutex, Wait};
 /// The live committed version of the service `J`, in one register that threads share
 /// (`liveCommittedVersion` and its companions in masterserver, FoundationDB 7.1).
 ///
-/// Reports take turns under a lock that only they take. A read does not take it: it loads the four
+/// Reports take turns under a lock that only they take. A read does not take it: it loads the five
 /// words of a sequence cell, and only where a replacement came between does it take the cell's own
 /// lock for a moment. No call on it takes memory, and each takes constant time, waiting aside.
 #[derive(Drop)]
@@ -30,21 +30,23 @@ pub struct LiveRecord<J: Live> {
 }
 
 impl<J: Live> LiveRecord<J> {
-    /// The record and its position (`getLiveCommittedVersion` of masterserver). The holder of the
-    /// token has then seen each raise up to that position.
+    /// The record and its position (`getLiveCommittedVersion` of masterserver): version, lock,
+    /// metadata version and minimum known committed version are those of one moment. The holder of
+    /// the token has then seen each change up to that position.
     ///
     /// It waits for a replacement that is under way, and not for the lock of the reports. That it
     /// sees a report of which its caller had seen nothing, no clause says.
     #[inline]
     pub fn read<R: Wait>(&self, rt: &R, seen: &mut Seen<J>) -> Fetched
         ensures reporter { seen.new.reporter ≡ seen.old.reporter }
-        ensures extends { IsPrefix seen.old.raises seen.new.raises }
+        ensures extends { IsPrefix seen.old.changes seen.new.changes }
         ensures own { own_positions seen.new ≡ own_positions seen.old }
-        ensures rec { result.rec ≡ last_record J.start seen.new.raises }
-        ensures position { result.position ≡ length seen.new.raises }
-        ensures below { result.position ≤ result.rec.version }
+        ensures rec { result.rec ≡ last_record J.start seen.new.changes }
+        ensures position { result.position ≡ length seen.new.changes }
+        ensures below { result.position ≤ 2 * result.rec.version }
+        ensures within { result.rec.min_known ≤ result.rec.version }
         ensures in_range { result.rec.version ≤ MAX_VERSION }
-        ensures log { IsLog J.start J.reporters seen.new.raises }
+        ensures log { IsLog J.start J.reporters seen.new.changes }
     {
         let fetched = passes::look(rt, &self.cell, &mut seen.pass);
         seen.position = fetched.position;
@@ -52,12 +54,16 @@ impl<J: Live> LiveRecord<J> {
     }
 
     /// Reports a committed version (`reportLiveCommittedVersion` of masterserver) for the reporter
-    /// whose token it is. The record becomes what [`Record::after_report`] makes of it: it is
-    /// replaced where the version is greater, and else left. The report is acknowledged in either
-    /// case.
+    /// whose token it is. The record becomes what [`Record::after_report`] makes of it: where the
+    /// version is greater, it is replaced with its lock and metadata version, and in either case
+    /// the minimum known committed version becomes the greater of the two
+    /// (`minKnownCommittedVersion` of `ReportRawCommittedVersionRequest`). Each report that changes
+    /// the record has a position of its own; one that does not writes no word. It is acknowledged
+    /// in each case.
     ///
-    /// It is refused as `TooLarge` where the version is above the greatest one, and for nothing
-    /// else. It waits for the other reports. While it holds their lock it passes the gate as `who`,
+    /// It is refused as `TooLarge` where the version is above the greatest one, else as `MinAbove`
+    /// where the minimum known committed version is above the version, and for nothing else. It
+    /// waits for the other reports. While it holds their lock it passes the gate as `who`,
     /// before it looks at the record.
     #[inline]
     pub fn report<R: Wait, G: Gate>(
@@ -70,19 +76,24 @@ impl<J: Live> LiveRecord<J> {
     ) -> Result<Ack, LiveError>
         requires { IsSome seen.old.reporter }
         ensures too_large { (result ≡ Err LiveError.TooLarge) ↔ (MAX_VERSION < rec.version) }
+        ensures min_above { (result ≡ Err LiveError.MinAbove)
+            ↔ ((rec.version ≤ MAX_VERSION) × (rec.version < rec.min_known)) }
         ensures no_memory { result ≢ Err LiveError.Memory }
         ensures err { OnErr result (seen.new ≡ seen.old) }
         ensures reporter { seen.new.reporter ≡ seen.old.reporter }
-        ensures extends { IsPrefix seen.old.raises seen.new.raises }
-        ensures position { IfOk result (λ ack. ack.position ≡ length seen.new.raises) }
-        ensures log { OnOk result (IsLog J.start J.reporters seen.new.raises) }
-        ensures raised { IfOk result (λ ack. ack.raised ≡ true →
-            IsRaisedBy J.start rec seen.old seen.new) }
-        ensures not_raised { IfOk result (λ ack. ack.raised ≡ false →
-            IsNotRaisedBy J.start rec seen.old seen.new) }
+        ensures extends { IsPrefix seen.old.changes seen.new.changes }
+        ensures position { IfOk result (λ ack. ack.position ≡ length seen.new.changes) }
+        ensures log { OnOk result (IsLog J.start J.reporters seen.new.changes) }
+        ensures changed { IfOk result (λ ack. ack.changed ≡ true →
+            IsChangedBy J.start rec ack.raised seen.old seen.new) }
+        ensures not_changed { IfOk result (λ ack. ack.changed ≡ false →
+            IsNotChangedBy J.start rec ack.raised seen.old seen.new) }
     {
         if rec.version > MAX_VERSION {
             return Err(LiveError::TooLarge);
+        }
+        if rec.min_known > rec.version {
+            return Err(LiveError::MinAbove);
         }
         let mut turn = self.reports.lock(rt);
         gate.pass(Place::ReportHeld, who);
@@ -93,8 +104,8 @@ impl<J: Live> LiveRecord<J> {
     #[inline]
     pub fn split(&self, seen: &mut Seen<J>) -> Seen<J>
         ensures same { seen.new ≡ seen.old }
-        ensures given { result ≡ record { reporter = None; raises = seen.old.raises } }
-        ensures log { IsLog J.start J.reporters result.raises }
+        ensures given { result ≡ record { reporter = None; changes = seen.old.changes } }
+        ensures log { IsLog J.start J.reporters result.changes }
     {
         Seen {
             number: None,
@@ -109,11 +120,11 @@ impl<J: Live> LiveRecord<J> {
     pub fn learn<R: Wait>(&self, rt: &R, seen: &mut Seen<J>, told: Seen<J>)
         requires { told.reporter ≡ None }
         ensures reporter { seen.new.reporter ≡ seen.old.reporter }
-        ensures longer { seen.new.raises ≡ longer seen.old.raises told.raises }
-        ensures extends { IsPrefix seen.old.raises seen.new.raises }
-        ensures told { IsPrefix told.raises seen.new.raises }
+        ensures longer { seen.new.changes ≡ longer seen.old.changes told.changes }
+        ensures extends { IsPrefix seen.old.changes seen.new.changes }
+        ensures told { IsPrefix told.changes seen.new.changes }
         ensures own { own_positions seen.new ≡ own_positions seen.old }
-        ensures log { IsLog J.start J.reporters seen.new.raises }
+        ensures log { IsLog J.start J.reporters seen.new.changes }
     {
         let Seen {
             number: _,
@@ -134,10 +145,10 @@ impl<J: Live> LiveRecord<J> {
     pub fn meet<R: Wait>(&self, rt: &R, first: &mut Seen<J>, second: &mut Seen<J>)
         ensures first { first.new ≡ first.old }
         ensures second { second.new ≡ second.old }
-        ensures one { IsPrefix first.old.raises second.old.raises
-            ⊎ IsPrefix second.old.raises first.old.raises }
-        ensures log { IsLog J.start J.reporters first.new.raises
-            × IsLog J.start J.reporters second.new.raises }
+        ensures one { IsPrefix first.old.changes second.old.changes
+            ⊎ IsPrefix second.old.changes first.old.changes }
+        ensures log { IsLog J.start J.reporters first.new.changes
+            × IsLog J.start J.reporters second.new.changes }
     {
         let mut mine = passes::copy(&self.cell, &mut first.pass);
         let theirs = passes::copy(&self.cell, &mut second.pass);

@@ -1,6 +1,7 @@
 //! A name for a live record that was opened.
 
-ghost use Rattle.std.specs.Prelude.{◌≡◌};
+ghost use Rattle.std.specs.Prelude.{◌≡◌, ℕ, ⊤};
+ghost use Rattle.fdb_live.specs.Seen.{Origin};
 
 use crate::live::Live;
 use crate::opened::Opened;
@@ -11,8 +12,12 @@ pub trait UnderName<R> {
     /// What comes of it.
     type Output;
 
+    // What it promises of that, by what the name stands for: what was opened, the last version of
+    // the epoch before, and the version with which the service's own epoch begins.
+    ghost gives: { Self → Origin → ℕ → ℕ → Self.Output → Type 0 } = { λ _ _ _ _ _. ⊤ };
+
     /// Does it, with the live record that was opened for the service, the last version of the epoch
-    /// before, and the version with which its own epoch begins.
+    /// before, and the version with which its own epoch begins. The name stands for these three.
     fn run<J: Live + Send + Sync>(
         self,
         rt: &R,
@@ -23,7 +28,8 @@ pub trait UnderName<R> {
         requires opened { opened
             ≡ record { table = J.table; start = J.start; reporters = J.reporters } }
         requires epoch_end { epoch_end ≡ J.epoch_end }
-        requires recovery { recovery ≡ J.recovery };
+        requires recovery { recovery ≡ J.recovery }
+        ensures gives { gives self opened epoch_end recovery result };
 }
 
 impl Opened {
@@ -35,7 +41,9 @@ impl Opened {
         epoch_end: u64,
         recovery: u64,
         uses: U,
-    ) -> U::Output {
+    ) -> U::Output
+        ensures gives { U.gives uses self epoch_end recovery result }
+    {
         run_under::<Brand, R, U>(rt, self, epoch_end, recovery, uses)
     }
 }
@@ -52,6 +60,7 @@ fn run_under<J: Live + Send + Sync, R, U: UnderName<R>>(
         ≡ record { table = J.table; start = J.start; reporters = J.reporters } }
     requires epoch_end { epoch_end ≡ J.epoch_end }
     requires recovery { recovery ≡ J.recovery }
+    ensures gives { U.gives uses opened epoch_end recovery result }
 {
     uses.run::<J>(rt, opened, epoch_end, recovery)
 }

@@ -2,6 +2,7 @@
 
 ghost use Rattle.std.specs.Prelude.{◌≡◌, ◌+◌, ◌<◌, ◌≤◌, ◌↔◌, ℕ, [], true, Some, None, IfOk, IfErr, vec_len, slice_get};
 ghost use Rattle.crossbeam_utils.specs.Seq.{cell_view};
+ghost use Rattle.fdb_live.specs.Seen.{IsRecord};
 ghost use Rattle.fdb_live.specs.private.Rule.{opened, view};
 
 use crate::error::LiveError;
@@ -36,9 +37,8 @@ pub struct Opened {
 impl Model for Opened {
     ghost use Rattle.std.specs.Prelude.{◌≡◌, ◌<◌, ◌≤◌};
     ghost use Rattle.crossbeam_utils.specs.Seq.{cell_view};
-    ghost use Rattle.fdb_history.specs.declared.register.TheConstants.{MAX_VERSION};
     ghost use Rattle.fdb_live.specs.private.Rule.{opened};
-    ghost use Rattle.fdb_live.specs.Seen.{Origin};
+    ghost use Rattle.fdb_live.specs.Seen.{IsRecord, Origin};
 
     ghost Value = { Origin };
 
@@ -50,14 +50,15 @@ impl Model for Opened {
 
     ghost invariant = { λ o. (o.pass.table_id ≡ o.cell.table.shared.table_id)
         × (0 < o.reporters)
-        × ((cell_view o.pass).start.version ≤ MAX_VERSION)
+        × IsRecord (cell_view o.pass).start
         × (cell_view o.pass ≡ opened (cell_view o.pass).start o.reporters) };
 }
 
 impl LiveRecord<Brand> {
     /// Opens a live record, with its first record and for this many reporters.
     ///
-    /// It is refused as `TooLarge` where the version is above the greatest one, else for memory.
+    /// It is refused as `TooLarge` where the version is above the greatest one, else as `MinAbove`
+    /// where the minimum known committed version is above the version, else for memory.
     pub fn open<R: Wait>(
         rt: &R,
         alloc: Global,
@@ -66,11 +67,16 @@ impl LiveRecord<Brand> {
     ) -> Result<Opened, LiveError>
         requires { (0 < reporters) × (reporters ≤ MAX_REPORTERS) }
         ensures too_large { (result ≡ Err LiveError.TooLarge) ↔ (MAX_VERSION < start.version) }
+        ensures min_above { (result ≡ Err LiveError.MinAbove)
+            ↔ ((start.version ≤ MAX_VERSION) × (start.version < start.min_known)) }
         ensures start { IfOk result (λ o. o.start ≡ start) }
         ensures reporters { IfOk result (λ o. o.reporters ≡ reporters) }
     {
         if start.version > MAX_VERSION {
             return Err(LiveError::TooLarge);
+        }
+        if start.min_known > start.version {
+            return Err(LiveError::MinAbove);
         }
         let begun = Fetched {
             rec: start,
@@ -89,16 +95,16 @@ impl LiveRecord<Brand> {
 
 impl Opened {
     /// The live record under a name that stands for it, a token with no number, and one for each
-    /// reporter, in order. None of them has seen a raise.
+    /// reporter, in order. None of them has seen a change.
     ///
     /// It is refused where memory runs out, and for nothing else; the service is then given up.
     pub fn parts<J: Live>(self) -> Result<(LiveRecord<J>, Seen<J>, Vec<Seen<J>>), LiveError>
         requires { self ≡ record { table = J.table; start = J.start; reporters = J.reporters } }
         ensures memory { IfErr result (λ cause. cause ≡ LiveError.Memory) }
-        ensures first { IfOk result (λ parts. parts.1 ≡ record { reporter = None; raises = [] }) }
+        ensures first { IfOk result (λ parts. parts.1 ≡ record { reporter = None; changes = [] }) }
         ensures count { IfOk result (λ parts. vec_len parts.2 ≡ J.reporters) }
         ensures tokens { IfOk result (λ parts. (k : ℕ) → k < J.reporters →
-            slice_get parts.2.items k ≡ Some (record { reporter = Some k; raises = [] })) }
+            slice_get parts.2.items k ≡ Some (record { reporter = Some k; changes = [] })) }
     {
         let Opened {
             cell,
@@ -136,13 +142,13 @@ fn numbered<J: Live>(
     requires pass { pass.old.table_id ≡ J.table }
     requires named { reporters ≡ J.reporters }
     requires opened { cell_view pass.old ≡ opened J.start reporters }
-    requires in_range { J.start.version ≤ MAX_VERSION }
+    requires taken { IsRecord J.start }
     ensures cell { pass.new.table_id ≡ J.table }
     ensures left { IfOk result (λ _.
         cell_view pass.new ≡ view J.start reporters reporters reporters true [] [] []) }
     ensures count { IfOk result (λ tokens. vec_len tokens ≡ reporters) }
     ensures tokens { IfOk result (λ tokens. (k : ℕ) → k < reporters →
-        slice_get tokens.items k ≡ Some (record { reporter = Some k; raises = [] })) }
+        slice_get tokens.items k ≡ Some (record { reporter = Some k; changes = [] })) }
 {
     let mut tokens = Vec::with_capacity(alloc, reporters as usize)?;
     for number in 0..reporters {
@@ -156,12 +162,12 @@ fn token<J: Live>(cell: &Cell, pass: &mut Pass, number: u32) -> Seen<J>
     requires cell { cell.now.table.shared.table_id ≡ J.table }
     requires pass { pass.old.table_id ≡ J.table }
     requires below { number < J.reporters }
-    requires in_range { J.start.version ≤ MAX_VERSION }
+    requires taken { IsRecord J.start }
     requires left { cell_view pass.old ≡ view J.start J.reporters number J.reporters true [] [] [] }
     ensures cell { pass.new.table_id ≡ J.table }
     ensures left { cell_view pass.new
         ≡ view J.start J.reporters (number + 1) J.reporters true [] [] [] }
-    ensures token { result ≡ record { reporter = Some number; raises = [] } }
+    ensures token { result ≡ record { reporter = Some number; changes = [] } }
 {
     Seen {
         number: Some(number),

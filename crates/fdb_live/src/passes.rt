@@ -3,8 +3,8 @@
 ghost use Rattle.std.specs.Prelude.{◌≡◌, ◌+◌, ◌<◌, ◌≤◌, [], length, true};
 ghost use Rattle.crossbeam_utils.specs.Register.{Turns};
 ghost use Rattle.crossbeam_utils.specs.Seq.{IsSamePass, cell_view};
-ghost use Rattle.fdb_history.specs.Register.{after_report, raises};
-ghost use Rattle.fdb_live.specs.Seen.{last_record};
+ghost use Rattle.fdb_history.specs.Register.{after_report, changes};
+ghost use Rattle.fdb_live.specs.Seen.{IsRecord, last_record};
 ghost use Rattle.fdb_live.specs.private.Token.{IsReported};
 ghost use Rattle.fdb_live.specs.private.Rule.{Adds, InWords, Keeps, Looks, Opens, Settles, copy_of, first, joined, lowest_of, opened, spent, taken, without_lowest};
 ghost use Rattle.fdb_live.specs.private.Words.{fetched_of};
@@ -15,7 +15,7 @@ use crate::held::Held;
 use crate::view;
 use crate::view::{Cell, Reported, View};
 use crossbeam_utils::atomic::seq_cell;
-use fdb_history::{MAX_VERSION, Record, Service};
+use fdb_history::{Record, Service};
 use std::marker::Brand;
 use std::sync::Wait;
 
@@ -33,7 +33,7 @@ pub(crate) fn open_as<S: Service, R: Wait>(
     requires cell { pass.old.table_id ≡ cell.now.table.shared.table_id }
     requires first { cell_view pass.old ≡ first }
     requires named { reporters ≡ S.reporters }
-    requires in_range { start.version ≤ MAX_VERSION }
+    requires taken { IsRecord start }
     ensures cell { IsSamePass pass.old pass.new }
     ensures opened { cell_view pass.new ≡ opened start reporters }
 {
@@ -44,7 +44,7 @@ pub(crate) fn open_as<S: Service, R: Wait>(
 /// The words with which the first pass may open the service of a name.
 fn opening<S: Service>(pass: &Pass, start: Record) -> Held
     requires first { cell_view pass.now ≡ first }
-    requires in_range { start.version ≤ MAX_VERSION }
+    requires taken { IsRecord start }
     ensures words { (fetched_of result).rec ≡ start }
     ensures may_open { Turns Keeps pass.now.id (cell_view pass.now) (λ _. result)
         (InWords (Opens S.reporters)) }
@@ -73,44 +73,44 @@ pub(crate) fn add<P: Reported, R: Wait>(
     cell: &Cell,
     pass: &mut Pass,
     rec: Record,
-    raised: Fetched,
+    next: Fetched,
 )
     requires named { rec ≡ P.rec }
     requires cell { pass.old.table_id ≡ cell.now.table.shared.table_id }
     requires right { (cell_view pass.old).replaces ≡ true }
     requires numbered { (cell_view pass.old).low < (cell_view pass.old).high }
-    requires next { raised.position ≡ length (cell_view pass.old).seen + 1 }
-    requires raises { raises
+    requires next { next.position ≡ length (cell_view pass.old).seen + 1 }
+    requires changes { changes
         (last_record (cell_view pass.old).start (cell_view pass.old).seen)
         rec ≡ true }
-    requires becomes { raised.rec ≡ after_report
+    requires becomes { next.rec ≡ after_report
         (last_record (cell_view pass.old).start (cell_view pass.old).seen)
         rec }
-    requires in_range { rec.version ≤ MAX_VERSION }
+    requires taken { IsRecord rec }
     ensures cell { IsSamePass pass.old pass.new }
-    ensures adds { Adds rec (cell_view pass.old) raised raised (cell_view pass.new) }
+    ensures adds { Adds rec (cell_view pass.old) next next (cell_view pass.new) }
 {
-    let words = adding::<P>(pass, rec, raised);
+    let words = adding::<P>(pass, rec, next);
     cell.swap_as::<view::Adds<P>, R>(rt, pass, words);
 }
 
 /// The words by which the pass with the right may replace what the cell keeps.
 #[inline]
-fn adding<P: Reported>(pass: &Pass, rec: Record, raised: Fetched) -> Held
+fn adding<P: Reported>(pass: &Pass, rec: Record, next: Fetched) -> Held
     requires named { rec ≡ P.rec }
     requires right { (cell_view pass.now).replaces ≡ true }
     requires numbered { (cell_view pass.now).low < (cell_view pass.now).high }
-    requires next { raised.position ≡ length (cell_view pass.now).seen + 1 }
-    requires raises { raises
+    requires next { next.position ≡ length (cell_view pass.now).seen + 1 }
+    requires changes { changes
         (last_record (cell_view pass.now).start (cell_view pass.now).seen)
         rec ≡ true }
-    requires becomes { raised.rec ≡ after_report
+    requires becomes { next.rec ≡ after_report
         (last_record (cell_view pass.now).start (cell_view pass.now).seen)
         rec }
-    requires in_range { rec.version ≤ MAX_VERSION }
+    requires taken { IsRecord rec }
     ensures { Turns Keeps pass.now.id (cell_view pass.now) (λ _. result) (InWords (Adds P.rec)) }
 {
-    Held::of(raised)
+    Held::of(next)
 }
 
 /// Splits off a copy of what was seen.
@@ -197,34 +197,36 @@ pub(crate) fn take(cell: &Cell, pass: &mut Pass, other: Pass)
     cell.join_pass::<view::Numbered>(pass, other);
 }
 
-/// Reports a record by the pass with the right to replace, under its lowest number. It raises where
-/// the report changes the record.
+/// Reports a record by the pass with the right to replace, under its lowest number. The words are
+/// replaced where that changes the record, and else left as they are.
 #[inline]
 pub(crate) fn report<R: Wait>(rt: &R, cell: &Cell, pass: &mut Pass, rec: Record) -> Ack
     requires cell { pass.old.table_id ≡ cell.now.table.shared.table_id }
     requires opened { 0 < (cell_view pass.old).reporters }
     requires right { (cell_view pass.old).replaces ≡ true }
     requires numbered { (cell_view pass.old).low < (cell_view pass.old).high }
-    requires in_range { rec.version ≤ MAX_VERSION }
+    requires taken { IsRecord rec }
     ensures cell { IsSamePass pass.old pass.new }
-    ensures reported { IsReported (cell_view pass.old) rec result.raised result.position
-        (cell_view pass.new) }
+    ensures reported { IsReported (cell_view pass.old) rec
+        result.raised result.changed result.position (cell_view pass.new) }
 {
     let found = look(rt, cell, pass);
-    let next = found.rec.after_report(rec);
-    if next == found.rec {
+    let raised = found.rec.raises(rec);
+    if !found.rec.changes(rec) {
         return Ack {
-            raised: false,
+            raised,
+            changed: false,
             position: found.position,
         };
     }
-    let raised = Fetched {
-        rec: next,
+    let next = Fetched {
+        rec: found.rec.after_report(rec),
         position: found.position + 1,
     };
-    add::<Brand, R>(rt, cell, pass, rec, raised);
+    add::<Brand, R>(rt, cell, pass, rec, next);
     Ack {
-        raised: true,
-        position: raised.position,
+        raised,
+        changed: true,
+        position: next.position,
     }
 }

@@ -2,7 +2,7 @@
 
 ghost use Rattle.std.specs.Prelude.{◌≡◌, ◌≤◌, length, IsSome, true, false};
 ghost use mathlib.Core.List.{IsPrefix};
-ghost use Rattle.fdb_live.specs.Seen.{IsLog, IsRaisedBy, IsNotRaisedBy};
+ghost use Rattle.fdb_live.specs.Seen.{IsLog, IsRecord, IsChangedBy, IsNotChangedBy};
 
 use crate::ack::Ack;
 use crate::live::Live;
@@ -10,7 +10,7 @@ use crate::passes;
 use crate::passes::Pass;
 use crate::seen::Seen;
 use crate::view::Cell;
-use fdb_history::{MAX_VERSION, Record};
+use fdb_history::Record;
 use std::marker::{Model, PhantomData};
 use std::sync::Wait;
 
@@ -48,13 +48,15 @@ impl<J: Live> Right<J> {
     ) -> Ack
         requires cell { cell.now.table.shared.table_id ≡ J.table }
         requires numbered { IsSome seen.old.reporter }
-        requires in_range { rec.version ≤ MAX_VERSION }
+        requires taken { IsRecord rec }
         ensures reporter { seen.new.reporter ≡ seen.old.reporter }
-        ensures seen { IsPrefix seen.old.raises seen.new.raises }
-        ensures position { result.position ≡ length seen.new.raises }
-        ensures log { IsLog J.start J.reporters seen.new.raises }
-        ensures raised { result.raised ≡ true → IsRaisedBy J.start rec seen.old seen.new }
-        ensures not_raised { result.raised ≡ false → IsNotRaisedBy J.start rec seen.old seen.new }
+        ensures seen { IsPrefix seen.old.changes seen.new.changes }
+        ensures position { result.position ≡ length seen.new.changes }
+        ensures log { IsLog J.start J.reporters seen.new.changes }
+        ensures changed { result.changed ≡ true
+            → IsChangedBy J.start rec result.raised seen.old seen.new }
+        ensures not_changed { result.changed ≡ false
+            → IsNotChangedBy J.start rec result.raised seen.old seen.new }
     {
         let token = passes::give_all(cell, &mut seen.pass);
         passes::take(cell, &mut self.pass, token);

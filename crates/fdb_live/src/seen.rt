@@ -7,10 +7,10 @@ use crate::passes::Pass;
 use std::marker::{Model, PhantomData};
 
 /// A token of what its holder has seen of the live record of the service `J`. Whoever has it proves
-/// by it that these reports have raised the record, one after another. At run time it is a position
+/// by it that these reports have changed the record, one after another. At run time it is a position
 /// and a number.
 ///
-/// Contracts see it as the number of the reporter whose token it is, if it is one's, and the raises
+/// Contracts see it as the number of the reporter whose token it is, if it is one's, and the changes
 /// that were seen. It is not cloned: [`LiveRecord::split`](crate::LiveRecord::split) makes another
 /// that has seen the same. It may be dropped.
 #[derive(Drop)]
@@ -29,7 +29,7 @@ impl<J: Live> Model for Seen<J> {
 
     ghost Value = { Sight };
 
-    ghost view = { λ s. record { reporter = s.number; raises = (cell_view s.pass).seen } };
+    ghost view = { λ s. record { reporter = s.number; changes = (cell_view s.pass).seen } };
 
     ghost invariant = { λ s. (s.pass.table_id ≡ J.table)
         × (s.position ≡ length (cell_view s.pass).seen)
@@ -37,10 +37,10 @@ impl<J: Live> Model for Seen<J> {
 }
 
 impl<J: Live> Seen<J> {
-    /// The number of raises that it has seen.
+    /// The number of changes that it has seen.
     #[inline]
     pub fn position(&self) -> u64
-        ensures { result ≡ length self.now.raises }
+        ensures { result ≡ length self.now.changes }
     {
         self.position
     }

@@ -1,7 +1,7 @@
 //! What each pass of the cell knows. It exists in proofs alone: no value of these types is made.
 
+use crate::change::Change;
 use crate::held::Held;
-use crate::raise::Raise;
 use atomic_table::{Join, Split};
 use crossbeam_utils::atomic::seq_cell::RuledSeqCell;
 use crossbeam_utils::rule::{Outcome, Protocol};
@@ -21,12 +21,12 @@ pub(crate) struct View {
     pub(crate) high: u32,
     /// Whether it has the right to replace the record.
     pub(crate) replaces: bool,
-    /// The raises that it has seen.
-    pub(crate) seen: LinkedList<Raise>,
+    /// The changes that it has seen.
+    pub(crate) seen: LinkedList<Change>,
     /// Those that it had itself seen before a join, until it looks.
-    pub(crate) mine: LinkedList<Raise>,
+    pub(crate) mine: LinkedList<Change>,
     /// Those that the other pass of that join had seen.
-    pub(crate) theirs: LinkedList<Raise>,
+    pub(crate) theirs: LinkedList<Change>,
 }
 
 /// The rule of the cell.
@@ -40,8 +40,8 @@ impl Protocol<Held, View> for Law {
     ghost first = { first };
 }
 
-/// The cell: one record and its position, in four words.
-pub(crate) type Cell = RuledSeqCell<Held, View, Law, 4>;
+/// The cell: one record and its position, in five words.
+pub(crate) type Cell = RuledSeqCell<Held, View, Law, 5>;
 
 /// A step that opens the service of a name.
 pub(crate) struct Opens<S: Service> {
@@ -87,7 +87,7 @@ impl Reported for Brand {
     ghost rec = { no_record };
 }
 
-/// A raise.
+/// A change.
 pub(crate) struct Adds<P: Reported> {
     report: PhantomData<P>,
 }

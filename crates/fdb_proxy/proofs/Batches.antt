@@ -4,7 +4,7 @@ use Rattle.std.proofs.lemmas.List.{take_all, take-append-le}
 use mathlib.Core.List.{IsPrefix}
 use Rattle.fdb_history.specs.declared.service.Service.{Ghosts as ServiceGhosts}
 use Rattle.fdb_live.specs.declared.live.Live.{Ghosts as LiveGhosts}
-use Rattle.fdb_live.specs.declared.raise.Raise.{Raise}
+use Rattle.fdb_live.specs.declared.change.Change.{Change}
 use Rattle.fdb_proxy.specs.declared.request.Request.{Request}
 use Rattle.fdb_queue.specs.declared.request.Req.{Req}
 
@@ -25,8 +25,8 @@ module _ {A : Type 0} where
 
 module _ {J : Type 0} {live : LiveGhosts J} {service : ServiceGhosts J} where
   -- what each of some askers had seen begins what was seen
-  abbrev pub AreTold : List Raise → List (Req (Request J live service)) → Type 0
-  AreTold raises requests = All (λ request. IsPrefix request.payload.seen.raises raises) requests
+  abbrev pub AreTold : List Change → List (Req (Request J live service)) → Type 0
+  AreTold changes requests = All (λ request. IsPrefix request.payload.seen.changes changes) requests
 
-  pub told_more : (raises more : List Raise) (requests : List (Req (Request J live service))) → IsPrefix raises more → AreTold raises requests → AreTold more requests
-  told_more raises more requests grown told = λ k d less. prefix_trans _ raises more (told k d less) grown
+  pub told_more : (changes more : List Change) (requests : List (Req (Request J live service))) → IsPrefix changes more → AreTold changes requests → AreTold more requests
+  told_more changes more requests grown told = λ k d less. prefix_trans _ changes more (told k d less) grown

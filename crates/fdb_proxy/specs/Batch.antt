@@ -4,14 +4,15 @@ use mathlib.Core.List.{IsPrefix}
 use Rattle.fdb_history.specs.declared.grv.TagLimit.{TagLimit}
 use Rattle.fdb_history.specs.declared.service.Service.{Ghosts as ServiceGhosts}
 use Rattle.fdb_live.specs.declared.live.Live.{Ghosts as LiveGhosts}
-use Rattle.fdb_live.specs.declared.raise.Raise.{Raise}
+use Rattle.fdb_live.specs.declared.change.Change.{Change}
 use Rattle.fdb_live.specs.Seen.{last_record}
 use Rattle.fdb_proxy.specs.declared.answer.Answer.{Answer}
 use Rattle.fdb_proxy.specs.declared.answer.Answer.TheVariants as answer
 use Rattle.fdb_proxy.specs.declared.answer.Reply.{Reply}
 use Rattle.fdb_proxy.specs.declared.request.Request.{Request}
 use Rattle.fdb_queue.specs.declared.request.Req.{Req}
-use Rattle.fdb_queue.specs.Throttles.{Throttle, limits_of}
+use Rattle.fdb_queue.specs.Throttles.{limits_of}
+use Rattle.fdb_queue.specs.declared.throttles.Throttle.{Throttle}
 
 module _ {J : Type 0} {live : LiveGhosts J} {service : ServiceGhosts J} where
   -- what throttles the tags of a request, at its own priority and moment
@@ -20,24 +21,24 @@ module _ {J : Type 0} {live : LiveGhosts J} {service : ServiceGhosts J} where
       limits_of throttles request.payload.opts.priority request.payload.opts.at
       request.payload.opts.tags
 
-  -- A reply answers a request, where these throttles stand, and where a read saw these raises. It
+  -- A reply answers a request, where these throttles stand, and where a read saw these changes. It
   -- has the request's client, serial number and asked position, and the limits of its tags. Its
-  -- record is the last of the raises and its position their number; it proves them to the asker,
+  -- record is the last of the changes and its position their number; it proves them to the asker,
   -- who had seen the first of them. (`sendGrvReplies` of GrvProxyServer; what it proves is this
   -- product's own)
-  pub record IsReplyTo (throttles : List Throttle) (raises : List Raise)
+  pub record IsReplyTo (throttles : List Throttle) (changes : List Change)
       (request : Req (Request J live service)) (reply : Reply J live service) : Type 0 where
     pub client : reply.client ≡ request.payload.client
     pub serial : reply.serial ≡ request.payload.serial
     pub asked : reply.asked ≡ request.payload.asked
     pub limits : reply.limits ≡ own_limits throttles request
-    pub rec : reply.rec ≡ last_record service.start raises
-    pub position : reply.position ≡ length raises
-    pub seen : reply.seen.raises ≡ raises
-    pub extends : IsPrefix request.payload.seen.raises raises
+    pub rec : reply.rec ≡ last_record service.start changes
+    pub position : reply.position ≡ length changes
+    pub seen : reply.seen.changes ≡ changes
+    pub extends : IsPrefix request.payload.seen.changes changes
 
   -- An answer is such a reply.
-  abbrev pub Replies : List Throttle → List Raise
+  abbrev pub Replies : List Throttle → List Change
       → Req (Request J live service) → Answer J live service → Type 0
-  Replies throttles raises request (answer.Reply reply) = IsReplyTo throttles raises request reply
-  Replies throttles raises request (answer.Refused refused) = ⊥
+  Replies throttles changes request (answer.Reply reply) = IsReplyTo throttles changes request reply
+  Replies throttles changes request (answer.Refused refused) = ⊥

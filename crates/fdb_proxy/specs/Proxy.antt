@@ -1,7 +1,7 @@
 -- A GRV proxy, as contracts see it. (this product's own)
 use Rattle.std.specs.Prelude.{ℕ, List}
 use Rattle.fdb_live.specs.Seen.{Sight}
-use Rattle.fdb_queue.specs.Throttles.{Throttle}
+use Rattle.fdb_queue.specs.declared.throttles.Throttle.{Throttle}
 use Rattle.fdb_queue.specs.declared.config.QueueConfig.{QueueConfig}
 
 -- What a proxy has seen, what its queue was made with, throttles that stand for all that were set

@@ -30,15 +30,16 @@ pub struct Reply<J: Live> {
     /// What it has seen with this reply: all that it had seen when it asked, and the record that it
     /// got.
     pub seen: Seen<J>,
-    /// The record.
+    /// The record, with the live committed version and the minimum known committed version: whoever
+    /// asked takes the one that its options name.
     pub rec: Record,
-    /// Its position: the number of raises before it.
+    /// Its position: the number of changes by then.
     pub position: u64,
     /// What throttles the request's tags, in their order.
     pub limits: Sequence<TagLimit>,
     pub ghost unnumbered: { seen.reporter ≡ None },
-    pub ghost last: { rec ≡ last_record J.start seen.raises },
-    pub ghost at: { position ≡ length seen.raises },
+    pub ghost last: { rec ≡ last_record J.start seen.changes },
+    pub ghost at: { position ≡ length seen.changes },
     pub ghost not_below: { asked ≤ position },
 }
 
@@ -56,6 +57,6 @@ pub struct Refused<J: Live> {
     /// Why.
     pub cause: Cause,
     pub ghost unnumbered: { seen.reporter ≡ None },
-    pub ghost position: { asked ≡ length seen.raises },
+    pub ghost position: { asked ≡ length seen.changes },
     pub ghost due: { may_be_refused_for cause ≡ true },
 }

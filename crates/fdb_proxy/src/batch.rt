@@ -6,7 +6,7 @@ ghost use Rattle.std.specs.List.{AllZip};
 ghost use mathlib.Core.List.{IsPrefix};
 ghost use Rattle.fdb_live.specs.Seen.{last_record, own_positions};
 ghost use Rattle.fdb_proxy.specs.Batch.{IsReplyTo, Replies, own_limits};
-ghost use Rattle.fdb_queue.specs.Throttles.{Throttle};
+ghost use Rattle.fdb_queue.specs.declared.throttles.Throttle.{Throttle};
 
 use crate::answer::{Answer, Reply};
 use crate::error::ProxyError;
@@ -35,9 +35,9 @@ pub fn serve_batch<J: Live, R: Wait>(
     mut requests: Vec<Req<Request<J>>>,
 ) -> Result<Vec<Answer<J>>, (ProxyError, Vec<Req<Request<J>>>)>
     ensures replies { IfOk result (λ answers.
-        AllZip (Replies queue.now.throttles seen.new.raises) requests.items answers.items) }
+        AllZip (Replies queue.now.throttles seen.new.changes) requests.items answers.items) }
     ensures reporter { seen.new.reporter ≡ seen.old.reporter }
-    ensures extends { IsPrefix seen.old.raises seen.new.raises }
+    ensures extends { IsPrefix seen.old.changes seen.new.changes }
     ensures own { own_positions seen.new ≡ own_positions seen.old }
     ensures no_read { requests.items ≡ [] → seen.new ≡ seen.old }
     ensures memory { IfErr result (λ refused. refused.0 ≡ ProxyError.Memory) }
@@ -52,7 +52,7 @@ pub fn serve_batch<J: Live, R: Wait>(
     }
     learn_all(rt, live, seen, requests.as_mut_slice());
     let fetched = live.read(rt, seen);
-    Ok(answer_all(live, seen, fetched, requests, room))
+    Ok(reply_all(live, seen, fetched, requests, room))
 }
 
 /// All that a batch takes memory for.
@@ -96,10 +96,10 @@ fn learn_all<J: Live, R: Wait>(
 )
     ensures same { requests.new ≡ requests.old }
     ensures reporter { seen.new.reporter ≡ seen.old.reporter }
-    ensures extends { IsPrefix seen.old.raises seen.new.raises }
+    ensures extends { IsPrefix seen.old.changes seen.new.changes }
     ensures own { own_positions seen.new ≡ own_positions seen.old }
     ensures told { All
-        (λ request. IsPrefix request.payload.seen.raises seen.new.raises) requests.old }
+        (λ request. IsPrefix request.payload.seen.changes seen.new.changes) requests.old }
 {
     for request in requests.iter_mut() {
         learn_from(rt, live, seen, &mut request.payload);
@@ -115,33 +115,33 @@ fn learn_from<J: Live, R: Wait>(
 )
     ensures same { request.new ≡ request.old }
     ensures reporter { seen.new.reporter ≡ seen.old.reporter }
-    ensures extends { IsPrefix seen.old.raises seen.new.raises }
+    ensures extends { IsPrefix seen.old.changes seen.new.changes }
     ensures own { own_positions seen.new ≡ own_positions seen.old }
-    ensures told { IsPrefix request.old.seen.raises seen.new.raises }
+    ensures told { IsPrefix request.old.seen.changes seen.new.changes }
 {
     let told = live.split(&mut request.seen);
     live.learn(rt, seen, told);
 }
 
 /// Answers all requests with what a read saw.
-fn answer_all<J: Live>(
+fn reply_all<J: Live>(
     live: &LiveRecord<J>,
     seen: &mut Seen<J>,
     fetched: Fetched,
     requests: Vec<Req<Request<J>>>,
     room: Room<J>,
 ) -> Vec<Answer<J>>
-    requires rec { fetched.rec ≡ last_record J.start seen.old.raises }
-    requires position { fetched.position ≡ length seen.old.raises }
+    requires rec { fetched.rec ≡ last_record J.start seen.old.changes }
+    requires position { fetched.position ≡ length seen.old.changes }
     requires told { All
-        (λ request. IsPrefix request.payload.seen.raises seen.old.raises) requests.items }
+        (λ request. IsPrefix request.payload.seen.changes seen.old.changes) requests.items }
     requires limits { vec_len room.limits ≡ vec_len requests }
     requires answers { room.answers.items ≡ [] }
     requires len { vec_len room.answers ≡ 0 }
     requires capacity { vec_len requests ≤ vec_capacity room.answers }
     ensures replies { (throttles : List Throttle)
         → room.limits.items ≡ map (own_limits throttles) requests.items
-        → AllZip (Replies throttles seen.new.raises) requests.items result.items }
+        → AllZip (Replies throttles seen.new.changes) requests.items result.items }
     ensures same { seen.new ≡ seen.old }
 {
     let Room {
@@ -154,7 +154,7 @@ fn answer_all<J: Live>(
         let Some(own) = limits.pop_front() else {
             unreachable!()
         };
-        let reply = answer(live, seen, fetched, request.payload, own);
+        let reply = reply_of(live, seen, fetched, request.payload, own);
         add(&mut answers, reply);
     }
     answers
@@ -171,16 +171,16 @@ fn add<J: Live>(answers: &mut Vec<Answer<J>>, reply: Reply<J>)
 }
 
 /// Answers a request with what a read saw.
-fn answer<J: Live>(
+fn reply_of<J: Live>(
     live: &LiveRecord<J>,
     seen: &mut Seen<J>,
     fetched: Fetched,
     request: Request<J>,
     limits: Sequence<TagLimit>,
 ) -> Reply<J>
-    requires rec { fetched.rec ≡ last_record J.start seen.old.raises }
-    requires position { fetched.position ≡ length seen.old.raises }
-    requires told { IsPrefix request.seen.raises seen.old.raises }
+    requires rec { fetched.rec ≡ last_record J.start seen.old.changes }
+    requires position { fetched.position ≡ length seen.old.changes }
+    requires told { IsPrefix request.seen.changes seen.old.changes }
     ensures same { seen.new ≡ seen.old }
     ensures client { result.client ≡ request.client }
     ensures serial { result.serial ≡ request.serial }
@@ -188,7 +188,7 @@ fn answer<J: Live>(
     ensures limits { result.limits ≡ limits }
     ensures rec { result.rec ≡ fetched.rec }
     ensures position { result.position ≡ fetched.position }
-    ensures seen { result.seen.raises ≡ seen.old.raises }
+    ensures seen { result.seen.changes ≡ seen.old.changes }
 {
     let Request {
         client,

@@ -1,6 +1,6 @@
 //! The desk at which requests wait for a proxy.
 
-ghost use Rattle.std.specs.Prelude.{◌≡◌, ◌<◌, [], ◌∷◌, ◌++◌, IfErr, OnErr, OnOk, true, false, vec_len};
+ghost use Rattle.std.specs.Prelude.{◌≡◌, ◌<◌, ◌==◌, ◌&&◌, [], ◌∷◌, ◌++◌, IfErr, OnErr, OnOk, not, true, false, vec_len};
 ghost use Rattle.std.specs.List.{list_all};
 ghost use Rattle.fdb_proxy.specs.Options.{has_own_options};
 
@@ -77,6 +77,16 @@ impl<J: Live> Desk<J> {
         self.tray.lock(rt).close();
         self.came.notify_all();
     }
+
+    /// Closes the desk and takes all requests that wait there, in one step: none comes in between.
+    /// Takes no memory.
+    pub(crate) fn close_and_take<R: Wait>(&self, rt: &R) -> Taken<J>
+        ensures { result.closed ≡ true }
+    {
+        let taken = self.tray.lock(rt).close_and_take();
+        self.came.notify_all();
+        taken
+    }
 }
 
 /// What lies on a desk.
@@ -126,7 +136,7 @@ impl<J: Live> Tray<J> {
 
     /// Whether it is open with nothing on it.
     fn is_bare(&self) -> bool
-        ensures open { result ≡ false → self.now.closed ≡ false → 0 < vec_len self.now.waiting }
+        ensures { result ≡ (not self.now.closed && (vec_len self.now.waiting == 0)) }
     {
         !self.closed && self.waiting.is_empty()
     }
@@ -151,5 +161,16 @@ impl<J: Live> Tray<J> {
         ensures same { self.new.waiting ≡ self.old.waiting }
     {
         self.closed = true;
+    }
+
+    /// Closes it and takes all that is on it.
+    fn close_and_take(&mut self) -> Taken<J>
+        ensures requests { result.requests ≡ self.old.waiting }
+        ensures last { result.closed ≡ true }
+        ensures empty { self.new.waiting.items ≡ [] }
+        ensures closed { self.new.closed ≡ true }
+    {
+        self.close();
+        self.take()
     }
 }

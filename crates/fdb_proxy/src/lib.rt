@@ -13,6 +13,7 @@ mod batch;
 mod cause;
 mod desk;
 mod error;
+mod outbox;
 mod proxy;
 mod request;
 mod turn;

@@ -1,9 +1,11 @@
 //! A GRV proxy.
 
 ghost use Rattle.std.specs.Prelude.{◌≡◌, [], All, IfOk, IfErr, OnOk, length, true, vec_len};
+ghost use Rattle.std.specs.List.{FoldsTo};
 ghost use mathlib.Core.List.{IsPrefix};
 ghost use Rattle.fdb_proxy.specs.Cause.{is_of_an_offer, may_be_refused_for};
-ghost use Rattle.fdb_proxy.specs.private.Turn.{HasTurn, HasTurnOrLast, emptied};
+ghost use Rattle.fdb_proxy.specs.private.Sent.{AreClosed, AreTurnedAway, IsRefused, IsServed, IsServedOrLast};
+ghost use Rattle.fdb_proxy.specs.private.Turn.{emptied};
 ghost use Rattle.fdb_queue.specs.Config.{IsElapsed};
 ghost use Rattle.fdb_queue.specs.Waiting.{row};
 
@@ -12,9 +14,10 @@ use crate::batch;
 use crate::cause::Cause;
 use crate::desk::{Desk, Taken};
 use crate::error::ProxyError;
+use crate::outbox::{Channels, Outbox};
 use crate::request::Request;
 use crate::turn::{Line, Turn, TurnedAway};
-use crossbeam_channel::{SendError, Sender};
+use crossbeam_channel::Sender;
 use fdb_live::{Live, LiveRecord, Seen};
 use fdb_queue::{GrvQueue, Req};
 use std::alloc::{AllocError, Global};
@@ -93,12 +96,12 @@ impl<'a, J: Live> GrvProxy<'a, J> {
     /// that is refused so, and the proxy goes on.
     pub fn run<R: Wait>(self, rt: &R) -> Result<Seen<J>, (ProxyError, Seen<J>)>
         ensures reporter { IfOk result (λ seen. seen.reporter ≡ self.entry.seen.reporter) }
-        ensures extends { IfOk result (λ seen. IsPrefix self.entry.seen.raises seen.raises) }
+        ensures extends { IfOk result (λ seen. IsPrefix self.entry.seen.changes seen.changes) }
         ensures memory { IfErr result (λ ended. ended.0 ≡ ProxyError.Memory) }
         ensures reporter_back { IfErr result
             (λ ended. ended.1.reporter ≡ self.entry.seen.reporter) }
         ensures extends_back { IfErr result
-            (λ ended. IsPrefix self.entry.seen.raises ended.1.raises) }
+            (λ ended. IsPrefix self.entry.seen.changes ended.1.changes) }
     {
         let GrvProxy {
             alloc,
@@ -107,36 +110,44 @@ impl<'a, J: Live> GrvProxy<'a, J> {
             mut line,
             mut seen,
         } = self;
-        let served = serve_desk(rt, alloc, live, desk, &mut line, &mut seen);
+        let mut out = Channels;
+        let served = serve_desk(rt, alloc, live, desk, &mut out, &mut line, &mut seen);
         match served {
             Ok(()) => Ok(seen),
             Err(cause) => {
-                desk.close(rt);
-                desk.take(rt, false);
+                drop_last(desk.close_and_take(rt));
                 Err((cause, seen))
             }
         }
     }
 }
 
+/// Drops what a desk gave last, unanswered. None comes after it.
+fn drop_last<J: Live>(taken: Taken<J>)
+    requires { taken.closed ≡ true }
+{
+    drop(taken);
+}
+
 /// Serves a desk until it is closed.
-fn serve_desk<J: Live, R: Wait>(
+fn serve_desk<J: Live, R: Wait, O: Outbox<Answer<J>>>(
     rt: &R,
     alloc: Global,
     live: &LiveRecord<J>,
     desk: &Desk<J>,
+    out: &mut O,
     line: &mut Line<Request<J>>,
     seen: &mut Seen<J>,
 ) -> Result<(), ProxyError>
     ensures left { OnOk result (row line.new.queue.waiting ≡ []) }
     ensures elapsed { OnOk result (line.new.elapsed ≡ line.old.elapsed) }
     ensures reporter { seen.new.reporter ≡ seen.old.reporter }
-    ensures extends { IsPrefix seen.old.raises seen.new.raises }
+    ensures extends { IsPrefix seen.old.changes seen.new.changes }
     ensures memory { IfErr result (λ cause. cause ≡ ProxyError.Memory) }
 {
     for _ in rt.forever() {
         let taken = desk.take(rt, line.is_empty());
-        let last = serve_taken(rt, alloc, live, line, seen, taken)?;
+        let last = serve_taken(rt, alloc, live, out, line, seen, taken)?;
         if last {
             return Ok(());
         }
@@ -146,46 +157,49 @@ fn serve_desk<J: Live, R: Wait>(
 
 /// Has one turn with what was taken from a desk. Where the desk is closed the turn is the last one,
 /// as is answered, and all that are left are answered too.
-fn serve_taken<J: Live, R: Wait>(
+fn serve_taken<J: Live, R: Wait, O: Outbox<Answer<J>>>(
     rt: &R,
     alloc: Global,
     live: &LiveRecord<J>,
+    out: &mut O,
     line: &mut Line<Request<J>>,
     seen: &mut Seen<J>,
     taken: Taken<J>,
 ) -> Result<bool, ProxyError>
     ensures last { IfOk result (λ last. last ≡ taken.closed) }
-    ensures turn { OnOk result
-        (HasTurnOrLast taken.closed
-        line.old.elapsed line.old.queue taken.requests.items line.new.queue) }
+    ensures served { OnOk result
+        (IsServedOrLast O.sends taken.closed line.old.elapsed line.old.queue taken.requests.items
+        seen.new.changes line.new.queue out.old out.new) }
     ensures elapsed { OnOk result (line.new.elapsed ≡ line.old.elapsed) }
     ensures left { taken.closed ≡ true → OnOk result (row line.new.queue.waiting ≡ []) }
     ensures reporter { seen.new.reporter ≡ seen.old.reporter }
-    ensures extends { IsPrefix seen.old.raises seen.new.raises }
+    ensures extends { IsPrefix seen.old.changes seen.new.changes }
     ensures memory { IfErr result (λ cause. cause ≡ ProxyError.Memory) }
 {
     let Taken { requests, closed } = taken;
-    serve_turn(rt, alloc, live, line, seen, requests)?;
+    serve_turn(rt, alloc, live, out, line, seen, requests)?;
     if closed {
-        close(rt, line)?;
+        close(rt, out, line)?;
     }
     Ok(closed)
 }
 
 /// Has one turn with some requests, and answers all that it decides.
-fn serve_turn<J: Live, R: Wait>(
+fn serve_turn<J: Live, R: Wait, O: Outbox<Answer<J>>>(
     rt: &R,
     alloc: Global,
     live: &LiveRecord<J>,
+    out: &mut O,
     line: &mut Line<Request<J>>,
     seen: &mut Seen<J>,
     requests: Vec<Req<Request<J>>>,
 ) -> Result<(), ProxyError>
-    ensures turn { OnOk result
-        (HasTurn line.old.elapsed line.old.queue requests.items line.new.queue) }
+    ensures served { OnOk result
+        (IsServed O.sends line.old.elapsed line.old.queue requests.items
+        seen.new.changes line.new.queue out.old out.new) }
     ensures elapsed { OnOk result (line.new.elapsed ≡ line.old.elapsed) }
     ensures reporter { seen.new.reporter ≡ seen.old.reporter }
-    ensures extends { IsPrefix seen.old.raises seen.new.raises }
+    ensures extends { IsPrefix seen.old.changes seen.new.changes }
     ensures memory { IfErr result (λ cause. cause ≡ ProxyError.Memory) }
 {
     let room = Vec::with_capacity(alloc, requests.len())?;
@@ -193,62 +207,62 @@ fn serve_turn<J: Live, R: Wait>(
         started,
         turned_away,
     } = line.turn(requests, room)?;
-    turn_away(rt, turned_away)?;
+    turn_away(rt, out, turned_away)?;
     let senders = senders_of(alloc, started.as_slice())?;
     match batch::serve_batch(rt, alloc, live, seen, &line.queue, started) {
-        Ok(answers) => send_all(rt, senders, answers),
+        Ok(answers) => send_all(rt, out, senders, answers),
         Err((cause, _)) => Err(cause),
     }
 }
 
 /// Answers those that a turn turned away.
-fn turn_away<J: Live, R: Wait>(
+fn turn_away<J: Live, R: Wait, O: Outbox<Answer<J>>>(
     rt: &R,
+    out: &mut O,
     turned_away: Vec<TurnedAway<Request<J>>>,
 ) -> Result<(), ProxyError>
     requires { All (λ gone. is_of_an_offer gone.cause ≡ true) turned_away.items }
-    ensures { IfErr result (λ cause. cause ≡ ProxyError.Memory) }
+    ensures sent { OnOk result (AreTurnedAway O.sends out.old turned_away.items out.new) }
+    ensures memory { IfErr result (λ cause. cause ≡ ProxyError.Memory) }
 {
     let mut turned_away = VecDeque::from(turned_away);
     while let Some(gone) = turned_away.pop_front() {
-        let (reply, refused) = refusal_of(gone);
-        send(rt, &reply, Answer::Refused(refused))?;
+        refuse(rt, out, gone.request.payload, Cause::Queue(gone.cause))?;
     }
     Ok(())
 }
 
-/// What one that was turned away is answered, and where that goes.
-fn refusal_of<J: Live>(gone: TurnedAway<Request<J>>) -> (Sender<Answer<J>>, Refused<J>)
-    requires { is_of_an_offer gone.cause ≡ true }
-    ensures cause { result.1.cause ≡ Cause.Queue gone.cause }
-    ensures client { result.1.client ≡ gone.request.payload.client }
-    ensures serial { result.1.serial ≡ gone.request.payload.serial }
-    ensures asked { result.1.asked ≡ gone.request.payload.asked }
-    ensures seen { result.1.seen ≡ gone.request.payload.seen }
-{
-    gone.request.payload.refused(Cause::Queue(gone.cause))
-}
-
 /// Answers all requests that are left.
 #[tactic(auto, using(crate::proofs::Turns::nothing_waits))]
-fn close<J: Live, R: Wait>(rt: &R, line: &mut Line<Request<J>>) -> Result<(), ProxyError>
+fn close<J: Live, R: Wait, O: Outbox<Answer<J>>>(
+    rt: &R,
+    out: &mut O,
+    line: &mut Line<Request<J>>,
+) -> Result<(), ProxyError>
+    ensures sent { OnOk result (AreClosed O.sends out.old (row line.old.queue.waiting) out.new) }
     ensures left { OnOk result (line.new.queue ≡ emptied line.old.queue) }
     ensures elapsed { line.new.elapsed ≡ line.old.elapsed }
     ensures memory { IfErr result (λ cause. cause ≡ ProxyError.Memory) }
 {
     while let Some(request) = line.leave() {
-        refuse(rt, request.payload, Cause::Closed)?;
+        refuse(rt, out, request.payload, Cause::Closed)?;
     }
     Ok(())
 }
 
 /// Answers a request that does not start.
-fn refuse<J: Live, R: Wait>(rt: &R, request: Request<J>, cause: Cause) -> Result<(), ProxyError>
+fn refuse<J: Live, R: Wait, O: Outbox<Answer<J>>>(
+    rt: &R,
+    out: &mut O,
+    request: Request<J>,
+    cause: Cause,
+) -> Result<(), ProxyError>
     requires { may_be_refused_for cause ≡ true }
-    ensures { IfErr result (λ cause. cause ≡ ProxyError.Memory) }
+    ensures sent { OnOk result (IsRefused O.sends cause request out.old out.new) }
+    ensures memory { IfErr result (λ cause. cause ≡ ProxyError.Memory) }
 {
     let (reply, refused) = request.refused(cause);
-    send(rt, &reply, Answer::Refused(refused))
+    out.send(rt, &reply, Answer::Refused(refused))
 }
 
 /// Where the answers to some requests go, in order.
@@ -266,32 +280,23 @@ fn senders_of<J: Live>(
 }
 
 /// Sends each answer to where it goes, in order.
-fn send_all<J: Live, R: Wait>(
+fn send_all<J: Live, R: Wait, O: Outbox<Answer<J>>>(
     rt: &R,
+    out: &mut O,
     senders: Vec<Sender<Answer<J>>>,
     answers: Vec<Answer<J>>,
 ) -> Result<(), ProxyError>
-    ensures { IfErr result (λ cause. cause ≡ ProxyError.Memory) }
+    requires { vec_len senders ≡ vec_len answers }
+    ensures sent { OnOk result (FoldsTo O.sends out.old answers.items out.new) }
+    ensures memory { IfErr result (λ cause. cause ≡ ProxyError.Memory) }
 {
+    let mut senders = VecDeque::from(senders);
     let mut answers = VecDeque::from(answers);
-    for reply in &senders {
-        if let Some(answer) = answers.pop_front() {
-            send(rt, reply, answer)?;
-        }
+    while let Some(answer) = answers.pop_front() {
+        let Some(reply) = senders.pop_front() else {
+            unreachable!()
+        };
+        out.send(rt, &reply, answer)?;
     }
     Ok(())
-}
-
-/// Sends an answer. One that nobody waits for any more is dropped.
-fn send<J: Live, R: Wait>(
-    rt: &R,
-    reply: &Sender<Answer<J>>,
-    answer: Answer<J>,
-) -> Result<(), ProxyError>
-    ensures { IfErr result (λ cause. cause ≡ ProxyError.Memory) }
-{
-    match reply.send(rt, answer) {
-        Ok(()) | Err(SendError::Disconnected(_)) => Ok(()),
-        Err(SendError::OutOfMemory(_)) => Err(ProxyError::Memory),
-    }
 }

@@ -26,7 +26,7 @@ pub struct Request<J: Live> {
     /// Where the answer goes. The channel is made for this request, with room for one answer.
     pub reply: Sender<Answer<J>>,
     pub ghost unnumbered: { seen.reporter ≡ None },
-    pub ghost position: { asked ≡ length seen.raises },
+    pub ghost position: { asked ≡ length seen.changes },
 }
 
 impl<J: Live> Request<J> {

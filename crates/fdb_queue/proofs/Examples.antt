@@ -11,7 +11,8 @@ use Rattle.fdb_queue.specs.declared.request.Req.{Req}
 use Rattle.fdb_queue.specs.Admission.{refusal_of, admitted, pushed_out}
 use Rattle.fdb_queue.specs.Config.{IsConfig, IsElapsed}
 use Rattle.fdb_queue.specs.Queue.{Queue, new_queue}
-use Rattle.fdb_queue.specs.Throttles.{Throttle, limits_of}
+use Rattle.fdb_queue.specs.declared.throttles.Throttle.{Throttle}
+use Rattle.fdb_queue.specs.Throttles.{limits_of}
 use Rattle.fdb_queue.specs.Waiting.{row}
 use Rattle.fdb_queue.specs.Waits.{after_windows, StartsAfter, IsSure}
 use Rattle.fdb_queue.specs.Window.{fits, window, after_window}
@@ -210,8 +211,11 @@ blocked-waits = record { idle = blocked-idle; starts = omega arith }
 abbrev limit : ℕ → ℕ → TagLimit
 limit rate expires = record { tag = 116 ∷ []; rate = rate; expires = expires }
 
+abbrev sets : ℕ → ℕ → Throttle
+sets rate expires = record { priority = Default; tag = 116 ∷ []; rate = rate; expires = expires }
+
 abbrev set_twice : List Throttle
-set_twice = record { priority = Default; limit = limit 5 5000 } ∷ record { priority = Default; limit = limit 4 9000 } ∷ []
+set_twice = sets 5 5000 ∷ sets 4 9000 ∷ []
 
 tags-before : limits_of set_twice Default 4999 ((116 ∷ []) ∷ (117 ∷ []) ∷ (116 ∷ []) ∷ []) ≡ limit 5 5000 ∷ limit 5 5000 ∷ []
 tags-before = refl

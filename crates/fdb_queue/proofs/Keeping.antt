@@ -18,14 +18,15 @@ use Rattle.fdb_history.specs.declared.grv.Priority.TheVariants.{System, Default,
 use Rattle.fdb_history.specs.declared.grv.TagLimit.{TagLimit}
 use Rattle.fdb_queue.specs.declared.throttles.Limit.{Limit}
 use Rattle.fdb_queue.specs.private.Kinds.{kept_for}
-use Rattle.fdb_queue.specs.Throttles.{Throttle, is_for, last_set}
+use Rattle.fdb_queue.specs.declared.throttles.Throttle.{Throttle}
+use Rattle.fdb_queue.specs.Throttles.{is_for, last_set, limit_set}
 use Rattle.fdb_queue.specs.Waiting.{is_priority}
 use Rattle.fdb_queue.proofs.Leaving.{is_own}
 
 last_set-append : (xs ys : List Throttle) (priority : Priority) (tag : List ℕ) → last_set (xs ++ ys) priority tag ≡ option_or (last_set xs priority tag) (last_set ys priority tag)
 last_set-append [] ys priority tag = refl
 last_set-append (x ∷ xs) ys priority tag =
-    elim (is_for priority tag x) as (λ v. (if v then Some x.limit else last_set (xs ++ ys) priority tag) ≡ option_or (if v then Some x.limit else last_set xs priority tag) (last_set ys priority tag)) [
+    elim (is_for priority tag x) as (λ v. (if v then Some (limit_set x) else last_set (xs ++ ys) priority tag) ≡ option_or (if v then Some (limit_set x) else last_set xs priority tag) (last_set ys priority tag)) [
       | true ↦ refl
       | false ↦ last_set-append xs ys priority tag
     ]

@@ -9,4 +9,5 @@ pub mod Turning
 pub mod Keeping
 mod Examples
 pub mod Popping
+pub mod Setting
 pub mod Skipping

@@ -1,28 +1,34 @@
 -- Tag throttles. (`PrioritizedTransactionTagMap` of GrvProxyServer; that one is never erased is
 -- this product's own)
-use Rattle.std.specs.Prelude.{◌≡◌, ℕ, Bool, ◌&&◌, nat_eq, nat_lt, if◌then◌else◌, List, [], ◌∷◌, Option, None, Some}
+use Rattle.std.specs.Prelude.{◌≡◌, ℕ, Bool, ◌&&◌, nat_eq, nat_le, nat_lt, length, if◌then◌else◌, List, [], ◌∷◌, Option, None, Some}
 use Rattle.std.specs.List.{flat_map}
 use Rattle.std.specs.Cmp.Lexicographic.{pointwise}
 use Rattle.fdb_history.specs.declared.grv.Priority.{Priority}
 use Rattle.fdb_history.specs.declared.grv.TagLimit.{TagLimit}
 use Rattle.fdb_queue.specs.Waiting.{is_priority}
+use Rattle.fdb_queue.specs.declared.config.TheConstants.{MAX_TAG}
+use Rattle.fdb_queue.specs.declared.throttles.Throttle.{Throttle}
 
--- A throttle that was set: a priority, and a tag's limit.
-pub record Throttle : Type 0 where
-  pub priority : Priority
-  pub limit : TagLimit
+-- whether a throttle may be set: its tag is within its limit (this product's own)
+abbrev pub is_throttle : Throttle → Bool
+is_throttle throttle = nat_le (length throttle.tag) MAX_TAG
+
+-- the limit of its tag that a throttle sets
+abbrev pub limit_set : Throttle → TagLimit
+limit_set throttle =
+    record { tag = throttle.tag; rate = throttle.rate; expires = throttle.expires }
 
 -- whether a throttle is for a priority and a tag
 abbrev pub is_for : Priority → List ℕ → Throttle → Bool
 is_for priority tag throttle =
-    is_priority priority throttle.priority && pointwise nat_eq tag throttle.limit.tag
+    is_priority priority throttle.priority && pointwise nat_eq tag throttle.tag
 
 -- What was last set for a priority and a tag: the first in the list of all that were set, the
 -- newest first.
 abbrev pub last_set : List Throttle → Priority → List ℕ → Option TagLimit
 last_set [] priority tag = None
 last_set (throttle ∷ throttles) priority tag =
-    if is_for priority tag throttle then Some throttle.limit else last_set throttles priority tag
+    if is_for priority tag throttle then Some (limit_set throttle) else last_set throttles priority tag
 
 -- a limit, if it expires later than this moment
 abbrev pub unexpired : ℕ → Option TagLimit → List TagLimit

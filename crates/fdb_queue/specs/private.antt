@@ -1,4 +1,4 @@
 pub mod Kinds
 pub mod Rates
 pub mod Reach
-pub mod Turn
+pub mod Walk

@@ -14,8 +14,8 @@ pub mod laws;
 mod queue;
 mod request;
 mod throttles;
-mod turn;
 mod waiting;
+mod walk;
 
 pub use budgets::Budgets;
 pub use config::{
@@ -25,4 +25,5 @@ pub use config::{
 pub use error::QueueError;
 pub use queue::GrvQueue;
 pub use request::Req;
+pub use throttles::Throttle;
 pub use waiting::Lengths;

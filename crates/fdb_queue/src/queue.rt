@@ -1,12 +1,13 @@
 //! The queue of a GRV proxy.
 
-ghost use Rattle.std.specs.Prelude.{◌≡◌, ℕ, ◌+◌, ◌*◌, ◌<◌, ◌≤◌, ◌⊎◌, ◌↔◌, ◌∷◌, ◌++◌, ◌^◌, ◌==◌, [], length, drop, if◌then◌else◌, OnOk, OnErr, IfOk, IfErr, IsSome, IfSome, IsSomeAnd, option_to_list};
+ghost use Rattle.std.specs.Prelude.{◌≡◌, ℕ, ◌+◌, ◌*◌, ◌<◌, ◌≤◌, ◌⊎◌, ◌↔◌, ◌∷◌, ◌++◌, ◌^◌, ◌==◌, [], false, length, drop, reverse, if◌then◌else◌, Err, OnOk, OnErr, IfOk, IfErr, IsTrue, IsSome, IfSome, IsSomeAnd, option_to_list};
+ghost use Rattle.std.specs.List.{list_all};
 ghost use Rattle.std.specs.Int.{div_ceil};
 ghost use Rattle.fdb_queue.specs.Admission.{refusal_of, admitted, pushed_out, is_full, IsCause};
 ghost use Rattle.fdb_queue.specs.Config.{IsConfig, IsElapsed};
 ghost use Rattle.fdb_queue.specs.Kept.{IsQueue};
 ghost use Rattle.fdb_queue.specs.Queue.{new_queue};
-ghost use Rattle.fdb_queue.specs.Throttles.{limits_of, SameThrottles};
+ghost use Rattle.fdb_queue.specs.Throttles.{is_throttle, limits_of, SameThrottles};
 ghost use Rattle.fdb_queue.specs.Waiting.{first, row, total, without_first};
 ghost use Rattle.fdb_queue.specs.Waits.{IsSure, limit_of, StartsAfter, after_windows};
 ghost use Rattle.fdb_queue.specs.private.Rates.{budget_of};
@@ -17,7 +18,7 @@ use crate::budgets::{self, Budgets};
 use crate::config::{self, MAX_TAG, QueueConfig, RATE_WINDOW};
 use crate::error::QueueError;
 use crate::request::Req;
-use crate::throttles::Throttles;
+use crate::throttles::{self, Throttle, Throttles};
 use crate::waiting::{Lengths, Waiting};
 use fdb_history::{Priority, Tag, TagLimit};
 use std::alloc::Global;
@@ -78,6 +79,45 @@ impl<T> GrvQueue<T> {
             waiting: Waiting::new(alloc),
             budgets: Budgets::default(),
             throttles: Throttles::new(alloc),
+        })
+    }
+
+    /// A queue in which nothing waits, with budgets of 0 and these throttles, set one after
+    /// another: of two for one priority and one tag the later counts.
+    ///
+    /// It is refused as `BadConfig` where a member of the configuration is out of range, as
+    /// `TagTooLong` where a tag has more than `MAX_TAG` bytes, the first of these that stands, else
+    /// for memory. It takes logarithmic time for each throttle, and memory for a copy of each.
+    pub fn with_throttles(
+        alloc: Global,
+        config: QueueConfig,
+        throttles: &[Throttle],
+    ) -> Result<GrvQueue<T>, QueueError>
+        ensures throttles { IfOk result
+            (λ queue. SameThrottles queue.throttles (reverse throttles.now)) }
+        ensures rest { IfOk result
+            (λ queue. queue ≡ record (new_queue config) { throttles = queue.throttles }) }
+        ensures in_range { OnOk result (IsConfig config) }
+        ensures tagged { OnOk result (IsTrue (list_all is_throttle throttles.now)) }
+
+        ensures bad_config { (result ≡ Err QueueError.BadConfig) ↔ ¬ IsConfig config }
+        ensures too_long { (result ≡ Err QueueError.TagTooLong)
+            ↔ (IsConfig config × (list_all is_throttle throttles.now ≡ false)) }
+        ensures else_memory { IsConfig config → IsTrue (list_all is_throttle throttles.now)
+            → IfErr result (λ cause. cause ≡ QueueError.Memory) }
+    {
+        if !config.is_in_range() {
+            return Err(QueueError::BadConfig);
+        }
+        if !throttles::are_in_range(throttles) {
+            return Err(QueueError::TagTooLong);
+        }
+        let throttles = Throttles::of(alloc, throttles)?;
+        Ok(GrvQueue {
+            config,
+            waiting: Waiting::new(alloc),
+            budgets: Budgets::default(),
+            throttles,
         })
     }
 
@@ -304,7 +344,9 @@ impl<T> GrvQueue<T> {
             (SameThrottles self.new.throttles
             (record {
               priority = priority;
-              limit = record { tag = tag; rate = rate; expires = expires };
+              tag = tag;
+              rate = rate;
+              expires = expires;
             } ∷ self.old.throttles)) }
         ensures rest { OnOk result (self.new ≡ record self.old { throttles = self.new.throttles }) }
 
@@ -316,8 +358,12 @@ impl<T> GrvQueue<T> {
         if tag.len() as u64 > MAX_TAG {
             return Err(QueueError::TagTooLong);
         }
-        self.throttles
-            .set(priority, TagLimit { tag, rate, expires })?;
+        self.throttles.set(Throttle {
+            priority,
+            tag,
+            rate,
+            expires,
+        })?;
         Ok(())
     }
 

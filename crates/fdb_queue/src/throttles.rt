@@ -1,12 +1,50 @@
 //! The throttles of tags.
 
-ghost use Rattle.std.specs.Prelude.{◌≡◌, ◌<◌, [], ◌∷◌, length, OnOk, OnErr, IfOk, option_map, option_to_list};
-ghost use Rattle.fdb_queue.specs.Throttles.{last_set, limits_of, unexpired, SameThrottles};
+ghost use Rattle.std.specs.Prelude.{◌≡◌, ◌<◌, [], ◌∷◌, length, reverse, OnOk, OnErr, IfOk, option_map, option_to_list};
+ghost use Rattle.std.specs.List.{list_all};
+ghost use Rattle.fdb_queue.specs.Throttles.{is_throttle, last_set, limits_of, unexpired, SameThrottles};
 
+use crate::config::MAX_TAG;
 use fdb_history::{Priority, Tag, TagLimit};
 use std::alloc::{AllocError, Global};
 use std::collections::BTreeMap;
 use std::marker::Model;
+
+/// A throttle that a queue is given: a rate for the transactions with a tag at a priority.
+#[derive(Clone, Debug, Drop, PartialEq, Eq)]
+pub struct Throttle {
+    /// The priority of the requests that it is for.
+    pub priority: Priority,
+    /// The tag, of at most `MAX_TAG` bytes.
+    pub tag: Tag,
+    /// Transactions per second.
+    pub rate: u64,
+    /// The moment from which on it holds no longer, in microseconds.
+    pub expires: u64,
+}
+
+impl Throttle {
+    /// Whether its tag is within its limit.
+    pub fn is_in_range(&self) -> bool
+        ensures { result ≡ is_throttle self.now }
+    {
+        self.tag.len() as u64 <= MAX_TAG
+    }
+}
+
+/// Whether the tag of each of these is within its limit.
+pub(crate) fn are_in_range(throttles: &[Throttle]) -> bool
+    ensures { result ≡ list_all is_throttle throttles.now }
+{
+    throttles.iter().all(|throttle| throttle.is_in_range())
+}
+
+/// A copy of a throttle.
+fn copy_of(throttle: &Throttle) -> Result<Throttle, AllocError>
+    ensures { IfOk result (λ copy. copy ≡ throttle.now) }
+{
+    throttle.clone()
+}
 
 /// What is kept under a tag.
 #[derive(Clone, Copy)]
@@ -25,7 +63,7 @@ pub(crate) struct Throttles {
 
 impl Model for Throttles {
     ghost use Rattle.std.specs.Prelude.{List};
-    ghost use Rattle.fdb_queue.specs.Throttles.{Throttle};
+    ghost use Rattle.fdb_queue.specs.declared.throttles.Throttle.{Throttle};
 
     ghost Value = { List Throttle };
 
@@ -46,18 +84,28 @@ impl Throttles {
         }
     }
 
+    /// These, set one after another.
+    pub(crate) fn of(alloc: Global, throttles: &[Throttle]) -> Result<Self, AllocError>
+        ensures { IfOk result (λ kept. SameThrottles kept (reverse throttles.now)) }
+    {
+        let mut kept = Throttles::new(alloc);
+        for throttle in throttles {
+            kept.set(copy_of(throttle)?)?;
+        }
+        Ok(kept)
+    }
+
     /// Sets the throttle of a priority and a tag. Where memory is refused, nothing has changed.
-    pub(crate) fn set(&mut self, priority: Priority, limit: TagLimit) -> Result<(), AllocError>
-        ensures ok { OnOk result
-            (SameThrottles self.new (record { priority = priority; limit = limit } ∷ self.old)) }
+    pub(crate) fn set(&mut self, throttle: Throttle) -> Result<(), AllocError>
+        ensures ok { OnOk result (SameThrottles self.new (throttle ∷ self.old)) }
         ensures err { OnErr result (self.new ≡ self.old) }
     {
         let kept = Limit {
-            rate: limit.rate,
-            expires: limit.expires,
+            rate: throttle.rate,
+            expires: throttle.expires,
         };
-        let tag = limit.tag.into_vec();
-        match priority {
+        let tag = throttle.tag.into_vec();
+        match throttle.priority {
             Priority::System => self.system.insert(tag, kept)?,
             Priority::Default => self.default_.insert(tag, kept)?,
             Priority::Batch => self.batch.insert(tag, kept)?,

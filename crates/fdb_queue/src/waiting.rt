@@ -10,7 +10,7 @@ ghost use Rattle.fdb_queue.specs.Waiting.{nothing, row, first, with_last, withou
 use crate::budgets::Budgets;
 use crate::config::QueueConfig;
 use crate::request::Req;
-use crate::turn::Turn;
+use crate::walk::Walk;
 use fdb_history::Priority;
 use std::alloc::{AllocError, AllocFailed, Global};
 use std::collections::VecDeque;
@@ -178,7 +178,7 @@ impl<T> Waiting<T> {
               throttles = [];
             }) result }
     {
-        let system = Turn::NEW.along(config, budgets, &self.system);
+        let system = Walk::NEW.along(config, budgets, &self.system);
         let default_ = system.along(config, budgets, &self.default_);
         let batch = default_.along(config, budgets, &self.batch);
         Reach {

@@ -68,7 +68,7 @@ told_one client teller call calls rest to false is own others = rw (is, own) oth
 told_more : (client teller : ℕ) (call : Call) (calls : List Call) (rest : List Tell) (input : Input) → call.input ≡ input → AreTold client teller calls rest → AreTold client teller (call ∷ calls) rest
 told_more client teller call calls rest (input.Grv opts) is others = rw is others
 told_more client teller call calls rest (input.Ask num processed at) is others = rw is others
-told_more client teller call calls rest (input.Report num locked metadata) is others = rw is others
+told_more client teller call calls rest (input.Report num locked metadata min_known) is others = rw is others
 told_more client teller call calls rest (input.Learn from) is others = rw is others
 told_more client teller call calls rest (input.Tell to) is others = told_one client teller call calls rest to (to == client) is refl others
 

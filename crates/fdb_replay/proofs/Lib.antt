@@ -1,7 +1,7 @@
 pub mod Acts
 pub mod Given
 pub mod Grown
-pub mod Input
+pub mod Pieces
 pub mod Learnt
 pub mod Numbered
 pub mod Parts

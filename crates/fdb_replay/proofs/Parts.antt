@@ -1,5 +1,5 @@
 -- A round is performed part by part.
-use Rattle.std.proofs.Common.{◌≡◌, ℕ, zero, suc, ◌+◌, ◌<◌, ◌≤◌, List, [], ◌∷◌, ◌++◌, Result, Ok, Err, IfOk, length, drop, get_or, map, set, refl, ap, sym, ◌∙◌, subst, append_assoc, arith}
+use Rattle.std.proofs.Common.{◌≡◌, ℕ, suc, ◌+◌, ◌<◌, List, [], ◌∷◌, ◌++◌, Result, Ok, Err, IfOk, length, drop, get_or, map, set, refl, ap, sym, ◌∙◌, subst, append_assoc, arith}
 use Rattle.std.specs.List.{FoldsTo}
 use Rattle.std.proofs.lemmas.List.{append-nil, drop_all, length-map, map-append}
 use Rattle.fdb_history.specs.declared.log.Call.{Call}

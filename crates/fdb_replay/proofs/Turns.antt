@@ -48,7 +48,7 @@ reads_below start opts before after result read =
 pub adds_read : (start : Record) (opts : GrvOpts) (before after : Account) (result : Result ReadVersion ClientError) → before.begun ≡ 0 → Reads start opts before after result
     → AddsCall before.calls (input.Grv opts) after.calls
 adds_read start opts before after result begun read = record {
-  call = record { input = input.Grv opts; asked = length before.raises; position = length after.raises; answer = read.answer };
+  call = record { input = input.Grv opts; asked = length before.changes; position = length after.changes; answer = read.answer };
   added = read.logged.calls;
   input = refl;
   asked = sym read.logged.come_to ∙ ap (λ first. position_after_calls first before.calls) begun;

@@ -17,9 +17,10 @@ use Rattle.fdb_script.specs.Answering.{Answers}
 use Rattle.fdb_script.specs.Plan.{Plan}
 use Rattle.fdb_script.specs.declared.outcome.Outcome.{Outcome}
 
--- the record before any report: the recovery version, unlocked, with no metadata version
+-- the record before any report: the recovery version, unlocked, with no metadata version, and no
+-- minimum known committed version yet
 abbrev pub opening : ℕ → Record
-opening recovery = record { version = recovery; locked = false; metadata = None }
+opening recovery = record { version = recovery; locked = false; metadata = None; min_known = 0 }
 
 -- The outcome is that of a run of the script.
 pub record IsRunOf (plan : Plan) (outcome : Outcome) : Type 0 where

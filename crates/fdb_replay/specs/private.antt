@@ -1,4 +1,5 @@
 pub mod Asked
+pub mod Failing
 pub mod Rounds
 pub mod Routing
-pub mod Throttling
+pub mod Configured

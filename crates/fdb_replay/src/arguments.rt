@@ -1,7 +1,7 @@
 //! The arguments of the command line, and what they ask for.
 
-ghost use Rattle.std.specs.Prelude.{◌≡◌, false, [], List, IfOk, IfErr, map, string_bytes};
-ghost use Rattle.clap.specs.Words.{IsParsedFrom, Text, app_of, found_of, matches_of, rows_of, rule_of};
+ghost use Rattle.std.specs.Prelude.{◌≡◌, ◌≢◌, false, [], List, Ok, Err, IfOk, IfErr, map, string_bytes};
+ghost use Rattle.clap.specs.Words.{IsParsedFrom, Text, app_of, found_of, kind_of, matches_of, rows_of, rule_of};
 ghost use Rattle.clap.specs.declared.builder.command.Command.{Command};
 ghost use Rattle.fdb_replay.specs.Arguments.{AreWrong, command as command_read, faults, history_argument, proxies_argument, script_argument};
 ghost use Rattle.fdb_replay.specs.private.Asked.{Ask, AskReplay};
@@ -25,7 +25,7 @@ docs/FORMATS.md has the script, what is written, and what each refusal and fault
 
 /// What the arguments of a command line ask for.
 #[derive(Drop)]
-pub(crate) enum Request<'a> {
+pub(crate) enum Invocation<'a> {
     /// A replay.
     Replay(Arguments<'a>),
     /// The help, which is this error's text.
@@ -62,7 +62,7 @@ pub fn command_line<R: Env + Alloc<A = Global>>(rt: &R) -> io::Result<Vec<String
 pub(crate) fn parse<'a>(
     alloc: Global,
     arguments: &'a [String],
-) -> Result<Request<'a>, ArgumentsFault>
+) -> Result<Invocation<'a>, ArgumentsFault>
     ensures ok { IfOk result (Ask (map string_bytes arguments.entry.now)) }
     ensures err { IfErr result (λ fault. fault ≡ ArgumentsFault.Refused
         → AreWrong (map string_bytes arguments.entry.now)) }
@@ -71,12 +71,25 @@ pub(crate) fn parse<'a>(
         return Err(ArgumentsFault::Memory);
     };
     match command.try_get_matches_from(arguments) {
-        Ok(matches) => Ok(Request::Replay(arguments_of(&matches))),
-        Err(error) => match error.kind() {
-            ErrorKind::DisplayHelp => Ok(Request::Help(error)),
-            ErrorKind::OutOfMemory => Err(ArgumentsFault::Memory),
-            _ => Err(ArgumentsFault::Refused),
-        },
+        Ok(matches) => Ok(Invocation::Replay(arguments_of(&matches))),
+        Err(error) => of_error(error),
+    }
+}
+
+/// What an error of clap's means: that help is asked for, that
+/// memory was refused, or else that the arguments are refused.
+fn of_error<'a>(error: Error) -> Result<Invocation<'a>, ArgumentsFault>
+    ensures help { kind_of error ≡ ErrorKind.DisplayHelp → result ≡ Ok (Invocation.Help error) }
+    ensures memory { kind_of error ≡ ErrorKind.OutOfMemory → result ≡ Err ArgumentsFault.Memory }
+    ensures refused { kind_of error ≢ ErrorKind.DisplayHelp → kind_of error ≢ ErrorKind.OutOfMemory
+        → result ≡ Err ArgumentsFault.Refused }
+    ensures wrong { IfErr result (λ fault. fault ≡ ArgumentsFault.Refused
+        → (kind_of error ≢ ErrorKind.DisplayHelp) × (kind_of error ≢ ErrorKind.OutOfMemory)) }
+{
+    match error.kind() {
+        ErrorKind::DisplayHelp => Ok(Invocation::Help(error)),
+        ErrorKind::OutOfMemory => Err(ArgumentsFault::Memory),
+        _ => Err(ArgumentsFault::Refused),
     }
 }
 

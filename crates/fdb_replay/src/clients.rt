@@ -1,11 +1,10 @@
 //! The clients of a run.
 
-ghost use Rattle.std.specs.Prelude.{◌≡◌, ◌<◌, ◌≤◌, ℕ, [], IfErr, IfOk, OnOk, Some, length, replicate, slice_get, vec_len};
+ghost use Rattle.std.specs.Prelude.{◌≡◌, ◌<◌, ◌≤◌, ℕ, [], IfOk, OnOk, Some, length, replicate, slice_get, vec_len};
 ghost use Rattle.std.specs.List.{FoldsTo};
 ghost use Rattle.fdb_replay.specs.private.Rounds.{logs_of};
 ghost use Rattle.fdb_script.specs.Answering.{AnswersRound};
 
-use crate::fault::RunFault;
 use crate::player::Player;
 use crate::rounds::play_rounds;
 use crate::world::World;
@@ -41,7 +40,7 @@ impl<'a, J: Live + Send + Sync> Clients<'a, J> {
         tokens: Vec<Seen<J>>,
     ) -> Result<Self, AllocError>
         requires numbered { (k : ℕ) → k < vec_len tokens
-            → slice_get tokens.items k ≡ Some (record { reporter = Some k; raises = [] }) }
+            → slice_get tokens.items k ≡ Some (record { reporter = Some k; changes = [] }) }
         requires few { vec_len tokens ≤ 64 }
         ensures { IfOk result (λ clients. clients ≡ replicate (vec_len tokens) []) }
     {
@@ -54,21 +53,23 @@ impl<'a, J: Live + Send + Sync> Clients<'a, J> {
         Ok(Clients { players })
     }
 
-    /// Has the clients play rounds, one after another.
+    /// Has the clients play rounds, one after another. It fails only where memory runs out.
     pub(crate) fn play<R: Threads + Wait + Sync, G: Gate>(
         &mut self,
         rt: &R,
         alloc: Global,
         world: &World<'_, J, G>,
         rounds: &[Sequence<Command>],
-    ) -> Result<(), RunFault>
-        requires few { length self.old ≤ 64 }
-        ensures ok { OnOk result
+    ) -> Result<(), AllocError>
+        requires { length self.old ≤ 64 }
+        ensures { OnOk result
             (FoldsTo AnswersRound (logs_of self.old) rounds.now (logs_of self.new)) }
-        ensures err { IfErr result (λ fault. fault ≡ RunFault.Memory) }
     {
         let players = mem::replace(&mut self.players, Vec::new(alloc));
-        self.players = play_rounds(rt, alloc, world, players, rounds)?;
+        let Ok(players) = play_rounds(rt, alloc, world, players, rounds) else {
+            return Err(AllocError);
+        };
+        self.players = players;
         Ok(())
     }
 

@@ -8,21 +8,19 @@ ghost use Rattle.fdb_history.specs.declared.fault.AuditFault.{AuditFault};
 ghost use Rattle.fdb_script.specs.declared.error.ScriptError.{ScriptError};
 ghost use Rattle.fdb_script.specs.declared.script.TheConstants.{MAX_SCRIPT_BYTES};
 
-use crate::arguments::{Arguments, ArgumentsFault, Request, parse};
+use crate::arguments::{Arguments, ArgumentsFault, Invocation, parse};
 use crate::fault::RunFault;
+use crate::input::{InputFault, script_bytes};
 use crate::replaying::{ReplayFault, replay};
 use fdb_history::{AuditFault, OpenGate};
 use fdb_script::{MAX_SCRIPT_BYTES, ScriptError};
 use std::alloc::Global;
-use std::fs::{File, Files};
+use std::fs::Files;
 use std::io;
 use std::io::{ErrorKind, Read, Write};
 use std::sync::Wait;
 use std::thread::Threads;
 use thiserror::Error;
-
-/// The most bytes that one read asks for.
-const PIECE: usize = 65_536;
 
 /// Why the program ends with another status than 0. Its text
 /// is the line that the program writes, behind its name.
@@ -31,9 +29,9 @@ pub enum Fault {
     /// The bytes stand for no script.
     #[error("script refused: {0}")]
     Script(ScriptError),
-    /// The command line's arguments (its words) ask for nothing, or could not be had.
+    /// The arguments of the command line are refused, or could not be had.
     #[error("words refused")]
-    Words,
+    Arguments,
     /// Memory was refused.
     #[error("want of memory")]
     Memory,
@@ -51,26 +49,12 @@ pub enum Fault {
 impl Fault {
     /// Why the arguments could not be had.
     fn of_arguments(error: &io::Error) -> Fault
-        ensures some { result ≢ Fault.Words → result ≡ Fault.Memory }
-        ensures writing { result ≢ Fault.Writing }
-        ensures arguments { result ≡ Fault.Words → error_kind error.now ≢ ErrorKind.OutOfMemory }
+        ensures memory { error_kind error.now ≡ ErrorKind.OutOfMemory → result ≡ Fault.Memory }
+        ensures other { error_kind error.now ≢ ErrorKind.OutOfMemory → result ≡ Fault.Arguments }
     {
         match error.kind() {
             ErrorKind::OutOfMemory => Fault::Memory,
-            _ => Fault::Words,
-        }
-    }
-
-    /// Why the script could not be read.
-    fn of_reading(error: &io::Error) -> Fault
-        ensures script { (error : ScriptError) → result ≢ Fault.Script error }
-        ensures arguments { result ≢ Fault.Words }
-        ensures audit { (found : AuditFault) → result ≢ Fault.Audit found }
-        ensures writing { result ≢ Fault.Writing }
-    {
-        match error.kind() {
-            ErrorKind::OutOfMemory => Fault::Memory,
-            _ => Fault::Reading,
+            _ => Fault::Arguments,
         }
     }
 
@@ -79,8 +63,8 @@ impl Fault {
         ensures range { (0 < result) × (result ≤ 5) }
         ensures script { (error : ScriptError) → self ≡ Fault.Script error → result ≡ 1 }
         ensures only_script { result ≡ 1 → (error : ScriptError) × (self ≡ Fault.Script error) }
-        ensures arguments { self ≡ Fault.Words → result ≡ 2 }
-        ensures only_arguments { result ≡ 2 → self ≡ Fault.Words }
+        ensures arguments { self ≡ Fault.Arguments → result ≡ 2 }
+        ensures only_arguments { result ≡ 2 → self ≡ Fault.Arguments }
         ensures memory { self ≡ Fault.Memory → result ≡ 3 }
         ensures only_memory { result ≡ 3 → self ≡ Fault.Memory }
         ensures audit { (found : AuditFault) → self ≡ Fault.Audit found → result ≡ 4 }
@@ -90,7 +74,7 @@ impl Fault {
     {
         match self {
             Fault::Script(_) => 1,
-            Fault::Words => 2,
+            Fault::Arguments => 2,
             Fault::Memory => 3,
             Fault::Audit(_) => 4,
             Fault::Reading | Fault::Writing => 5,
@@ -100,16 +84,32 @@ impl Fault {
 
 impl From<ArgumentsFault> for Fault {
     ghost use Rattle.std.specs.Prelude.{◌≢◌};
-    ghost use Rattle.fdb_replay.specs.declared.driving.Fault.TheVariants.{Memory, Words, Writing};
+    ghost use Rattle.fdb_replay.specs.declared.driving.Fault.TheVariants.{Arguments, Memory, Writing};
     ghost use Rattle.fdb_replay.specs.declared.arguments.ArgumentsFault.TheVariants as cause;
 
-    ghost from_gives = { λ fault made. (fault ≡ cause.Refused → made ≡ Words)
+    ghost from_gives = { λ fault made. (fault ≡ cause.Refused → made ≡ Arguments)
         × (fault ≡ cause.Memory → made ≡ Memory) × (made ≢ Writing) };
 
     fn from(fault: ArgumentsFault) -> Self {
         match fault {
-            ArgumentsFault::Refused => Fault::Words,
+            ArgumentsFault::Refused => Fault::Arguments,
             ArgumentsFault::Memory => Fault::Memory,
+        }
+    }
+}
+
+impl From<InputFault> for Fault {
+    ghost use Rattle.std.specs.Prelude.{◌≡◌};
+    ghost use Rattle.fdb_replay.specs.declared.driving.Fault.TheVariants as made;
+    ghost use Rattle.fdb_replay.specs.declared.input.InputFault.TheVariants as input;
+
+    ghost from_gives = { λ cause fault. (cause ≡ input.Reading → fault ≡ made.Reading)
+        × (cause ≡ input.Memory → fault ≡ made.Memory) };
+
+    fn from(fault: InputFault) -> Self {
+        match fault {
+            InputFault::Reading => Fault::Reading,
+            InputFault::Memory => Fault::Memory,
         }
     }
 }
@@ -124,7 +124,7 @@ impl From<ReplayFault> for Fault {
     ghost use Rattle.fdb_script.specs.declared.error.ScriptError.TheVariants.{Memory};
 
     ghost from_gives = { λ cause fault. (cause ≡ replay.Write → fault ≡ made.Writing)
-        × (fault ≡ made.Writing → cause ≡ replay.Write) × (fault ≢ made.Words)
+        × (fault ≡ made.Writing → cause ≡ replay.Write) × (fault ≢ made.Arguments)
         × ((error : ScriptError) → fault ≡ made.Script error → (cause ≡ replay.Script error)
         × (error ≢ Memory))
         × (cause ≡ replay.Run run.Memory → fault ≡ made.Memory)
@@ -180,6 +180,8 @@ pub fn drive<R: Threads + Wait + Sync + Files, I: Read, O: Write, E: Write>(
     ensures wrong { result ≡ 2 → MatchResult arguments
         (λ list. AreWrong (map string_bytes list.items))
         (λ error. error_kind error ≢ ErrorKind.OutOfMemory) }
+    ensures memory { result ≡ 3
+        → IfErr arguments (λ error. error_kind error ≡ ErrorKind.OutOfMemory) }
     ensures unread { OnErr arguments (input.new ≡ input.old) }
     ensures left { IfOk arguments
         (λ list. (ReadsInput (map string_bytes list.items) → ⊥) → input.new ≡ input.old) }
@@ -191,7 +193,7 @@ pub fn drive<R: Threads + Wait + Sync + Files, I: Read, O: Write, E: Write>(
     ensures few { TakesAtMost (MAX_SCRIPT_BYTES + 1)
         (I.remaining input.old) (I.remaining input.new) }
 {
-    match answer(rt, alloc, arguments, input, out) {
+    match carry_out(rt, alloc, arguments, input, out) {
         Ok(()) => 0,
         Err(fault) => {
             let _ = writeln!(err, "fdb_replay: {fault}");
@@ -201,7 +203,7 @@ pub fn drive<R: Threads + Wait + Sync + Files, I: Read, O: Write, E: Write>(
 }
 
 /// Does what the arguments ask for, and flushes what was written.
-fn answer<R: Threads + Wait + Sync + Files, I: Read, O: Write>(
+fn carry_out<R: Threads + Wait + Sync + Files, I: Read, O: Write>(
     rt: &R,
     alloc: Global,
     arguments: io::Result<Vec<String>>,
@@ -210,7 +212,7 @@ fn answer<R: Threads + Wait + Sync + Files, I: Read, O: Write>(
 ) -> Result<(), Fault>
     ensures asked { MatchResult result
         (λ _. IsOkAnd arguments (λ list. AreTaken (map string_bytes list.items)))
-        (λ fault. fault ≢ Fault.Words → fault ≢ Fault.Memory
+        (λ fault. fault ≢ Fault.Arguments → fault ≢ Fault.Memory
         → IsOkAnd arguments (λ list. AreTaken (map string_bytes list.items))) }
     ensures done { OnOk result (IsOkAnd arguments (λ list.
         IsDone (map string_bytes list.items)
@@ -221,9 +223,11 @@ fn answer<R: Threads + Wait + Sync + Files, I: Read, O: Write>(
     ensures faulty { IfErr result (λ fault. (found : AuditFault) → fault ≡ Fault.Audit found
         → IsOkAnd arguments (λ list.
         MayAskFaulty (map string_bytes list.items) (I.remaining input.old))) }
-    ensures wrong { IfErr result (λ fault. fault ≡ Fault.Words
+    ensures wrong { IfErr result (λ fault. fault ≡ Fault.Arguments
         → MatchResult arguments (λ list. AreWrong (map string_bytes list.items))
         (λ error. error_kind error ≢ ErrorKind.OutOfMemory)) }
+    ensures memory { IfErr result (λ fault. fault ≡ Fault.Memory
+        → IfErr arguments (λ error. error_kind error ≡ ErrorKind.OutOfMemory)) }
     ensures unread { OnErr arguments (input.new ≡ input.old) }
     ensures left { IfOk arguments
         (λ list. (ReadsInput (map string_bytes list.items) → ⊥) → input.new ≡ input.old) }
@@ -239,8 +243,8 @@ fn answer<R: Threads + Wait + Sync + Files, I: Read, O: Write>(
         Err(error) => return Err(Fault::of_arguments(&error)),
     };
     match parse(alloc, &arguments)? {
-        Request::Help(help) => show(&help, out),
-        Request::Replay(arguments) => replay_arguments(rt, alloc, arguments, input, out),
+        Invocation::Help(help) => show(&help, out),
+        Invocation::Replay(arguments) => replay_arguments(rt, alloc, arguments, input, out),
     }
 }
 
@@ -273,7 +277,7 @@ fn replay_arguments<R: Threads + Wait + Sync + Files, I: Read, O: Write>(
     ensures faulty { IfErr result (λ fault. (found : AuditFault) → fault ≡ Fault.Audit found
         → MayBeFaulty (option_map (λ path. path.now) arguments.entry.script)
         (I.remaining input.old)) }
-    ensures taken { IfErr result (λ fault. fault ≢ Fault.Words) }
+    ensures taken { IfErr result (λ fault. fault ≢ Fault.Arguments) }
     ensures unwritten { IfErr result (λ fault. fault ≢ Fault.Writing → out.new ≡ out.old) }
     ensures begun { IfErr result (λ fault. fault ≡ Fault.Writing
         → Replayed (option_map (λ path. path.now) arguments.entry.script) arguments.entry.history
@@ -297,90 +301,5 @@ fn replay_arguments<R: Threads + Wait + Sync + Files, I: Read, O: Write>(
     match out.flush() {
         Ok(()) => Ok(()),
         Err(_) => Err(Fault::Writing),
-    }
-}
-
-/// All bytes of the file that is named, or else of the
-/// input, if they are no more than a script may have.
-fn script_bytes<R: Files, I: Read>(
-    rt: &R,
-    alloc: Global,
-    script: Option<&str>,
-    input: &mut I,
-) -> Result<Vec<u8>, Fault>
-    ensures all { IfOk result (λ bytes.
-        MayBeRead (option_map (λ path. path.now) script.entry) (I.remaining input.old)
-        bytes.items) }
-    ensures in_range { IfOk result (λ bytes. vec_len bytes ≤ MAX_SCRIPT_BYTES) }
-    ensures err { IfErr result (λ fault. (error : ScriptError) → fault ≢ Fault.Script error) }
-    ensures audit { IfErr result (λ fault. (found : AuditFault) → fault ≢ Fault.Audit found) }
-    ensures taken { IfErr result (λ fault. fault ≢ Fault.Words) }
-    ensures unwritten { IfErr result (λ fault. fault ≢ Fault.Writing) }
-    ensures left { is_some script.entry ≡ true → input.new ≡ input.old }
-    ensures few { TakesAtMost (MAX_SCRIPT_BYTES + 1)
-        (I.remaining input.old) (I.remaining input.new) }
-{
-    let Some(path) = script else {
-        return read_all(alloc, input);
-    };
-    match File::open(rt, path) {
-        Ok(mut file) => read_all(alloc, &mut file),
-        Err(error) => Err(Fault::of_reading(&error)),
-    }
-}
-
-/// All bytes that the input has, if they are no more than a
-/// script may have. One byte more is taken at the most.
-fn read_all<I: Read>(alloc: Global, input: &mut I) -> Result<Vec<u8>, Fault>
-    ensures all { IfOk result (λ bytes. IfSome (I.remaining input.old) (λ all. all ≡ bytes.items)) }
-    ensures in_range { IfOk result (λ bytes. vec_len bytes ≤ MAX_SCRIPT_BYTES) }
-    ensures err { IfErr result (λ fault. (error : ScriptError) → fault ≢ Fault.Script error) }
-    ensures audit { IfErr result (λ fault. (found : AuditFault) → fault ≢ Fault.Audit found) }
-    ensures taken { IfErr result (λ fault. fault ≢ Fault.Words) }
-    ensures unwritten { IfErr result (λ fault. fault ≢ Fault.Writing) }
-    ensures few { TakesAtMost (MAX_SCRIPT_BYTES + 1)
-        (I.remaining input.old) (I.remaining input.new) }
-{
-    let mut bytes = Vec::new(alloc);
-    let mut piece = Vec::new(alloc);
-    if piece.resize(PIECE, 0).is_err() {
-        return Err(Fault::Memory);
-    }
-    let piece = piece.as_mut_slice();
-    // A reader may be interrupted as often as it likes, but a loop has an end.
-    for _ in 0..u64::MAX {
-        let room = piece.len().min(MAX_SCRIPT_BYTES + 1 - bytes.len());
-        let more = read_piece(input, &mut bytes, &mut piece[..room])?;
-        if bytes.len() > MAX_SCRIPT_BYTES {
-            return Err(Fault::Reading);
-        }
-        if !more {
-            return Ok(bytes);
-        }
-    }
-    Err(Fault::Reading)
-}
-
-/// Reads once, into the room, and adds what came to the bytes. Answers whether there may be more.
-fn read_piece<I: Read>(input: &mut I, bytes: &mut Vec<u8>, room: &mut [u8]) -> Result<bool, Fault>
-    requires { 0 < length room.old }
-    ensures ok { IfOk result (λ more. (taken : List ℕ)
-        × (bytes.new.items ≡ bytes.old.items ++ taken) × (length taken ≤ length room.old)
-        × Consumes (I.remaining input.old) (I.remaining input.new) taken
-        × (more ≡ false → IsAtEnd (I.remaining input.new))) }
-    ensures few { OnErr result
-        (TakesAtMost (length room.old) (I.remaining input.old) (I.remaining input.new)) }
-    ensures err { IfErr result (λ fault. (error : ScriptError) → fault ≢ Fault.Script error) }
-    ensures audit { IfErr result (λ fault. (found : AuditFault) → fault ≢ Fault.Audit found) }
-    ensures taken { IfErr result (λ fault. fault ≢ Fault.Words) }
-    ensures unwritten { IfErr result (λ fault. fault ≢ Fault.Writing) }
-{
-    match input.read(room) {
-        Ok(count) => match bytes.extend_from_slice(&room[..count]) {
-            Ok(()) => Ok(count > 0),
-            Err(_) => Err(Fault::Memory),
-        },
-        Err(error) if error.kind() == ErrorKind::Interrupted => Ok(true),
-        Err(error) => Err(Fault::of_reading(&error)),
     }
 }

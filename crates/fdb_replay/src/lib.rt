@@ -4,16 +4,15 @@
 
 mod arguments;
 mod clients;
-mod desks;
 mod driving;
 mod fault;
+mod input;
 mod player;
 mod replaying;
 mod rounds;
 mod running;
 mod serving;
 mod tell;
-mod throttles;
 mod world;
 
 pub use arguments::command_line;

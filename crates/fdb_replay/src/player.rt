@@ -1,13 +1,12 @@
 //! A client of a run.
 
-ghost use Rattle.std.specs.Prelude.{◌≡◌, ◌≢◌, ◌+◌, ◌++◌, ◌∷◌, [], Err, Some, true, false, OnOk, IfOk, IfErr, drop, length};
+ghost use Rattle.std.specs.Prelude.{◌≡◌, ◌≢◌, ◌+◌, ◌++◌, ◌∷◌, [], Err, Some, true, false, OnOk, IfOk, drop, length};
 ghost use Rattle.fdb_history.specs.Added.{AddsCall};
 ghost use Rattle.fdb_history.specs.Log.{fresh_answers};
 ghost use Rattle.fdb_history.specs.declared.log.Input.TheVariants as input;
 ghost use Rattle.fdb_replay.specs.private.Rounds.{tells_by, tells_in};
 ghost use Rattle.fdb_script.specs.Answering.{input_of, learns};
 
-use crate::fault::RunFault;
 use crate::tell::Tell;
 use crate::world::World;
 use fdb_client::{Client, ClientError};
@@ -44,7 +43,7 @@ impl<'a, J: Live> Model for Player<'a, J> {
 impl<'a, J: Live> Player<'a, J> {
     /// A client that has called nobody yet.
     pub(crate) fn new(alloc: Global, number: u32, live: &'a LiveRecord<J>, seen: Seen<J>) -> Self
-        requires { seen ≡ record { reporter = Some number; raises = [] } }
+        requires { seen ≡ record { reporter = Some number; changes = [] } }
         ensures { result ≡ [] }
     {
         Player {
@@ -70,11 +69,10 @@ impl<'a, J: Live> Player<'a, J> {
         number: u32,
         act: &Act,
         tells: &mut Vec<Tell<J>>,
-    ) -> Result<(), RunFault>
+    ) -> Result<(), AllocError>
         ensures ok { OnOk result (AddsCall self.old (input_of self.old act.now) self.new) }
         ensures told { OnOk result (tells.new.items
             ≡ tells.old.items ++ tells_in number (drop (length self.old) self.new)) }
-        ensures err { IfErr result (λ fault. fault ≡ RunFault.Memory) }
     {
         match act {
             Act::Grv(opts) => self.read(rt, world, number, opts),
@@ -84,7 +82,8 @@ impl<'a, J: Live> Player<'a, J> {
                 num,
                 locked,
                 metadata,
-            } => self.report(rt, world, *num, *locked, *metadata),
+                min_known,
+            } => self.report(rt, world, *num, *locked, *metadata, *min_known),
             Act::Tell { to } => self.tell(number, *to, tells),
         }
     }
@@ -96,15 +95,14 @@ impl<'a, J: Live> Player<'a, J> {
         world: &World<'_, J, G>,
         number: u32,
         opts: &GrvOpts,
-    ) -> Result<(), RunFault>
-        ensures ok { OnOk result (AddsCall self.old (input.Grv opts.now) self.new) }
-        ensures err { IfErr result (λ fault. fault ≡ RunFault.Memory) }
+    ) -> Result<(), AllocError>
+        ensures { OnOk result (AddsCall self.old (input.Grv opts.now) self.new) }
     {
-        let opts = copy_of(opts)?;
-        let desk = world.desks.route(number, self.reads);
+        let opts = opts.clone()?;
+        let desk = world.route(number, self.reads);
         let answer = self.client.read_version(rt, world.gate, desk, opts);
         if !is_logged(&answer) {
-            return Err(RunFault::Memory);
+            return Err(AllocError);
         }
         // This read is one of its calls, so that there is a number for one more.
         let calls = self.client.calls().len() as u64;
@@ -120,15 +118,12 @@ impl<'a, J: Live> Player<'a, J> {
         world: &World<'_, J, G>,
         processed: u64,
         at: u64,
-    ) -> Result<(), RunFault>
-        ensures ok { OnOk result (AddsCall self.old
+    ) -> Result<(), AllocError>
+        ensures { OnOk result (AddsCall self.old
             (input.Ask (length (fresh_answers self.old) + 1) processed at) self.new) }
-        ensures err { IfErr result (λ fault. fault ≡ RunFault.Memory) }
     {
-        settled(
-            self.client
-                .ask(rt, world.gate, world.sequencer, processed, at),
-        )
+        let sequencer = world.cluster.sequencer();
+        settled(self.client.ask(rt, world.gate, sequencer, processed, at))
     }
 
     /// Asks for the commit version under a number.
@@ -139,13 +134,13 @@ impl<'a, J: Live> Player<'a, J> {
         num: u64,
         processed: u64,
         at: u64,
-    ) -> Result<(), RunFault>
-        ensures ok { OnOk result (AddsCall self.old (input.Ask num processed at) self.new) }
-        ensures err { IfErr result (λ fault. fault ≡ RunFault.Memory) }
+    ) -> Result<(), AllocError>
+        ensures { OnOk result (AddsCall self.old (input.Ask num processed at) self.new) }
     {
+        let sequencer = world.cluster.sequencer();
         settled(
             self.client
-                .reask(rt, world.gate, world.sequencer, num, processed, at),
+                .reask(rt, world.gate, sequencer, num, processed, at),
         )
     }
 
@@ -157,46 +152,41 @@ impl<'a, J: Live> Player<'a, J> {
         num: u64,
         locked: bool,
         metadata: Option<u64>,
-    ) -> Result<(), RunFault>
-        ensures ok { OnOk result (AddsCall self.old (input.Report num locked metadata) self.new) }
-        ensures err { IfErr result (λ fault. fault ≡ RunFault.Memory) }
+        min_known: u64,
+    ) -> Result<(), AllocError>
+        ensures { OnOk result
+            (AddsCall self.old (input.Report num locked metadata min_known) self.new) }
     {
-        settled(self.client.report(rt, world.gate, num, locked, metadata))
+        settled(
+            self.client
+                .report(rt, world.gate, num, locked, metadata, min_known),
+        )
     }
 
     /// Tells another what it has seen.
-    fn tell(&mut self, number: u32, to: u32, tells: &mut Vec<Tell<J>>) -> Result<(), RunFault>
+    fn tell(&mut self, number: u32, to: u32, tells: &mut Vec<Tell<J>>) -> Result<(), AllocError>
         ensures ok { OnOk result (AddsCall self.old (input.Tell to) self.new) }
         ensures told { OnOk result (tells.new.items
             ≡ tells.old.items ++ tells_in number (drop (length self.old) self.new)) }
-        ensures err { IfErr result (λ fault. fault ≡ RunFault.Memory) }
     {
         let Ok(seen) = self.client.tell(to) else {
-            return Err(RunFault::Memory);
+            return Err(AllocError);
         };
         tells.push(Tell::new(number, to, seen))?;
         Ok(())
     }
 
     /// Learns what it was told.
-    pub(crate) fn learn<R: Wait>(&mut self, rt: &R, tell: Tell<J>) -> Result<(), RunFault>
-        ensures ok { OnOk result
+    pub(crate) fn learn<R: Wait>(&mut self, rt: &R, tell: Tell<J>) -> Result<(), AllocError>
+        ensures { OnOk result
             (self.new ≡ learns self.old (record { teller = tell.from; position = tell.position })) }
-        ensures err { IfErr result (λ fault. fault ≡ RunFault.Memory) }
     {
         let Tell { to: _, from, seen } = tell;
         match self.client.learn(rt, from, seen) {
             Ok(()) => Ok(()),
-            Err(_) => Err(RunFault::Memory),
+            Err(_) => Err(AllocError),
         }
     }
-}
-
-/// A copy of what a read says.
-fn copy_of(opts: &GrvOpts) -> Result<GrvOpts, AllocError>
-    ensures { IfOk result (λ copy. copy ≡ opts.now) }
-{
-    opts.clone()
 }
 
 /// Whether a call with this answer is in the log.
@@ -209,12 +199,11 @@ fn is_logged<T>(answer: &Result<T, ClientError>) -> bool
 
 /// What an answer leaves to be done: nothing, but where memory was refused,
 /// which is also why a proxy closes its desk while rounds are played.
-fn settled<T: Drop>(answer: Result<T, ClientError>) -> Result<(), RunFault>
-    ensures ok { OnOk result (answer ≢ Err ClientError.Memory) }
-    ensures err { IfErr result (λ fault. fault ≡ RunFault.Memory) }
+fn settled<T: Drop>(answer: Result<T, ClientError>) -> Result<(), AllocError>
+    ensures { OnOk result (answer ≢ Err ClientError.Memory) }
 {
     match answer {
-        Err(ClientError::Memory | ClientError::ProxyClosed) => Err(RunFault::Memory),
+        Err(ClientError::Memory | ClientError::ProxyClosed) => Err(AllocError),
         _ => Ok(()),
     }
 }

@@ -1,7 +1,8 @@
 //! From the bytes of a script to the printed lines.
 
-ghost use Rattle.std.specs.Prelude.{◌≡◌, ◌≢◌, ℕ, ◌<◌, ◌≤◌, List, OnOk, OnErr, IfOk, IfErr, Ok, length, take};
+ghost use Rattle.std.specs.Prelude.{◌≡◌, ◌≢◌, ℕ, ◌<◌, ◌≤◌, List, OnOk, OnErr, IfOk, IfErr, Ok, Err, length, take};
 ghost use Rattle.std.specs.Io.KnownBytes.{Appends, Keeps};
+ghost use Rattle.std.specs.IoError.{error_kind};
 ghost use Rattle.fdb_replay.specs.Replay.{IsCut, Replays, Refuses, TakesSome};
 ghost use Rattle.fdb_script.specs.Reading.{ReadsAs};
 
@@ -10,6 +11,7 @@ use crate::running::run;
 use fdb_history::Gate;
 use fdb_script::{Script, ScriptError, read_script, text};
 use std::alloc::Global;
+use std::io;
 use std::io::{ErrorKind, Write};
 use std::sync::Wait;
 use std::thread::Threads;
@@ -89,7 +91,20 @@ fn write_once<W: Write>(writer: &mut W, bytes: &[u8]) -> Result<usize, ReplayFau
     ensures kept { OnErr result (Keeps (W.contents writer.old) (W.contents writer.new)) }
     ensures err { IfErr result (λ fault. fault ≡ ReplayFault.Write) }
 {
-    match writer.write(bytes) {
+    count_written(writer.write(bytes))
+}
+
+/// How many bytes a write took, which is none where it was interrupted, and is
+/// to be tried again. A writer that takes nothing without an error has failed.
+fn count_written(written: io::Result<usize>) -> Result<usize, ReplayFault>
+    ensures some { IfOk written (λ count. 0 < count → result ≡ Ok count) }
+    ensures none { IfOk written (λ count. count ≡ 0 → result ≡ Err ReplayFault.Write) }
+    ensures interrupted { IfErr written (λ error. error_kind error ≡ ErrorKind.Interrupted
+        → result ≡ Ok 0) }
+    ensures failed { IfErr written (λ error. error_kind error ≢ ErrorKind.Interrupted
+        → result ≡ Err ReplayFault.Write) }
+{
+    match written {
         Ok(0) => Err(ReplayFault::Write),
         Ok(count) => Ok(count),
         Err(error) if error.kind() == ErrorKind::Interrupted => Ok(0),

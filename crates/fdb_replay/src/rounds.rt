@@ -1,19 +1,18 @@
 //! A round of a run: each client does its commands, and then they learn what they told one another.
 
-ghost use Rattle.std.specs.Prelude.{◌≡◌, ◌+◌, ◌++◌, ◌≤◌, ◌<◌, [], ℕ, true, false, OnOk, IfOk, IfErr, length, drop, fold, get_or, map, slice_index_or, vec_len};
+ghost use Rattle.std.specs.Prelude.{◌≡◌, ◌+◌, ◌++◌, ◌≤◌, ◌<◌, [], ℕ, true, false, OnOk, IfOk, length, drop, fold, get_or, map, slice_index_or, vec_len};
 ghost use Rattle.std.specs.List.{FoldsTo};
 ghost use Rattle.std.specs.Thread.{IsSync, IsSend};
 ghost use Rattle.fdb_replay.specs.private.Rounds.{IsPlayed, PerformsFrom, all_tells, logs_of, teach, tells_in};
 ghost use Rattle.fdb_script.specs.Answering.{AnswersCommand, AnswersRound, commands_of};
 
-use crate::fault::RunFault;
 use crate::player::Player;
 use crate::tell::Tell;
 use crate::world::World;
 use fdb_history::{Gate, Sequence};
 use fdb_live::Live;
 use fdb_script::{Command, MAX_CLIENTS};
-use std::alloc::Global;
+use std::alloc::{AllocError, Global};
 use std::snapshot::Snapshot;
 use std::sync::Wait;
 use std::thread;
@@ -76,6 +75,15 @@ fn acts_in(commands: &[Command]) -> [bool; CLIENTS]
     acts
 }
 
+/// A round that is played: what runs it, what serves it, and what is done in it.
+#[derive(Drop)]
+struct Playing<'r, R, J: Live, G: Gate> {
+    rt: &'r R,
+    alloc: Global,
+    world: &'r World<'r, J, G>,
+    round: Round<'r>,
+}
+
 /// Plays rounds, one after another.
 pub(crate) fn play_rounds<'a, J: Live + Send + Sync, R: Threads + Wait + Sync, G: Gate>(
     rt: &R,
@@ -83,11 +91,10 @@ pub(crate) fn play_rounds<'a, J: Live + Send + Sync, R: Threads + Wait + Sync, G
     world: &World<'_, J, G>,
     mut clients: Vec<Player<'a, J>>,
     rounds: &[Sequence<Command>],
-) -> Result<Vec<Player<'a, J>>, RunFault>
+) -> Result<Vec<Player<'a, J>>, AllocError>
     requires few { length clients.items ≤ 64 }
-    ensures ok { IfOk result (λ after.
+    ensures { IfOk result (λ after.
         FoldsTo AnswersRound (logs_of clients.entry.items) rounds.now (logs_of after.items)) }
-    ensures err { IfErr result (λ fault. fault ≡ RunFault.Memory) }
 {
     for commands in rounds {
         clients = play_round(rt, alloc, world, clients, commands.as_slice())?;
@@ -102,15 +109,20 @@ fn play_round<'a, J: Live + Send + Sync, R: Threads + Wait + Sync, G: Gate>(
     world: &World<'_, J, G>,
     clients: Vec<Player<'a, J>>,
     commands: &[Command],
-) -> Result<Vec<Player<'a, J>>, RunFault>
+) -> Result<Vec<Player<'a, J>>, AllocError>
     requires few { length clients.items ≤ 64 }
     ensures ok { IfOk result
         (λ after. AnswersRound (logs_of clients.entry.items) commands.now (logs_of after.items)) }
     ensures few { IfOk result (λ after. length after.items ≡ length clients.entry.items) }
-    ensures err { IfErr result (λ fault. fault ≡ RunFault.Memory) }
 {
     let round = Round::new(commands);
-    let part = play_all(rt, alloc, world, &round, clients)?;
+    let playing = Playing {
+        rt,
+        alloc,
+        world,
+        round,
+    };
+    let part = play_all(&playing, clients)?;
     let Part { mut clients, tells } = part;
     learn_all(rt, &mut clients, tells)?;
     Ok(clients)
@@ -125,11 +137,10 @@ struct Part<'a, J: Live> {
 
 impl<'a, J: Live> Part<'a, J> {
     /// Both parts as one: the clients and what they told, behind those of this part.
-    fn joined(mut self, mut next: Part<'a, J>) -> Result<Self, RunFault>
-        ensures ok { IfOk result (λ whole.
+    fn joined(mut self, mut next: Part<'a, J>) -> Result<Self, AllocError>
+        ensures { IfOk result (λ whole.
             (whole.clients.items ≡ self.entry.clients.items ++ next.entry.clients.items)
             × (whole.tells.items ≡ self.entry.tells.items ++ next.entry.tells.items)) }
-        ensures err { IfErr result (λ fault. fault ≡ RunFault.Memory) }
     {
         self.clients.append(&mut next.clients)?;
         self.tells.append(&mut next.tells)?;
@@ -137,8 +148,8 @@ impl<'a, J: Live> Part<'a, J> {
     }
 }
 
-/// What a thread promises: that these clients, the first of whom has
-/// this number, do their commands of a round, or that memory is wanting.
+/// What a thread promises: that these clients, the first of whom has this
+/// number, do their commands of a round, unless memory is refused.
 #[derive(Drop)]
 struct Plays<'a, 'c, J: Live> {
     first: u32,
@@ -146,43 +157,36 @@ struct Plays<'a, 'c, J: Live> {
     clients: Snapshot<Vec<Player<'a, J>>>,
 }
 
-impl<'a, 'c, J: Live> Promise<Result<Part<'a, J>, RunFault>> for Plays<'a, 'c, J> {
-    ghost use Rattle.std.specs.Prelude.{◌≡◌, IfErr, IfOk};
-    ghost use Rattle.fdb_replay.specs.declared.fault.RunFault.TheVariants.{Memory};
+impl<'a, 'c, J: Live> Promise<Result<Part<'a, J>, AllocError>> for Plays<'a, 'c, J> {
+    ghost use Rattle.std.specs.Prelude.{IfOk};
     ghost use Rattle.fdb_replay.specs.private.Rounds.{IsPlayed};
 
     ghost kept_by = { λ promise result. IfOk result (λ part.
         IsPlayed promise.first promise.commands.now
-        promise.clients.value.items part.clients.items part.tells.items)
-        × IfErr result (λ fault. fault ≡ Memory) };
+        promise.clients.value.items part.clients.items part.tells.items) };
 }
 
 /// Has all clients do their commands of a round. Answers what they told, by client
 /// and then by command. However it ends, each thread of the round has ended.
 fn play_all<'a, J: Live + Send + Sync, R: Threads + Wait + Sync, G: Gate>(
-    rt: &R,
-    alloc: Global,
-    world: &World<'_, J, G>,
-    round: &Round<'_>,
+    playing: &Playing<'_, R, J, G>,
     clients: Vec<Player<'a, J>>,
-) -> Result<Part<'a, J>, RunFault>
+) -> Result<Part<'a, J>, AllocError>
     requires few { vec_len clients ≤ 64 }
-    ensures ok { IfOk result (λ part.
-        IsPlayed 0 round.now.commands.now
+    ensures { IfOk result (λ part.
+        IsPlayed 0 playing.now.round.commands.now
         clients.entry.items part.clients.items part.tells.items) }
-    ensures err { IfErr result (λ fault. fault ≡ RunFault.Memory) }
 {
     thread::scope(
         thread::scope_env(),
-        rt,
-        move |scope| -> Result<Part<'_, J>, RunFault>
+        playing.rt,
+        move |scope| -> Result<Part<'_, J>, AllocError>
             requires { IsSync R.row × IsSync J.row × IsSend J.row × IsSync G.row
                 × (vec_len clients ≤ 64) }
-            ensures ok { IfOk result (λ part.
-                IsPlayed 0 round.entry.now.commands.now
+            ensures { IfOk result (λ part.
+                IsPlayed 0 playing.entry.now.round.commands.now
                 clients.entry.items part.clients.items part.tells.items) }
-            ensures err { IfErr result (λ fault. fault ≡ RunFault.Memory) }
-        { play_part(scope, rt, alloc, world, round, 0, clients) },
+        { play_part(scope, playing, 0, clients) },
     )
 }
 
@@ -195,50 +199,43 @@ fn play_all<'a, J: Live + Send + Sync, R: Threads + Wait + Sync, G: Gate>(
 #[cycle(parts)]
 fn play_part<'s, 'a: 's, E, J: Live + Send + Sync, R: Threads + Wait + Sync, G: Gate>(
     scope: &'s Scope<'s, E>,
-    rt: &'s R,
-    alloc: Global,
-    world: &'s World<'_, J, G>,
-    round: &'s Round<'_>,
+    playing: &'s Playing<'s, R, J, G>,
     first: u32,
     mut clients: Vec<Player<'a, J>>,
-) -> Result<Part<'a, J>, RunFault>
+) -> Result<Part<'a, J>, AllocError>
     requires few { first + vec_len clients ≤ 64 }
-    ensures ok { IfOk result (λ part.
-        IsPlayed first round.now.commands.now
+    ensures { IfOk result (λ part.
+        IsPlayed first playing.now.round.commands.now
         clients.entry.items part.clients.items part.tells.items) }
-    ensures err { IfErr result (λ fault. fault ≡ RunFault.Memory) }
 {
-    if !round.acts_among(first, clients.len()) {
+    if !playing.round.acts_among(first, clients.len()) {
         return Ok(Part {
             clients,
-            tells: Vec::new(alloc),
+            tells: Vec::new(playing.alloc),
         });
     }
     if clients.len() == 1 {
-        return play_alone(rt, alloc, world, round, first, clients);
+        return play_alone(playing, first, clients);
     }
     let half = clients.len() / 2;
     let others = clients.split_off(half)?;
-    play_halves(scope, rt, alloc, world, round, first, clients, others)
+    let (front, back) = play_halves(scope, playing, first, clients, others)?;
+    front.joined(back)
 }
 
 /// Has the only one of these clients do its commands of a round, in this thread.
 #[tactic(auto, using(crate::proofs::Parts::one_played_at))]
 fn play_alone<'a, J: Live, R: Wait, G: Gate>(
-    rt: &R,
-    alloc: Global,
-    world: &World<'_, J, G>,
-    round: &Round<'_>,
+    playing: &Playing<'_, R, J, G>,
     first: u32,
     mut clients: Vec<Player<'a, J>>,
-) -> Result<Part<'a, J>, RunFault>
+) -> Result<Part<'a, J>, AllocError>
     requires { vec_len clients ≡ 1 }
-    ensures ok { IfOk result (λ part.
-        IsPlayed first round.now.commands.now
+    ensures { IfOk result (λ part.
+        IsPlayed first playing.now.round.commands.now
         clients.entry.items part.clients.items part.tells.items) }
-    ensures err { IfErr result (λ fault. fault ≡ RunFault.Memory) }
 {
-    let tells = play_client(rt, alloc, world, round.commands, first, &mut clients[0])?;
+    let tells = play_client(playing, first, &mut clients[0])?;
     Ok(Part { clients, tells })
 }
 
@@ -247,29 +244,28 @@ fn play_alone<'a, J: Live, R: Wait, G: Gate>(
 #[cycle(parts)]
 fn play_halves<'s, 'a: 's, E, J: Live + Send + Sync, R: Threads + Wait + Sync, G: Gate>(
     scope: &'s Scope<'s, E>,
-    rt: &'s R,
-    alloc: Global,
-    world: &'s World<'_, J, G>,
-    round: &'s Round<'_>,
+    playing: &'s Playing<'s, R, J, G>,
     first: u32,
     front: Vec<Player<'a, J>>,
     back: Vec<Player<'a, J>>,
-) -> Result<Part<'a, J>, RunFault>
+) -> Result<(Part<'a, J>, Part<'a, J>), AllocError>
     requires some_front { 0 < vec_len front }
     requires some_back { 0 < vec_len back }
     requires few { first + (vec_len front + vec_len back) ≤ 64 }
-    ensures ok { IfOk result (λ part.
-        IsPlayed first round.now.commands.now
-        (front.entry.items ++ back.entry.items) part.clients.items part.tells.items) }
-    ensures err { IfErr result (λ fault. fault ≡ RunFault.Memory) }
+    ensures front { IfOk result (λ parts. IsPlayed first playing.now.round.commands.now
+        front.entry.items parts.0.clients.items parts.0.tells.items) }
+    ensures back { IfOk result (λ parts.
+        IsPlayed (first + vec_len front.entry) playing.now.round.commands.now
+        back.entry.items parts.1.clients.items parts.1.tells.items) }
 {
     let next = first + front.len() as u32;
+    let round = &playing.round;
     if round.acts_among(first, front.len()) && round.acts_among(next, back.len()) {
-        return play_apart(scope, rt, alloc, world, round, first, front, back);
+        return play_apart(scope, playing, first, front, back);
     }
-    let front = play_part(scope, rt, alloc, world, round, first, front)?;
-    let back = play_part(scope, rt, alloc, world, round, next, back)?;
-    front.joined(back)
+    let front = play_part(scope, playing, first, front)?;
+    let back = play_part(scope, playing, next, back)?;
+    Ok((front, back))
 }
 
 /// Has two halves of the clients do their commands of a round, the front one
@@ -277,65 +273,58 @@ fn play_halves<'s, 'a: 's, E, J: Live + Send + Sync, R: Threads + Wait + Sync, G
 #[cycle(parts)]
 fn play_apart<'s, 'a: 's, E, J: Live + Send + Sync, R: Threads + Wait + Sync, G: Gate>(
     scope: &'s Scope<'s, E>,
-    rt: &'s R,
-    alloc: Global,
-    world: &'s World<'_, J, G>,
-    round: &'s Round<'_>,
+    playing: &'s Playing<'s, R, J, G>,
     first: u32,
     front: Vec<Player<'a, J>>,
     back: Vec<Player<'a, J>>,
-) -> Result<Part<'a, J>, RunFault>
+) -> Result<(Part<'a, J>, Part<'a, J>), AllocError>
     requires some_front { 0 < vec_len front }
     requires some_back { 0 < vec_len back }
     requires few { first + (vec_len front + vec_len back) ≤ 64 }
-    ensures ok { IfOk result (λ part.
-        IsPlayed first round.now.commands.now
-        (front.entry.items ++ back.entry.items) part.clients.items part.tells.items) }
-    ensures err { IfErr result (λ fault. fault ≡ RunFault.Memory) }
+    ensures front { IfOk result (λ parts. IsPlayed first playing.now.round.commands.now
+        front.entry.items parts.0.clients.items parts.0.tells.items) }
+    ensures back { IfOk result (λ parts.
+        IsPlayed (first + vec_len front.entry) playing.now.round.commands.now
+        back.entry.items parts.1.clients.items parts.1.tells.items) }
 {
     let next = first + front.len() as u32;
     let promise = Plays {
         first,
-        commands: round.commands,
+        commands: playing.round.commands,
         clients: Snapshot::of(&front),
     };
-    let play_front = move || -> Result<Part<'_, J>, RunFault>
+    let play_front = move || -> Result<Part<'_, J>, AllocError>
         requires { IsSync R.row × IsSync J.row × IsSend J.row × IsSync G.row
             × (first + vec_len front ≤ 64) }
         ensures { IfOk result (λ part.
-            IsPlayed first round.entry.now.commands.now
-            front.entry.items part.clients.items part.tells.items)
-            × IfErr result (λ fault. fault ≡ RunFault.Memory) }
-    { play_part(scope, rt, alloc, world, round, first, front) };
+            IsPlayed first playing.entry.now.round.commands.now
+            front.entry.items part.clients.items part.tells.items) }
+    { play_part(scope, playing, first, front) };
     let Ok(thread) = scope.spawn_with(promise, play_front) else {
-        return Err(RunFault::Memory);
+        return Err(AllocError);
     };
-    let ours = play_part(scope, rt, alloc, world, round, next, back);
-    let theirs = thread.join(rt)?;
-    let ours = ours?;
-    theirs.joined(ours)
+    let ours = play_part(scope, playing, next, back);
+    let theirs = thread.join(playing.rt)?;
+    Ok((theirs, ours?))
 }
 
 /// Has a client do its commands of a round.
 #[tactic(auto, using(crate::proofs::Grown::not_grown))]
 fn play_client<J: Live, R: Wait, G: Gate>(
-    rt: &R,
-    alloc: Global,
-    world: &World<'_, J, G>,
-    commands: &[Command],
+    playing: &Playing<'_, R, J, G>,
     number: u32,
     client: &mut Player<'_, J>,
-) -> Result<Vec<Tell<J>>, RunFault>
-    ensures ok { OnOk result
-        (FoldsTo AnswersCommand client.old (commands_of number commands.now) client.new) }
+) -> Result<Vec<Tell<J>>, AllocError>
+    ensures ok { OnOk result (FoldsTo AnswersCommand client.old
+        (commands_of number playing.now.round.commands.now) client.new) }
     ensures told { IfOk result
         (λ tells. tells.items ≡ tells_in number (drop (length client.old) client.new)) }
-    ensures err { IfErr result (λ fault. fault ≡ RunFault.Memory) }
 {
-    let mut tells = Vec::new(alloc);
+    let commands = playing.round.commands;
+    let mut tells = Vec::new(playing.alloc);
     for command in commands {
         if command.client == number {
-            client.perform(rt, world, number, &command.act, &mut tells)?;
+            client.perform(playing.rt, playing.world, number, &command.act, &mut tells)?;
         }
     }
     Ok(tells)
@@ -346,10 +335,9 @@ fn learn_all<J: Live, R: Wait>(
     rt: &R,
     clients: &mut Vec<Player<'_, J>>,
     tells: Vec<Tell<J>>,
-) -> Result<(), RunFault>
+) -> Result<(), AllocError>
     ensures ok { OnOk result (clients.new.items ≡ fold teach clients.old.items tells.items) }
     ensures len { OnOk result (length clients.new.items ≡ length clients.old.items) }
-    ensures err { IfErr result (λ fault. fault ≡ RunFault.Memory) }
 {
     for tell in tells {
         let to = tell.to as usize;

@@ -1,21 +1,22 @@
 //! A run of a script.
 
 ghost use Rattle.std.specs.Prelude.{◌≡◌, ◌<◌, ◌≤◌, ℕ, [], length, IfOk, IfErr, Some, slice_get, vec_len};
+ghost use Rattle.fdb_client.specs.Cluster.{IsClusterConfig};
 ghost use Rattle.fdb_history.specs.Chain.{IsChain};
 ghost use Rattle.fdb_replay.specs.Outcome.{IsRunOf, Fails, opening};
+ghost use Rattle.fdb_replay.specs.private.Configured.{IsConfigFor};
 ghost use Rattle.fdb_script.specs.Answering.{Answers};
 ghost use Rattle.fdb_script.specs.Plan.{IsPlan, Plan};
 
 use crate::clients::Clients;
-use crate::desks::Desks;
 use crate::fault::RunFault;
-use crate::serving::{proxies_of, served};
+use crate::serving::served;
 use crate::world::World;
-use fdb_chain::{ChainCore, ChainError, Sequencer};
+use fdb_client::{Cluster, ClusterConfig};
 use fdb_history::{ClientLog, Gate, Issued, Record, audit};
 use fdb_live::{Live, LiveError, LiveRecord, Opened, Seen};
 use fdb_script::{Outcome, Script};
-use std::alloc::Global;
+use std::alloc::{AllocError, Global};
 use std::marker::Brand;
 use std::sync::Wait;
 use std::thread::Threads;
@@ -43,134 +44,86 @@ pub fn run<R: Threads + Wait + Sync, G: Gate>(
     ensures ok { IfOk result (IsRunOf script.now) }
     ensures err { IfErr result (Fails script.now) }
 {
-    let setup = script.setup();
-    let start = opening(setup.recovery);
-    match LiveRecord::<Brand>::open(rt, alloc, start, setup.clients) {
-        Ok(opened) => run_named::<Brand, R, G>(rt, alloc, opened, script, proxies, gate),
+    let config = config_of(script, proxies);
+    match LiveRecord::<Brand>::open(rt, alloc, config.start, config.clients) {
+        Ok(opened) => run_named::<Brand, R, G>(rt, alloc, opened, script, config, gate),
         Err(LiveError::Memory) => Err(RunFault::Memory),
-        Err(LiveError::TooLarge) => unreachable!(),
+        Err(LiveError::TooLarge | LiveError::MinAbove) => unreachable!(),
     }
 }
 
-/// What serves a run, before any call.
-#[derive(Drop)]
-struct Service<J: Live> {
-    live: LiveRecord<J>,
-    sequencer: Sequencer<J>,
-    desks: Desks<J>,
-}
-
-impl<J: Live> Service<J> {
-    /// What serves a run of the script at this live record, by so many GRV proxies.
-    fn new(
-        alloc: Global,
-        live: LiveRecord<J>,
-        script: &Script,
-        proxies: u32,
-    ) -> Result<Self, RunFault>
-        requires epoch_end { J.epoch_end ≡ script.now.setup.epoch_end }
-        requires recovery { J.recovery ≡ script.now.setup.recovery }
-        requires some_proxy { 0 < proxies }
-        requires few_proxies { proxies ≤ 16 }
-        ensures { IfErr result (λ fault. fault ≡ RunFault.Memory) }
-    {
-        let sequencer = sequencer_of(alloc, script)?;
-        let desks = Desks::new(alloc, proxies)?;
-        Ok(Service {
-            live,
-            sequencer,
-            desks,
-        })
-    }
-
-    /// The chain of commit versions, once nobody calls any more.
-    fn into_chain(self) -> Vec<Issued>
-        ensures { IsChain J.epoch_end J.recovery result.items }
-    {
-        let Service {
-            live: _,
-            sequencer,
-            desks: _,
-        } = self;
-        sequencer.close().into_answers()
+/// What the cluster of a run is made with, with so many GRV proxies.
+#[tactic(auto, using(crate::proofs::Throttled::may_be_set))]
+fn config_of(script: &Script, proxies: u32) -> ClusterConfig<'_>
+    requires some_proxy { 0 < proxies }
+    requires few_proxies { proxies ≤ 16 }
+    ensures script { IsConfigFor script.now result }
+    ensures proxies { result.grv_proxies ≡ proxies }
+    ensures in_range { IsClusterConfig result }
+    ensures plan { IsPlan script.now }
+{
+    let setup = script.setup();
+    ClusterConfig {
+        epoch_end: setup.epoch_end,
+        start: opening(setup.recovery),
+        clients: setup.clients,
+        grv_proxies: proxies,
+        queue: setup.config,
+        throttles: setup.throttles.as_slice(),
+        elapsed: setup.elapsed,
     }
 }
 
-/// Plays a script under a name that stands for its service, and audits what it leaves.
+/// Plays a script under a name that stands for its cluster, and audits what it leaves.
 fn run_named<J: Live + Send + Sync, R: Threads + Wait + Sync, G: Gate>(
     rt: &R,
     alloc: Global,
     opened: Opened,
     script: &Script,
-    proxies: u32,
+    config: ClusterConfig<'_>,
     gate: &G,
 ) -> Result<Outcome, RunFault>
     requires plan { IsPlan script.now }
+    requires config { IsConfigFor script.now config }
+    requires in_range { IsClusterConfig config }
     requires opened { opened
         ≡ record { table = J.table; start = J.start; reporters = J.reporters } }
+    requires start { config.start ≡ J.start }
     requires clients { J.reporters ≡ script.now.setup.clients }
     requires epoch_end { J.epoch_end ≡ script.now.setup.epoch_end }
     requires recovery { J.recovery ≡ script.now.setup.recovery }
-    requires some_proxy { 0 < proxies }
-    requires few_proxies { proxies ≤ 16 }
     ensures ok { IfOk result (IsRunOf script.now) }
     ensures err { IfErr result (Fails script.now) }
 {
     let Ok((live, first, tokens)) = opened.parts::<J>() else {
         return Err(RunFault::Memory);
     };
-    let service = Service::new(alloc, live, script, proxies)?;
-    let logs = logs_at(rt, alloc, &service, gate, script, first, tokens)?;
-    audited(alloc, script, service.into_chain(), logs)
+    let cluster = Cluster::new(alloc, live, config)?;
+    let logs = logs_at(rt, alloc, &cluster, gate, script, first, tokens)?;
+    audited(alloc, script, cluster.into_chain(), logs)
 }
 
-/// The logs of a script's clients, once all its rounds are
-/// played at a service that nobody has called yet.
+/// The logs of a script's clients, once all its rounds are played at a cluster that nobody has
+/// called yet. It fails only where memory runs out.
 fn logs_at<'a, J: Live + Send + Sync, R: Threads + Wait + Sync, G: Gate>(
     rt: &R,
     alloc: Global,
-    service: &'a Service<J>,
+    cluster: &'a Cluster<'_, J>,
     gate: &'a G,
     script: &Script,
-    mut first: Seen<J>,
+    first: Seen<J>,
     tokens: Vec<Seen<J>>,
-) -> Result<Vec<ClientLog>, RunFault>
+) -> Result<Vec<ClientLog>, AllocError>
     requires plan { IsPlan script.now }
     requires count { vec_len tokens ≡ script.now.setup.clients }
     requires numbered { (k : ℕ) → k < vec_len tokens
-        → slice_get tokens.items k ≡ Some (record { reporter = Some k; raises = [] }) }
+        → slice_get tokens.items k ≡ Some (record { reporter = Some k; changes = [] }) }
     ensures answers { IfOk result (λ logs. Answers script.now logs.items) }
     ensures few { IfOk result (λ logs. length logs.items ≤ 64) }
-    ensures err { IfErr result (λ fault. fault ≡ RunFault.Memory) }
 {
-    let Service {
-        live,
-        sequencer,
-        desks,
-    } = service;
-    let proxies = proxies_of(alloc, live, desks, script, &mut first)?;
-    let clients = Clients::new(alloc, live, tokens)?;
-    let world = World {
-        live,
-        sequencer,
-        desks,
-        gate,
-    };
-    served(rt, alloc, &world, proxies, clients, script.rounds())
-}
-
-/// A sequencer of which nobody has asked anything yet. There is a commit proxy for each client.
-fn sequencer_of<J: Live>(alloc: Global, script: &Script) -> Result<Sequencer<J>, RunFault>
-    requires epoch_end { J.epoch_end ≡ script.now.setup.epoch_end }
-    requires recovery { J.recovery ≡ script.now.setup.recovery }
-    ensures { IfErr result (λ fault. fault ≡ RunFault.Memory) }
-{
-    let setup = script.setup();
-    match ChainCore::new(alloc, setup.epoch_end, setup.recovery, setup.clients) {
-        Ok(core) => Ok(Sequencer::new(core)),
-        Err(ChainError::Memory) => Err(RunFault::Memory),
-        Err(_) => unreachable!(),
-    }
+    let clients = Clients::new(alloc, cluster.live(), tokens)?;
+    let world = World { cluster, gate };
+    served(rt, alloc, &world, first, clients, script.rounds())
 }
 
 /// The record before any report.
@@ -181,6 +134,7 @@ fn opening(recovery: u64) -> Record
         version: recovery,
         locked: false,
         metadata: None,
+        min_known: 0,
     }
 }
 

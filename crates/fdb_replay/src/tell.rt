@@ -25,7 +25,7 @@ impl<J: Live> Model for Tell<J> {
     ghost Value = { Tell };
 
     ghost view = { λ tell.
-        record { to = tell.to; from = tell.from; position = length tell.seen.raises } };
+        record { to = tell.to; from = tell.from; position = length tell.seen.changes } };
 
     ghost invariant = { λ tell. tell.seen.reporter ≡ None };
 }
@@ -34,7 +34,7 @@ impl<J: Live> Tell<J> {
     /// One client told another what it had seen.
     pub(crate) fn new(from: u32, to: u32, seen: Seen<J>) -> Self
         requires { seen.reporter ≡ None }
-        ensures { result ≡ record { to = to; from = from; position = length seen.raises } }
+        ensures { result ≡ record { to = to; from = from; position = length seen.changes } }
     {
         Tell { to, from, seen }
     }

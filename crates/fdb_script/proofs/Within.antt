@@ -18,7 +18,7 @@ use Rattle.fdb_script.specs.declared.error.ScriptError.{ScriptError}
 use Rattle.fdb_script.specs.declared.script.Act.{Act}
 use Rattle.fdb_script.specs.declared.script.Act.TheVariants.{Tell}
 use Rattle.fdb_script.specs.declared.script.Command.{Command}
-use Rattle.fdb_script.specs.declared.script.Throttle.{Throttle}
+use Rattle.fdb_queue.specs.declared.throttles.Throttle.{Throttle}
 use Rattle.fdb_script.specs.declared.script.TheConstants.{MAX_CLIENTS, MAX_THROTTLES, MAX_ROUNDS, MAX_TAGS}
 
 -- ---- what passes a test, and lists
@@ -119,10 +119,10 @@ tags_fit value tags e =
 abbrev IsAct : ℕ → ℕ → Act → Type 0
 IsAct clients client act = is_act clients client act ≡ true
 
-grv_fits : (clients client : ℕ) (tags : Option (List (List ℕ))) (at : Option ℕ) (priority : Option Priority) (count : Option ℕ) (lock_aware : Option Bool) (act : Act)
-    → ((found : List (List ℕ)) → tags ≡ Some found → AreTags found) → grv_with tags at priority count lock_aware ≡ Some act → IsAct clients client act
-grv_fits clients client (Some tags) (Some at) (Some priority) (Some count) (Some lock_aware) act fit e = subst (IsAct clients client) (same_Some _ act e) (fit tags refl)
-grv_fits clients client _ _ _ _ _ act fit e = absurd (none-some act e)
+grv_fits : (clients client : ℕ) (tags : Option (List (List ℕ))) (at : Option ℕ) (priority : Option Priority) (count : Option ℕ) (lock_aware use_min : Option Bool) (act : Act)
+    → ((found : List (List ℕ)) → tags ≡ Some found → AreTags found) → grv_with tags at priority count lock_aware use_min ≡ Some act → IsAct clients client act
+grv_fits clients client (Some tags) (Some at) (Some priority) (Some count) (Some lock_aware) (Some use_min) act fit e = subst (IsAct clients client) (same_Some _ act e) (fit tags refl)
+grv_fits clients client _ _ _ _ _ _ act fit e = absurd (none-some act e)
 
 ask_fits : (clients client : ℕ) (at processed : Option ℕ) (act : Act) → ask_with at processed ≡ Some act → IsAct clients client act
 ask_fits clients client (Some at) (Some processed) act e = subst (IsAct clients client) (same_Some _ act e) refl
@@ -132,9 +132,9 @@ reask_fits : (clients client : ℕ) (num at processed : Option ℕ) (act : Act) 
 reask_fits clients client (Some num) (Some at) (Some processed) act e = subst (IsAct clients client) (same_Some _ act e) refl
 reask_fits clients client _ _ _ act e = absurd (none-some act e)
 
-report_fits : (clients client : ℕ) (num : Option ℕ) (locked : Option Bool) (metadata : Option (Option ℕ)) (act : Act) → report_with num locked metadata ≡ Some act → IsAct clients client act
-report_fits clients client (Some num) (Some locked) (Some metadata) act e = subst (IsAct clients client) (same_Some _ act e) refl
-report_fits clients client _ _ _ act e = absurd (none-some act e)
+report_fits : (clients client : ℕ) (num : Option ℕ) (locked : Option Bool) (metadata : Option (Option ℕ)) (min_known : Option ℕ) (act : Act) → report_with num locked metadata min_known ≡ Some act → IsAct clients client act
+report_fits clients client (Some num) (Some locked) (Some metadata) (Some min_known) act e = subst (IsAct clients client) (same_Some _ act e) refl
+report_fits clients client _ _ _ _ act e = absurd (none-some act e)
 
 tell_to : (clients client : ℕ) (found : Option ℕ) (act : Act) → ((to : ℕ) → found ≡ Some to → (nat_lt to clients && not (to == client)) ≡ true) → option_map Tell found ≡ Some act → IsAct clients client act
 tell_to clients client None act fit e = absurd (none-some act e)
@@ -154,10 +154,10 @@ act_fits : (clients client : ℕ) (value : Data) (act : Act) → act_of clients 
 act_fits clients client value act e =
     option_and_then_some (λ name. act_named clients client name value) (member as_str (codes "do") value) act e (λ name found named.
     let P = IsAct clients client act in
-    chosen P (pointwise nat_eq name (codes "grv")) (grv_of value) _ act (grv_fits clients client _ _ _ _ _ act (tags_fit value))
+    chosen P (pointwise nat_eq name (codes "grv")) (grv_of value) _ act (grv_fits clients client _ _ _ _ _ _ act (tags_fit value))
     (chosen P (pointwise nat_eq name (codes "ask")) (ask_of value) _ act (ask_fits clients client _ _ act)
     (chosen P (pointwise nat_eq name (codes "reask")) (reask_of value) _ act (reask_fits clients client _ _ _ act)
-    (chosen P (pointwise nat_eq name (codes "report")) (report_of value) _ act (report_fits clients client _ _ _ act)
+    (chosen P (pointwise nat_eq name (codes "report")) (report_of value) _ act (report_fits clients client _ _ _ _ act)
     (chosen P (pointwise nat_eq name (codes "tell")) (tell_of clients client value) None act (tell_fits clients client _ act (client_below clients (codes "to") value))
     (λ none. absurd (none-some act none)))))) named)
 

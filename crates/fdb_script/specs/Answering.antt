@@ -22,7 +22,8 @@ abbrev pub input_of : List Call → Act → Input
 input_of before (Grv opts) = input.Grv opts
 input_of before (Ask processed at) = input.Ask (length (fresh_answers before) + 1) processed at
 input_of before (Reask num processed at) = input.Ask num processed at
-input_of before (Report num locked metadata) = input.Report num locked metadata
+input_of before (Report num locked metadata min_known) =
+    input.Report num locked metadata min_known
 input_of before (Tell to) = input.Tell to
 
 -- one more call, for a command
@@ -63,7 +64,7 @@ learns before told =
 abbrev pub tells : ℕ → Input → Bool
 tells client (input.Grv opts) = false
 tells client (input.Ask num processed at) = false
-tells client (input.Report num locked metadata) = false
+tells client (input.Report num locked metadata min_known) = false
 tells client (input.Tell to) = to == client
 tells client (input.Learn from) = false
 

@@ -31,7 +31,7 @@ abbrev pub is_act : ℕ → ℕ → Act → Bool
 is_act clients client (Grv opts) = nat_le (length opts.tags) MAX_TAGS && list_all is_tag opts.tags
 is_act clients client (Ask processed at) = true
 is_act clients client (Reask num processed at) = true
-is_act clients client (Report num locked metadata) = true
+is_act clients client (Report num locked metadata min_known) = true
 is_act clients client (Tell to) = nat_lt to clients && not (to == client)
 
 -- a command for one of so many clients

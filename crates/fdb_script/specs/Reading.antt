@@ -18,7 +18,7 @@ use Rattle.fdb_script.specs.declared.script.Act.{Act}
 use Rattle.fdb_script.specs.declared.script.Act.TheVariants.{Grv, Ask, Reask, Report, Tell}
 use Rattle.fdb_script.specs.declared.script.Command.{Command}
 use Rattle.fdb_script.specs.declared.script.Setup.{Setup}
-use Rattle.fdb_script.specs.declared.script.Throttle.{Throttle}
+use Rattle.fdb_queue.specs.declared.throttles.Throttle.{Throttle}
 use Rattle.fdb_script.specs.declared.script.TheConstants.{MAX_CLIENTS, MAX_THROTTLES, MAX_ROUNDS, MAX_COMMANDS, MAX_TAGS}
 
 -- ---- what a value stands for
@@ -97,22 +97,24 @@ member_or absent reading name value = or_absent absent reading (get name value)
 -- ---- commands
 
 abbrev pub grv_with : Option (List (List ℕ)) → Option ℕ → Option Priority → Option ℕ → Option Bool
-    → Option Act
-grv_with (Some tags) (Some at) (Some priority) (Some count) (Some lock_aware) =
+    → Option Bool → Option Act
+grv_with (Some tags) (Some at) (Some priority) (Some count) (Some lock_aware) (Some use_min) =
     Some (Grv (record {
       priority = priority;
       count = count;
       tags = tags;
       lock_aware = lock_aware;
       at = at;
+      use_min = use_min;
     }))
-grv_with _ _ _ _ _ = None
+grv_with _ _ _ _ _ _ = None
 
 abbrev pub grv_of : Data → Option Act
 grv_of value =
     grv_with (member_or [] tags_of (codes "tags") value) (member_or 0 whole (codes "at") value)
     (member_or Default priority_of (codes "priority") value)
     (member_or 1 whole (codes "count") value) (member_or false as_bool (codes "lock_aware") value)
+    (member_or false as_bool (codes "use_min") value)
 
 abbrev pub ask_with : Option ℕ → Option ℕ → Option Act
 ask_with (Some at) (Some processed) = Some (Ask processed at)
@@ -131,14 +133,16 @@ reask_of value =
     reask_with (member whole (codes "num") value) (member whole (codes "at") value)
     (member_or 0 whole (codes "processed") value)
 
-abbrev pub report_with : Option ℕ → Option Bool → Option (Option ℕ) → Option Act
-report_with (Some num) (Some locked) (Some metadata) = Some (Report num locked metadata)
-report_with _ _ _ = None
+abbrev pub report_with : Option ℕ → Option Bool → Option (Option ℕ) → Option ℕ → Option Act
+report_with (Some num) (Some locked) (Some metadata) (Some min_known) =
+    Some (Report num locked metadata min_known)
+report_with _ _ _ _ = None
 
 abbrev pub report_of : Data → Option Act
 report_of value =
     report_with (member whole (codes "num") value) (member_or false as_bool (codes "locked") value)
     (member_or None whole_or_null (codes "metadata") value)
+    (member_or 0 whole (codes "min_known") value)
 
 -- one of the clients, and another than the one that tells
 abbrev pub tell_of : ℕ → ℕ → Data → Option Act

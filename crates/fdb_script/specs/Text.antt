@@ -3,6 +3,7 @@
 use Rattle.std.specs.Prelude.{ℕ, ◌+◌, ◌==◌, Bool, true, false, List, [], ◌∷◌, ◌++◌, length, map, filter, not, count_by, drop, codes, decimal, encode_utf8, if◌then◌else◌}
 use Rattle.std.specs.List.{flat_map}
 use Rattle.fdb_history.specs.Event.{raise_count}
+use Rattle.fdb_history.specs.Register.{version_for}
 use Rattle.fdb_history.specs.Text.{record_text, refusal_text}
 use Rattle.fdb_history.specs.declared.event.Event.{Event}
 use Rattle.fdb_history.specs.declared.event.Event.TheVariants as event
@@ -12,6 +13,7 @@ use Rattle.fdb_history.specs.declared.log.CallAnswer.{CallAnswer}
 use Rattle.fdb_history.specs.declared.log.CallAnswer.TheVariants.{Version, Answered, Acked, Told, Refused}
 use Rattle.fdb_history.specs.declared.log.Input.{Input}
 use Rattle.fdb_history.specs.declared.log.Input.TheVariants as input
+use Rattle.fdb_history.specs.declared.register.Record.{Record}
 use Rattle.fdb_script.specs.Plan.{Plan}
 use Rattle.fdb_script.specs.declared.outcome.Outcome.{Outcome}
 use Rattle.fdb_script.specs.declared.script.Act.{Act}
@@ -34,9 +36,21 @@ abbrev pub fresh_text : Bool → List ℕ
 fresh_text true = codes "fresh"
 fresh_text false = codes "kept"
 
-abbrev pub raised_text : Bool → List ℕ
-raised_text true = codes "raised"
-raised_text false = codes "not raised"
+-- whether a report raised the live committed version, or the minimum known committed version alone,
+-- or neither
+abbrev pub raised_text : Bool → Bool → List ℕ
+raised_text true changed = codes "raised"
+raised_text false true = codes "min raised"
+raised_text false false = codes "not raised"
+
+-- the version that a read got, which is told where it asked for the minimum known committed version
+abbrev pub used_text : Input → Record → List ℕ
+used_text (input.Grv opts) rec =
+    if opts.use_min then codes " used " ++ decimal (version_for opts.use_min rec) else []
+used_text (input.Ask num processed at) rec = []
+used_text (input.Report num locked metadata min_known) rec = []
+used_text (input.Tell to) rec = []
+used_text (input.Learn from) rec = []
 
 -- whom a call told or learnt from, if it did, and the position
 abbrev pub told_text : Input → ℕ → List ℕ
@@ -44,19 +58,21 @@ told_text (input.Tell to) position = decimal to ++ codes " pos " ++ decimal posi
 told_text (input.Learn from) position = decimal from ++ codes " pos " ++ decimal position
 told_text (input.Grv opts) position = codes "pos " ++ decimal position
 told_text (input.Ask num processed at) position = codes "pos " ++ decimal position
-told_text (input.Report num locked metadata) position = codes "pos " ++ decimal position
+told_text (input.Report num locked metadata min_known) position = codes "pos " ++ decimal position
 
 -- what is printed of a call's answer
 abbrev pub answer_text : Input → ℕ → CallAnswer → List ℕ
 answer_text input position (Version rec limits false) =
-    record_text rec ++ codes " pos " ++ decimal position ++ flat_map limit_text limits
+    record_text rec ++ used_text input rec ++ codes " pos " ++ decimal position
+    ++ flat_map limit_text limits
 answer_text input position (Version rec limits true) =
     codes "refused Locked " ++ decimal rec.version ++ codes " pos " ++ decimal position
 answer_text input position (Answered issued) =
     codes "prev " ++ decimal issued.prev ++ codes " version " ++ decimal issued.version
     ++ codes " ordinal " ++ decimal issued.ordinal ++ codes " " ++ fresh_text issued.fresh
-answer_text input position (Acked rec raised) =
-    decimal rec.version ++ codes " " ++ raised_text raised ++ codes " pos " ++ decimal position
+answer_text input position (Acked rec raised changed) =
+    decimal rec.version ++ codes " " ++ raised_text raised changed
+    ++ codes " pos " ++ decimal position
 answer_text input position Told = told_text input position
 answer_text input position (Refused cause) = codes "refused " ++ refusal_text cause
 
@@ -65,7 +81,7 @@ abbrev pub act_text : Act → List ℕ
 act_text (Grv opts) = codes "grv"
 act_text (Ask processed at) = codes "ask"
 act_text (Reask num processed at) = codes "reask"
-act_text (Report num locked metadata) = codes "report"
+act_text (Report num locked metadata min_known) = codes "report"
 act_text (Tell to) = codes "tell"
 
 -- the reply to a command: its round, client, number in the round and word, and the answer
@@ -78,7 +94,7 @@ reply_text round client number act call =
 abbrev pub is_learn : Input → Bool
 is_learn (input.Grv opts) = false
 is_learn (input.Ask num processed at) = false
-is_learn (input.Report num locked metadata) = false
+is_learn (input.Report num locked metadata min_known) = false
 is_learn (input.Tell to) = false
 is_learn (input.Learn from) = true
 
@@ -134,9 +150,10 @@ abbrev pub history_text : ℕ → Event → List ℕ
 history_text number (event.Read client call rec) =
     codes "history " ++ decimal number ++ codes " client " ++ decimal client ++ codes " call "
     ++ decimal call ++ codes " read " ++ record_text rec
-history_text number (event.Report client call rec raised) =
+history_text number (event.Report client call rec raised changed) =
     codes "history " ++ decimal number ++ codes " client " ++ decimal client ++ codes " call "
-    ++ decimal call ++ codes " report " ++ record_text rec ++ codes " " ++ raised_text raised
+    ++ decimal call ++ codes " report " ++ record_text rec ++ codes " "
+    ++ raised_text raised changed
 
 abbrev pub history_lines : ℕ → List Event → List ℕ
 history_lines number [] = []

@@ -19,5 +19,5 @@ pub use printing::text;
 pub use reading::read_script;
 pub use script::{
     Act, Command, MAX_CLIENTS, MAX_COMMANDS, MAX_ROUNDS, MAX_SCRIPT_BYTES, MAX_TAGS, MAX_THROTTLES,
-    Script, Setup, Throttle,
+    Script, Setup,
 };

@@ -4,7 +4,7 @@ ghost use Rattle.std.specs.Prelude.{◌≡◌};
 ghost use Rattle.fdb_script.specs.Text.{act_text, fresh_text, raised_text};
 
 use crate::script::Act;
-use fdb_history::{Call, CallAnswer, Event, Input, TagLimit};
+use fdb_history::{Call, CallAnswer, Event, Input, Record, TagLimit};
 use std::fmt;
 
 /// A tag, each of its bytes as the character of that number.
@@ -46,6 +46,33 @@ impl fmt::Display for LimitsText<'_> {
     }
 }
 
+/// The version that a read got, which is told where it asked for the minimum known committed
+/// version, with a space before it.
+#[derive(Clone, Copy)]
+struct UsedText<'a> {
+    /// What was called.
+    input: &'a Input,
+    /// What was read.
+    rec: Record,
+}
+
+impl fmt::Display for UsedText<'_> {
+    ghost use Rattle.std.specs.Prelude.{Some};
+    ghost use Rattle.fdb_script.specs.Text.{used_text};
+
+    ghost output = { λ used. Some (used_text used.input.now used.rec) };
+
+    fn fmt<W: fmt::Write>(&self, f: &mut fmt::Formatter<W>) -> fmt::Result {
+        match self.input {
+            Input::Grv(opts) if opts.use_min => {
+                let version = self.rec.version_for(opts.use_min);
+                write!(f, " used {version}")
+            }
+            _ => Ok(()),
+        }
+    }
+}
+
 /// What is printed of a call's answer.
 #[derive(Clone, Copy)]
 struct AnswerText<'a>(&'a Call);
@@ -73,17 +100,23 @@ impl fmt::Display for AnswerText<'_> {
                 limits,
                 locked_out: false,
             } => {
+                let input = &self.0.input;
+                let used = UsedText { input, rec: *rec };
                 let limits = LimitsText(limits.as_slice());
-                write!(f, "{rec} pos {position}{limits}")
+                write!(f, "{rec}{used} pos {position}{limits}")
             }
             CallAnswer::Answered(issued) => {
                 let (prev, version, ordinal) = (issued.prev, issued.version, issued.ordinal);
                 let fresh = fresh_word(issued.fresh);
                 write!(f, "prev {prev} version {version} ordinal {ordinal} {fresh}")
             }
-            CallAnswer::Acked { rec, raised } => {
+            CallAnswer::Acked {
+                rec,
+                raised,
+                changed,
+            } => {
                 let version = rec.version;
-                let raised = raised_word(*raised);
+                let raised = raised_words(*raised, *changed);
                 write!(f, "{version} {raised} pos {position}")
             }
             CallAnswer::Told => match &self.0.input {
@@ -103,11 +136,16 @@ fn fresh_word(fresh: bool) -> &'static str
     if fresh { "fresh" } else { "kept" }
 }
 
-/// Whether a report raised the live committed version.
-fn raised_word(raised: bool) -> &'static str
-    ensures { result.now ≡ raised_text raised }
+/// Whether a report raised the live committed version, or the minimum known committed version
+/// alone, or neither.
+fn raised_words(raised: bool, changed: bool) -> &'static str
+    ensures { result.now ≡ raised_text raised changed }
 {
-    if raised { "raised" } else { "not raised" }
+    match (raised, changed) {
+        (true, _) => "raised",
+        (false, true) => "min raised",
+        (false, false) => "not raised",
+    }
 }
 
 /// The word that a script has for an act.
@@ -205,8 +243,9 @@ impl fmt::Display for HistoryLine<'_> {
                 call,
                 rec,
                 raised,
+                changed,
             } => {
-                let raised = raised_word(*raised);
+                let raised = raised_words(*raised, *changed);
                 write!(
                     f,
                     "history {number} client {client} call {call} report {rec} {raised}"

@@ -2,8 +2,8 @@
 
 ghost use Rattle.std.specs.Prelude.{◌≡◌};
 
-use fdb_history::{GrvOpts, Priority, Sequence, Tag};
-use fdb_queue::QueueConfig;
+use fdb_history::{GrvOpts, Sequence};
+use fdb_queue::{QueueConfig, Throttle};
 use std::marker::Model;
 
 /// The most bytes of a script.
@@ -23,20 +23,6 @@ pub const MAX_COMMANDS: usize = 10_000;
 
 /// The most tags of a read in a script.
 pub const MAX_TAGS: usize = 5;
-
-/// A throttle that every GRV proxy is given. Of two with one priority and one tag, the one further
-/// down counts.
-#[derive(Debug, Drop, PartialEq, Eq)]
-pub struct Throttle {
-    /// The priority of the requests that it is for.
-    pub priority: Priority,
-    /// The tag.
-    pub tag: Tag,
-    /// Transactions per second.
-    pub rate: u64,
-    /// The moment from which on it holds no longer, in microseconds.
-    pub expires: u64,
-}
 
 /// What a client is to do.
 #[derive(Debug, Drop, PartialEq, Eq)]
@@ -67,6 +53,8 @@ pub enum Act {
         locked: bool,
         /// The metadata version, if there is one.
         metadata: Option<u64>,
+        /// The minimum known committed version, 0 where none is told.
+        min_known: u64,
     },
     /// Tell another client what was seen.
     Tell {
@@ -98,7 +86,8 @@ pub struct Setup {
     pub config: QueueConfig,
     /// The time between two windows of a GRV proxy, in microseconds.
     pub elapsed: u64,
-    /// The throttles that each GRV proxy is given, in order.
+    /// The throttles that each GRV proxy is given, in order. Of two for one priority and one tag,
+    /// the one further down counts.
     pub throttles: Sequence<Throttle>,
 }
 

@@ -3,14 +3,19 @@
 
 ghost use Rattle.std.specs.Prelude.{◌≡◌};
 
+mod gates;
 mod held;
+mod minimum;
 pub mod steps;
 mod threads;
 
+use crate::live::gates::{pass_each, pass_one_by_one};
 use crate::live::held::read_beside_report;
+use crate::live::minimum::keep_the_greatest;
 use crate::live::steps::{learn_crosswise, unlocked, work_through};
 use crate::live::threads::run_all;
 use crate::same::{same, says};
+use fdb_history::Record;
 use fdb_live::{Live, LiveError, LiveRecord, Opened, Seen};
 use std::alloc::{AllocError, Global};
 use std::marker::Brand;
@@ -26,8 +31,14 @@ pub(crate) enum Case {
     Worked,
     /// Two tokens learn of one another.
     Crosswise,
+    /// Reports that tell a minimum known committed version.
+    Minimum,
     /// A reader reads while a reporter holds the lock of the reports.
     ReadBesideReport,
+    /// Each report of a reporter passes the gate.
+    PassEach,
+    /// All reporters report, each in a thread of its own, and pass the gate one by one.
+    PassOneByOne,
     /// All reporters report and so many readers read, each in a thread of its own.
     Threads { readers: u32 },
 }
@@ -90,7 +101,10 @@ fn play_at<J: Live + Send + Sync, R: Threads + Wait + Abort + Sync>(
     match case {
         Case::Worked => work_through(rt, parts),
         Case::Crosswise => learn_crosswise(rt, parts),
+        Case::Minimum => keep_the_greatest(rt, parts),
         Case::ReadBesideReport => read_beside_report(rt, parts),
+        Case::PassEach => pass_each(rt, parts),
+        Case::PassOneByOne => pass_one_by_one(rt, parts),
         Case::Threads { readers } => return run_all(rt, alloc, parts, readers),
     }
     Ok(())
@@ -101,12 +115,35 @@ fn refusal_of<R: Wait>(rt: &R, alloc: Global, version: u64) -> Option<LiveError>
     LiveRecord::<Brand>::open(rt, alloc, unlocked(version), 2).err()
 }
 
+/// Why a live record is not opened with a minimum known committed version, if it is not.
+fn refusal_of_minimum<R: Wait>(
+    rt: &R,
+    alloc: Global,
+    version: u64,
+    min_known: u64,
+) -> Option<LiveError> {
+    let start = Record {
+        min_known,
+        ..unlocked(version)
+    };
+    LiveRecord::<Brand>::open(rt, alloc, start, 2).err()
+}
+
 /// Reads and reports of one thread, tokens that learn crosswise, and a read beside a report.
 #[test]
 fn reads_and_reports(rt: HostRuntime) -> Result<(), Fail> {
     play(&rt, rt.alloc(), 2, Case::Worked)?;
     play(&rt, rt.alloc(), 2, Case::Crosswise)?;
+    play(&rt, rt.alloc(), 2, Case::Minimum)?;
     play(&rt, rt.alloc(), 2, Case::ReadBesideReport)?;
+    Ok(())
+}
+
+#[test]
+fn each_report_passes_the_gate_alone(rt: HostRuntime) -> Result<(), Fail> {
+    play(&rt, rt.alloc(), 1, Case::PassEach)?;
+    play(&rt, rt.alloc(), 2, Case::PassOneByOne)?;
+    play(&rt, rt.alloc(), 4, Case::PassOneByOne)?;
     Ok(())
 }
 
@@ -127,4 +164,17 @@ fn versions_in_and_out_of_range(rt: HostRuntime) -> Result<(), Fail> {
     says(&rt, rt.alloc(), &LiveError::Memory, "want of memory")?;
     let text = "the version is out of range";
     says(&rt, rt.alloc(), &LiveError::TooLarge, text)
+}
+
+#[test]
+fn minimum_above_the_version(rt: HostRuntime) -> Result<(), Fail> {
+    let as_great = refusal_of_minimum(&rt, rt.alloc(), 100, 100);
+    same(&rt, &as_great, &None, &"as great");
+    let above = refusal_of_minimum(&rt, rt.alloc(), 100, 101);
+    same(&rt, &above, &Some(LiveError::MinAbove), &"above");
+    let greatest = 9_223_372_036_854_775_807;
+    let both = refusal_of_minimum(&rt, rt.alloc(), greatest + 1, greatest + 2);
+    same(&rt, &both, &Some(LiveError::TooLarge), &"too large, too");
+    let text = "the minimum known committed version is above the version";
+    says(&rt, rt.alloc(), &LiveError::MinAbove, text)
 }

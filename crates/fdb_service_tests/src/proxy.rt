@@ -5,13 +5,16 @@ ghost use Rattle.std.specs.Prelude.{◌≡◌};
 
 mod answers;
 mod crowd;
+mod late;
 mod lines;
+mod many;
 mod refused;
 mod rows;
 mod stand;
 
 use crate::live::steps::unlocked;
 use crate::proxy::crowd::ask_all;
+use crate::proxy::late::come_late;
 use crate::proxy::lines::play_lines;
 use crate::proxy::refused::{run_refused, serve_refused};
 use crate::proxy::stand::Stand;
@@ -27,11 +30,13 @@ const REPORTERS: u32 = 4;
 
 /// What a test does at a desk and with its proxy.
 #[derive(Clone, Copy)]
-pub(crate) enum Case {
+pub(crate) enum Case<'a> {
     /// The lines of a text, one after another.
-    Lines(&'static str),
+    Lines(&'a str),
     /// Four clients ask two proxies, each in a thread of its own.
     Crowd,
+    /// A system request comes while so many default ones wait in the queue.
+    Late { waiting: u64 },
     /// A batch is served that may be refused memory.
     ServeRefused,
     /// A proxy is run that may be refused memory, with a queue that has
@@ -44,7 +49,7 @@ pub(crate) enum Case {
 pub(crate) fn play<R: Threads + Wait + Abort + Sync>(
     rt: &R,
     alloc: Global,
-    case: Case,
+    case: Case<'_>,
 ) -> Result<(), AllocError> {
     match LiveRecord::<Brand>::open(rt, alloc, unlocked(100), REPORTERS) {
         Ok(opened) => play_named::<Brand, R>(rt, alloc, opened, case),
@@ -57,7 +62,7 @@ fn play_named<J: Live + Send + Sync, R: Threads + Wait + Abort + Sync>(
     rt: &R,
     alloc: Global,
     opened: Opened,
-    case: Case,
+    case: Case<'_>,
 ) -> Result<(), AllocError>
     requires { opened ≡ record { table = J.table; start = J.start; reporters = J.reporters } }
 {
@@ -72,11 +77,12 @@ fn play_named<J: Live + Send + Sync, R: Threads + Wait + Abort + Sync>(
 fn play_at<J: Live + Send + Sync, R: Threads + Wait + Abort + Sync>(
     rt: &R,
     stand: &mut Stand<J>,
-    case: Case,
+    case: Case<'_>,
 ) -> Result<(), AllocError> {
     match case {
         Case::Lines(text) => play_lines(rt, stand, text),
         Case::Crowd => ask_all(rt, stand),
+        Case::Late { waiting } => come_late(rt, stand, waiting),
         Case::ServeRefused => serve_refused(rt, stand),
         Case::RunRefused { used, unbounded } => run_refused(rt, stand, used, unbounded),
     }

@@ -7,7 +7,8 @@
 //!
 //! - `call` has the client's position before and after, the input and the answer;
 //! - `reads` has these positions and the version of a plain record that was read;
-//! - `raises` and `stays` have these positions, and the number and the version of a report;
+//! - `raises`, `min_raises` and `stays` have these positions, and the number and the version of a
+//! report. Behind a version or a record may stand `min` and the minimum known committed version;
 //! - `draws` has the client's position, and the entry that
 //! was answered to a request with its members.
 
@@ -29,6 +30,7 @@ const START: Record = Record {
     version: 100,
     locked: false,
     metadata: None,
+    min_known: 0,
 };
 
 /// A chain and logs to be audited.
@@ -191,9 +193,15 @@ fn event_text(alloc: Global, event: &Event) -> Result<String, AllocError> {
             call,
             rec,
             raised,
+            changed,
         } => {
-            let raised = if *raised { "raises" } else { "stays" };
-            format!(in alloc; "report {client} {call} {rec} {raised}")
+            let change = match (*raised, *changed) {
+                (true, true) => "raises",
+                (false, true) => "min_raises",
+                (false, false) => "stays",
+                (true, false) => "raises in place",
+            };
+            format!(in alloc; "report {client} {call} {rec} {change}")
         }
     }
 }

@@ -13,6 +13,8 @@ pub(crate) struct Line<'a> {
     /// The whole line.
     pub(crate) text: &'a str,
     words: SplitWhitespace<'a>,
+    /// The next word, where it was looked at already.
+    ahead: Option<&'a str>,
 }
 
 impl<'a> Line<'a> {
@@ -20,17 +22,21 @@ impl<'a> Line<'a> {
         Line {
             text,
             words: text.split_whitespace(),
+            ahead: None,
         }
     }
 
     /// The next word, if there is one.
     pub(crate) fn next_word(&mut self) -> Option<&'a str> {
-        self.words.next()
+        match self.ahead.take() {
+            None => self.words.next(),
+            word => word,
+        }
     }
 
     /// The next word.
     pub(crate) fn word(&mut self, rt: &impl Abort) -> &'a str {
-        let word = self.words.next();
+        let word = self.next_word();
         assert!(rt; word.is_some(), "a word is missing: {}", self.text);
         word.unwrap_or_default()
     }
@@ -40,6 +46,17 @@ impl<'a> Line<'a> {
         match self.word(rt).parse() {
             Ok(number) => number,
             Err(_) => self.fails(rt, "no number"),
+        }
+    }
+
+    /// The number behind this word, or 0 where the next word is another one.
+    pub(crate) fn number_behind(&mut self, rt: &impl Abort, name: &str) -> u64 {
+        match self.next_word() {
+            Some(word) if word == name => self.number(rt),
+            word => {
+                self.ahead = word;
+                0
+            }
         }
     }
 

@@ -1,6 +1,6 @@
 //! The register after reports, and the gate that holds nobody.
 
-use crate::audits::words::record;
+use crate::audits::words::{flags, record};
 use crate::line::Line;
 use fdb_history::{Event, Gate, OpenGate, Place, Record, register_after};
 use std::alloc::Global;
@@ -8,8 +8,8 @@ use std::process::Abort;
 use std::test::Fail;
 
 /// In each line the record before, the events (`read` with its call and
-/// record, `report` with these and whether it claims to have raised the
-/// register), and the record after them. The flag is not believed.
+/// record, `report` with these and whether it claims to have raised or changed
+/// the register), and the record after them. The flags are not believed.
 const CASES: &str = "\
 100 unlocked none => 100 unlocked none
 100 unlocked none read 0 100 unlocked none report 2 100 unlocked none unraised => 100 unlocked none
@@ -21,6 +21,14 @@ report 4 2100 unlocked none raised read 5 2100 unlocked none => 2100 unlocked no
 2100 locked 7 report 0 2101 unlocked none unraised => 2101 unlocked none
 2100 locked 7 report 0 2101 locked none unraised => 2101 locked none
 2100 locked 7 report 0 18446744073709551615 unlocked none unraised => 18446744073709551615 unlocked none
+2100 locked 7 report 0 2100 unlocked none min 5 unraised => 2100 locked 7 min 5
+2100 locked 7 min 5 report 0 2100 unlocked none min 5 raised => 2100 locked 7 min 5
+2100 locked 7 min 5 report 0 2101 unlocked none min 4 raised => 2101 unlocked none min 5
+2100 locked 7 min 5 report 0 2099 unlocked none min 2099 min_raised => 2100 locked 7 min 2099
+2100 locked 7 min 5 report 0 2101 unlocked 8 min 6 unraised => 2101 unlocked 8 min 6
+100 unlocked none report 2 2100 unlocked none min 100 raised report 4 2100 unlocked none min 2000 min_raised \
+report 5 100 unlocked none min 50 unraised => 2100 unlocked none min 2000
+2100 locked 7 report 0 0 unlocked none min 18446744073709551615 unraised => 2100 locked 7 min 18446744073709551615
 ";
 
 /// The events of a line.
@@ -34,16 +42,24 @@ fn events(rt: &impl Abort, alloc: Global, line: &mut Line<'_>) -> Result<Vec<Eve
                 call: line.number(rt),
                 rec: record(rt, line),
             },
-            _ => Event::Report {
-                client: 0,
-                call: line.number(rt),
-                rec: record(rt, line),
-                raised: line.is(rt, "raised", "unraised"),
-            },
+            _ => report(rt, line),
         };
         events.push(event)?;
     }
     Ok(events)
+}
+
+/// A report, behind its word.
+fn report(rt: &impl Abort, line: &mut Line<'_>) -> Event {
+    let (call, rec) = (line.number(rt), record(rt, line));
+    let (raised, changed) = flags(rt, line);
+    Event::Report {
+        client: 0,
+        call,
+        rec,
+        raised,
+        changed,
+    }
 }
 
 /// The record after the reports among the events, one by one.

@@ -2,8 +2,8 @@
 
 use crate::same::same_text;
 use fdb_history::{GrvOpts, Tag};
-use fdb_queue::QueueConfig;
-use fdb_script::{Act, Command, Script, ScriptError, Setup, Throttle, read_script};
+use fdb_queue::{QueueConfig, Throttle};
+use fdb_script::{Act, Command, Script, ScriptError, Setup, read_script};
 use std::alloc::{AllocError, Global};
 use std::process::Abort;
 use std::str::from_utf8;
@@ -69,15 +69,16 @@ fn act_text(alloc: Global, act: &Act) -> Result<String, AllocError> {
             num,
             locked,
             metadata,
-        } => format!(in alloc; "report {num} {locked} {metadata:?}"),
+            min_known,
+        } => format!(in alloc; "report {num} {locked} {metadata:?} {min_known}"),
         Act::Tell { to } => format!(in alloc; "tell {to}"),
     }
 }
 
 fn read_text(alloc: Global, opts: &GrvOpts) -> Result<String, AllocError> {
     let (priority, count) = (opts.priority, opts.count);
-    let (lock_aware, at) = (opts.lock_aware, opts.at);
-    let mut text = format!(in alloc; "grv {priority:?} {count} {lock_aware} {at}")?;
+    let (lock_aware, at, use_min) = (opts.lock_aware, opts.at, opts.use_min);
+    let mut text = format!(in alloc; "grv {priority:?} {count} {lock_aware} {at} {use_min}")?;
     for tag in &opts.tags {
         text.push_str(" ")?;
         text.push_str(tag_text(tag))?;
@@ -97,28 +98,30 @@ fn says(rt: &impl Abort, alloc: Global, script: &str, wanted: &str) -> Result<()
 const COMMANDS: &str = r#"{"epoch_end":0,"recovery":100,"clients":3,"rounds":[[],[
 {"do":"grv","client":0},
 {"client":1,"do":"grv","at":7,"priority":"batch","count":0,"tags":["t","!~","t","u","v"],"lock_aware":true},
+{"client":1,"do":"grv","use_min":true},
 {"do":"ask","client":0,"at":1000},
 {"do":"ask","client":0,"at":1000,"processed":18446744073709551615,"num":null},
 {"do":"reask","client":0,"num":2,"at":9000},
 {"do":"reask","client":0,"num":2,"at":9000,"processed":1},
 {"do":"report","client":2,"num":3},
-{"do":"report","client":2,"num":3,"locked":true,"metadata":4},
-{"do":"report","client":2,"num":3,"locked":false,"metadata":null},
+{"do":"report","client":2,"num":3,"locked":true,"metadata":4,"min_known":5},
+{"do":"report","client":2,"num":3,"locked":false,"metadata":null,"min_known":18446744073709551615},
 {"do":"tell","client":2,"to":0}]]}"#;
 
 const COMMANDS_SAY: &str = "\
 from 0 100 of 3 with 1000 500 1000 each 1000000
 round
 round
-0 grv Default 1 false 0
-1 grv Batch 0 true 7 t !~ t u v
+0 grv Default 1 false 0 false
+1 grv Batch 0 true 7 false t !~ t u v
+1 grv Default 1 false 0 true
 0 ask 0 1000
 0 ask 18446744073709551615 1000
 0 reask 2 0 9000
 0 reask 2 1 9000
-2 report 3 false None
-2 report 3 true Some(4)
-2 report 3 false None
+2 report 3 false None 0
+2 report 3 true Some(4) 5
+2 report 3 false None 18446744073709551615
 2 tell 0
 ";
 
@@ -147,7 +150,7 @@ from 0 1 of 2 with 3 0 100000 each 10000000
 throttle System !bcdefghijklmno~ 0 5000
 throttle Batch t 5 18446744073709551615
 round
-1 grv Default 1 false 0 t
+1 grv Default 1 false 0 false t
 ";
 
 #[test]

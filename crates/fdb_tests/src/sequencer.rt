@@ -24,7 +24,7 @@ impl Service for FromHundred {
 
     ghost recovery = { 100 };
 
-    ghost start = { record { version = 100; locked = false; metadata = None } };
+    ghost start = { record { version = 100; locked = false; metadata = None; min_known = 0 } };
 
     ghost reporters = { 4 };
 }
@@ -39,7 +39,7 @@ impl Service for AtTheEnd {
 
     ghost recovery = { 9223372036854775806 };
 
-    ghost start = { record { version = 9223372036854775806; locked = false; metadata = None } };
+    ghost start = { record { version = 9223372036854775806; locked = false; metadata = None; min_known = 0 } };
 
     ghost reporters = { 4 };
 }
@@ -196,6 +196,56 @@ fn versions_end_behind_the_lock(rt: HostRuntime) -> Result<(), Fail> {
     let core = ChainCore::new(rt.alloc(), 0, 9_223_372_036_854_775_806, 4)?;
     let sequencer: Sequencer<AtTheEnd> = Sequencer::new(core);
     play(&rt, rt.alloc(), sequencer, LAST, 2)
+}
+
+/// A service of 64 commit proxies, whose epoch begins right after the one before.
+struct OfSixtyFour;
+
+impl Service for OfSixtyFour {
+    ghost use Rattle.std.specs.Prelude.{None, false};
+
+    ghost epoch_end = { 99 };
+
+    ghost recovery = { 100 };
+
+    ghost start = { record { version = 100; locked = false; metadata = None; min_known = 0 } };
+
+    ghost reporters = { 64 };
+}
+
+/// The requests of a proxy that is the next after those below it. It asks under three numbers,
+/// processes the first, and repeats all. No time passes, so that each version is one above the one
+/// before.
+fn asked_by(alloc: Global, proxy: u64) -> Result<String, AllocError> {
+    let first = proxy.saturating_mul(3);
+    let (second, third) = (first.saturating_add(1), first.saturating_add(2));
+    let prev = first.saturating_add(99);
+    let (one, two) = (prev.saturating_add(1), prev.saturating_add(2));
+    let three = prev.saturating_add(3);
+    format!(in alloc;
+        "
+ask {proxy} 1 0 0 => {first} {proxy} 1 0 {prev} {one} 0 fresh
+ask {proxy} 2 0 0 => {second} {proxy} 2 0 {one} {two} 0 fresh
+ask {proxy} 1 1 0 => {first} {proxy} 1 0 {prev} {one} 0 kept
+ask {proxy} 3 1 0 => {third} {proxy} 3 1 {two} {three} 0 fresh
+ask {proxy} 1 0 0 => the answer is not kept any more
+ask {proxy} 2 0 0 => {second} {proxy} 2 0 {one} {two} 0 kept
+ask {proxy} 3 0 0 => {third} {proxy} 3 1 {two} {three} 0 kept
+ask {proxy} 5 3 0 => the next request number is 4
+ask 64 1 0 0 => there is no such commit proxy
+"
+    )
+}
+
+#[test]
+fn each_of_64_proxies_processes(rt: HostRuntime) -> Result<(), Fail> {
+    let alloc = rt.alloc();
+    let sequencer: Sequencer<OfSixtyFour> = Sequencer::new(ChainCore::new(alloc, 99, 100, 64)?);
+    let mut text = String::new(alloc);
+    for proxy in 0..64 {
+        text.push_str(&asked_by(alloc, proxy)?)?;
+    }
+    play(&rt, alloc, sequencer, &text, 192)
 }
 
 /// Asks for a proxy's numbers 1 to 100.

@@ -85,5 +85,6 @@ fn unlocked(version: u64) -> Record {
         version,
         locked: false,
         metadata: None,
+        min_known: 0,
     }
 }

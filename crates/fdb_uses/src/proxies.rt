@@ -1,7 +1,7 @@
 //! Clients that read through GRV proxies, which serve in threads of their own.
 
 use anyhow::{Result, anyhow};
-use fdb_client::{Client, Cluster, ClusterConfig, Workload, run_workload};
+use fdb_client::{Client, Cluster, ClusterConfig, Workload, WorkloadOutcome, run_workload};
 use fdb_history::{ClientLog, GrvOpts, Issued, OpenGate, Priority, Record, Sequence, audit};
 use fdb_live::Live;
 use fdb_proxy::Desk;
@@ -15,26 +15,35 @@ const START: Record = Record {
     version: 100,
     locked: false,
     metadata: None,
+    min_known: 0,
 };
 
-/// A cluster of two GRV proxies, for two clients.
-const CLUSTER: ClusterConfig = ClusterConfig {
-    epoch_end: 0,
-    start: START,
-    clients: 2,
-    grv_proxies: 2,
-    queue: QueueConfig {
-        normal: 1_000,
-        batch: 500,
-        room: 1_000,
-    },
-    elapsed: 1_000_000,
-};
-
-/// Has two clients work at a cluster, and explains what they were answered by one history.
+/// Has two clients work at a cluster of two GRV proxies, and explains what they were answered by
+/// one history.
 pub(crate) fn two_clients<R: Print + Threads + Wait + Sync>(rt: &R, alloc: Global) -> Result<()> {
-    let (logs, chain) = run_workload(rt, alloc, CLUSTER, CommitAndRead { alloc })?;
-    explain(rt, alloc, &logs?, &chain)
+    let config = ClusterConfig {
+        epoch_end: 0,
+        start: START,
+        clients: 2,
+        grv_proxies: 2,
+        queue: QueueConfig {
+            normal: 1_000,
+            batch: 500,
+            room: 1_000,
+        },
+        throttles: &[],
+        elapsed: 1_000_000,
+    };
+    let WorkloadOutcome {
+        output,
+        chain,
+        all_served,
+    } = run_workload(rt, alloc, config, CommitAndRead { alloc })?;
+    let logs = output?;
+    if !all_served {
+        return Err(anyhow!("a GRV proxy ran out of memory"));
+    }
+    explain(rt, alloc, &logs, &chain)
 }
 
 /// Looks for the history that explains logs, and tells how long it is.
@@ -57,7 +66,7 @@ impl<R: Print + Wait> Workload<R> for CommitAndRead {
     fn start<J: Live>(
         self,
         rt: &R,
-        cluster: &Cluster<J>,
+        cluster: &Cluster<'_, J>,
         mut clients: Vec<Client<'_, J>>,
     ) -> Result<[ClientLog; 2]> {
         let mut reader = last_of(&mut clients)?;
@@ -76,7 +85,7 @@ fn last_of<'a, J: Live>(clients: &mut Vec<Client<'a, J>>) -> Result<Client<'a, J
 fn commit_and_read<J: Live, R: Print + Wait>(
     rt: &R,
     alloc: Global,
-    cluster: &Cluster<J>,
+    cluster: &Cluster<'_, J>,
     writer: &mut Client<'_, J>,
     reader: &mut Client<'_, J>,
 ) -> Result<()> {
@@ -89,12 +98,12 @@ fn commit_and_read<J: Live, R: Print + Wait>(
 /// Draws two commit versions, and reports the second one.
 fn commit<J: Live, R: Print + Wait>(
     rt: &R,
-    cluster: &Cluster<J>,
+    cluster: &Cluster<'_, J>,
     client: &mut Client<'_, J>,
 ) -> Result<()> {
     client.ask(rt, &OpenGate, cluster.sequencer(), 0, 1_000)?;
     client.ask(rt, &OpenGate, cluster.sequencer(), 0, 3_000)?;
-    let ack = client.report(rt, &OpenGate, 2, false, None)?;
+    let ack = client.report(rt, &OpenGate, 2, false, None, 0)?;
     println!(rt;
         "committed: raised {}, position {}",
         ack.raised, ack.position
@@ -128,11 +137,12 @@ fn read<J: Live, R: Print + Wait>(
         tags: Sequence::new(alloc),
         lock_aware: false,
         at: 0,
+        use_min: false,
     };
     let read = client.read_version(rt, &OpenGate, desk, opts)?;
     println!(rt;
         "read version {} at position {}",
-        read.rec.version, read.position
+        read.version, read.position
     )?;
     Ok(())
 }

@@ -12,6 +12,7 @@ const START: Record = Record {
     version: 100,
     locked: false,
     metadata: None,
+    min_known: 0,
 };
 
 /// The one commit version that was issued.
@@ -27,7 +28,7 @@ const COMMIT: Issued = Issued {
 };
 
 /// Client 0 commits at 200, and client 1 comes to know of it: it has seen position 1, the first
-/// raise. Then it reads 100.
+/// change. Then it reads 100.
 pub(crate) fn caught(rt: &impl Print, alloc: Global) -> Result<()> {
     let logs = logs(alloc)?;
     explain(rt, alloc, &logs)?;
@@ -72,13 +73,14 @@ fn ask() -> Call {
     }
 }
 
-/// Reports it, which is the first raise.
+/// Reports it, which is the first change.
 fn report() -> Call {
     Call {
         input: Input::Report {
             num: 1,
             locked: false,
             metadata: None,
+            min_known: 0,
         },
         asked: 0,
         position: 1,
@@ -88,6 +90,7 @@ fn report() -> Call {
                 ..START
             },
             raised: true,
+            changed: true,
         },
     }
 }
@@ -111,6 +114,7 @@ fn read(alloc: Global) -> Call {
             tags: Sequence::new(alloc),
             lock_aware: false,
             at: 0,
+            use_min: false,
         }),
         asked: 1,
         position: 1,

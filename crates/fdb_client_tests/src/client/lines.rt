@@ -49,9 +49,8 @@ fn called<J: Live + Send + Sync, R: Threads + Wait + Abort + Sync>(
     match call {
         "ask" => asked(rt, stand, line),
         "reask" => reasked(rt, stand, line),
-        "report" => reported(rt, stand, line, false),
-        "lock" => reported(rt, stand, line, true),
-        "read" | "aware" | "aside" => read(rt, stand, call, line),
+        "report" | "lock" | "least" => reported(rt, stand, call, line),
+        "read" | "aware" | "aside" | "known" => read(rt, stand, call, line),
         "tell" => told(rt, stand, line),
         "learn" => learnt(rt, stand, line),
         "log" => logged(rt, stand, line),
@@ -100,12 +99,14 @@ fn reasked<J: Live, R: Wait + Abort>(
 fn reported<J: Live, R: Wait + Abort>(
     rt: &R,
     stand: &mut Stand<'_, J>,
+    call: &str,
     line: &mut Line<'_>,
-    locked: bool,
 ) -> Result<String, AllocError> {
     let alloc = stand.service.alloc;
     let client = client_at(rt, stand, line);
-    let found = client.report(rt, &OpenGate, line.number(rt), locked, None);
+    let num = line.number(rt);
+    let min_known = if call == "least" { line.number(rt) } else { 0 };
+    let found = client.report(rt, &OpenGate, num, call == "lock", None, min_known);
     acked_text(alloc, found)
 }
 
@@ -136,7 +137,7 @@ fn reading(
     let (way, whom) = answering(rt, line);
     Ok(Reading {
         aside: call == "aside",
-        opts: told_apart(alloc, call == "aware")?,
+        opts: told_apart(alloc, call)?,
         way,
         whom,
     })
@@ -158,16 +159,17 @@ fn answering(rt: &impl Abort, line: &mut Line<'_>) -> (Way, Whom) {
     }
 }
 
-/// A read of which each option is another than that of a plain one.
-fn told_apart(alloc: Global, lock_aware: bool) -> Result<GrvOpts, AllocError> {
+/// A read of which each option is another than that of a plain one, but for the flags.
+fn told_apart(alloc: Global, call: &str) -> Result<GrvOpts, AllocError> {
     let mut tags = Sequence::new(alloc);
     tags.push(tag(alloc, "web")?)?;
     Ok(GrvOpts {
         priority: Priority::Batch,
         count: 7,
         tags,
-        lock_aware,
+        lock_aware: call == "aware",
         at: 9,
+        use_min: call == "known",
     })
 }
 
@@ -284,9 +286,20 @@ fn issued_text(alloc: Global, found: Result<Issued, ClientError>) -> Result<Stri
 
 fn acked_text(alloc: Global, found: Result<Ack, ClientError>) -> Result<String, AllocError> {
     match found {
-        Ok(Ack { raised, position }) => {
-            let not = if raised { "" } else { "not " };
-            format!(in alloc; "{not}raised at {position}")
+        Ok(
+            Ack {
+                raised,
+                changed,
+                position,
+            },
+        ) => {
+            let what = match (raised, changed) {
+                (true, true) => "raised",
+                (false, true) => "changed",
+                (false, false) => "not changed",
+                (true, false) => "raised, and not changed",
+            };
+            format!(in alloc; "{what} at {position}")
         }
         Err(cause) => cause.to_string(alloc),
     }
@@ -294,7 +307,14 @@ fn acked_text(alloc: Global, found: Result<Ack, ClientError>) -> Result<String, 
 
 fn read_text(alloc: Global, found: Result<ReadVersion, ClientError>) -> Result<String, AllocError> {
     match found {
-        Ok(read) => format!(in alloc; "{} at {}", read.rec.version, read.position),
+        Ok(read) => {
+            let rec = read.rec;
+            let from = (rec.version, rec.min_known);
+            match read.version == rec.version {
+                true => format!(in alloc; "{} at {}", rec.version, read.position),
+                false => format!(in alloc; "{} of {from:?} at {}", read.version, read.position),
+            }
+        }
         Err(cause) => cause.to_string(alloc),
     }
 }

@@ -111,7 +111,7 @@ fn commit<J: Live, R: Wait + Abort>(rt: &R, service: &Service<J>, client: &mut C
         let drawn = client.ask(rt, &OpenGate, &service.sequencer, 0, at).is_ok();
         holds(rt, drawn, &at);
     }
-    let acked = client.report(rt, &OpenGate, 2, false, None).is_ok();
+    let acked = client.report(rt, &OpenGate, 2, false, None, 0).is_ok();
     holds(rt, acked, &"a report");
 }
 
@@ -183,6 +183,7 @@ fn read<J: Live, R: Wait>(
         tags: Sequence::new(alloc),
         lock_aware: false,
         at: 0,
+        use_min: false,
     };
     client.read_version(rt, &OpenGate, desk, opts)
 }

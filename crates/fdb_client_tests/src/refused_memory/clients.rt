@@ -4,7 +4,7 @@ ghost use Rattle.std.specs.Prelude.{◌≡◌};
 
 use crate::client::{Case, Service, client_of, play, unlocked};
 use crate::line::tag;
-use crate::same::same;
+use crate::same::{holds, same};
 use fdb_chain::ChainError;
 use fdb_client::{Client, ClientError, ReadVersion};
 use fdb_history::{GrvOpts, OpenGate, Priority, Sequence};
@@ -74,10 +74,10 @@ impl<'a, J: Live> Caller<'a, J> {
         wanted: Result<Ack, ClientError>,
     ) -> Result<(), AllocError> {
         let (calls, position) = (self.client.calls().len(), self.client.position());
-        let mut found = self.client.report(rt, &OpenGate, num, false, None);
+        let mut found = self.client.report(rt, &OpenGate, num, false, None, 0);
         if found == Err(ClientError::Memory) {
             self.is_at(rt, calls, position);
-            found = self.client.report(rt, &OpenGate, num, false, None);
+            found = self.client.report(rt, &OpenGate, num, false, None, 0);
         }
         is_wanted(rt, found, wanted, "report")
     }
@@ -146,6 +146,7 @@ fn tagged(alloc: Global) -> Result<GrvOpts, AllocError> {
         tags,
         lock_aware: false,
         at: 0,
+        use_min: false,
     })
 }
 
@@ -200,8 +201,12 @@ fn commit<J: Live, R: Wait + Abort>(rt: &R, client: &mut Caller<'_, J>) -> Resul
     for version in 100..104 {
         client.asks(rt, 0, Ok(version))?;
     }
-    let (raised, position) = (true, 1);
-    client.reports(rt, 4, Ok(Ack { raised, position }))
+    let first = Ack {
+        raised: true,
+        changed: true,
+        position: 1,
+    };
+    client.reports(rt, 4, Ok(first))
 }
 
 /// One client tells another, which learns.
@@ -248,7 +253,7 @@ fn ask_again<J: Live, R: Wait + Abort>(
 }
 
 /// A client reads through a proxy in a thread of its own. It hears nothing where the proxy is
-/// refused memory.
+/// refused memory, which then ends.
 fn serve<J: Live + Send + Sync, R: Threads + Wait + Abort + Sync>(
     rt: &R,
     reader: &mut Caller<'_, J>,
@@ -262,24 +267,41 @@ fn serve<J: Live + Send + Sync, R: Threads + Wait + Abort + Sync>(
         let running = scope.spawn(move || proxy.run(rt).is_ok())?;
         let found = reader.reads(rt);
         desk.close(rt);
-        running.join(rt);
-        is_read(rt, reader, found)
+        let served = running.join(rt);
+        is_read(rt, reader, found, served)
     })
 }
 
-/// Checks what was read, unless memory was refused.
+/// Checks what was read, and what of it is logged.
 fn is_read<J: Live>(
     rt: &impl Abort,
     reader: &Caller<'_, J>,
     found: Result<ReadVersion, ClientError>,
+    served: bool,
 ) -> Result<(), AllocError> {
-    let Ok(read) = found else {
-        return Err(AllocError);
+    let read = match found {
+        Ok(read) => read,
+        Err(cause) => return is_refused(rt, reader, cause, served),
     };
     same(rt, &(read.rec, read.position), &(unlocked(103), 1), &"read");
     same(rt, &read.limits.len(), &1, &"limits");
     reader.is_at(rt, 1, 1);
     Ok(())
+}
+
+/// Checks that a read failed for memory, of which its log has nothing, or that its proxy ended for
+/// that, and then the log says that the proxy is closed.
+fn is_refused<J: Live>(
+    rt: &impl Abort,
+    reader: &Caller<'_, J>,
+    cause: ClientError,
+    served: bool,
+) -> Result<(), AllocError> {
+    let closed = cause == ClientError::ProxyClosed;
+    holds(rt, closed || cause == ClientError::Memory, &cause);
+    holds(rt, !closed || !served, &"closed, though it served");
+    reader.is_at(rt, usize::from(closed), 0);
+    Err(AllocError)
 }
 
 /// A queue with a throttle of the tag `t`.

@@ -2,11 +2,11 @@
 use Rattle.std.specs.Prelude.{◌≡◌, ℕ, ◌+◌, ◌<◌, ◌≤◌, Bool, false, List, length, take, Option, None, Some, slice_get, slice_index_or, count_by}
 use Rattle.std.specs.List.{AllByRecursion}
 use Rattle.std.specs.List.Sorted.{IsNonDecreasingBy}
-use Rattle.fdb_history.specs.Event.{is_raise}
+use Rattle.fdb_history.specs.Event.{is_change}
 use Rattle.fdb_history.specs.Explained.{placed_in}
-use Rattle.fdb_history.specs.Faults.{IsClash, IsGap, IsFirst, IsLeast, IsReached, Nowhere, AtNoPosition, at_position, raises_at, register_at, after_raises}
+use Rattle.fdb_history.specs.Faults.{IsClash, IsGap, IsFirst, IsLeast, IsReached, Nowhere, AtNoPosition, at_position, changes_at, register_at, after_changes}
 use Rattle.fdb_history.specs.declared.auditing.found.CallName.{CallName}
-use Rattle.fdb_history.specs.declared.auditing.raises.PlacedRaise.{PlacedRaise}
+use Rattle.fdb_history.specs.declared.auditing.changes.PlacedChange.{PlacedChange}
 use Rattle.fdb_history.specs.declared.auditing.registers.Registers.{Registers}
 use Rattle.fdb_history.specs.declared.chain.Issued.{Issued}
 use Rattle.fdb_history.specs.declared.fault.AuditFault.{AuditFault}
@@ -39,29 +39,29 @@ abbrev pub IsLeastIfAny : (ℕ → Type 0) → Option ℕ → Type 0
 IsLeastIfAny Stands None = AtNoPosition Stands
 IsLeastIfAny Stands (Some position) = IsLeast Stands position
 
--- the raises stand in the order of their positions
-abbrev pub AreByPosition : List PlacedRaise → Type 0
-AreByPosition raises = IsNonDecreasingBy (λ (raise : PlacedRaise). raise.position) raises
+-- the changes stand in the order of their positions
+abbrev pub AreByPosition : List PlacedChange → Type 0
+AreByPosition changes = IsNonDecreasingBy (λ (change : PlacedChange). change.position) changes
 
--- the raises of a list are those of the logs, at each position
-abbrev pub AreRaisesOf : List ClientLog → List PlacedRaise → Type 0
-AreRaisesOf logs raises = (position : ℕ) → at_position position raises ≡ raises_at logs position
+-- the changes of a list are those of the logs, at each position
+abbrev pub AreChangesOf : List ClientLog → List PlacedChange → Type 0
+AreChangesOf logs changes = (position : ℕ) → at_position position changes ≡ changes_at logs position
 
--- two raises have a position
-abbrev pub AreTwoAt : List PlacedRaise → ℕ → Type 0
-AreTwoAt raises position = 1 < length (at_position position raises)
+-- two changes have a position
+abbrev pub AreTwoAt : List PlacedChange → ℕ → Type 0
+AreTwoAt changes position = 1 < length (at_position position changes)
 
--- the raises before a position stand at 1, 2 and so on
-abbrev pub StandInTurn : ℕ → List PlacedRaise → Type 0
-StandInTurn position raises =
-    (place : ℕ) (d : PlacedRaise) → place + 1 < position
-    → (place < length raises) × ((slice_index_or raises place d).position ≡ place + 1)
+-- the changes before a position stand at 1, 2 and so on
+abbrev pub StandInTurn : ℕ → List PlacedChange → Type 0
+StandInTurn position changes =
+    (place : ℕ) (d : PlacedChange) → place + 1 < position
+    → (place < length changes) × ((slice_index_or changes place d).position ≡ place + 1)
 
--- the register before any raise, and then after each raise in turn
-abbrev pub IsTable : Record → List PlacedRaise → List Record → Type 0
-IsTable start raises table =
-    (count : ℕ) (d : Record) → count ≤ length raises
-    → slice_index_or table count d ≡ after_raises start (take count raises)
+-- the register before any change, and then after each change in turn
+abbrev pub IsTable : Record → List PlacedChange → List Record → Type 0
+IsTable start changes table =
+    (count : ℕ) (d : Record) → count ≤ length changes
+    → slice_index_or table count d ≡ after_changes start (take count changes)
 
 -- the register at a position, by a table
 abbrev pub by_table : Registers → ℕ → Record
@@ -73,20 +73,20 @@ AreRegisters start logs registers =
     (position : ℕ) → IsReached logs position
     → by_table registers position ≡ register_at start logs position
 
--- the first fault of the raises: two at one position, and then none where one is owed
-abbrev pub IsRaiseFault : List ClientLog → AuditFault → Type 0
-IsRaiseFault logs (Clash position) = IsLeast (IsClash logs) position
-IsRaiseFault logs (Gap position) = AtNoPosition (IsClash logs) × IsLeast (IsGap logs) position
-IsRaiseFault logs Memory = Unit {0}
-IsRaiseFault logs (Order client call) = ⊥
-IsRaiseFault logs (Wrong client call) = ⊥
-IsRaiseFault logs (Stray client call) = ⊥
-IsRaiseFault logs (NotAbove client call) = ⊥
+-- the first fault of the changes: two at one position, and then none where one is owed
+abbrev pub IsChangeFault : List ClientLog → AuditFault → Type 0
+IsChangeFault logs (Clash position) = IsLeast (IsClash logs) position
+IsChangeFault logs (Gap position) = AtNoPosition (IsClash logs) × IsLeast (IsGap logs) position
+IsChangeFault logs Memory = Unit {0}
+IsChangeFault logs (Order client call) = ⊥
+IsChangeFault logs (Wrong client call) = ⊥
+IsChangeFault logs (Stray client call) = ⊥
+IsChangeFault logs (NotAbove client call) = ⊥
 
--- no register call has a position above the number of raises
+-- no register call has a position above the number of changes
 abbrev pub IsWithin : List ClientLog → Type 0
 IsWithin logs =
-    AllByRecursion (λ p. p.position ≤ count_by (λ q. is_raise q.event) (placed_in 0 logs))
+    AllByRecursion (λ p. p.position ≤ count_by (λ q. is_change q.event) (placed_in 0 logs))
     (placed_in 0 logs)
 
 -- the marks of the chain's entries are the answers of this test

@@ -1,9 +1,9 @@
--- The order of the program's events, and the raises among them. (this product's own)
+-- The order of the program's events, and the changes among them. (this product's own)
 use Rattle.std.specs.Prelude.{ℕ, true, false, List, [], ◌∷◌}
 use Rattle.std.specs.List.{flat_map}
 use Rattle.std.specs.List.Sorted.{IsNonDecreasingBy}
 use Rattle.fdb_history.specs.declared.event.Placed.{Placed}
-use Rattle.fdb_history.specs.declared.auditing.raises.PlacedRaise.{PlacedRaise}
+use Rattle.fdb_history.specs.declared.auditing.changes.PlacedChange.{PlacedChange}
 use Rattle.fdb_history.specs.declared.event.Event.{Event}
 use Rattle.fdb_history.specs.declared.event.Event.TheVariants.{Report, Read}
 
@@ -11,13 +11,13 @@ use Rattle.fdb_history.specs.declared.event.Event.TheVariants.{Report, Read}
 abbrev pub AreEventsByPosition : List Placed → Type 0
 AreEventsByPosition events = IsNonDecreasingBy (λ (p : Placed). p.position) events
 
--- the raise of an event at a position, if it is one
-abbrev pub raise_of_event : ℕ → Event → List PlacedRaise
-raise_of_event position (Report client call rec true) =
+-- the change of an event at a position, if it is one
+abbrev pub change_of_event : ℕ → Event → List PlacedChange
+change_of_event position (Report client call rec raised true) =
     record { position = position; rec = rec } ∷ []
-raise_of_event position (Report client call rec false) = []
-raise_of_event position (Read client call rec) = []
+change_of_event position (Report client call rec raised false) = []
+change_of_event position (Read client call rec) = []
 
--- the raises among some events
-abbrev pub raises_of : List Placed → List PlacedRaise
-raises_of events = flat_map (λ p. raise_of_event p.position p.event) events
+-- the changes among some events
+abbrev pub changes_of : List Placed → List PlacedChange
+changes_of events = flat_map (λ p. change_of_event p.position p.event) events

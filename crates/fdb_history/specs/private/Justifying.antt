@@ -16,6 +16,6 @@ abbrev pub own_after : KeptReplies → CallAnswer → KeptReplies
 own_after own (Answered issued) =
     if issued.fresh then replies_after own issued.ordinal issued.processed else own
 own_after own (Version rec limits locked_out) = own
-own_after own (Acked rec raised) = own
+own_after own (Acked rec raised changed) = own
 own_after own Told = own
 own_after own (Refused cause) = own

@@ -45,11 +45,21 @@ impl<'a> CallFault for Wrong<'a> {
     fn stands_at(&self, _before: &[Call], call: &Call) -> bool {
         match &call.answer {
             CallAnswer::Version { rec, .. } => *rec != self.registers.at(call.position),
-            CallAnswer::Acked { rec, raised: true } => {
-                rec.version <= self.registers.at(call.position.saturating_sub(1)).version
+            CallAnswer::Acked {
+                rec,
+                raised,
+                changed: true,
+            } => {
+                let current = self.registers.at(call.position.saturating_sub(1));
+                *raised != current.raises(*rec) || !current.changes(*rec)
             }
-            CallAnswer::Acked { rec, raised: false } => {
-                rec.version > self.registers.at(call.position).version
+            CallAnswer::Acked {
+                rec,
+                raised,
+                changed: false,
+            } => {
+                let current = self.registers.at(call.position);
+                *raised != current.raises(*rec) || current.changes(*rec)
             }
             _ => false,
         }

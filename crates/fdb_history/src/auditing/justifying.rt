@@ -54,7 +54,7 @@ fn may_refuse(input: &Input, cause: Refusal) -> bool
             cause,
             Refusal::Early { .. } | Refusal::Forgotten | Refusal::Exhausted
         ),
-        Input::Report { .. } => matches!(cause, Refusal::NotIssued),
+        Input::Report { .. } => matches!(cause, Refusal::NotIssued | Refusal::MinAbove),
         Input::Tell { .. } | Input::Learn { .. } => false,
     }
 }
@@ -176,8 +176,9 @@ fn is_near_the_end(chain: &[Issued]) -> bool
     }
 }
 
-/// Whether a report is of the version that was drawn under its number, with
-/// the flags that it was told; and whether it is refused only where none was.
+/// Whether a report is of the version that was drawn under its number, with the flags and the
+/// minimum known committed version that it was told; and whether it is refused only where no
+/// version was drawn, or where that minimum is above it.
 fn is_of_issued(chain: &[Issued], own: &Replies, input: &Input, answer: &CallAnswer) -> bool
     ensures { result ≡ is_of_issued
         (drawn_version chain.now own.now (number_of input.now)) input.now answer.now }
@@ -186,6 +187,7 @@ fn is_of_issued(chain: &[Issued], own: &Replies, input: &Input, answer: &CallAns
         num,
         locked,
         metadata,
+        min_known,
     } = input
     else {
         return true;
@@ -195,8 +197,13 @@ fn is_of_issued(chain: &[Issued], own: &Replies, input: &Input, answer: &CallAns
             drawn_version(chain, own, *num) == Some(rec.version)
                 && rec.locked == *locked
                 && rec.metadata == *metadata
+                && rec.min_known == *min_known
         }
         CallAnswer::Refused(Refusal::NotIssued) => drawn_version(chain, own, *num).is_none(),
+        CallAnswer::Refused(Refusal::MinAbove) => match drawn_version(chain, own, *num) {
+            Some(version) => version < *min_known,
+            None => false,
+        },
         _ => true,
     }
 }

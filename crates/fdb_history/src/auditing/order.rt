@@ -3,7 +3,7 @@
 ghost use Rattle.std.specs.Prelude.{◌≡◌, ◌≤◌, length};
 ghost use Rattle.fdb_history.specs.Faults.{OutOfOrder};
 ghost use Rattle.fdb_history.specs.private.Auditing.{IsFirstCall};
-ghost use Rattle.fdb_history.specs.Log.{answer_raises, position_after_calls};
+ghost use Rattle.fdb_history.specs.Log.{answer_changes, position_after_calls};
 
 use crate::auditing::found::{self, CallFault, CallName};
 use crate::log::{Call, CallAnswer, ClientLog};
@@ -29,7 +29,7 @@ impl CallFault for Order {
         if call.asked < position_after_calls(before) || call.position < call.asked {
             return true;
         }
-        answer_raises(&call.answer) && call.position == call.asked
+        answer_changes(&call.answer) && call.position == call.asked
     }
 }
 
@@ -43,9 +43,9 @@ fn position_after_calls(calls: &[Call]) -> u64
     }
 }
 
-/// Whether an answer says that its call raised the register.
-fn answer_raises(answer: &CallAnswer) -> bool
-    ensures { result ≡ answer_raises answer.now }
+/// Whether an answer says that its call changed the register.
+fn answer_changes(answer: &CallAnswer) -> bool
+    ensures { result ≡ answer_changes answer.now }
 {
-    matches!(answer, CallAnswer::Acked { raised: true, .. })
+    matches!(answer, CallAnswer::Acked { changed: true, .. })
 }

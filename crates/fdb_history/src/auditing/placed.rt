@@ -1,9 +1,9 @@
 //! The register's events in the logs, in the order of the history.
 
 ghost use Rattle.std.specs.Prelude.{◌≡◌, ◌≤◌, ◌++◌, map, length, OnOk, IfOk};
-ghost use Rattle.fdb_history.specs.private.Auditing.{AreRaisesOf, IsWithin};
+ghost use Rattle.fdb_history.specs.private.Auditing.{AreChangesOf, IsWithin};
 ghost use Rattle.fdb_history.specs.Explained.{explained, placed_in};
-ghost use Rattle.fdb_history.specs.private.Explaining.{AreEventsByPosition, raises_of};
+ghost use Rattle.fdb_history.specs.private.Explaining.{AreEventsByPosition, changes_of};
 ghost use Rattle.fdb_history.specs.Log.{event_of_answer, placed_from};
 
 use crate::event::{Event, Placed};
@@ -11,7 +11,7 @@ use crate::log::{Call, CallAnswer, ClientLog};
 use std::alloc::{AllocError, Global};
 
 /// The register's events in the logs: position by position, at
-/// each the raise and then the others, by client and then by call.
+/// each the change and then the others, by client and then by call.
 ///
 /// Linear in the calls up to one sort of the events. An error only where memory is refused.
 pub(crate) fn events_by_position(
@@ -20,14 +20,14 @@ pub(crate) fn events_by_position(
 ) -> Result<Vec<Placed>, AllocError>
     requires { length logs.now ≤ 64 }
     ensures sorted { IfOk result (λ events. AreEventsByPosition events.items) }
-    ensures raises { IfOk result (λ events. AreRaisesOf logs.now (raises_of events.items)) }
+    ensures changes { IfOk result (λ events. AreChangesOf logs.now (changes_of events.items)) }
     ensures history { IfOk result
         (λ events. IsWithin logs.now → map (λ p. p.event) events.items ≡ explained logs.now) }
 {
     let mut all = placed_in(alloc, logs)?;
-    // At each position the raise comes first, and the sort
+    // At each position the change comes first, and the sort
     // is stable: the others stay by client and by call.
-    all.sort_by_key(|p| (p.position, !p.event.is_raise()))?;
+    all.sort_by_key(|p| (p.position, !p.event.is_change()))?;
     Ok(all)
 }
 
@@ -68,11 +68,16 @@ fn event_of_answer(client: u32, call: u64, answer: &CallAnswer) -> Option<Event>
             call,
             rec: *rec,
         }),
-        CallAnswer::Acked { rec, raised } => Some(Event::Report {
+        CallAnswer::Acked {
+            rec,
+            raised,
+            changed,
+        } => Some(Event::Report {
             client,
             call,
             rec: *rec,
             raised: *raised,
+            changed: *changed,
         }),
         CallAnswer::Answered(_) | CallAnswer::Told | CallAnswer::Refused(_) => None,
     }

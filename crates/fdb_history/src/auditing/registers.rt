@@ -1,11 +1,11 @@
-//! The register at each position, by the raises in the logs.
+//! The register at each position, by the changes in the logs.
 
 ghost use Rattle.std.specs.Prelude.{◌≡◌, ◌≤◌, ℕ, slice_get, Some, IfOk, OnOk, IfErr};
-ghost use Rattle.fdb_history.specs.private.Auditing.{AreByPosition, AreRaisesOf, AreRegisters, IsRaiseFault, IsTable, by_table};
+ghost use Rattle.fdb_history.specs.private.Auditing.{AreByPosition, AreChangesOf, AreRegisters, IsChangeFault, IsTable, by_table};
 ghost use Rattle.fdb_history.specs.Faults.{OutOfOrder, IsClash, IsGap, IsReached, AtNoPosition, Nowhere};
 ghost use Rattle.fdb_history.specs.declared.log.Call.{Call};
 
-use crate::auditing::raises::{PlacedRaise, first_clash, first_missing};
+use crate::auditing::changes::{PlacedChange, first_clash, first_missing};
 use crate::fault::AuditFault;
 use crate::log::{Call, ClientLog};
 use crate::register::Record;
@@ -14,7 +14,7 @@ use std::alloc::{AllocError, Global};
 /// The register at each position that a call has reached.
 #[derive(Drop)]
 pub(crate) struct Registers {
-    /// The register before any raise.
+    /// The register before any change.
     pub(crate) start: Record,
     /// The register at each position, from 0 on.
     pub(crate) table: Vec<Record>,
@@ -32,43 +32,47 @@ impl Registers {
     }
 }
 
-/// The register at each position that a call has reached, or the first fault of the raises: two
-/// at one position, or none where one is owed. `raises` are those of the logs, by position.
+/// The register at each position that a call has reached, or the first fault of the changes: two
+/// at one position, or none where one is owed. `changes` are those of the logs, by position.
 pub(crate) fn registers_of(
     alloc: Global,
     start: Record,
-    raises: &[PlacedRaise],
+    changes: &[PlacedChange],
     logs: &[ClientLog],
 ) -> Result<Registers, AuditFault>
     requires order { Nowhere (OutOfOrder logs.now) }
-    requires sorted { AreByPosition raises.now }
-    requires same { AreRaisesOf logs.now raises.now }
+    requires sorted { AreByPosition changes.now }
+    requires same { AreChangesOf logs.now changes.now }
     ensures no_clash { OnOk result (AtNoPosition (IsClash logs.now)) }
     ensures no_gap { OnOk result (AtNoPosition (IsGap logs.now)) }
     ensures begins { IfOk result (λ registers. registers.start ≡ start) }
     ensures ok { IfOk result (λ registers. AreRegisters start logs.now registers) }
-    ensures err { IfErr result (IsRaiseFault logs.now) }
+    ensures err { IfErr result (IsChangeFault logs.now) }
 {
-    if let Some(position) = first_clash(raises) {
+    if let Some(position) = first_clash(changes) {
         return Err(AuditFault::Clash { position });
     }
-    let position = first_missing(raises);
+    let position = first_missing(changes);
     if position <= greatest_position(logs) {
         return Err(AuditFault::Gap { position });
     }
-    let table = table_of(alloc, start, raises)?;
+    let table = table_of(alloc, start, changes)?;
     Ok(Registers { start, table })
 }
 
-/// The register before any raise, and then after each raise in turn.
-fn table_of(alloc: Global, start: Record, raises: &[PlacedRaise]) -> Result<Vec<Record>, AllocError>
-    ensures { IfOk result (λ table. IsTable start raises.now table.items) }
+/// The register before any change, and then after each change in turn.
+fn table_of(
+    alloc: Global,
+    start: Record,
+    changes: &[PlacedChange],
+) -> Result<Vec<Record>, AllocError>
+    ensures { IfOk result (λ table. IsTable start changes.now table.items) }
 {
-    let mut table = Vec::with_capacity(alloc, raises.len() + 1)?;
+    let mut table = Vec::with_capacity(alloc, changes.len() + 1)?;
     let mut current = start;
     table.push_reserved(current);
-    for raise in raises {
-        current = current.after_report(raise.rec);
+    for change in changes {
+        current = current.after_report(change.rec);
         table.push_reserved(current);
     }
     Ok(table)

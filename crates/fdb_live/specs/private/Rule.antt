@@ -5,29 +5,29 @@ use mathlib.Core.List.{IsPrefix}
 use mathlib.Core.Option.{some}
 use lib.ListN.{get_elem?}
 use Rattle.fdb_history.specs.declared.register.Record.{Record}
-use Rattle.fdb_live.specs.Seen.{last_record, IsLog, raised_by, longer}
+use Rattle.fdb_live.specs.Seen.{last_record, IsLog, changed_by, longer}
 use Rattle.fdb_live.specs.private.Words.{fetched_of}
 use Rattle.fdb_live.specs.declared.fetched.Fetched.{Fetched}
 use Rattle.fdb_live.specs.declared.held.Held.{Held}
-use Rattle.fdb_live.specs.declared.raise.Raise.{Raise}
+use Rattle.fdb_live.specs.declared.change.Change.{Change}
 use Rattle.fdb_live.specs.declared.view.View.{View}
 
 -- The words are those after the log.
-pub record IsRegister (start : Record) (fetched : Fetched) (log : List Raise) : Type 0 where
+pub record IsRegister (start : Record) (fetched : Fetched) (log : List Change) : Type 0 where
   pub position : fetched.position ≡ length log
   pub rec : fetched.rec ≡ last_record start log
 
 -- What the rule says of one pass. One with the right to replace sits at the seat, and has seen the
 -- whole log. What any has seen begins the log, and the lists of a join begin what it has seen. All
--- raises with a number that a pass holds stand in its own list, and each number has one holder.
-pub record Fits (start : Record) (reporters : ℕ) (log : List Raise) (seat : ℕ) (holder : ℕ → ℕ)
+-- changes with a number that a pass holds stand in its own list, and each number has one holder.
+pub record Fits (start : Record) (reporters : ℕ) (log : List Change) (seat : ℕ) (holder : ℕ → ℕ)
     (pass : ℕ) (v : View) : Type 0 where
   pub opened : 0 < v.reporters → (v.start ≡ start) × (v.reporters ≡ reporters)
   pub right : v.replaces ≡ true → (pass ≡ seat) × (v.reporters ≡ reporters) × (v.seen ≡ log)
   pub seen : IsPrefix v.seen log
   pub mine : IsPrefix v.mine v.seen
   pub theirs : IsPrefix v.theirs v.seen
-  pub own : (n : ℕ) → v.low ≤ n → n < v.high → raised_by n 1 v.mine ≡ raised_by n 1 log
+  pub own : (n : ℕ) → v.low ≤ n → n < v.high → changed_by n 1 v.mine ≡ changed_by n 1 log
   pub numbers : v.high ≤ v.reporters
   pub held : (n : ℕ) → v.low ≤ n → n < v.high → pass ≡ holder n
 
@@ -36,7 +36,7 @@ pub record Fits (start : Record) (reporters : ℕ) (log : List Raise) (seat : �
 pub record Kept (fetched : Fetched) (views : List View) : Type 0 where
   pub start : Record
   pub reporters : ℕ
-  pub log : List Raise
+  pub log : List Change
   pub seat : ℕ
   pub holder : ℕ → ℕ
   pub register : 0 < reporters → IsRegister start fetched log
@@ -44,7 +44,7 @@ pub record Kept (fetched : Fetched) (views : List View) : Type 0 where
   pub each : (pass : ℕ) (v : View) → get_elem? views pass ≡ some v →
       Fits start reporters log seat holder pass v
 
-abbrev pub view : Record → ℕ → ℕ → ℕ → Bool → List Raise → List Raise → List Raise → View
+abbrev pub view : Record → ℕ → ℕ → ℕ → Bool → List Change → List Change → List Change → View
 view start reporters low high replaces seen mine theirs =
     record {
       start = start;
@@ -59,7 +59,7 @@ view start reporters low high replaces seen mine theirs =
 
 -- The start of a service that is not opened yet.
 abbrev pub no_record : Record
-no_record = record { version = 0; locked = false; metadata = None }
+no_record = record { version = 0; locked = false; metadata = None; min_known = 0 }
 
 -- The first pass, before the service is opened: it has the right to replace.
 abbrev pub first : View
@@ -74,7 +74,7 @@ abbrev pub opened : Record → ℕ → View
 opened start reporters = view start reporters 0 reporters true [] [] []
 
 -- The view once it has seen this list.
-abbrev pub having_seen : View → List Raise → View
+abbrev pub having_seen : View → List Change → View
 having_seen v list = view v.start v.reporters v.low v.high v.replaces list list []
 
 -- A pass that has seen the same, with no number and no right.
@@ -97,11 +97,11 @@ abbrev pub taken : View → View → View
 taken v w = view v.start v.reporters w.low w.high v.replaces v.seen w.mine w.seen
 
 -- What a list that the log begins with, or the log itself, tells a pass.
-pub record Tells (v : View) (list : List Raise) : Type 0 where
+pub record Tells (v : View) (list : List Change) : Type 0 where
   pub seen : IsPrefix v.seen list
   pub mine : IsPrefix v.mine list
   pub theirs : IsPrefix v.theirs list
-  pub own : (n : ℕ) → v.low ≤ n → n < v.high → raised_by n 1 v.mine ≡ raised_by n 1 list
+  pub own : (n : ℕ) → v.low ≤ n → n < v.high → changed_by n 1 v.mine ≡ changed_by n 1 list
 
 -- A look at the words: the whole log is then seen.
 pub record Looks (v : View) (before after : Fetched) (w : View) : Type 0 where

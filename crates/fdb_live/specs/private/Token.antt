@@ -3,10 +3,10 @@
 use Rattle.std.specs.Prelude.{◌≡◌, ℕ, ◌+◌, ◌<◌, ◌≤◌, Bool, true, Option, None, Some, List, [], ◌∷◌, ◌++◌, length, MatchBool}
 use Rattle.atomic_table.specs.Seated.{TableId}
 use Rattle.fdb_history.specs.declared.register.Record.{Record}
-use Rattle.fdb_history.specs.Register.{raises}
+use Rattle.fdb_history.specs.Register.{raises, changes}
 use Rattle.fdb_live.specs.Seen.{last_record, IsLog}
 use Rattle.fdb_live.specs.private.Rule.{having_seen, Tells}
-use Rattle.fdb_live.specs.declared.raise.Raise.{Raise}
+use Rattle.fdb_live.specs.declared.change.Change.{Change}
 use Rattle.fdb_live.specs.declared.view.View.{View}
 
 -- The table of no cell.
@@ -42,17 +42,18 @@ pub record IsRight (start : Record) (reporters : ℕ) (v : View) : Type 0 where
   pub reporters_is : v.reporters ≡ reporters
   pub replaces : v.replaces ≡ true
 
--- A report by the pass with the right: which log it found, and whether and how it raised the
--- record.
-pub record IsReported (v : View) (rec : Record) (raised : Bool) (position : ℕ)
+-- A report by the pass with the right: which log it found, and whether and how it changed the
+-- record, and whether it raised it.
+pub record IsReported (v : View) (rec : Record) (raised changed : Bool) (position : ℕ)
     (w : View) : Type 0 where
-  pub found : List Raise
+  pub found : List Change
   pub tells : Tells v found
   pub numbers : v.high ≤ v.reporters
   pub legal : IsLog v.start v.reporters found
   pub is : w ≡ having_seen v w.seen
   pub raised_is : raised ≡ raises (last_record v.start found) rec
-  pub seen : MatchBool raised
+  pub changed_is : changed ≡ changes (last_record v.start found) rec
+  pub seen : MatchBool changed
       (w.seen ≡ found ++ record { reporter = v.low; rec = rec } ∷ [])
       (w.seen ≡ found)
   pub position_is : position ≡ length w.seen

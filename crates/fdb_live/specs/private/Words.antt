@@ -23,6 +23,7 @@ held_of fetched = record {
   version = fetched.rec.version;
   flags = flags_of fetched.rec;
   metadata = metadata_of fetched.rec.metadata;
+  min_known = fetched.rec.min_known;
 }
 
 -- And what they say.
@@ -35,10 +36,13 @@ fetched_of held = record {
     version = held.version;
     locked = is_set 1 held.flags;
     metadata = if is_set 2 held.flags then Some held.metadata else None;
+    min_known = held.min_known;
   };
   position = held.position;
 }
 
--- Four words: the position, the version, the flags and the metadata version.
+-- Five words: the position, the version, the flags, the metadata version and the minimum known
+-- committed version.
 abbrev pub words_of : Held → List ℕ
-words_of held = held.position ∷ held.version ∷ held.flags ∷ held.metadata ∷ []
+words_of held =
+    held.position ∷ held.version ∷ held.flags ∷ held.metadata ∷ held.min_known ∷ []

@@ -1,5 +1,5 @@
 -- A turn of a proxy, by the definitions of its queue.
-use Rattle.std.specs.Prelude.{◌≡◌, ◌⊎◌, ℕ, Bool, true, false, List, [], ◌∷◌, ◌++◌, Option, None, Some, IfSome, ◌<◌, length, map, option_to_list}
+use Rattle.std.specs.Prelude.{◌≡◌, ◌⊎◌, ℕ, List, [], ◌∷◌, ◌++◌, Option, None, Some, IfSome, ◌<◌, length, map, option_to_list}
 use Rattle.std.specs.List.{FoldsTo}
 use Rattle.fdb_proxy.specs.declared.turn.TurnedAway.{TurnedAway}
 use Rattle.fdb_queue.specs.declared.error.QueueError.{QueueError}
@@ -86,19 +86,6 @@ pub record IsTurn {T : Type 0} (elapsed : ℕ) (before : Queue T) (offered start
   pub starts : started ≡ window ready
   pub leaves : after ≡ after_window elapsed ready
 
--- One turn with some requests leads from one queue to another.
-abbrev pub HasTurn : {T : Type 0} → ℕ → Queue T → List (Req T) → Queue T → Type 0
-HasTurn {T} elapsed before offered after =
-    (started : List (Req T)) × (turned_away : List (TurnedAway T))
-    × IsTurn elapsed before offered started turned_away after
-
 -- a queue that all have left
 abbrev pub emptied : {T : Type 0} → Queue T → Queue T
 emptied queue = record queue { waiting = nothing }
-
--- One turn with some requests leads from one queue to another; after the last
--- one, all that are left leave the queue, and nothing else is done there.
-abbrev pub HasTurnOrLast : {T : Type 0} → Bool → ℕ → Queue T → List (Req T) → Queue T → Type 0
-HasTurnOrLast false elapsed before offered after = HasTurn elapsed before offered after
-HasTurnOrLast {T} true elapsed before offered after =
-    (turned : Queue T) × HasTurn elapsed before offered turned × (after ≡ emptied turned)

@@ -4,19 +4,17 @@ use Rattle.std.specs.BTreeMap.{BTreeMap}
 use Rattle.std.specs.Global.{Vec}
 use Rattle.fdb_history.specs.declared.grv.Priority.{Priority}
 use Rattle.fdb_history.specs.declared.grv.Priority.TheVariants.{System, Default, Batch}
-use Rattle.fdb_queue.specs.Throttles.{Throttle}
 use Rattle.fdb_queue.specs.declared.throttles.Limit.{Limit}
+use Rattle.fdb_queue.specs.declared.throttles.Throttle.{Throttle}
 
 -- those of one priority
 abbrev pub kept_for : Priority → List (Vec ℕ × Limit) → List Throttle
 kept_for priority entries =
     map (λ entry. record {
       priority = priority;
-      limit = record {
-        tag = entry.0.items;
-        rate = entry.1.rate;
-        expires = entry.1.expires;
-      };
+      tag = entry.0.items;
+      rate = entry.1.rate;
+      expires = entry.1.expires;
     }) entries
 
 abbrev pub all_of : BTreeMap (Vec ℕ) Limit → BTreeMap (Vec ℕ) Limit → BTreeMap (Vec ℕ) Limit

@@ -32,7 +32,7 @@ abbrev pub tells_by : ℕ → ℕ → Input → List Tell
 tells_by from position (input.Tell to) = record { to = to; from = from; position = position } ∷ []
 tells_by from position (input.Grv opts) = []
 tells_by from position (input.Ask num processed at) = []
-tells_by from position (input.Report num locked metadata) = []
+tells_by from position (input.Report num locked metadata min_known) = []
 tells_by from position (input.Learn teller) = []
 
 abbrev pub tells_in : ℕ → List Call → List Tell

@@ -63,7 +63,7 @@ fn other_faults(rt: HostRuntime) -> Result<(), Fail> {
     let (round, command) = (10_000, 9_999);
     let field = Fault::Script(ScriptError::BadField { round, command });
     ends(&rt, alloc, field, "script refused: BadField 10000 9999", 1)?;
-    ends(&rt, alloc, Fault::Words, "words refused", 2)?;
+    ends(&rt, alloc, Fault::Arguments, "words refused", 2)?;
     ends(&rt, alloc, Fault::Memory, "want of memory", 3)?;
     ends(&rt, alloc, Fault::Reading, "reading failed", 5)?;
     ends(&rt, alloc, Fault::Writing, "writing failed", 5)

@@ -1,6 +1,6 @@
 //! Readers and writers that give and take in pieces, and fail.
 
-use super::{REPLIES, SCRIPT, arguments_of, assert_ran, driven};
+use super::{REPLIES, Ran, SCRIPT, arguments_of, assert_ran, driven};
 use crate::calls::{drives, replays};
 use crate::same::{holds, same, same_text};
 use fdb_replay::{MAX_SCRIPT_BYTES, ReplayFault};
@@ -14,15 +14,60 @@ use std::sync::Wait;
 use std::test::Fail;
 use std::thread::Threads;
 
-/// A reader that gives its bytes in pieces. It may be
-/// interrupted before each of them, and may fail at its end.
+/// The kinds of errors, but for an interruption, after which a stream is tried again.
+const KINDS: &[ErrorKind] = &[
+    ErrorKind::NotFound,
+    ErrorKind::PermissionDenied,
+    ErrorKind::ConnectionRefused,
+    ErrorKind::ConnectionReset,
+    ErrorKind::HostUnreachable,
+    ErrorKind::NetworkUnreachable,
+    ErrorKind::ConnectionAborted,
+    ErrorKind::NotConnected,
+    ErrorKind::AddrInUse,
+    ErrorKind::AddrNotAvailable,
+    ErrorKind::NetworkDown,
+    ErrorKind::BrokenPipe,
+    ErrorKind::AlreadyExists,
+    ErrorKind::WouldBlock,
+    ErrorKind::NotADirectory,
+    ErrorKind::IsADirectory,
+    ErrorKind::DirectoryNotEmpty,
+    ErrorKind::ReadOnlyFilesystem,
+    ErrorKind::FilesystemLoop,
+    ErrorKind::StaleNetworkFileHandle,
+    ErrorKind::InvalidInput,
+    ErrorKind::InvalidData,
+    ErrorKind::TimedOut,
+    ErrorKind::WriteZero,
+    ErrorKind::StorageFull,
+    ErrorKind::NotSeekable,
+    ErrorKind::QuotaExceeded,
+    ErrorKind::FileTooLarge,
+    ErrorKind::ResourceBusy,
+    ErrorKind::ExecutableFileBusy,
+    ErrorKind::Deadlock,
+    ErrorKind::CrossesDevices,
+    ErrorKind::TooManyLinks,
+    ErrorKind::InvalidFilename,
+    ErrorKind::ArgumentListTooLong,
+    ErrorKind::Unsupported,
+    ErrorKind::UnexpectedEof,
+    ErrorKind::OutOfMemory,
+    ErrorKind::InProgress,
+    ErrorKind::Other,
+    ErrorKind::Uncategorized,
+];
+
+/// A reader that gives its bytes in pieces. It may be interrupted before
+/// each of them, and may fail once, at its end: asked again, it has ended.
 #[derive(Drop)]
 struct Pieces<'a> {
     left: &'a [u8],
     most: usize,
     interrupts: bool,
     interrupted: bool,
-    fails: bool,
+    fails: Option<ErrorKind>,
 }
 
 impl Read for Pieces<'_> {
@@ -31,8 +76,10 @@ impl Read for Pieces<'_> {
         if self.interrupted {
             return Err(io::Error::from(ErrorKind::Interrupted));
         }
-        if self.fails && self.left.is_empty() {
-            return Err(io::Error::from(ErrorKind::ConnectionReset));
+        if self.left.is_empty() {
+            if let Some(kind) = self.fails.take() {
+                return Err(io::Error::from(kind));
+            }
         }
         let count = self.left.len().min(self.most).min(buf.len());
         buf[..count].copy_from_slice(&self.left[..count]);
@@ -63,7 +110,7 @@ fn in_pieces<R: Threads + Wait + Sync + Files + Abort>(
     alloc: Global,
     most: usize,
     interrupts: bool,
-    fails: bool,
+    fails: Option<ErrorKind>,
 ) -> Result<(), Fail> {
     let mut input = Pieces {
         left: SCRIPT.as_bytes(),
@@ -73,20 +120,39 @@ fn in_pieces<R: Threads + Wait + Sync + Files + Abort>(
         fails,
     };
     let ran = driven(rt, alloc, arguments_of(alloc, ""), &mut input);
-    if fails {
-        assert_ran(rt, &ran, 5, READING_FAILED, "in pieces that fail")
+    match fails {
+        None => assert_ran(rt, &ran, 0, REPLIES, "in pieces"),
+        Some(kind) => assert_failed(rt, alloc, &ran, kind),
+    }
+}
+
+/// Checks how the program ended whose reader failed.
+fn assert_failed(rt: &impl Abort, alloc: Global, ran: &Ran, kind: ErrorKind) -> Result<(), Fail> {
+    let case = format!(in alloc; "a reader that fails with {kind}")?;
+    if kind == ErrorKind::OutOfMemory {
+        assert_ran(rt, ran, 3, "fdb_replay: want of memory\n", case.as_str())
     } else {
-        assert_ran(rt, &ran, 0, REPLIES, "in pieces")
+        assert_ran(rt, ran, 5, READING_FAILED, case.as_str())
     }
 }
 
 #[test]
 fn readers_of_every_kind(rt: HostRuntime) -> Result<(), Fail> {
+    let reset = Some(ErrorKind::ConnectionReset);
     for most in [1, 7, MAX_SCRIPT_BYTES] {
-        in_pieces(&rt, rt.alloc(), most, false, false)?;
-        in_pieces(&rt, rt.alloc(), most, true, false)?;
-        in_pieces(&rt, rt.alloc(), most, false, true)?;
-        in_pieces(&rt, rt.alloc(), most, true, true)?;
+        in_pieces(&rt, rt.alloc(), most, false, None)?;
+        in_pieces(&rt, rt.alloc(), most, true, None)?;
+        in_pieces(&rt, rt.alloc(), most, false, reset)?;
+        in_pieces(&rt, rt.alloc(), most, true, reset)?;
+    }
+    Ok(())
+}
+
+/// A reader that fails with an error of any kind is not asked again.
+#[test]
+fn readers_that_fail(rt: HostRuntime) -> Result<(), Fail> {
+    for kind in KINDS {
+        in_pieces(&rt, rt.alloc(), 100, true, Some(*kind))?;
     }
     Ok(())
 }
@@ -108,16 +174,23 @@ struct Hundreds {
     taken: Vec<u8>,
     calls: usize,
     fails_at: usize,
+    /// The kind of its error.
+    kind: ErrorKind,
     /// Whether something was written after the call that failed.
     late: bool,
 }
 
 impl Hundreds {
     fn new(alloc: Global, fails_at: usize) -> Hundreds {
+        Hundreds::failing(alloc, fails_at, ErrorKind::BrokenPipe)
+    }
+
+    fn failing(alloc: Global, fails_at: usize, kind: ErrorKind) -> Hundreds {
         Hundreds {
             taken: Vec::new(alloc),
             calls: 0,
             fails_at,
+            kind,
             late: false,
         }
     }
@@ -125,7 +198,7 @@ impl Hundreds {
     fn count(&mut self) -> io::Result<()> {
         self.calls = self.calls.saturating_add(1);
         if self.calls == self.fails_at {
-            return Err(io::Error::from(ErrorKind::BrokenPipe));
+            return Err(io::Error::from(self.kind));
         }
         Ok(())
     }
@@ -185,8 +258,9 @@ fn flushed<R: Threads + Wait + Sync + Files + Abort>(
     rt: &R,
     alloc: Global,
     fails_at: usize,
+    kind: ErrorKind,
 ) -> Result<(), Fail> {
-    let (mut out, mut err) = (Hundreds::new(alloc, fails_at), Vec::new(alloc));
+    let (mut out, mut err) = (Hundreds::failing(alloc, fails_at, kind), Vec::new(alloc));
     let mut input = SCRIPT.as_bytes();
     let status = drives(
         rt,
@@ -201,7 +275,7 @@ fn flushed<R: Threads + Wait + Sync + Files + Abort>(
     } else {
         (0, "")
     };
-    same(rt, &status, &wanted, &fails_at);
+    same(rt, &status, &wanted, &kind);
     same_text(rt, from_utf8(&err)?, said, "standard error");
     has_taken(rt, &out, fails_at);
     Ok(())
@@ -211,7 +285,19 @@ fn flushed<R: Threads + Wait + Sync + Files + Abort>(
 fn writers_that_fail(rt: HostRuntime) -> Result<(), Fail> {
     for fails_at in 1..=5 {
         replayed(&rt, rt.alloc(), fails_at);
-        flushed(&rt, rt.alloc(), fails_at)?;
+        flushed(&rt, rt.alloc(), fails_at, ErrorKind::BrokenPipe)?;
+    }
+    Ok(())
+}
+
+/// A writer that fails with an error of any kind is called no more: at
+/// the first call, in the middle, at the last one, and at the flush.
+#[test]
+fn writers_that_fail_in_any_way(rt: HostRuntime) -> Result<(), Fail> {
+    for kind in KINDS {
+        for fails_at in 1..=4 {
+            flushed(&rt, rt.alloc(), fails_at, *kind)?;
+        }
     }
     Ok(())
 }

@@ -56,16 +56,16 @@ const FIRST_LEFT: &str = "\
 Issued { ordinal: 0, proxy: 0, num: 1, processed: 0, prev: 0, version: 100, at: 1000, fresh: true }
 Issued { ordinal: 1, proxy: 0, num: 2, processed: 0, prev: 100, version: 2100, at: 3000, fresh: true }
 log
-0 0 Grv(GrvOpts { priority: Default, count: 1, tags: Sequence { items: [] }, lock_aware: false, at: 0 }) Version { rec: Record { version: 100, locked: false, metadata: None }, limits: Sequence { items: [] }, locked_out: false }
+0 0 Grv(GrvOpts { priority: Default, count: 1, tags: Sequence { items: [] }, lock_aware: false, at: 0, use_min: false }) Version { rec: Record { version: 100, locked: false, metadata: None, min_known: 0 }, limits: Sequence { items: [] }, locked_out: false }
 0 0 Ask { num: 1, processed: 0, at: 1000 } Answered(Issued { ordinal: 0, proxy: 0, num: 1, processed: 0, prev: 0, version: 100, at: 1000, fresh: true })
-0 0 Report { num: 1, locked: false, metadata: None } Acked { rec: Record { version: 100, locked: false, metadata: None }, raised: false }
+0 0 Report { num: 1, locked: false, metadata: None, min_known: 0 } Acked { rec: Record { version: 100, locked: false, metadata: None, min_known: 0 }, raised: false, changed: false }
 0 0 Ask { num: 2, processed: 0, at: 3000 } Answered(Issued { ordinal: 1, proxy: 0, num: 2, processed: 0, prev: 100, version: 2100, at: 3000, fresh: true })
-0 1 Report { num: 2, locked: false, metadata: None } Acked { rec: Record { version: 2100, locked: false, metadata: None }, raised: true }
-1 1 Grv(GrvOpts { priority: Default, count: 1, tags: Sequence { items: [] }, lock_aware: false, at: 0 }) Version { rec: Record { version: 2100, locked: false, metadata: None }, limits: Sequence { items: [] }, locked_out: false }
-Read { client: 0, call: 0, rec: Record { version: 100, locked: false, metadata: None } }
-Report { client: 0, call: 2, rec: Record { version: 100, locked: false, metadata: None }, raised: false }
-Report { client: 0, call: 4, rec: Record { version: 2100, locked: false, metadata: None }, raised: true }
-Read { client: 0, call: 5, rec: Record { version: 2100, locked: false, metadata: None } }
+0 1 Report { num: 2, locked: false, metadata: None, min_known: 0 } Acked { rec: Record { version: 2100, locked: false, metadata: None, min_known: 0 }, raised: true, changed: true }
+1 1 Grv(GrvOpts { priority: Default, count: 1, tags: Sequence { items: [] }, lock_aware: false, at: 0, use_min: false }) Version { rec: Record { version: 2100, locked: false, metadata: None, min_known: 0 }, limits: Sequence { items: [] }, locked_out: false }
+Read { client: 0, call: 0, rec: Record { version: 100, locked: false, metadata: None, min_known: 0 } }
+Report { client: 0, call: 2, rec: Record { version: 100, locked: false, metadata: None, min_known: 0 }, raised: false, changed: false }
+Report { client: 0, call: 4, rec: Record { version: 2100, locked: false, metadata: None, min_known: 0 }, raised: true, changed: true }
+Read { client: 0, call: 5, rec: Record { version: 2100, locked: false, metadata: None, min_known: 0 } }
 ";
 
 /// Client 0 reports a commit version and tells client 1, which reads in the next round.
@@ -82,13 +82,13 @@ Issued { ordinal: 1, proxy: 0, num: 2, processed: 0, prev: 100, version: 2100, a
 log
 0 0 Ask { num: 1, processed: 0, at: 1000 } Answered(Issued { ordinal: 0, proxy: 0, num: 1, processed: 0, prev: 0, version: 100, at: 1000, fresh: true })
 0 0 Ask { num: 2, processed: 0, at: 3000 } Answered(Issued { ordinal: 1, proxy: 0, num: 2, processed: 0, prev: 100, version: 2100, at: 3000, fresh: true })
-0 1 Report { num: 2, locked: false, metadata: None } Acked { rec: Record { version: 2100, locked: false, metadata: None }, raised: true }
+0 1 Report { num: 2, locked: false, metadata: None, min_known: 0 } Acked { rec: Record { version: 2100, locked: false, metadata: None, min_known: 0 }, raised: true, changed: true }
 1 1 Tell { to: 1 } Told
 log
 0 1 Learn { from: 0 } Told
-1 1 Grv(GrvOpts { priority: Default, count: 1, tags: Sequence { items: [] }, lock_aware: false, at: 0 }) Version { rec: Record { version: 2100, locked: false, metadata: None }, limits: Sequence { items: [] }, locked_out: false }
-Report { client: 0, call: 2, rec: Record { version: 2100, locked: false, metadata: None }, raised: true }
-Read { client: 1, call: 1, rec: Record { version: 2100, locked: false, metadata: None } }
+1 1 Grv(GrvOpts { priority: Default, count: 1, tags: Sequence { items: [] }, lock_aware: false, at: 0, use_min: false }) Version { rec: Record { version: 2100, locked: false, metadata: None, min_known: 0 }, limits: Sequence { items: [] }, locked_out: false }
+Report { client: 0, call: 2, rec: Record { version: 2100, locked: false, metadata: None, min_known: 0 }, raised: true, changed: true }
+Read { client: 1, call: 1, rec: Record { version: 2100, locked: false, metadata: None, min_known: 0 } }
 ";
 
 #[test]

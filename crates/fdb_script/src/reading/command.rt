@@ -32,18 +32,21 @@ fn grv_with(value: &Value, tags: Sequence<Tag>) -> Option<Act>
     ensures { result ≡ grv_with (Some tags) (member_or 0 whole (codes "at") (view value.now))
         (member_or Default priority_of (codes "priority") (view value.now))
         (member_or 1 whole (codes "count") (view value.now))
-        (member_or false as_bool (codes "lock_aware") (view value.now)) }
+        (member_or false as_bool (codes "lock_aware") (view value.now))
+        (member_or false as_bool (codes "use_min") (view value.now)) }
 {
     let at = whole_or(value, "at", 0)?;
     let priority = priority_or_default(value)?;
     let count = whole_or(value, "count", 1)?;
     let lock_aware = flag_or_false(value, "lock_aware")?;
+    let use_min = flag_or_false(value, "use_min")?;
     Some(Act::Grv(GrvOpts {
         priority,
         count,
         tags,
         lock_aware,
         at,
+        use_min,
     }))
 }
 
@@ -83,10 +86,12 @@ fn report_of(value: &Value) -> Option<Act>
     let num = whole_member(value, "num")?;
     let locked = flag_or_false(value, "locked")?;
     let metadata = whole_or_none(value, "metadata")?;
+    let min_known = whole_or(value, "min_known", 0)?;
     Some(Act::Report {
         num,
         locked,
         metadata,
+        min_known,
     })
 }
 

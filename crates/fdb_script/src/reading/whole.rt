@@ -11,9 +11,9 @@ ghost use Rattle.fdb_script.specs.declared.script.TheConstants.{MAX_CLIENTS, MAX
 
 use crate::reading::members::{items, items_within, member_within, whole_member, within_or};
 use crate::reading::tags::{priority_of, tag_of};
-use crate::script::{MAX_CLIENTS, MAX_COMMANDS, MAX_ROUNDS, MAX_THROTTLES, Setup, Throttle};
+use crate::script::{MAX_CLIENTS, MAX_COMMANDS, MAX_ROUNDS, MAX_THROTTLES, Setup};
 use fdb_history::{MAX_VERSION, Sequence, Tag};
-use fdb_queue::{MAX_ELAPSED, MAX_RATE, MAX_ROOM, QueueConfig};
+use fdb_queue::{MAX_ELAPSED, MAX_RATE, MAX_ROOM, QueueConfig, Throttle};
 use serde_json::Value;
 use std::alloc::{AllocError, Global};
 

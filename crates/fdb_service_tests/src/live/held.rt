@@ -84,6 +84,7 @@ pub(crate) fn read_beside_report<J: Live + Send + Sync, R: Threads + Wait + Abor
     same(rt, &fetched, &begun, &"the read");
     let raised = Ack {
         raised: true,
+        changed: true,
         position: 1,
     };
     same(rt, &acked, &Ok(raised), &"the report");

@@ -13,6 +13,7 @@ pub(crate) fn unlocked(version: u64) -> Record {
         version,
         locked: false,
         metadata: None,
+        min_known: 0,
     }
 }
 
@@ -24,8 +25,19 @@ pub(crate) fn report_at<J: Live, R: Wait + Abort, G: Gate>(
     seen: &mut Seen<J>,
     version: u64,
 ) -> Result<Ack, LiveError> {
+    report_as(rt, live, gate, seen, unlocked(version))
+}
+
+/// Reports a record by the token of a reporter.
+pub(crate) fn report_as<J: Live, R: Wait + Abort, G: Gate>(
+    rt: &R,
+    live: &LiveRecord<J>,
+    gate: &G,
+    seen: &mut Seen<J>,
+    rec: Record,
+) -> Result<Ack, LiveError> {
     let who = seen.reporter().expect(rt, "a reporter's token");
-    live.report(rt, gate, who, seen, unlocked(version))
+    live.report(rt, gate, who, seen, rec)
 }
 
 /// Checks what the report of a version is answered, and its token's position.
@@ -36,8 +48,13 @@ fn reports<J: Live, R: Wait + Abort>(
     version: u64,
     (raised, position): (bool, u64),
 ) {
+    let wanted = Ack {
+        raised,
+        changed: raised,
+        position,
+    };
     let found = report_at(rt, live, &OpenGate, seen, version);
-    same(rt, &found, &Ok(Ack { raised, position }), &version);
+    same(rt, &found, &Ok(wanted), &version);
     same(rt, &seen.position(), &position, &version);
 }
 

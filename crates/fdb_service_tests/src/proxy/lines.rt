@@ -5,12 +5,16 @@
 //! - `see`: the clients see the record, and their position;
 //! - `submit` has a client, a serial number, a priority, a count,
 //! a moment and tags: `in`, or what is handed back and why;
+//! - `many` has a number, a priority and a count: so many
+//! requests of client 0 are left, with serial numbers from 0 on;
 //! - `leave`: who asked last waits no more;
 //! - `close`: the desk is closed;
 //! - `serve`: the answers to what waits at the desk, as one batch;
 //! - `run` has the limits and the room of a queue: the proxy
 //! runs in a thread of its own until its desk is closed;
 //! - `answers`: those that came to each who waits, in order;
+//! - `serve_many` and `answers_many`: the same, and neighbours
+//! that say the same stand together, behind how many they are;
 //! - `position`: that of the proxy's token.
 //!
 //! The queues have a throttle of the tag `t` at the default
@@ -18,6 +22,7 @@
 
 use crate::line::{Line, tag};
 use crate::proxy::answers::{add_asker, answers_text, awaited};
+use crate::proxy::many::{left_many, together};
 use crate::proxy::stand::{Ended, Queue, Stand, Waiter, opts_of, queue_of, submit};
 use fdb_history::{GrvOpts, Priority, Record, Tag};
 use fdb_live::Live;
@@ -68,11 +73,20 @@ fn called<J: Live + Send + Sync, R: Threads + Wait + Abort + Sync>(
         "report" => stand.report(rt, record(rt, line)).to_string(alloc),
         "see" => seen(rt, stand),
         "submit" => submitted(rt, stand, line),
+        "many" => left_many(rt, stand, line),
         "leave" => left(stand),
         "close" => closed(rt, stand),
         "serve" => served(rt, stand),
         "run" => run(rt, stand, line),
         "answers" => awaited(rt, alloc, stand.waiters.as_slice()),
+        "serve_many" => {
+            let answers = served(rt, stand)?;
+            together(stand, &answers)
+        }
+        "answers_many" => {
+            let answers = awaited(rt, alloc, stand.waiters.as_slice())?;
+            together(stand, &answers)
+        }
         "position" => stand.served.position().to_string(alloc),
         _ => line.fails(rt, "no call"),
     }
@@ -86,6 +100,7 @@ fn record(rt: &impl Abort, line: &mut Line<'_>) -> Record {
         version,
         locked,
         metadata: line.word(rt).parse().ok(),
+        min_known: 0,
     }
 }
 

@@ -127,6 +127,7 @@ pub(crate) fn opts_of(priority: Priority, count: u64, tags: Vec<Tag>, at: u64) -
         tags: Sequence::from(tags),
         lock_aware: false,
         at,
+        use_min: false,
     }
 }
 

@@ -11,7 +11,7 @@ use std::thread::Threads;
 fn bears<R: Threads + Wait + Abort + Sync>(
     rt: &R,
     alloc: Global,
-    case: Case,
+    case: Case<'_>,
 ) -> Result<(), AllocError> {
     match play(rt, alloc, case) {
         Err(_) => play(rt, alloc, case),

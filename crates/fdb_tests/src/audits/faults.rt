@@ -11,6 +11,8 @@ log; reads 0 1 100; reads 0 0 100; => Order 0 1
 log; reads 1 0 100; => Order 0 0
 # a raise that stays where it was
 log; raises 0 0 1 200; => Order 0 0
+# a minimum that is raised alone, and stays where it was
+log; min_raises 0 0 1 100 min 50; => Order 0 0
 # the last call of three
 log; reads 0 0 100; reads 0 5 100; reads 4 5 100; => Order 0 2
 # the last log of two
@@ -26,6 +28,10 @@ log; raises 0 18446744073709551615 1 200
 log; raises 0 1 1 200
 log; raises 0 18446744073709551615 1 200; => Clash 18446744073709551615
 log; raises 0 2 1 200; => Gap 1
+log; min_raises 0 2 1 100 min 50; => Gap 1
+log; raises 0 1 1 200; log; min_raises 0 1 1 100 min 50; => Clash 1
+log; min_raises 0 1 1 100 min 50; log; min_raises 0 1 1 100 min 60; => Clash 1
+log; stays 0 1 1 100; => Gap 1
 log; raises 0 1 1 200; log; raises 0 3 1 200; => Gap 2
 log; raises 0 3 1 200; log; raises 0 1 1 200; => Gap 2
 log; raises 0 18446744073709551615 1 200; => Gap 1
@@ -57,6 +63,24 @@ log; raises 0 1 1 200; raises 1 2 2 199; => Wrong 0 1
 log; raises 0 1 1 200; raises 1 2 2 200; => Wrong 0 1
 # a report above the register that raised nothing
 log; stays 0 0 1 101; => Wrong 0 0
+# minima that are not above the one before, or that the reports say nothing of
+log; min_raises 0 1 1 100; => Wrong 0 0
+log; min_raises 0 1 1 100 min 50; min_raises 1 2 1 100 min 50; => Wrong 0 1
+log; min_raises 0 1 1 100 min 50; min_raises 1 2 1 100 min 49; => Wrong 0 1
+log; stays 0 0 1 100 min 1; => Wrong 0 0
+log; min_raises 0 1 1 100 min 50; stays 1 1 1 99 min 51; => Wrong 0 1
+# one flag without the other, and a raise that is said to be one of the minimum alone, or the other way round
+log; call 0 0 report 1 unlocked none acked 100 unlocked none raised_in_place; => Wrong 0 0
+log; call 0 0 report 1 unlocked none acked 200 unlocked none raised_in_place; => Wrong 0 0
+log; call 0 1 report 1 unlocked none acked 200 unlocked none min_raised; => Wrong 0 0
+log; call 0 1 report 1 unlocked none min 50 acked 100 unlocked none min 50 raised; => Wrong 0 0
+# reads of the minimum before, of the last one in place of the greatest, and of what came with a minimum alone
+log; min_raises 0 1 1 100 min 50; reads 1 1 100; => Wrong 0 1
+log; reads 0 0 100 min 1; => Wrong 0 0
+log; min_raises 0 1 1 100 min 50; raises 1 2 2 200 min 40; reads 2 2 200 min 40; => Wrong 0 2
+log; min_raises 0 1 1 100 min 50; raises 1 2 2 200; reads 2 2 200; => Wrong 0 2
+log; call 0 1 report 1 locked none min 50 acked 100 locked none min 50 min_raised
+call 1 1 grv turned_away 100 locked none min 50; => Wrong 0 1
 # a read of the register before
 log; raises 0 1 1 200; reads 1 1 100; => Wrong 0 1
 # a raise with the version of the start and a flag replaces nothing, and is wrong itself

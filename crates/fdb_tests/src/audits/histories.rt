@@ -30,6 +30,18 @@ event 5 read 0 2 300 unlocked none
 event 6 report 2 2 250 unlocked none stays
 event 7 none
 => ok
+# client 1 raises the minimum alone, then client 0 the version, and client 1 the minimum again, by a report of its first version
+entry 0 1 1 0 0 100 100 fresh; entry 1 0 1 0 100 200 200 fresh
+log; draws 0 1 0 1 0 100 200 200 fresh; reads 0 1 100 min 50; raises 1 2 1 200 min 20; reads 2 3 200 min 60
+log; draws 0 0 1 1 0 0 100 100 fresh; min_raises 0 1 1 100 min 50; min_raises 1 3 1 100 min 60; stays 3 3 1 100 min 60
+event 0 report 1 1 100 unlocked none min 50 min_raises
+event 1 read 0 1 100 unlocked none min 50
+event 2 report 0 2 200 unlocked none min 20 raises
+event 3 report 1 2 100 unlocked none min 60 min_raises
+event 4 read 0 3 200 unlocked none min 60
+event 5 report 1 3 100 unlocked none min 60 stays
+event 6 none
+=> ok
 # no logs
 event 0 none
 => ok

@@ -16,6 +16,7 @@ log; call 0 0 grv refused ProxyClosed; => ok
 log; call 0 0 grv refused NotIssued; => Stray 0 0
 log; call 0 0 grv refused Stranger; => ok
 log; call 0 0 grv refused TooLarge; => Stray 0 0
+log; call 0 0 grv refused MinAbove; => Stray 0 0
 # refusals of a request: number 0 is forgotten, and no other refusal is due to it
 log; call 0 0 ask 0 0 0 refused Early 1; => Stray 0 0
 log; call 0 0 ask 0 0 0 refused Forgotten; => ok
@@ -28,6 +29,7 @@ log; call 0 0 ask 0 0 0 refused ProxyClosed; => Stray 0 0
 log; call 0 0 ask 0 0 0 refused NotIssued; => Stray 0 0
 log; call 0 0 ask 0 0 0 refused Stranger; => Stray 0 0
 log; call 0 0 ask 0 0 0 refused TooLarge; => Stray 0 0
+log; call 0 0 ask 0 0 0 refused MinAbove; => Stray 0 0
 # refusals of a report
 log; call 0 0 report 1 unlocked none refused Early 1; => Stray 0 0
 log; call 0 0 report 1 unlocked none refused Forgotten; => Stray 0 0
@@ -40,6 +42,7 @@ log; call 0 0 report 1 unlocked none refused ProxyClosed; => Stray 0 0
 log; call 0 0 report 1 unlocked none refused NotIssued; => ok
 log; call 0 0 report 1 unlocked none refused Stranger; => Stray 0 0
 log; call 0 0 report 1 unlocked none refused TooLarge; => Stray 0 0
+log; call 0 0 report 1 unlocked none min 1 refused MinAbove; => Stray 0 0
 # refusals of a tell
 log; call 0 0 tell 0 refused Early 1; => Stray 0 0
 log; call 0 0 tell 0 refused Forgotten; => Stray 0 0
@@ -52,6 +55,7 @@ log; call 0 0 tell 0 refused ProxyClosed; => Stray 0 0
 log; call 0 0 tell 0 refused NotIssued; => Stray 0 0
 log; call 0 0 tell 0 refused Stranger; => Stray 0 0
 log; call 0 0 tell 0 refused TooLarge; => Stray 0 0
+log; call 0 0 tell 0 refused MinAbove; => Stray 0 0
 # refusals of a learn
 log; call 0 0 learn 0 refused Early 1; => Stray 0 0
 log; call 0 0 learn 0 refused Forgotten; => Stray 0 0
@@ -64,6 +68,7 @@ log; call 0 0 learn 0 refused ProxyClosed; => Stray 0 0
 log; call 0 0 learn 0 refused NotIssued; => Stray 0 0
 log; call 0 0 learn 0 refused Stranger; => Stray 0 0
 log; call 0 0 learn 0 refused TooLarge; => Stray 0 0
+log; call 0 0 learn 0 refused MinAbove; => Stray 0 0
 ";
 
 const OTHER_KINDS: &str = "
@@ -127,6 +132,20 @@ call 0 0 report 2 unlocked none refused NotIssued; => Stray 0 2
 call 0 0 report 3 unlocked none refused NotIssued; => ok
 call 0 0 report 0 unlocked none refused NotIssued; => ok
 call 0 0 report 18446744073709551615 unlocked none refused NotIssued; => ok
+# the minimum that it tells then
+call 0 1 report 1 locked 7 min 50 acked 200 locked 7 min 50 raised; => ok
+call 0 1 report 1 unlocked none min 200 acked 200 unlocked none min 200 raised; => ok
+call 0 1 report 1 locked 7 min 50 acked 200 locked 7 min 49 raised; => Stray 0 2
+call 0 1 report 1 locked 7 acked 200 locked 7 min 50 raised; => Stray 0 2
+call 0 1 report 1 locked 7 min 50 acked 200 locked 7 raised; => Stray 0 2
+call 0 0 report 1 unlocked none min 201 refused MinAbove; => ok
+call 0 0 report 1 unlocked none min 18446744073709551615 refused MinAbove; => ok
+call 0 0 report 2 unlocked none min 301 refused MinAbove; => ok
+call 0 0 report 1 unlocked none min 200 refused MinAbove; => Stray 0 2
+call 0 0 report 1 unlocked none refused MinAbove; => Stray 0 2
+call 0 0 report 2 unlocked none min 201 refused MinAbove; => Stray 0 2
+call 0 0 report 3 unlocked none min 301 refused MinAbove; => Stray 0 2
+call 0 0 report 1 unlocked none min 201 refused NotIssued; => Stray 0 2
 ";
 
 const REPORTS_OF_OTHERS: &str = "

@@ -15,10 +15,11 @@ pub(crate) fn call(rt: &impl Abort, alloc: Global, kind: &str, line: &mut Line<'
             asked: line.number(rt),
             position: line.number(rt),
             input: grv(alloc, false),
-            answer: version(alloc, plain(line.number(rt)), false),
+            answer: version(alloc, plain_record(rt, line), false),
         },
-        "raises" => reported(rt, line, true),
-        "stays" => reported(rt, line, false),
+        "raises" => reported(rt, line, true, true),
+        "min_raises" => reported(rt, line, false, true),
+        "stays" => reported(rt, line, false, false),
         "call" => Call {
             asked: line.number(rt),
             position: line.number(rt),
@@ -46,28 +47,42 @@ fn drawn(rt: &impl Abort, line: &mut Line<'_>) -> Call {
 }
 
 /// A report of a plain record.
-fn reported(rt: &impl Abort, line: &mut Line<'_>, raised: bool) -> Call {
+fn reported(rt: &impl Abort, line: &mut Line<'_>, raised: bool, changed: bool) -> Call {
+    let (asked, position, num) = (line.number(rt), line.number(rt), line.number(rt));
+    let rec = plain_record(rt, line);
     Call {
-        asked: line.number(rt),
-        position: line.number(rt),
+        asked,
+        position,
         input: Input::Report {
-            num: line.number(rt),
-            locked: false,
-            metadata: None,
+            num,
+            locked: rec.locked,
+            metadata: rec.metadata,
+            min_known: rec.min_known,
         },
         answer: CallAnswer::Acked {
-            rec: plain(line.number(rt)),
+            rec,
             raised,
+            changed,
         },
     }
 }
 
-/// A record with no lock and no metadata version.
+/// A record with no lock and no metadata version, and with a minimum where the line tells one.
+fn plain_record(rt: &impl Abort, line: &mut Line<'_>) -> Record {
+    let rec = plain(line.number(rt));
+    Record {
+        min_known: line.number_behind(rt, "min"),
+        ..rec
+    }
+}
+
+/// A record with no lock, no metadata version and no minimum.
 pub(crate) fn plain(version: u64) -> Record {
     Record {
         version,
         locked: false,
         metadata: None,
+        min_known: 0,
     }
 }
 
@@ -84,6 +99,7 @@ fn input(rt: &impl Abort, alloc: Global, line: &mut Line<'_>) -> Input {
             num: line.number(rt),
             locked: line.is(rt, "locked", "unlocked"),
             metadata: metadata(rt, line),
+            min_known: line.number_behind(rt, "min"),
         },
         "tell" => Input::Tell { to: line.who(rt) },
         "learn" => Input::Learn { from: line.who(rt) },
@@ -98,6 +114,7 @@ fn grv(alloc: Global, lock_aware: bool) -> Input {
         tags: Sequence::new(alloc),
         lock_aware,
         at: 0,
+        use_min: false,
     })
 }
 
@@ -106,13 +123,32 @@ fn answer(rt: &impl Abort, alloc: Global, line: &mut Line<'_>) -> CallAnswer {
         "read" => version(alloc, record(rt, line), false),
         "turned_away" => version(alloc, record(rt, line), true),
         "issued" => CallAnswer::Answered(issued(rt, line)),
-        "acked" => CallAnswer::Acked {
-            rec: record(rt, line),
-            raised: line.is(rt, "raised", "unraised"),
-        },
+        "acked" => acked(rt, line),
         "told" => CallAnswer::Told,
         "refused" => CallAnswer::Refused(refusal(rt, line)),
         _ => line.fails(rt, "no answer"),
+    }
+}
+
+fn acked(rt: &impl Abort, line: &mut Line<'_>) -> CallAnswer {
+    let rec = record(rt, line);
+    let (raised, changed) = flags(rt, line);
+    CallAnswer::Acked {
+        rec,
+        raised,
+        changed,
+    }
+}
+
+/// Whether a report says that it raised the register, and that it changed it. No report that is
+/// answered rightly is `raised_in_place`.
+pub(crate) fn flags(rt: &impl Abort, line: &mut Line<'_>) -> (bool, bool) {
+    match line.word(rt) {
+        "raised" => (true, true),
+        "min_raised" => (false, true),
+        "unraised" => (false, false),
+        "raised_in_place" => (true, false),
+        _ => line.fails(rt, "no flags"),
     }
 }
 
@@ -130,6 +166,7 @@ pub(crate) fn record(rt: &impl Abort, line: &mut Line<'_>) -> Record {
         version: line.number(rt),
         locked: line.is(rt, "locked", "unlocked"),
         metadata: metadata(rt, line),
+        min_known: line.number_behind(rt, "min"),
     }
 }
 
@@ -173,6 +210,7 @@ pub(crate) fn refusal(rt: &impl Abort, line: &mut Line<'_>) -> Refusal {
         "NotIssued" => Refusal::NotIssued,
         "Stranger" => Refusal::Stranger,
         "TooLarge" => Refusal::TooLarge,
+        "MinAbove" => Refusal::MinAbove,
         _ => line.fails(rt, "no refusal"),
     }
 }

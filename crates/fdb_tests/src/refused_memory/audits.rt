@@ -73,5 +73,6 @@ fn raise(call: u64, version: u64) -> Event {
         call,
         rec: plain(version),
         raised: true,
+        changed: true,
     }
 }

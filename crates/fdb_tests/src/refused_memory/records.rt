@@ -83,6 +83,7 @@ ProxyClosed
 NotIssued
 Stranger
 TooLarge
+MinAbove
 ";
 
 #[test]

@@ -10,12 +10,12 @@ returns-clause-logged g c _ number begun reporter come_to =
       logged = record {
         number = refl;
         begun = refl;
-        calls = cc (c.add.ensures.calls, c.requires.asked, c.args.reply.at, c.hear.ensures.raises);
+        calls = cc (c.add.ensures.calls, c.requires.asked, c.args.reply.at, c.hear.ensures.changes);
         come_to = come_to;
         extends = c.hear.ensures.extends;
         stays = λ is. absurd (cc is);
         own = λ _. own_same number c.args.seen.now c.hear.new.seen reporter c.hear.ensures.reporter c.hear.ensures.own;
-        raised = λ is. absurd (cc is);
+        changed = λ is. absurd (cc is);
       };
       answered = search rules;
       returned = search rules;

@@ -1,8 +1,8 @@
-use Rattle.std.proofs.Common.{rules, arith}
+use Rattle.std.proofs.Common.{arith}
 use Rattle.fdb_live.proofs.Reports.{room}
 use Rattle.fdb_live.proofs.passes.report.Goals as goal
 
-pub overflow_add-raised : goal.overflow_add-raised
-overflow_add-raised g c =
-    let below = room _ _ _ c.args.rec c.after_report-next.result c.look-found.ensures.looks c.requires.opened c.after_report-next.ensures (search rules) in
+pub overflow_add-next : goal.overflow_add-next
+overflow_add-next g c =
+    let below = room _ _ _ c.look-found.ensures.looks c.requires.opened in
     omega arith

@@ -18,7 +18,7 @@ loop-request-preserved g c =
       reporter = c.learn_from.ensures.reporter ∙ c.loop-request.invariant.reporter;
       own = c.learn_from.ensures.own ∙ c.loop-request.invariant.own;
       extends = prefix_trans _ _ _ c.loop-request.invariant.extends c.learn_from.ensures.extends;
-      told = All-more (λ request. IsPrefix request.payload.seen.raises c.learn_from.new.seen.raises) c.args.requests.now index item less
+      told = All-more (λ request. IsPrefix request.payload.seen.changes c.learn_from.new.seen.changes) c.args.requests.now index item less
           (told_more _ _ _ c.learn_from.ensures.extends c.loop-request.invariant.told)
           (rw c.loop-request.invariant.same at c.learn_from.ensures.told);
     }

@@ -8,6 +8,6 @@ invariant-loop-request g l = record {
   same : l.requests ≡ l.fn.requests;
   reporter : l.seen.reporter ≡ l.fn.seen.reporter;
   own : own_positions l.seen ≡ own_positions l.fn.seen;
-  extends : IsPrefix l.fn.seen.raises l.seen.raises;
-  told : All (λ request. IsPrefix request.payload.seen.raises l.seen.raises) (take l.request-index l.fn.requests);
+  extends : IsPrefix l.fn.seen.changes l.seen.changes;
+  told : All (λ request. IsPrefix request.payload.seen.changes l.seen.changes) (take l.request-index l.fn.requests);
 }

@@ -11,11 +11,11 @@ loop-preserved g c =
       is_finite = tt;
       reporter = served.reporter ∙ inv.reporter;
       elapsed = c.in_ok-last.ensures.elapsed ∙ inv.elapsed;
-      extends = prefix_trans c.args.seen.now.raises c.loop.seen.raises c.serve_taken.new.seen.raises inv.extends served.extends;
+      extends = prefix_trans c.args.seen.now.changes c.loop.seen.changes c.serve_taken.new.seen.changes inv.extends served.extends;
     }
 
 pub returns-then-last-clause-extends : goal.returns-then-last-clause-extends
-returns-then-last-clause-extends g c = prefix_trans c.args.seen.now.raises c.loop.seen.raises c.serve_taken.new.seen.raises c.loop.invariant.extends c.serve_taken.ensures.extends
+returns-then-last-clause-extends g c = prefix_trans c.args.seen.now.changes c.loop.seen.changes c.serve_taken.new.seen.changes c.loop.invariant.extends c.serve_taken.ensures.extends
 
 pub returns-in_err-last-clause-extends : goal.returns-in_err-last-clause-extends
-returns-in_err-last-clause-extends g c = prefix_trans c.args.seen.now.raises c.loop.seen.raises c.serve_taken.new.seen.raises c.loop.invariant.extends c.serve_taken.ensures.extends
+returns-in_err-last-clause-extends g c = prefix_trans c.args.seen.now.changes c.loop.seen.changes c.serve_taken.new.seen.changes c.loop.invariant.extends c.serve_taken.ensures.extends

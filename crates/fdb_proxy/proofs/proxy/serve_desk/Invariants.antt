@@ -8,5 +8,5 @@ invariant-loop g l = record {
   is_finite : (goal.iterator-loop g).is_finite l.iterator';
   reporter : l.seen.reporter ≡ l.fn.seen.reporter;
   elapsed : l.line.elapsed ≡ l.fn.line.elapsed;
-  extends : IsPrefix l.fn.seen.raises l.seen.raises;
+  extends : IsPrefix l.fn.seen.changes l.seen.changes;
 }

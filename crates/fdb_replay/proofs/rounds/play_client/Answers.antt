@@ -1,5 +1,5 @@
-use Rattle.std.proofs.Common.{◌<◌, ◌∙◌, length, ap, subst, arith}
-use Rattle.fdb_script.specs.Answering.{AnswersCommand, commands_of, input_of}
+use Rattle.std.proofs.Common.{◌<◌, length, arith}
+use Rattle.fdb_script.specs.Answering.{input_of}
 use Rattle.fdb_replay.proofs.Grown.{grown_more, tells_more, one_command_more, other_command}
 use Rattle.fdb_replay.proofs.rounds.play_client.Goals as goal
 use Rattle.fdb_replay.proofs.rounds.play_client.Goals.{then-command-number+in_ok-perform, else-command-number}
@@ -9,7 +9,7 @@ loop-command-preserved g c =
     let so_far = c.loop-command.invariant in
     let old = c.args.client.now in
     let before = c.loop-command.client in
-    let commands = c.args.commands.now in
+    let commands = c.args.playing.now.round.commands.now in
     let place = c.loop-command.command-index in
     let command = c.command-item.result in
     let client = c.args.number in

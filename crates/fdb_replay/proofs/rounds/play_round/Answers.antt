@@ -1,4 +1,4 @@
-use Rattle.std.proofs.Common.{◌≡◌, fold, ap, sym, subst, ◌∙◌}
+use Rattle.std.proofs.Common.{fold, sym, subst, ◌∙◌}
 use Rattle.fdb_replay.specs.private.Rounds.{IsPlayed, logs_of, teach}
 use Rattle.fdb_script.specs.Answering.{AnswersRound}
 use Rattle.fdb_replay.proofs.Learnt.{learnt}
@@ -12,10 +12,10 @@ returns-clause-ok g c =
     let now = c.in_ok-part.part.clients.items in
     let tells = c.in_ok-part.part.tells.items in
     let commands = c.args.commands.now in
-    let played : IsPlayed 0 commands old now tells = rw c.new-round.ensures at c.in_ok-part.ensures.ok in
+    let played : IsPlayed 0 commands old now tells = rw c.new-round.ensures at c.in_ok-part.ensures in
     let answered = round_answered commands old now (fold teach now tells) tells played (learnt old now tells) in
     subst (λ learnt. AnswersRound (logs_of old) commands (logs_of learnt)) (sym c.in_ok-learn_all.ensures.ok) answered
 
 pub returns-clause-few : goal.returns-clause-few
 returns-clause-few g c =
-    c.in_ok-learn_all.ensures.len ∙ same_clients 0 c.new-round.result.commands.now c.args.clients.items c.in_ok-part.part.clients.items c.in_ok-part.ensures.ok.performed
+    c.in_ok-learn_all.ensures.len ∙ same_clients 0 c.new-round.result.commands.now c.args.clients.items c.in_ok-part.part.clients.items c.in_ok-part.ensures.performed

@@ -14,7 +14,7 @@ returns-clause-answers g c =
     let start : clients ≡ replicate plan.setup.clients [] = c.in_ok-clients.ensures ∙ ap {B = List (List Call)} (λ n. replicate n []) c.requires.count in
     IfOk-weaker c.served.result (λ logs. FoldsTo AnswersRound (logs_of clients) c.rounds.result.now logs.items) (λ logs. Answers plan logs.items)
     (λ logs played. from_the_start plan clients logs.items start (subst (λ rounds. FoldsTo AnswersRound (logs_of clients) rounds logs.items) c.rounds.ensures played))
-    c.served.ensures.ok
+    c.served.ensures
 
 pub returns-clause-few : goal.returns-clause-few
 returns-clause-few g c =

@@ -2,7 +2,8 @@ use Rattle.std.proofs.Common.{◌≡◌, ℕ, ◌<◌, List, length, get_or, ari
 use Rattle.std.specs.Prelude.{OnErr}
 use Rattle.std.proofs.lemmas.List.Folds.{length-flat_map-take}
 use Rattle.fdb_history.specs.declared.grv.Priority.{Priority}
-use Rattle.fdb_queue.specs.Throttles.{Throttle, last_set, limits_of, unexpired}
+use Rattle.fdb_queue.specs.declared.throttles.Throttle.{Throttle}
+use Rattle.fdb_queue.specs.Throttles.{last_set, limits_of, unexpired}
 use Rattle.fdb_queue.proofs.throttles.Throttles.limits.Goals as goal
 
 -- what holds in any case holds where a result is a refusal

@@ -9,7 +9,7 @@ new-requires g c =
     let inv = c.loop-seen.invariant in
     let tokens = c.args.tokens in
     let whole = ap (λ rest. c.loop-seen.yielded ++ rest) (sym c.in-Some.ensures.steps.0) ∙ inv.left in
-    next_of c.loop-seen.yielded c.in-Some.seen c.next.new.self.rest.items tokens.items whole (λ k. record { reporter = Some k; raises = [] }) c.loop-seen.number inv.number
+    next_of c.loop-seen.yielded c.in-Some.seen c.next.new.self.rest.items tokens.items whole (λ k. record { reporter = Some k; changes = [] }) c.loop-seen.number inv.number
     (λ k below. c.requires.numbered k (omega (arith, below, tokens.ok.0)))
 
 pub push_reserved-requires : goal.push_reserved-requires

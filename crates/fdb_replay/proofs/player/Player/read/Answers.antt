@@ -1,4 +1,4 @@
-use Rattle.std.proofs.Common.{◌≡◌, ◌+◌, ◌∙◌, ap, sym, subst, length, arith, rules}
+use Rattle.std.proofs.Common.{◌≡◌, ◌∙◌, ap, subst, length, arith, rules}
 use Rattle.std.proofs.lemmas.Result.{on_ok_weaker}
 use Rattle.fdb_history.specs.Added.{AddsCall}
 use Rattle.fdb_history.specs.declared.log.Input.TheVariants as input
@@ -16,13 +16,13 @@ invariant_of-self-2 g c =
     let read = c.read_version-answer.ensures.logged (c.is_logged.ensures.logged c.if-not-is_logged.false) in
     (read.logged.begun ∙ c.self.invariant.0, omega (arith, c.self.invariant.1, one_read_more _ _ _ _ _ read))
 
-pub returns-clause-ok : goal.returns-clause-ok
-returns-clause-ok g c =
+pub returns : goal.returns
+returns g c =
     let read = c.read_version-answer.ensures.logged (c.is_logged.ensures.logged c.if-not-is_logged.false) in
     let after = c.read_version-answer.new.self.calls in
-    let opts : c.in_ok-opts.opts ≡ c.args.opts.now = c.in_ok-opts.ensures in
+    let opts : c.in_ok-opts.opts ≡ c.args.opts.now = c.in_ok-opts.ensures.cases in
     let before : c.self.inside.client.calls ≡ c.args.self.now = search rules in
     let added = adds_read _ _ _ _ _ c.self.invariant.0 read in
     on_ok_weaker c.settled.result
     (λ logged. subst (λ calls. AddsCall calls (input.Grv c.args.opts.now) after) before (subst (λ opts. AddsCall c.self.inside.client.calls (input.Grv opts) after) opts added))
-    c.settled.ensures.ok
+    c.settled.ensures

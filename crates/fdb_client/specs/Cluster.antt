@@ -1,0 +1,18 @@
+-- What a cluster is made with. (this product's own)
+use Rattle.std.specs.Prelude.{◌<◌, ◌≤◌, IsTrue}
+use Rattle.std.specs.List.{list_all}
+use Rattle.fdb_chain.specs.ChainCore.{IsEpoch, IsProxyCount}
+use Rattle.fdb_queue.specs.Config.{IsConfig, IsElapsed}
+use Rattle.fdb_queue.specs.Throttles.{is_throttle}
+use Rattle.fdb_client.specs.declared.cluster.ClusterConfig.{ClusterConfig}
+
+-- Each member is within its limits.
+pub record IsClusterConfig (config : ClusterConfig) : Type 0 where
+  pub epoch : IsEpoch config.epoch_end config.start.version
+  pub start : config.start.min_known ≤ config.start.version
+  pub clients : IsProxyCount config.clients
+  pub some_proxy : 0 < config.grv_proxies
+  pub few_proxies : config.grv_proxies ≤ 16
+  pub queue : IsConfig config.queue
+  pub throttles : IsTrue (list_all is_throttle config.throttles.now)
+  pub elapsed : IsElapsed config.elapsed

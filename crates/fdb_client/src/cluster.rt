@@ -1,0 +1,197 @@
+//! What the clients of a service call.
+
+ghost use Rattle.std.specs.Prelude.{◌≡◌, ◌%◌, reverse, IfOk, vec_len};
+ghost use Rattle.fdb_chain.specs.ChainCore.{IsEpoch, IsProxyCount};
+ghost use Rattle.fdb_client.specs.Cluster.{IsClusterConfig};
+ghost use Rattle.fdb_client.specs.private.Serving.{IsMadeFor};
+ghost use Rattle.fdb_history.specs.Chain.{IsChain};
+ghost use Rattle.fdb_queue.specs.Throttles.{SameThrottles};
+
+use fdb_chain::{ChainCore, ChainError, Sequencer};
+use fdb_history::{Issued, Record};
+use fdb_live::{Live, LiveRecord, Seen};
+use fdb_proxy::{Desk, GrvProxy};
+use fdb_queue::{GrvQueue, QueueConfig, QueueError, Throttle};
+use std::alloc::{AllocError, Global};
+use std::sync::Wait;
+
+/// What a cluster is made with.
+#[derive(Clone, Copy, Debug, PartialEq, Eq)]
+pub struct ClusterConfig<'c> {
+    /// The last version of the epoch before, below that of `start`.
+    pub epoch_end: u64,
+    /// The live committed version before any report. Its version is the first commit version, and
+    /// its minimum known committed version is not above that.
+    pub start: Record,
+    /// The number of clients, 1 to 64. There is a commit proxy for each.
+    pub clients: u32,
+    /// The number of GRV proxies, 1 to 16.
+    pub grv_proxies: u32,
+    /// What the queue of each GRV proxy is made with.
+    pub queue: QueueConfig,
+    /// The throttles that the queue of each GRV proxy is given, with tags of at most 16 bytes. Of
+    /// two for one priority and one tag the later counts.
+    pub throttles: &'c [Throttle],
+    /// The time between two windows of a GRV proxy, 1 to 10,000,000 microseconds.
+    pub elapsed: u64,
+}
+
+/// What the clients of a service call: a sequencer, a live record, and the desks of GRV proxies,
+/// which serve there while [`serve_while`](crate::serve_while) runs something else.
+#[derive(Drop)]
+pub struct Cluster<'c, J: Live> {
+    config: ClusterConfig<'c>,
+    sequencer: Sequencer<J>,
+    live: LiveRecord<J>,
+    desks: Vec<Desk<J>>,
+    ghost in_range: { IsClusterConfig config },
+    ghost start: { config.start ≡ J.start },
+    ghost clients: { config.clients ≡ J.reporters },
+    ghost each: { vec_len desks ≡ config.grv_proxies },
+}
+
+impl<'c, J: Live> Cluster<'c, J> {
+    /// A cluster of this configuration that nobody has called yet, with the live record that was
+    /// opened for it. It is refused for memory alone.
+    pub fn new(
+        alloc: Global,
+        live: LiveRecord<J>,
+        config: ClusterConfig<'c>,
+    ) -> Result<Self, AllocError>
+        requires in_range { IsClusterConfig config }
+        requires epoch_end { config.epoch_end ≡ J.epoch_end }
+        requires recovery { config.start.version ≡ J.recovery }
+        requires start { config.start ≡ J.start }
+        requires clients { config.clients ≡ J.reporters }
+        ensures config { IfOk result (λ cluster. cluster.config ≡ config.entry) }
+        ensures live { IfOk result (λ cluster. cluster.live ≡ live) }
+    {
+        let sequencer = sequencer_of(alloc, config)?;
+        let desks = desks_of(alloc, config.grv_proxies)?;
+        Ok(Cluster {
+            config,
+            sequencer,
+            live,
+            desks,
+        })
+    }
+
+    /// What it was made with.
+    pub fn config(&self) -> ClusterConfig<'c>
+        ensures value { result ≡ self.now.config }
+        ensures in_range { IsClusterConfig result }
+    {
+        self.config
+    }
+
+    /// Its sequencer.
+    pub fn sequencer(&self) -> &Sequencer<J>
+        ensures { result.now ≡ self.now.sequencer }
+    {
+        &self.sequencer
+    }
+
+    /// Its live record.
+    pub fn live(&self) -> &LiveRecord<J>
+        ensures { result.now ≡ self.now.live }
+    {
+        &self.live
+    }
+
+    /// The desk of the GRV proxy with this number. They are numbered from 0, and beyond the last
+    /// one they begin anew. Who closes a desk ends its proxy.
+    pub fn desk(&self, number: u32) -> &Desk<J> {
+        &self.desks[self.place(number)]
+    }
+
+    /// The place of that desk. (what a desk holds is behind a lock, and so no clause can tell one
+    /// from another: this one says which is taken)
+    fn place(&self, number: u32) -> usize
+        ensures { result ≡ number % self.now.config.grv_proxies }
+    {
+        number as usize % self.desks.len()
+    }
+
+    /// The GRV proxy with this number, with a queue of its own, and a token that is split off
+    /// another one. It is refused for memory alone.
+    pub(crate) fn grv_proxy(
+        &self,
+        alloc: Global,
+        number: u32,
+        first: &mut Seen<J>,
+    ) -> Result<GrvProxy<'_, J>, AllocError>
+        ensures { IfOk result (IsMadeFor self.now.config) }
+    {
+        let queue = queue_of(alloc, self.config)?;
+        let seen = self.live.split(first);
+        let desk = self.desk(number);
+        Ok(GrvProxy::new(alloc, &self.live, desk, queue, self.config.elapsed, seen))
+    }
+
+    /// Closes all desks. Takes no memory.
+    pub(crate) fn close<R: Wait>(&self, rt: &R) {
+        for desk in &self.desks {
+            desk.close(rt);
+        }
+    }
+
+    /// The chain of commit versions, once nobody calls any more.
+    pub fn into_chain(self) -> Vec<Issued>
+        ensures { IsChain J.epoch_end J.recovery result.items }
+    {
+        let Cluster {
+            config: _,
+            sequencer,
+            live: _,
+            desks: _,
+        } = self;
+        sequencer.close().into_answers()
+    }
+}
+
+/// A sequencer of which nobody has asked anything yet. There is a commit proxy for each client.
+fn sequencer_of<J: Live>(
+    alloc: Global,
+    config: ClusterConfig<'_>,
+) -> Result<Sequencer<J>, AllocError>
+    requires epoch_end { config.epoch_end ≡ J.epoch_end }
+    requires recovery { config.start.version ≡ J.recovery }
+    requires epoch { IsEpoch config.epoch_end config.start.version }
+    requires clients { IsProxyCount config.clients }
+{
+    match ChainCore::new(
+        alloc,
+        config.epoch_end,
+        config.start.version,
+        config.clients,
+    ) {
+        Ok(core) => Ok(Sequencer::new(core)),
+        Err(ChainError::Memory) => Err(AllocError),
+        Err(_) => unreachable!(),
+    }
+}
+
+/// So many open desks with no request on them.
+fn desks_of<J: Live>(alloc: Global, grv_proxies: u32) -> Result<Vec<Desk<J>>, AllocError>
+    ensures { IfOk result (λ desks. vec_len desks ≡ grv_proxies) }
+{
+    let mut desks = Vec::with_capacity(alloc, grv_proxies as usize)?;
+    for _ in 0..grv_proxies {
+        desks.push_reserved(Desk::new(alloc));
+    }
+    Ok(desks)
+}
+
+/// A queue of a GRV proxy, in which nothing waits.
+fn queue_of<T>(alloc: Global, config: ClusterConfig<'_>) -> Result<GrvQueue<T>, AllocError>
+    requires { IsClusterConfig config }
+    ensures config { IfOk result (λ queue. queue.config ≡ config.entry.queue) }
+    ensures throttles { IfOk result
+        (λ queue. SameThrottles queue.throttles (reverse config.entry.throttles.now)) }
+{
+    match GrvQueue::with_throttles(alloc, config.queue, config.throttles) {
+        Ok(queue) => Ok(queue),
+        Err(QueueError::Memory) => Err(AllocError),
+        Err(_) => unreachable!(),
+    }
+}

@@ -1,6 +1,0 @@
-use Rattle.fdb_history.proofs.FirstClash.{RisesBelow}
-use Rattle.fdb_history.proofs.auditing.raises.first_clash.Given as goal
-
--- the positions so far rise
-abbrev pub invariant-loop-place : goal.invariant-loop-place
-invariant-loop-place l = RisesBelow l.place l.raises

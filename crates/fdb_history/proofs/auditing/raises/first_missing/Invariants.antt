@@ -1,6 +1,0 @@
-use Rattle.fdb_history.proofs.FirstMissing.{InTurnBelow}
-use Rattle.fdb_history.proofs.auditing.raises.first_missing.Given as goal
-
--- the raises so far stand at 1, 2 and so on
-abbrev pub invariant-loop-place : goal.invariant-loop-place
-invariant-loop-place l = InTurnBelow l.place l.raises

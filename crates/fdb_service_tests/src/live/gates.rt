@@ -1,0 +1,159 @@
+//! The gate of the reports: that each passes it, and that nobody else reports from there on.
+
+use crate::live::Parts;
+use crate::live::steps::{report_as, report_at};
+use crate::same::{holds, same};
+use crossbeam_utils::Backoff;
+use fdb_history::{Gate, Place, Record};
+use fdb_live::{Live, LiveRecord, Seen};
+use std::process::Abort;
+use std::sync::Wait;
+use std::sync::atomic::{AtomicBool, AtomicU64, Ordering};
+use std::thread;
+use std::thread::Threads;
+
+/// How often each reporter reports.
+const TURNS: u64 = 500;
+
+/// How often one looks whether those before it are done.
+const LOOKS: u32 = 1_000_000;
+
+/// How often one looks whether another comes while it is at the gate.
+const GLANCES: u32 = 20;
+
+/// A gate that each passes alone: whoever passed it before has reported, and nobody comes.
+#[derive(Drop)]
+struct OneByOne {
+    passed: AtomicU64,
+    reported: AtomicU64,
+    /// Somebody was not alone, or passed another place.
+    failed: AtomicBool,
+}
+
+impl OneByOne {
+    fn new() -> OneByOne {
+        OneByOne {
+            passed: AtomicU64::new(0),
+            reported: AtomicU64::new(0),
+            failed: AtomicBool::new(false),
+        }
+    }
+
+    /// Notes a failure.
+    fn fails(&self) {
+        self.failed.store(true, Ordering::SeqCst);
+    }
+
+    /// Waits until so many have reported, and notes a failure where they do not come so far. It
+    /// does not wait after a failure.
+    fn waits_for(&self, before: u64) {
+        let pause = Backoff::new();
+        for _ in 0..LOOKS {
+            let reported = self.reported.load(Ordering::SeqCst);
+            if reported >= before || self.failed.load(Ordering::SeqCst) {
+                return;
+            }
+            pause.snooze();
+        }
+        self.fails();
+    }
+
+    /// Looks whether somebody else passes, and notes that as a failure.
+    fn glances(&self, own: u64) {
+        let pause = Backoff::new();
+        for _ in 0..GLANCES {
+            if self.passed.load(Ordering::SeqCst) != own.saturating_add(1) {
+                self.fails();
+            }
+            pause.snooze();
+        }
+    }
+
+    /// Checks that so many have passed, each alone.
+    fn was_passed(&self, rt: &impl Abort, passes: u64, case: &str) {
+        same(rt, &self.passed.load(Ordering::SeqCst), &passes, &case);
+        holds(rt, !self.failed.load(Ordering::SeqCst), &case);
+    }
+}
+
+impl Gate for OneByOne {
+    fn pass(&self, place: Place, _who: u32) {
+        if place != Place::ReportHeld {
+            self.fails();
+        }
+        let before = self.passed.fetch_add(1, Ordering::SeqCst);
+        self.waits_for(before);
+        self.glances(before);
+    }
+}
+
+/// Each report passes the gate once, be its record locked or with a metadata version, and whether
+/// it raises the record or not.
+pub(crate) fn pass_each<J: Live, R: Wait + Abort>(rt: &R, parts: &mut Parts<J>) {
+    let mut token = parts.last(rt);
+    let gate = OneByOne::new();
+    let mut version = 100u64;
+    for metadata in [None, Some(0), Some(7), None] {
+        for locked in [false, true] {
+            version = version.saturating_add(1);
+            let rec = Record {
+                version,
+                locked,
+                metadata,
+                min_known: 0,
+            };
+            pass_twice(rt, &parts.live, &gate, &mut token, rec);
+        }
+    }
+    gate.was_passed(rt, 16, "a pass for each");
+}
+
+/// Reports a record twice, of which the second report does not raise it.
+fn pass_twice<J: Live, R: Wait + Abort>(
+    rt: &R,
+    live: &LiveRecord<J>,
+    gate: &OneByOne,
+    token: &mut Seen<J>,
+    rec: Record,
+) {
+    for raises in [true, false] {
+        let raised = report_as(rt, live, gate, token, rec).is_ok_and(|ack| ack.raised);
+        gate.reported.fetch_add(1, Ordering::SeqCst);
+        same(rt, &raised, &raises, &rec);
+    }
+}
+
+/// All reporters report, each in a thread of its own. Whoever is at the gate has the lock until its
+/// report is done.
+pub(crate) fn pass_one_by_one<J: Live + Send + Sync, R: Threads + Wait + Abort + Sync>(
+    rt: &R,
+    parts: &mut Parts<J>,
+) {
+    let gate = OneByOne::new();
+    let (live, tokens) = (&parts.live, parts.tokens.as_mut_slice());
+    let reporters = tokens.len().max(1);
+    thread::for_each_mut(
+        rt,
+        tokens,
+        reporters,
+        &|_, token| {
+            report_on(rt, live, &gate, token);
+        },
+    );
+    let passes = TURNS.saturating_mul(reporters as u64);
+    gate.was_passed(rt, passes, "each passes alone");
+}
+
+/// Reports rising versions.
+fn report_on<J: Live, R: Wait + Abort>(
+    rt: &R,
+    live: &LiveRecord<J>,
+    gate: &OneByOne,
+    token: &mut Seen<J>,
+) {
+    for version in 101..=TURNS + 100 {
+        let acked = report_at(rt, live, gate, token, version).is_ok();
+        gate.reported.fetch_add(1, Ordering::SeqCst);
+        holds(rt, acked, &version);
+    }
+}
