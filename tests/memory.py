@@ -17,7 +17,7 @@ LARGE = [[do("ask", at=9 * it) for it in range(500)], [do("report", num=it + 1) 
 # Two clients with throttles, tags and tells, of whose calls some are refused.
 THROTTLES = [{"priority": "default", "tag": tag, "rate": 5, "expires": 5000} for tag in ("t", "sixteen-bytes-ab", "t")]
 TWO = [
-    [do("ask", at=1000), do("ask", at=3000), do("report", num=2, locked=True, metadata=7, min_known=5), do("tell", to=1), do("reask", num=2, at=1)],
+    [do("ask", at=1000), do("ask", at=3000), do("report", num=2, locked=True, metadata="0102030405060708090A", min_known=5), do("tell", to=1), do("reask", num=2, at=1)],
     [do("grv", 1, tags=["t", "u", "sixteen-bytes-ab", "t"], lock_aware=True, use_min=True), do("grv", 1), do("ask", 1, at=5), do("tell", 1, to=0)],
     [do("report", num=3), do("report", num=1, min_known=7), do("report", num=1, min_known=101), do("reask", num=9, at=1), do("grv", priority="batch", tags=["t"]), do("tell", to=1), do("tell", to=1)],
 ]

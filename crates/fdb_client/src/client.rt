@@ -239,7 +239,7 @@ impl<'a, J: Live> Client<'a, J> {
         gate: &G,
         num: u64,
         locked: bool,
-        metadata: Option<u64>,
+        metadata: Option<[u8; 10]>,
         min_known: u64,
     ) -> Result<Ack, ClientError>
         ensures logged { result ≢ Err ClientError.Memory

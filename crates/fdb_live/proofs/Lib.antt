@@ -9,3 +9,4 @@ pub mod InWords
 pub mod Tokens
 pub mod Reports
 pub mod Opening
+pub mod MetadataWords

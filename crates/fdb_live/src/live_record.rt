@@ -19,7 +19,7 @@ use std::sync::{Mutex, Wait};
 /// The live committed version of the service `J`, in one register that threads share
 /// (`liveCommittedVersion` and its companions in masterserver, FoundationDB 7.1).
 ///
-/// Reports take turns under a lock that only they take. A read does not take it: it loads the five
+/// Reports take turns under a lock that only they take. A read does not take it: it loads the six
 /// words of a sequence cell, and only where a replacement came between does it take the cell's own
 /// lock for a moment. No call on it takes memory, and each takes constant time, waiting aside.
 #[derive(Drop)]

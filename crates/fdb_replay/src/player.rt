@@ -151,7 +151,7 @@ impl<'a, J: Live> Player<'a, J> {
         world: &World<'_, J, G>,
         num: u64,
         locked: bool,
-        metadata: Option<u64>,
+        metadata: Option<[u8; 10]>,
         min_known: u64,
     ) -> Result<(), AllocError>
         ensures { OnOk result

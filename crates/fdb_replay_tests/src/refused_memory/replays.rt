@@ -29,7 +29,7 @@ const TOLD: &str = r#"{"epoch_end":0,"recovery":100,"clients":2,
 {"do":"ask","client":0,"at":3000},
 {"do":"reask","client":0,"num":1,"at":9000},
 {"do":"reask","client":0,"num":5,"at":9000},
-{"do":"report","client":0,"num":2,"locked":true,"metadata":7},
+{"do":"report","client":0,"num":2,"locked":true,"metadata":"0102030405060708090A"},
 {"do":"tell","client":0,"to":1}],[
 {"do":"grv","client":0,"tags":["t"]},
 {"do":"grv","client":1,"lock_aware":true,"tags":["t"]},
@@ -44,13 +44,13 @@ const TOLD: &str = r#"{"epoch_end":0,"recovery":100,"clients":2,
 0 0 5 tell 1 pos 1
 1 0 0 grv refused Locked 2100 pos 1
 1 0 3 report 100 not raised pos 1
-1 1 1 grv 2100 locked 7 pos 1 limit t 5 5000
+1 1 1 grv 2100 locked 0102030405060708090a pos 1 limit t 5 5000
 1 1 2 report refused NotIssued
 audit ok events 4 raised 1 versions 2
-history 0 client 0 call 4 report 2100 locked 7 raised
-history 1 client 0 call 6 read 2100 locked 7
+history 0 client 0 call 4 report 2100 locked 0102030405060708090a raised
+history 1 client 0 call 6 read 2100 locked 0102030405060708090a
 history 2 client 0 call 7 report 100 unlocked none not raised
-history 3 client 1 call 1 read 2100 locked 7
+history 3 client 1 call 1 read 2100 locked 0102030405060708090a
 "#;
 
 #[test]
