@@ -3,6 +3,7 @@
 ghost use Rattle.std.specs.Prelude.{◌≡◌, ◌≢◌, [], length};
 ghost use Rattle.std.specs.Prelude.{IfOk, IfErr, OnOk, OnErr, None, Some};
 ghost use Rattle.fdb_client.specs.Account.{Account, new_account, sight};
+ghost use Rattle.fdb_client.specs.Agreeing.{Agrees};
 ghost use Rattle.fdb_client.specs.Calls.{Asks, Learns, Reads, Reports, Tells};
 ghost use Rattle.fdb_client.specs.Calls.{next_number, request_of};
 ghost use Rattle.fdb_chain.specs.ChainCore.{IsFor};
@@ -45,6 +46,7 @@ pub struct Client<'a, J: Live> {
 impl<'a, J: Live> Model for Client<'a, J> {
     ghost use Rattle.std.specs.Prelude.{◌≡◌, Some, length};
     ghost use Rattle.fdb_client.specs.Account.{Account};
+    ghost use Rattle.fdb_client.specs.Agreeing.{Agrees};
     ghost use Rattle.fdb_history.specs.Log.{position_after_calls};
 
     ghost Value = { Account };
@@ -58,7 +60,13 @@ impl<'a, J: Live> Model for Client<'a, J> {
 
     ghost invariant = { λ client. (client.seen.reporter ≡ Some client.id)
         × (position_after_calls client.begun client.journal.calls.items
-        ≡ length client.seen.changes) };
+        ≡ length client.seen.changes)
+        × Agrees J.start (record {
+          number = client.id;
+          begun = client.begun;
+          calls = client.journal.calls.items;
+          changes = client.seen.changes;
+        }) };
 }
 
 impl<'a, J: Live> Client<'a, J> {
@@ -338,12 +346,13 @@ impl<'a, J: Live> Client<'a, J> {
         Ok(())
     }
 
-    /// The log and the token. Takes no memory.
+    /// The log and the token, which agree with one another. Takes no memory.
     pub fn finish(self) -> (ClientLog, Seen<J>)
         ensures log { result.0 ≡ record { calls = self.entry.calls } }
         ensures seen { result.1 ≡ sight self.entry }
         ensures come_to { position_after_calls self.entry.begun self.entry.calls
             ≡ length self.entry.changes }
+        ensures agrees { Agrees J.start self.entry }
     {
         let Client {
             alloc: _,

@@ -10,3 +10,4 @@ pub mod Tokens
 pub mod Reports
 pub mod Opening
 pub mod MetadataWords
+pub mod Owners
