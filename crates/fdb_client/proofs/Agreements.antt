@@ -4,7 +4,6 @@ use Rattle.std.specs.List.{AllByRecursion}
 use Rattle.std.proofs.lemmas.Grind.{flat_map-append}
 use Rattle.std.proofs.lemmas.List.{append-nil, take-append-le}
 use Rattle.std.proofs.Math.Seq.{take-append_seam, take-length}
-use mathlib.Core.List.{IsPrefix}
 use Rattle.fdb_history.specs.Faults.{IsMisanswered, IsWrongBy}
 use Rattle.fdb_history.specs.Issuing.{answer_to}
 use Rattle.fdb_history.specs.Linear.{NeverGoesBack}
@@ -20,7 +19,7 @@ use Rattle.fdb_history.specs.declared.log.Input.{Input}
 use Rattle.fdb_history.specs.declared.log.Input.TheVariants as input
 use Rattle.fdb_history.specs.declared.log.Refusal.{Refusal}
 use Rattle.fdb_history.specs.declared.register.Record.{Record}
-use Rattle.fdb_live.specs.Seen.{IsChangedBy, IsNotChangedBy, last_record, own_positions}
+use Rattle.fdb_live.specs.Seen.{IsChangedBy, last_record, own_positions}
 use Rattle.fdb_live.specs.declared.ack.Ack.{Ack}
 use Rattle.fdb_live.specs.declared.change.Change.{Change}
 use Rattle.fdb_client.specs.Account.{Account, Logs, new_account, sight}
@@ -121,6 +120,7 @@ agrees_logged start input answer before after agrees logged new right made =
   where
     added : changed_positions after.calls ≡ changed_positions before.calls ++ (if answer_changes answer then length after.changes ∷ [] else [])
     added = ap changed_positions logged.calls ∙ positions_added before.calls (record { input = input; asked = length before.changes; position = length after.changes; answer = answer })
+
     owned : (b : Bool) → answer_changes answer ≡ b → own_positions (sight after) ≡ changed_positions after.calls
     owned true is = logged.changed is ∙ (ap (λ ps. ps ++ length after.changes ∷ []) agrees.own
         ∙ sym (added ∙ ap (λ b. changed_positions before.calls ++ (if b then length after.changes ∷ [] else [])) is))
@@ -186,7 +186,7 @@ change_last start rec raised before after changed =
     let place : length after.changes - 1 ≡ length changed.before = omega arith in
     let (more, whole) = changed.seen in
     let taken : take (length after.changes - 1) after.changes ≡ changed.before =
-        ap (λ n. take n after.changes) place ∙ (ap (take (length changed.before)) changed.last ∙ take-append_seam changed.before (one ∷ [])) in
+    ap (λ n. take n after.changes) place ∙ (ap (take (length changed.before)) changed.last ∙ take-append_seam changed.before (one ∷ [])) in
     let found : record_at start after.changes (length after.changes - 1) ≡ last_record start changed.before = ap (last_record start) taken in
     record {
       longer = omega (arith, sym (ap length whole) ∙ length-append before.changes more);
@@ -220,6 +220,7 @@ report_agrees start num locked metadata min_known version (Acked rec raised fals
   where
     none : changes (record_at start after.changes (length after.changes)) rec ≡ false
     none = ap (λ (r : Record). changes r rec) (last_at start after.changes) ∙ answered.5.changes
+
     right : IsMisanswered (record_at start after.changes (length after.changes)) rec raised false → ⊥
     right (inl differs) = differs (answered.5.raised_is ∙ sym (not_raised (record_at start after.changes (length after.changes)) rec none))
     right (inr differs) = differs (sym none)
@@ -260,18 +261,19 @@ agrees_refused {S} start input error before after number begun changes unlogged 
         subst (HasAgreed start) (sym (is_as_before before after number begun (same none) changes)) agrees
     go (Some cause) _ calls =
         let call : Call = record { input = input; asked = length before.changes; position = length before.changes; answer = Refused cause } in
-        let length_is : length before.changes ≡ length after.changes = sym (ap length changes) in
-        (ap (position_after_calls after.begun) calls ∙ (position_of_added after.begun before.calls call ∙ length_is),
-        agrees_quiet start input (Refused cause) before after tt agrees.1 (record {
-          number = number;
-          begun = begun;
-          calls = calls ∙ ap (λ n. before.calls ++ record { input = input; asked = length before.changes; position = n; answer = Refused cause } ∷ []) length_is;
-          come_to = agrees.0;
-          extends = ([], append-nil before.changes ∙ sym changes);
-          stays = λ _. changes;
-          own = λ _. ap (λ n. own_positions (record { reporter = Some n; changes = after.changes })) number ∙ ap (λ seen. own_positions (record { reporter = Some before.number; changes = seen })) changes;
-          changed = λ is. absurd (cc is);
-        }))
+        let length_is : length before.changes ≡ length after.changes = sym (ap length changes) in (
+          ap (position_after_calls after.begun) calls ∙ (position_of_added after.begun before.calls call ∙ length_is),
+          agrees_quiet start input (Refused cause) before after tt agrees.1 (record {
+            number = number;
+            begun = begun;
+            calls = calls ∙ ap (λ n. before.calls ++ record { input = input; asked = length before.changes; position = n; answer = Refused cause } ∷ []) length_is;
+            come_to = agrees.0;
+            extends = ([], append-nil before.changes ∙ sym changes);
+            stays = λ _. changes;
+            own = λ _. ap (λ n. own_positions (record { reporter = Some n; changes = after.changes })) number ∙ ap (λ seen. own_positions (record { reporter = Some before.number; changes = seen })) changes;
+            changed = λ is. absurd (cc is);
+          }),
+        )
 
 -- What holds of a client before a call, and after it where that was not refused for memory, holds
 -- after it.

@@ -1,5 +1,5 @@
 -- The logs of all clients, beside one list of changes that all their tokens have seen.
-use Rattle.std.proofs.Common.{◌≡◌, ◌≢◌, ℕ, zero, suc, ◌+◌, ◌-◌, ◌<◌, ◌≤◌, ◌==◌, Bool, true, false, IsTrue, List, [], ◌∷◌, ◌++◌, length, Option, None, Some, if◌then◌else◌, refl, sym, ap, ◌∙◌, arith, filter, slice_get, take, subst, inl, inr, length-append, append_assoc}
+use Rattle.std.proofs.Common.{◌≡◌, ℕ, zero, suc, ◌+◌, ◌-◌, ◌<◌, ◌≤◌, ◌==◌, Bool, true, false, IsTrue, List, [], ◌∷◌, ◌++◌, length, Option, None, Some, if◌then◌else◌, refl, sym, ap, ◌∙◌, arith, slice_get, take, subst, inl, inr, length-append, append_assoc}
 use Rattle.std.specs.Prelude.{All, nat_lt}
 use Rattle.std.specs.List.{AllByRecursion, flat_map}
 use Rattle.std.proofs.lemmas.Bool.Decides.{nat_tests}
@@ -48,14 +48,16 @@ get_seam (y ∷ xs) ys x = get_seam xs ys x
 placed_own : (number : ℕ) (front log : List Change) → placed_at (front ++ log) (changed_by number (length front + 1) log) ≡ placed_by number (length front + 1) log
 placed_own number front [] = refl
 placed_own number front (r ∷ log) = own (r.reporter == number)
-  (subst (λ (n : ℕ). placed_at (front ++ r ∷ log) (changed_by number (n + 1) log) ≡ placed_by number (n + 1) log) (length-append front (r ∷ []))
-      (subst (λ (l : List Change). placed_at l (changed_by number (length (front ++ r ∷ []) + 1) log) ≡ placed_by number (length (front ++ r ∷ []) + 1) log) (append_assoc front (r ∷ []) log)
-      (placed_own number (front ++ r ∷ []) log)))
+    (subst (λ (n : ℕ). placed_at (front ++ r ∷ log) (changed_by number (n + 1) log) ≡ placed_by number (n + 1) log) (length-append front (r ∷ []))
+    (subst (λ (l : List Change). placed_at l (changed_by number (length (front ++ r ∷ []) + 1) log) ≡ placed_by number (length (front ++ r ∷ []) + 1) log) (append_assoc front (r ∷ []) log)
+    (placed_own number (front ++ r ∷ []) log)))
   where
     at : ℕ
     at = length front + 1
+
     here : entry at (slice_get (front ++ r ∷ log) (at - 1)) ≡ record { position = at; rec = r.rec } ∷ []
     here = let place : at - 1 ≡ length front = omega arith in ap (entry at) (ap (slice_get (front ++ r ∷ log)) place ∙ get_seam front log r)
+
     own : (b : Bool) → placed_at (front ++ r ∷ log) (changed_by number (at + 1) log) ≡ placed_by number (at + 1) log
         → placed_at (front ++ r ∷ log) (if b then (at ∷ changed_by number (at + 1) log) else changed_by number (at + 1) log)
         ≡ (if b then (record { position = at; rec = r.rec } ∷ placed_by number (at + 1) log) else placed_by number (at + 1) log)
@@ -129,6 +131,7 @@ at_by_first number at position r log = go (r.reporter == number)
   where
     one : PlacedChange
     one = record { position = at; rec = r.rec }
+
     go : (b : Bool) → at_position position (if b then (one ∷ placed_by number (at + 1) log) else placed_by number (at + 1) log)
         ≡ (if b then at_position position (one ∷ []) else []) ++ at_position position (placed_by number (at + 1) log)
     go true = filter-append (λ change. change.position == position) (one ∷ []) (placed_by number (at + 1) log)
@@ -243,9 +246,14 @@ length_first first (suc count) at r log =
     let one : PlacedChange = record { position = at; rec = r.rec } in
     let here = length_by (r.reporter == first) one (placed_by first (at + 1) log) in
     let rest = length_first (first + 1) count at r log in
-    omega (arith, here, rest, length-append (placed_by first at (r ∷ log)) (spread (first + 1) count at (r ∷ log)),
-    length-append (if r.reporter == first then one ∷ [] else []) (one_of r.reporter (first + 1) count (one ∷ [])),
-    length-append (placed_by first (at + 1) log) (spread (first + 1) count (at + 1) log))
+    omega (
+      arith,
+      here,
+      rest,
+      length-append (placed_by first at (r ∷ log)) (spread (first + 1) count at (r ∷ log)),
+      length-append (if r.reporter == first then one ∷ [] else []) (one_of r.reporter (first + 1) count (one ∷ [])),
+      length-append (placed_by first (at + 1) log) (spread (first + 1) count (at + 1) log),
+    )
 
 length_spread : (first count at : ℕ) (log : List Change) → AreBy first count log → length (spread first count at log) ≡ length log
 length_spread first count at [] by = ap length (spread_none first count at)
@@ -397,7 +405,7 @@ module _ (start : Record) (reporters : ℕ) (logs : List ClientLog) (old new : L
       settled : (k : ℕ) → k < reporters → (token : Sight) × (slice_get old k ≡ Some token) × (take (suc k) old ≡ take k old ++ token ∷ []) → Agrees start (account_of k (calls_of logs k) log)
       settled k within (token, at, _) =
           let same : changed_by k 1 log ≡ changed_by k 1 token.changes =
-              own k token (record { reporter = Some k; changes = log }) at (one_list k within) ∙ ap (λ who. own_among who token.changes) (numbered k token at) in
+          own k token (record { reporter = Some k; changes = log }) at (one_list k within) ∙ ap (λ who. own_among who token.changes) (numbered k token at) in
           agrees_more start k (calls_of logs k) token.changes log (agree k token at) (extends k token at) same
 
   -- and so with the tokens after

@@ -30,9 +30,11 @@ invariant_of-self-in-Ok g c =
     let agreed : HasAgreed g.J.Service.start before = subst (HasAgreed g.J.Service.start) alike (c.self.invariant.1, c.self.invariant.2) in
     let reporter : c.split.new.seen.reporter ≡ Some c.self.inside.id = search rules in
     let held = either_way (HasAgreed g.J.Service.start) before after c.take_reply.result agreed
-        (λ done. (c.take_reply.ensures.come_to done c.self.inside.begun,
-        agrees_read g.J.Service.start c.in_ok-logged.logged before after c.take_reply.result agreed.1 (c.take_reply.ensures.logged done c.self.inside.id c.self.inside.begun reporter agreed.0)))
-        (λ none. cc (c.take_reply.ensures.seen none, c.take_reply.ensures.calls none)) in
+    (λ done. (
+      c.take_reply.ensures.come_to done c.self.inside.begun,
+      agrees_read g.J.Service.start c.in_ok-logged.logged before after c.take_reply.result agreed.1 (c.take_reply.ensures.logged done c.self.inside.id c.self.inside.begun reporter agreed.0),
+    ))
+    (λ none. cc (c.take_reply.ensures.seen none, c.take_reply.ensures.calls none)) in
     (search rules, held.0, held.1)
 
 pub invariant_of-self-in-Err : goal.invariant_of-self-in-Err
@@ -42,5 +44,5 @@ invariant_of-self-in-Err g c =
     let after : Account = record { number = c.self.inside.id; begun = c.self.inside.begun; calls = c.add_refused.new.self.calls.items; changes = c.split.new.seen.changes } in
     let alike : was ≡ before = cc (c.reserve.ensures.calls, c.split.ensures.same) in
     let agreed = agrees_refused g.J.Service.start (Grv c.in_ok-logged.logged) c.in-Err.error before after refl refl refl
-        c.add_refused.ensures.unlogged (λ same. cc same) (search rules) (subst (HasAgreed g.J.Service.start) alike (c.self.invariant.1, c.self.invariant.2)) in
+    c.add_refused.ensures.unlogged (λ same. cc same) (search rules) (subst (HasAgreed g.J.Service.start) alike (c.self.invariant.1, c.self.invariant.2)) in
     (search rules, agreed.0, agreed.1)

@@ -38,5 +38,5 @@ invariant_of-self-in-Err g c =
     let after : Account = record { number = c.self.inside.id; begun = c.self.inside.begun; calls = c.add_refused.new.self.calls.items; changes = c.self.inside.seen.changes } in
     let alike : was ≡ before = cc c.reserve_under.ensures.calls in
     let agreed = agrees_refused g.J.Service.start (Ask c.args.num c.args.processed c.args.at) c.from-error.result before after refl refl refl
-        c.add_refused.ensures.unlogged (λ same. cc same) (search rules) (subst (HasAgreed g.J.Service.start) alike (c.self.invariant.1, c.self.invariant.2)) in
+    c.add_refused.ensures.unlogged (λ same. cc same) (search rules) (subst (HasAgreed g.J.Service.start) alike (c.self.invariant.1, c.self.invariant.2)) in
     (search rules, agreed.0, agreed.1)
