@@ -29,7 +29,7 @@ pub(crate) fn read_in_turn<J: Live, R: Wait>(
 /// The last byte of a metadata version, or 0 where there is none.
 fn last_byte(metadata: Option<[u8; 10]>) -> u64 {
     match metadata {
-        Some([.., last]) => u64::from(last),
+        Some(metadata) => u64::from(metadata[9]),
         None => 0,
     }
 }
