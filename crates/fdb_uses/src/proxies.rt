@@ -1,7 +1,7 @@
 //! Clients that read through GRV proxies, which serve in threads of their own.
 
-ghost use Rattle.std.specs.Prelude.{◌≡◌, IfOk};
-ghost use Rattle.fdb_client.specs.Account.{IsSameClient};
+ghost use Rattle.std.specs.Prelude.{◌≡◌, ◌+◌, ◌<◌, ℕ, [], IfOk, OnOk, Some, slice_get, vec_len};
+ghost use Rattle.fdb_client.specs.Account.{IsSameClient, new_account};
 ghost use Rattle.fdb_history.specs.Faults.{IsFaultless};
 
 use anyhow::{Result, anyhow};
@@ -76,12 +76,24 @@ impl<R: Print + Wait> Workload<R> for CommitAndRead {
         if clients.len() != 2 {
             return Err(anyhow!("not two clients"));
         }
-        let (Some(mut reader), Some(mut writer)) = (clients.pop(), clients.pop()) else {
-            return Err(anyhow!("no client"));
-        };
+        let mut reader = last_of(&mut clients)?;
+        let mut writer = last_of(&mut clients)?;
         commit_and_read(rt, self.alloc, cluster, &mut writer, &mut reader)?;
         settled(rt, cluster, writer, reader)
     }
+}
+
+/// The last client that is left, which has called nobody yet.
+#[tactic(auto, using(std::proofs::lemmas::Option::get_or_from_slice_get, std::proofs::lemmas::Option::gets))]
+fn last_of<'a, J: Live>(clients: &mut Vec<Client<'a, J>>) -> Result<Client<'a, J>>
+    requires { (k : ℕ) → k < vec_len clients.old
+        → slice_get clients.old.items k ≡ Some (new_account k []) }
+    ensures last { IfOk result (λ client. client ≡ new_account (vec_len clients.new) []) }
+    ensures count { OnOk result (vec_len clients.new + 1 ≡ vec_len clients.old) }
+    ensures left { OnOk result ((k : ℕ) → k < vec_len clients.new
+        → slice_get clients.new.items k ≡ Some (new_account k [])) }
+{
+    clients.pop().ok_or(anyhow!("no client"))
 }
 
 /// The logs of both clients. Their tokens show that no fault of the register's history stands in
