@@ -12,6 +12,7 @@ def form(text):
 
 
 RECORD = r"<version> (?P<lock>(?:un)?locked) (?P<metadata>none|[0-9a-f]{20})(?: min <minimum>)?"
+RECORD_PARTS = ("version", "lock", "metadata", "minimum")
 CHANGE = r"(?P<change>raised|min raised|not raised)"
 # Why a call is refused. A read that the lock turns away is none of these: the register answered it.
 REFUSALS = {
@@ -57,6 +58,12 @@ EVENTS = ("read", "locked", "not raised", *CHANGES)
 
 class Refused(Exception):
     """Says why a text is refused: a name, the line, counted from 1, and what is wrong there."""
+
+
+class Call(SimpleNamespace):
+    """A call of a client's log. No two calls are equal."""
+
+    __eq__, __hash__ = object.__eq__, object.__hash__
 
 
 def parts_of(found):
@@ -108,9 +115,9 @@ class Text:
         self.told += [call] * (do == "tell")
 
     def call(self, kind, client, **said):
-        """Adds a call to its client's log, behind the one before it. It returns it."""
+        """Adds a call to its client's log and returns it. It needs the one before it."""
         log = self.lanes.setdefault(client, [])
-        call = SimpleNamespace(kind=kind, client=client, number=len(log), needs=log[-1:], **said)
+        call = Call(kind=kind, client=client, number=len(log), needs=log[-1:], **said)
         call.seen = max(said.get("position", 0), log[-1].seen if log else 0)
         call.column = None
         log.append(call)
@@ -159,7 +166,8 @@ class Text:
         kind = "read" if event.kind == "locked" else event.kind
         if (event.client, event.number, kind) != (client, call, change):
             self.refuse("BadHistory", "the replies have another event here")
-        if any(vars(event).get(name, it) != it for name, it in record.items()):
+        parts = RECORD_PARTS if event.kind == "read" else ("version",)
+        if any(vars(event).get(name) != record.get(name) for name in parts):
             self.refuse("BadHistory", "its reply says something else")
         vars(event).update(record)
         self.listed += 1
@@ -196,7 +204,7 @@ FORMS = (
 def in_time(text):
     """All calls in an order in which they can have been. Events stand by the history, as far as no
     tell is against it, and any other call right before it is needed."""
-    order = []
+    order, followers = [], followers_of(text)
     for call in [*text.events, *text.calls("learn"), *text.calls()]:
         open_calls = [call] * (call.column is None)
         while open_calls:
@@ -208,4 +216,16 @@ def in_time(text):
             else:
                 top.column = len(order)
                 order.append(open_calls.pop())
+                open_calls += followers.get(top, [])
     return order
+
+
+def followers_of(text):
+    """The calls at the ends of logs that no call needs, each by the one that it is to follow."""
+    found = {}
+    for log in text.lanes.values():
+        for before, call in zip(log[-2::-1], log[::-1]):
+            if call.kind not in ("refused", "kept"):
+                break
+            found[before] = [call]
+    return found
