@@ -132,7 +132,7 @@ owned_once reporters log tokens position all count each some within =
         let one : own.place ≡ i = omega arith in
         cc (own.own, own.stands, one, stands)
 
--- of two of which the one begins the other that is the longer
+-- where one list begins the other, the other is the longer
 pub longer_of_prefix : (xs ys : List Change) → IsPrefix xs ys → longer xs ys ≡ ys
 longer_of_prefix xs ys begins =
     let both = prefix_longer xs ys ys begins (prefix_same ys) in

@@ -139,8 +139,8 @@ impl<J: Live> LiveRecord<J> {
         }
     }
 
-    /// Of what the holders of two tokens have seen, one begins the other. Both tokens stay as they
-    /// are.
+    /// Compares two tokens: one holder has seen all that the other has, from the first change on.
+    /// Both tokens stay as they are.
     #[inline]
     pub fn meet<R: Wait>(&self, rt: &R, first: &mut Seen<J>, second: &mut Seen<J>)
         ensures first { first.new ≡ first.old }
