@@ -120,7 +120,7 @@ def faults_of_place(where, code, words):
         definitions = CODE.findall(" ".join(INNER.findall(f"{functions} {said}")))
         names, wanted = (CODE.findall(INNER.sub("", it)) for it in (functions, said))
         found = {name: declared(code, name.split("::")[-1]) for name in names}
-        text = "\n".join(found.values())
+        text = "\n".join(found.values()) or code
         faults += [f"there is no {name}" for name in names if not found[name]]
         faults += [f"no definition {name}" for name in definitions if name not in words]
         clause = r"\b(?:ensures|requires|ghost) {}\b".format
