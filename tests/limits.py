@@ -50,21 +50,23 @@ def text_of(file):
 
 
 def constants():
-    """The limits by name. A name has one value, in whatever crate it stands."""
+    """The limits by name, each with the values that it has in the crates."""
     found = {}
     for crate in sorted(os.listdir(f"{ROOT}/crates")):
         src = f"crates/{crate}/src"
         for name in sorted(os.listdir(f"{ROOT}/{src}")):
-            if name.endswith(".rt"):
-                pairs = CONSTANT.findall(text_of(f"{src}/{name}"))
-                found.update((it, int(value.replace("_", ""))) for it, value in pairs)
+            text = text_of(f"{src}/{name}") if name.endswith(".rt") else ""
+            for limit, value in CONSTANT.findall(text):
+                found.setdefault(limit, set()).add(int(value.replace("_", "")))
     return found
 
 
 def limits(_program):
-    """Where a document names a limit, it is that of the code."""
+    """Where a document names a limit, it is that of the code, which has one value for it."""
     found = constants()
+    several = [name for name, values in found.items() if len(values) > 1]
+    yield "each limit has one value", f"not {', '.join(several)}" if several else None
+    by_name = {name: min(values) for name, values in found.items()}
     for document, form in SAID:
-        said = form.format(**found)
-        fault = None if said in text_of(document) else "it does not say so"
-        yield f"{document}: {said}", fault
+        said = form.format(**by_name)
+        yield f"{document}: {said}", None if said in text_of(document) else "it does not say so"
