@@ -14,7 +14,8 @@ SAID = (
     (FORMATS, "would be above {MAX_VERSION} |"),
     (FORMATS, "the version is above {MAX_VERSION} |"),
     (FORMATS, "a whole number from 1 to {MAX_CLIENTS} |"),
-    (FORMATS, "at most {MAX_ROUNDS:,} rounds, each a list of commands; at most {MAX_COMMANDS:,} commands in all"),
+    (FORMATS, "at most {MAX_ROUNDS:,} rounds, each a list of commands; at most {MAX_COMMANDS:,}"
+              " commands in all"),
     (FORMATS, "at most {MAX_ROUNDS:,} rounds, {MAX_COMMANDS:,} commands and {MAX_THROTTLES:,} thr"),
     (FORMATS, "rates: 1 to {MAX_RATE:,}, and 0 to {MAX_RATE:,} |"),
     (FORMATS, "capacity of its queue: 1 to {MAX_ROOM:,} |"),
