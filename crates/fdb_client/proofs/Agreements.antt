@@ -1,10 +1,9 @@
 -- Each call leaves what a client has logged in agreement with its token.
-use Rattle.std.proofs.Common.{◌≡◌, ℕ, zero, suc, ◌+◌, ◌-◌, ◌<◌, ◌≤◌, Bool, true, false, IsTrue, List, [], ◌∷◌, ◌++◌, length, Option, Some, Result, Ok, Err, if◌then◌else◌, refl, sym, ap, ◌∙◌, arith, slice_get, take, subst, inl, inr, length-append}
+use Rattle.std.proofs.Common.{◌≡◌, ◌≢◌, ℕ, zero, suc, ◌+◌, ◌-◌, ◌<◌, ◌≤◌, Bool, true, false, IsTrue, List, [], ◌∷◌, ◌++◌, length, Option, None, Some, IfNone, IfSome, Result, Ok, Err, if◌then◌else◌, refl, sym, ap, ◌∙◌, arith, slice_get, take, subst, inl, inr, length-append}
 use Rattle.std.specs.List.{AllByRecursion}
 use Rattle.std.proofs.lemmas.Grind.{flat_map-append}
 use Rattle.std.proofs.lemmas.List.{append-nil, take-append-le}
 use Rattle.std.proofs.Math.Seq.{take-append_seam, take-length}
-use mathlib.Core.List.{IsPrefix}
 use Rattle.fdb_history.specs.Faults.{IsMisanswered, IsWrongBy}
 use Rattle.fdb_history.specs.Issuing.{answer_to}
 use Rattle.fdb_history.specs.Linear.{NeverGoesBack}
@@ -20,12 +19,14 @@ use Rattle.fdb_history.specs.declared.log.Input.{Input}
 use Rattle.fdb_history.specs.declared.log.Input.TheVariants as input
 use Rattle.fdb_history.specs.declared.log.Refusal.{Refusal}
 use Rattle.fdb_history.specs.declared.register.Record.{Record}
-use Rattle.fdb_live.specs.Seen.{IsChangedBy, IsNotChangedBy, last_record, own_positions}
+use Rattle.fdb_live.specs.Seen.{IsChangedBy, last_record, own_positions}
 use Rattle.fdb_live.specs.declared.ack.Ack.{Ack}
 use Rattle.fdb_live.specs.declared.change.Change.{Change}
 use Rattle.fdb_client.specs.Account.{Account, Logs, new_account, sight}
 use Rattle.fdb_client.specs.Calls.{Asks, IsReadAnswer, IsReportAnswer, Reads, Reports, request_of}
 use Rattle.fdb_client.specs.declared.error.ClientError.{ClientError}
+use Rattle.fdb_client.specs.declared.error.ClientError.TheVariants.{Locked, Stranger, ProxyClosed, Chain, Queue, NotIssued, Live, Memory}
+use Rattle.fdb_client.specs.private.Refusals.{refusal_for}
 use Rattle.fdb_client.specs.declared.read.ReadVersion.{ReadVersion}
 use Rattle.fdb_client.proofs.Calls.{position_of_added}
 use Rattle.fdb_client.specs.Agreeing.{Agrees, AgreesAt, IsMade, changed_positions, record_at}
@@ -119,6 +120,7 @@ agrees_logged start input answer before after agrees logged new right made =
   where
     added : changed_positions after.calls ≡ changed_positions before.calls ++ (if answer_changes answer then length after.changes ∷ [] else [])
     added = ap changed_positions logged.calls ∙ positions_added before.calls (record { input = input; asked = length before.changes; position = length after.changes; answer = answer })
+
     owned : (b : Bool) → answer_changes answer ≡ b → own_positions (sight after) ≡ changed_positions after.calls
     owned true is = logged.changed is ∙ (ap (λ ps. ps ++ length after.changes ∷ []) agrees.own
         ∙ sym (added ∙ ap (λ b. changed_positions before.calls ++ (if b then length after.changes ∷ [] else [])) is))
@@ -184,7 +186,7 @@ change_last start rec raised before after changed =
     let place : length after.changes - 1 ≡ length changed.before = omega arith in
     let (more, whole) = changed.seen in
     let taken : take (length after.changes - 1) after.changes ≡ changed.before =
-        ap (λ n. take n after.changes) place ∙ (ap (take (length changed.before)) changed.last ∙ take-append_seam changed.before (one ∷ [])) in
+    ap (λ n. take n after.changes) place ∙ (ap (take (length changed.before)) changed.last ∙ take-append_seam changed.before (one ∷ [])) in
     let found : record_at start after.changes (length after.changes - 1) ≡ last_record start changed.before = ap (last_record start) taken in
     record {
       longer = omega (arith, sym (ap length whole) ∙ length-append before.changes more);
@@ -203,7 +205,7 @@ not_raised current rec same = go (raises current rec) refl
     go false is = is
     go true is = absurd (cc (is, same))
 
-report_agrees : (start : Record) (num : ℕ) (locked : Bool) (metadata : Option ℕ) (min_known : ℕ) (version : Option ℕ) (answer : CallAnswer) (before after : Account)
+report_agrees : (start : Record) (num : ℕ) (locked : Bool) (metadata : Option (List ℕ)) (min_known : ℕ) (version : Option ℕ) (answer : CallAnswer) (before after : Account)
     → IsReportAnswer start version locked metadata min_known before after answer → Agrees start before → Logs before (input.Report num locked metadata min_known) answer after → Agrees start after
 report_agrees start num locked metadata min_known version (Version rec limits locked_out) before after answered agrees logged = absurd answered
 report_agrees start num locked metadata min_known version (Answered issued) before after answered agrees logged = absurd answered
@@ -218,14 +220,71 @@ report_agrees start num locked metadata min_known version (Acked rec raised fals
   where
     none : changes (record_at start after.changes (length after.changes)) rec ≡ false
     none = ap (λ (r : Record). changes r rec) (last_at start after.changes) ∙ answered.5.changes
+
     right : IsMisanswered (record_at start after.changes (length after.changes)) rec raised false → ⊥
     right (inl differs) = differs (answered.5.raised_is ∙ sym (not_raised (record_at start after.changes (length after.changes)) rec none))
     right (inr differs) = differs (sym none)
 
-pub agrees_reported : (start : Record) (num : ℕ) (locked : Bool) (metadata : Option ℕ) (min_known : ℕ) (before after : Account) (result : Result Ack ClientError) → Agrees start before
+pub agrees_reported : (start : Record) (num : ℕ) (locked : Bool) (metadata : Option (List ℕ)) (min_known : ℕ) (before after : Account) (result : Result Ack ClientError) → Agrees start before
     → Reports start num locked metadata min_known before after result → Agrees start after
 agrees_reported start num locked metadata min_known before after result agrees reports =
     report_agrees start num locked metadata min_known (issued_under before.calls num) reports.answer before after reports.answered agrees reports.logged
 
 pub agrees_new : (start : Record) (number : ℕ) (log : List Change) → own_positions (sight (new_account number log)) ≡ [] → Agrees start (new_account number log)
 agrees_new start number log none = record { own = none; order = tt; come_to = omega arith; each = tt }
+
+-- ---- where memory may have been refused
+
+-- where a client's log has come to, and that it agrees with its token
+abbrev pub HasAgreed : Record → Account → Type 0
+HasAgreed start account = (position_after_calls account.begun account.calls ≡ length account.changes) × Agrees start account
+
+is_as_before : (before after : Account) → after.number ≡ before.number → after.begun ≡ before.begun → after.calls ≡ before.calls → after.changes ≡ before.changes → after ≡ before
+is_as_before before after number begun calls changes =
+    let one : after ≡ record { number = before.number; begun = after.begun; calls = after.calls; changes = after.changes } = ap (λ n. record { number = n; begun = after.begun; calls = after.calls; changes = after.changes }) number in
+    let two : after ≡ record { number = before.number; begun = before.begun; calls = after.calls; changes = after.changes } = one ∙ ap (λ n. record { number = before.number; begun = n; calls = after.calls; changes = after.changes }) begun in
+    let three : after ≡ record { number = before.number; begun = before.begun; calls = before.calls; changes = after.changes } = two ∙ ap (λ own. record { number = before.number; begun = before.begun; calls = own; changes = after.changes }) calls in
+    three ∙ ap (λ seen. record { number = before.number; begun = before.begun; calls = before.calls; changes = seen }) changes
+
+-- a refused call is logged as that, or not at all
+pub agrees_refused : {S : Type 0} (start : Record) (input : Input) (error : ClientError) (before after : Account)
+    → after.number ≡ before.number → after.begun ≡ before.begun → after.changes ≡ before.changes
+    → IfNone (refusal_for error) S → (S → after.calls ≡ before.calls)
+    → IfSome (refusal_for error) (λ cause. after.calls ≡ before.calls ++ record { input = input; asked = length before.changes; position = length before.changes; answer = Refused cause } ∷ [])
+    → HasAgreed start before → HasAgreed start after
+agrees_refused {S} start input error before after number begun changes unlogged same logged agrees = go (refusal_for error) unlogged logged
+  where
+    go : (found : Option Refusal) → IfNone found S
+        → IfSome found (λ cause. after.calls ≡ before.calls ++ record { input = input; asked = length before.changes; position = length before.changes; answer = Refused cause } ∷ [])
+        → HasAgreed start after
+    go None none _ =
+        subst (HasAgreed start) (sym (is_as_before before after number begun (same none) changes)) agrees
+    go (Some cause) _ calls =
+        let call : Call = record { input = input; asked = length before.changes; position = length before.changes; answer = Refused cause } in
+        let length_is : length before.changes ≡ length after.changes = sym (ap length changes) in (
+          ap (position_after_calls after.begun) calls ∙ (position_of_added after.begun before.calls call ∙ length_is),
+          agrees_quiet start input (Refused cause) before after tt agrees.1 (record {
+            number = number;
+            begun = begun;
+            calls = calls ∙ ap (λ n. before.calls ++ record { input = input; asked = length before.changes; position = n; answer = Refused cause } ∷ []) length_is;
+            come_to = agrees.0;
+            extends = ([], append-nil before.changes ∙ sym changes);
+            stays = λ _. changes;
+            own = λ _. ap (λ n. own_positions (record { reporter = Some n; changes = after.changes })) number ∙ ap (λ seen. own_positions (record { reporter = Some before.number; changes = seen })) changes;
+            changed = λ is. absurd (cc is);
+          }),
+        )
+
+-- What holds of a client before a call, and after it where that was not refused for memory, holds
+-- after it.
+pub either_way : {X : Type 0} (P : Account → Type 0) (before after : Account) (result : Result X ClientError) → P before → (result ≢ Err Memory → P after)
+    → (result ≡ Err Memory → after ≡ before) → P after
+either_way P before after (Ok value) was done same = done (λ is. absurd (cc is))
+either_way P before after (Err Memory) was done same = subst P (sym (same refl)) was
+either_way P before after (Err (Locked version)) was done same = done (λ is. absurd (cc is))
+either_way P before after (Err Stranger) was done same = done (λ is. absurd (cc is))
+either_way P before after (Err ProxyClosed) was done same = done (λ is. absurd (cc is))
+either_way P before after (Err (Chain cause)) was done same = done (λ is. absurd (cc is))
+either_way P before after (Err (Queue cause)) was done same = done (λ is. absurd (cc is))
+either_way P before after (Err NotIssued) was done same = done (λ is. absurd (cc is))
+either_way P before after (Err (Live cause)) was done same = done (λ is. absurd (cc is))

@@ -1,5 +1,5 @@
 -- The logs of all clients, beside one list of changes that all their tokens have seen.
-use Rattle.std.proofs.Common.{◌≡◌, ◌≢◌, ℕ, zero, suc, ◌+◌, ◌-◌, ◌<◌, ◌≤◌, ◌==◌, Bool, true, false, IsTrue, List, [], ◌∷◌, ◌++◌, length, Option, None, Some, if◌then◌else◌, refl, sym, ap, ◌∙◌, arith, filter, slice_get, take, subst, inl, inr, length-append, append_assoc}
+use Rattle.std.proofs.Common.{◌≡◌, ℕ, zero, suc, ◌+◌, ◌-◌, ◌<◌, ◌≤◌, ◌==◌, Bool, true, false, IsTrue, List, [], ◌∷◌, ◌++◌, length, Option, None, Some, if◌then◌else◌, refl, sym, ap, ◌∙◌, arith, slice_get, take, subst, inl, inr, length-append, append_assoc}
 use Rattle.std.specs.Prelude.{All, nat_lt}
 use Rattle.std.specs.List.{AllByRecursion, flat_map}
 use Rattle.std.proofs.lemmas.Bool.Decides.{nat_tests}
@@ -17,25 +17,27 @@ use Rattle.fdb_history.specs.declared.log.CallAnswer.{CallAnswer}
 use Rattle.fdb_history.specs.declared.log.CallAnswer.TheVariants.{Version, Acked, Answered, Told, Refused}
 use Rattle.fdb_history.specs.declared.log.ClientLog.{ClientLog}
 use Rattle.fdb_history.specs.declared.register.Record.{Record}
-use Rattle.fdb_live.specs.Seen.{changed_by, last_record}
+use Rattle.fdb_live.specs.Gathering.{AreNumbered}
+use Rattle.fdb_live.specs.Seen.{Sight, changed_by, last_record, own_among, own_positions}
 use Rattle.fdb_live.specs.declared.change.Change.{Change}
 use Rattle.fdb_client.specs.Account.{Account}
 use Rattle.fdb_client.specs.Agreeing.{Agrees, AgreesAt, IsMade, changed_positions, record_at}
+use Rattle.fdb_client.specs.Settling.{AllAgree}
 use Rattle.fdb_client.proofs.Agreements.{all_alike, comes_to, wrong_alike}
 
 -- ---- the changes of one client
 
 -- a change at a position, if there is one
-entry : ℕ → Option Change → List PlacedChange
+abbrev pub entry : ℕ → Option Change → List PlacedChange
 entry position None = []
 entry position (Some change) = record { position = position; rec = change.rec } ∷ []
 
 -- the changes of a list at some positions, the first of which is 1
-placed_at : List Change → List ℕ → List PlacedChange
+abbrev pub placed_at : List Change → List ℕ → List PlacedChange
 placed_at log positions = flat_map (λ position. entry position (slice_get log (position - 1))) positions
 
 -- the changes of a list that carry a number, each at its place, the first being `at`
-placed_by : ℕ → ℕ → List Change → List PlacedChange
+abbrev pub placed_by : ℕ → ℕ → List Change → List PlacedChange
 placed_by number at [] = []
 placed_by number at (r ∷ rs) = if r.reporter == number then (record { position = at; rec = r.rec } ∷ placed_by number (at + 1) rs) else placed_by number (at + 1) rs
 
@@ -46,21 +48,23 @@ get_seam (y ∷ xs) ys x = get_seam xs ys x
 placed_own : (number : ℕ) (front log : List Change) → placed_at (front ++ log) (changed_by number (length front + 1) log) ≡ placed_by number (length front + 1) log
 placed_own number front [] = refl
 placed_own number front (r ∷ log) = own (r.reporter == number)
-  (subst (λ (n : ℕ). placed_at (front ++ r ∷ log) (changed_by number (n + 1) log) ≡ placed_by number (n + 1) log) (length-append front (r ∷ []))
-      (subst (λ (l : List Change). placed_at l (changed_by number (length (front ++ r ∷ []) + 1) log) ≡ placed_by number (length (front ++ r ∷ []) + 1) log) (append_assoc front (r ∷ []) log)
-      (placed_own number (front ++ r ∷ []) log)))
+    (subst (λ (n : ℕ). placed_at (front ++ r ∷ log) (changed_by number (n + 1) log) ≡ placed_by number (n + 1) log) (length-append front (r ∷ []))
+    (subst (λ (l : List Change). placed_at l (changed_by number (length (front ++ r ∷ []) + 1) log) ≡ placed_by number (length (front ++ r ∷ []) + 1) log) (append_assoc front (r ∷ []) log)
+    (placed_own number (front ++ r ∷ []) log)))
   where
     at : ℕ
     at = length front + 1
+
     here : entry at (slice_get (front ++ r ∷ log) (at - 1)) ≡ record { position = at; rec = r.rec } ∷ []
     here = let place : at - 1 ≡ length front = omega arith in ap (entry at) (ap (slice_get (front ++ r ∷ log)) place ∙ get_seam front log r)
+
     own : (b : Bool) → placed_at (front ++ r ∷ log) (changed_by number (at + 1) log) ≡ placed_by number (at + 1) log
         → placed_at (front ++ r ∷ log) (if b then (at ∷ changed_by number (at + 1) log) else changed_by number (at + 1) log)
         ≡ (if b then (record { position = at; rec = r.rec } ∷ placed_by number (at + 1) log) else placed_by number (at + 1) log)
     own true rest = cc (here, rest)
     own false rest = rest
 
-changes_of : List Call → List PlacedChange
+abbrev pub changes_of : List Call → List PlacedChange
 changes_of calls = flat_map (λ call. change_in call.position call.answer) calls
 
 one_made : (number : ℕ) (log : List Change) (position : ℕ) (answer : CallAnswer) → IsMade number log position answer
@@ -108,7 +112,7 @@ agrees_more start number calls log whole agrees (more, is) own =
 -- ---- the changes of all clients
 
 -- the changes that carry the numbers from `first` on, of so many
-spread : ℕ → ℕ → ℕ → List Change → List PlacedChange
+abbrev pub spread : ℕ → ℕ → ℕ → List Change → List PlacedChange
 spread first zero at log = []
 spread first (suc count) at log = placed_by first at log ++ spread (first + 1) count at log
 
@@ -127,6 +131,7 @@ at_by_first number at position r log = go (r.reporter == number)
   where
     one : PlacedChange
     one = record { position = at; rec = r.rec }
+
     go : (b : Bool) → at_position position (if b then (one ∷ placed_by number (at + 1) log) else placed_by number (at + 1) log)
         ≡ (if b then at_position position (one ∷ []) else []) ++ at_position position (placed_by number (at + 1) log)
     go true = filter-append (λ change. change.position == position) (one ∷ []) (placed_by number (at + 1) log)
@@ -150,7 +155,7 @@ none_below number at position (r ∷ log) below =
     ∙ none_below number (at + 1) position log (omega arith))
 
 -- what one of several numbers has, where it is the reporter's
-one_of : ℕ → ℕ → ℕ → List PlacedChange → List PlacedChange
+abbrev pub one_of : ℕ → ℕ → ℕ → List PlacedChange → List PlacedChange
 one_of reporter first zero xs = []
 one_of reporter first (suc count) xs = (if reporter == first then xs else []) ++ one_of reporter (first + 1) count xs
 
@@ -204,14 +209,17 @@ none_spread first (suc count) at position log below =
     filter-append (λ change. change.position == position) (placed_by first at log) (spread (first + 1) count at log)
     ∙ cc (none_below first at position log below, none_spread (first + 1) count at position log below)
 
--- each change is by one of so many numbers
+-- a change, and each of some, is by one of so many numbers
+abbrev IsBy : ℕ → ℕ → Change → Type 0
+IsBy first count r = (first ≤ r.reporter) × (r.reporter < first + count)
+
 abbrev AreBy : ℕ → ℕ → List Change → Type 0
-AreBy first count log = All (λ r. (first ≤ r.reporter) × (r.reporter < first + count)) log
+AreBy first count log = All (IsBy first count) log
 
 -- at a position there is what the list has there
 at_spread : (first count at position : ℕ) (log : List Change) → AreBy first count log → at ≤ position → at_position position (spread first count at log) ≡ entry position (slice_get log (position - at))
 at_spread first count at position [] by least = ap (at_position position) (spread_none first count at)
-at_spread first count at position (r ∷ log) by least = go (nat_lt at position) refl (at_spread first count (at + 1) position log (All-tail _ r log by))
+at_spread first count at position (r ∷ log) by least = go (nat_lt at position) refl (at_spread first count (at + 1) position log (All-tail (IsBy first count) r log by))
   where
     go : (b : Bool) → nat_lt at position ≡ b → (at + 1 ≤ position → at_position position (spread first count (at + 1) log) ≡ entry position (slice_get log (position - (at + 1))))
         → at_position position (spread first count at (r ∷ log)) ≡ entry position (slice_get (r ∷ log) (position - at))
@@ -221,7 +229,7 @@ at_spread first count at position (r ∷ log) by least = go (nat_lt at position)
     go false is rest =
         let same : at ≡ position = grind (arith, nat_tests) in
         let place : 0 ≡ position - at = omega arith in
-        let bounds = All-head _ r log by in
+        let bounds = All-head (IsBy first count) r log by in
         subst (λ p. at_position p (spread first count at (r ∷ log)) ≡ record { position = p; rec = r.rec } ∷ []) same
         (at_first first count at r log ∙ one_found r.reporter first count (record { position = at; rec = r.rec } ∷ []) bounds.0 bounds.1)
         ∙ ap (λ n. entry position (slice_get (r ∷ log) n)) place
@@ -238,16 +246,21 @@ length_first first (suc count) at r log =
     let one : PlacedChange = record { position = at; rec = r.rec } in
     let here = length_by (r.reporter == first) one (placed_by first (at + 1) log) in
     let rest = length_first (first + 1) count at r log in
-    omega (arith, here, rest, length-append (placed_by first at (r ∷ log)) (spread (first + 1) count at (r ∷ log)),
-    length-append (if r.reporter == first then one ∷ [] else []) (one_of r.reporter (first + 1) count (one ∷ [])),
-    length-append (placed_by first (at + 1) log) (spread (first + 1) count (at + 1) log))
+    omega (
+      arith,
+      here,
+      rest,
+      length-append (placed_by first at (r ∷ log)) (spread (first + 1) count at (r ∷ log)),
+      length-append (if r.reporter == first then one ∷ [] else []) (one_of r.reporter (first + 1) count (one ∷ [])),
+      length-append (placed_by first (at + 1) log) (spread (first + 1) count (at + 1) log),
+    )
 
 length_spread : (first count at : ℕ) (log : List Change) → AreBy first count log → length (spread first count at log) ≡ length log
 length_spread first count at [] by = ap length (spread_none first count at)
 length_spread first count at (r ∷ log) by =
-    let bounds = All-head _ r log by in
+    let bounds = All-head (IsBy first count) r log by in
     let one = ap length (one_found r.reporter first count (record { position = at; rec = r.rec } ∷ []) bounds.0 bounds.1) in
-    let rest = length_spread first count (at + 1) log (All-tail _ r log by) in
+    let rest = length_spread first count (at + 1) log (All-tail (IsBy first count) r log by) in
     omega (arith, one, rest, length_first first count at r log)
 
 -- ---- the register
@@ -256,10 +269,10 @@ last_record_more : (start : Record) (log : List Change) (r : Change) → last_re
 last_record_more start [] r = refl
 last_record_more start (q ∷ log) r = last_record_more (after_report start q.rec) log r
 
-take_more : (log : List Change) (i : ℕ) → i < length log → (r : Change) × (slice_get log i ≡ Some r) × (take (suc i) log ≡ take i log ++ r ∷ [])
+take_more : {A : Type 0} (xs : List A) (i : ℕ) → i < length xs → (x : A) × (slice_get xs i ≡ Some x) × (take (suc i) xs ≡ take i xs ++ x ∷ [])
 take_more [] i within = absurd (omega arith)
-take_more (q ∷ log) zero within = (q, refl, refl)
-take_more (q ∷ log) (suc i) within = let (r, is, more) = take_more log i (omega arith) in (r, is, ap (λ l. q ∷ l) more)
+take_more (y ∷ xs) zero within = (y, refl, refl)
+take_more (y ∷ xs) (suc i) within = let (x, is, more) = take_more xs i (omega arith) in (x, is, ap (λ l. y ∷ l) more)
 
 -- Where at each position there is what a list has there, the register is the record after so much of the list.
 register_is : (start : Record) (logs : List ClientLog) (log : List Change) → ((position : ℕ) → 1 ≤ position → changes_at logs position ≡ entry position (slice_get log (position - 1)))
@@ -350,7 +363,8 @@ module _ (start : Record) (logs : List ClientLog) (log : List Change) (settled :
       (order, omega arith)
 
   no_gap : (position : ℕ) → IsGap logs position → ⊥
-  no_gap position (some, none, client, place, call, is, reaches) =
+  no_gap position (some, none, is_reached) =
+      let (client, place, call, is, reaches) = is_reached in
       let (order, within) = reached client place call is in
       let (r, found, more) = take_more log (position - 1) (omega arith) in
       let one = here position some ∙ ap (entry position) found in
@@ -372,3 +386,32 @@ module _ (start : Record) (logs : List ClientLog) (log : List Change) (settled :
 
   pub faultless : IsFaultless start logs
   faultless = record { order = no_disorder; clash = no_clash; gap = no_gap; wrong = no_wrong }
+
+-- ---- tokens that were brought together
+
+module _ (start : Record) (reporters : ℕ) (logs : List ClientLog) (old new : List Sight) (log : List Change)
+    (logs_count : length logs ≡ reporters)
+    (one_list : (k : ℕ) → k < reporters → slice_get new k ≡ Some (record { reporter = Some k; changes = log })) where
+  -- what agrees with the tokens before agrees with the list that all of them have then
+  pub settled_by : length old ≡ reporters → AreNumbered old → AllAgree start logs old → All (λ r. r.reporter < reporters) log
+      → ((k : ℕ) (token : Sight) → slice_get old k ≡ Some token → IsPrefix token.changes log)
+      → ((k : ℕ) (token other : Sight) → slice_get old k ≡ Some token → slice_get new k ≡ Some other → own_positions other ≡ own_positions token)
+      → AreSettled start logs log
+  settled_by old_count numbered agree by extends own = record {
+    by = subst (λ n. All (λ r. r.reporter < n) log) (sym logs_count) by;
+    each = λ k within. settled k (omega (arith, logs_count)) (take_more old k (omega (arith, logs_count, old_count)));
+  }
+    where
+      settled : (k : ℕ) → k < reporters → (token : Sight) × (slice_get old k ≡ Some token) × (take (suc k) old ≡ take k old ++ token ∷ []) → Agrees start (account_of k (calls_of logs k) log)
+      settled k within (token, at, _) =
+          let same : changed_by k 1 log ≡ changed_by k 1 token.changes =
+          own k token (record { reporter = Some k; changes = log }) at (one_list k within) ∙ ap (λ who. own_among who token.changes) (numbered k token at) in
+          agrees_more start k (calls_of logs k) token.changes log (agree k token at) (extends k token at) same
+
+  -- and so with the tokens after
+  pub still_agree : length new ≡ reporters → AreSettled start logs log → AllAgree start logs new
+  still_agree new_count settled k token at =
+      let within : k < reporters = omega (arith, new_count, slice_get_within new k token at) in
+      let found : Some token ≡ Some (record { reporter = Some k; changes = log }) = sym at ∙ one_list k within in
+      let is : token ≡ record { reporter = Some k; changes = log } = cc found in
+      subst (λ (sight : Sight). Agrees start (account_of k (calls_of logs k) sight.changes)) (sym is) (settled.each k (omega (arith, logs_count)))

@@ -2,7 +2,7 @@
 
 ghost use Rattle.std.specs.Prelude.{◌≡◌, ◌≢◌, [], length};
 ghost use Rattle.std.specs.Prelude.{IfOk, IfErr, OnOk, OnErr, None, Some};
-ghost use Rattle.fdb_client.specs.Account.{Account, new_account, sight};
+ghost use Rattle.fdb_client.specs.Account.{Account, IsSameClient, new_account, sight};
 ghost use Rattle.fdb_client.specs.Agreeing.{Agrees};
 ghost use Rattle.fdb_client.specs.Calls.{Asks, Learns, Reads, Reports, Tells};
 ghost use Rattle.fdb_client.specs.Calls.{next_number, request_of};
@@ -138,6 +138,7 @@ impl<'a, J: Live> Client<'a, J> {
         ensures logged { result ≢ Err ClientError.Memory
             → Reads J.start opts self.old self.new result }
         ensures memory { result ≡ Err ClientError.Memory → self.new ≡ self.old }
+        ensures client { IsSameClient self.old self.new }
     {
         self.journal.reserve()?;
         let logged = opts.clone()?;
@@ -191,6 +192,7 @@ impl<'a, J: Live> Client<'a, J> {
         ensures request { IfOk result
             (IsFor (request_of self.old (next_number self.old) processed at)) }
         ensures memory { result ≡ Err ClientError.Memory → self.new ≡ self.old }
+        ensures client { IsSameClient self.old self.new }
     {
         let num = self.journal.next_number();
         self.reask(rt, gate, sequencer, num, processed, at)
@@ -213,6 +215,7 @@ impl<'a, J: Live> Client<'a, J> {
             → Asks J.epoch_end J.recovery num processed at self.old self.new result }
         ensures request { IfOk result (IsFor (request_of self.old num processed at)) }
         ensures memory { result ≡ Err ClientError.Memory → self.new ≡ self.old }
+        ensures client { IsSameClient self.old self.new }
     {
         self.journal.reserve_under(num)?;
         let input = Input::Ask { num, processed, at };
@@ -253,6 +256,7 @@ impl<'a, J: Live> Client<'a, J> {
         ensures logged { result ≢ Err ClientError.Memory
             → Reports J.start num locked metadata min_known self.old self.new result }
         ensures memory { result ≡ Err ClientError.Memory → self.new ≡ self.old }
+        ensures client { IsSameClient self.old self.new }
     {
         self.journal.reserve()?;
         let input = Input::Report {
@@ -304,6 +308,7 @@ impl<'a, J: Live> Client<'a, J> {
             told ≡ record { reporter = None; changes = self.old.changes }) }
         ensures memory { IfErr result (λ cause. cause ≡ ClientError.Memory) }
         ensures unchanged { OnErr result (self.new ≡ self.old) }
+        ensures client { IsSameClient self.old self.new }
     {
         self.journal.reserve()?;
         let told = self.live.split(&mut self.seen);
@@ -331,6 +336,7 @@ impl<'a, J: Live> Client<'a, J> {
         ensures memory { IfErr result (λ refused. refused.0 ≡ ClientError.Memory) }
         ensures handed_back { IfErr result (λ refused. refused.1 ≡ told) }
         ensures unchanged { OnErr result (self.new ≡ self.old) }
+        ensures client { IsSameClient self.old self.new }
     {
         if self.journal.reserve().is_err() {
             return Err((ClientError::Memory, told));

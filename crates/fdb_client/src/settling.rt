@@ -1,6 +1,7 @@
 //! The logs of all clients, settled by their tokens.
 
-ghost use Rattle.std.specs.Prelude.{◌≡◌, length};
+ghost use Rattle.std.specs.Prelude.{◌≡◌, ◌<◌, ℕ, Some, length, slice_get};
+ghost use mathlib.Core.List.{IsPrefix};
 ghost use Rattle.fdb_client.specs.Settling.{AllAgree};
 ghost use Rattle.fdb_history.specs.Faults.{IsFaultless, changes_in};
 ghost use Rattle.fdb_live.specs.Gathering.{AreNumbered};
@@ -30,7 +31,13 @@ pub fn settle<J: Live, R: Wait>(
     requires agree { AllAgree J.start logs.now tokens.old }
     ensures changes { result ≡ length (changes_in logs.now) }
     ensures faultless { IsFaultless J.start logs.now }
+    ensures position { result ≡ length first.new.changes }
+    ensures extends { IsPrefix first.old.changes first.new.changes }
+    ensures reporter { first.new.reporter ≡ first.old.reporter }
+    ensures count { length tokens.new ≡ J.reporters }
+    ensures one_list { (k : ℕ) → k < J.reporters → slice_get tokens.new k
+        ≡ Some (record { reporter = Some k; changes = first.new.changes }) }
+    ensures agree { AllAgree J.start logs.now tokens.new }
 {
-    let _logs = logs;
     live.gather(rt, first, tokens)
 }

@@ -15,11 +15,14 @@ loop-other-preserved g c =
     let before = c.loop-other.invariant in
     let learnt = c.learn.ensures in
     let whole : slice_set others i c.split-told.new.seen ≡ others = ap (slice_set others i) c.split-told.ensures.same ∙ set-get_or others i c.other-item.result in
-    let told : IsPrefix old.changes new.changes = subst (λ t. IsPrefix t.changes new.changes) c.split-told.ensures.given learnt.told in
-    (whole ∙ before.0, learnt.reporter ∙ before.1, prefix_trans _ _ _ before.2 learnt.extends,
-    λ k token below is. each_below {P = λ _ t. IsPrefix t.changes new.changes} others i c.other-item.result
-        (λ n t less at. prefix_trans _ _ _ (before.3 n t less at) learnt.extends) told k token below (sym (ap (λ l. slice_get l k) whole) ∙ is),
-    learnt.own ∙ before.4)
+    let told : IsPrefix old.changes new.changes = subst (λ t. IsPrefix t.changes new.changes) c.split-told.ensures.given learnt.told in (
+      whole ∙ before.0,
+      learnt.reporter ∙ before.1,
+      prefix_trans _ _ _ before.2 learnt.extends,
+      λ k token below is. each_below {P = λ _ t. IsPrefix t.changes new.changes} others i c.other-item.result
+          (λ n t less at. prefix_trans _ _ _ (before.3 n t less at) learnt.extends) told k token below (sym (ap (λ l. slice_get l k) whole) ∙ is),
+      learnt.own ∙ before.4,
+    )
 
 pub returns-clause-each : goal.returns-clause-each
 returns-clause-each g c k token is =

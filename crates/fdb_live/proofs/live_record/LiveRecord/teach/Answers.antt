@@ -1,4 +1,4 @@
-use Rattle.std.proofs.Common.{rules, ◌≡◌, ◌≢◌, ◌<◌, ℕ, ap, ◌∙◌, sym, subst, length, Some, slice_get, slice_set, get_or, arith, le_refl}
+use Rattle.std.proofs.Common.{◌≡◌, ◌≢◌, ◌<◌, ap, ◌∙◌, sym, subst, length, Some, slice_get, slice_set, get_or, arith, le_refl}
 use Rattle.std.proofs.lemmas.List.{length-set}
 use Rattle.std.proofs.lemmas.Option.{slice_get_within, slice_get-get_or, unwrap_or-slice_get}
 use Rattle.std.specs.Prelude.{unwrap_or}
@@ -25,13 +25,15 @@ loop-other-preserved g c =
     let told : c.split-told.result.changes ≡ first.changes = cc (c.split-told.ensures.given, c.split-told.ensures.same) in
     let list : new.changes ≡ first.changes = learnt.longer ∙ (ap (longer old.changes) told ∙ longer_of_prefix old.changes first.changes begins) in
     let taught : new ≡ record { reporter = old.reporter; changes = first.changes } = sight_is new old.reporter first.changes learnt.reporter list in
-    let owns : own_among old.reporter first.changes ≡ own_positions old = sym (ap own_positions taught) ∙ learnt.own in
-    (c.split-told.ensures.same ∙ before.0, length-set others i new ∙ before.1,
-    λ k least. (let other : k ≢ i = omega arith in get_other others i k new other) ∙ before.2 k (omega arith),
-    each_below {P = IsTaught (slice_set others i new) first} start i d
-        (λ k token less is. let other : k ≢ i = omega arith in let rest = before.3 k token less is in
-            subst (λ (s : Sight). IsTaught (slice_set others i new) s k token) (sym c.split-told.ensures.same) (get_other others i k new other ∙ rest.0, rest.1))
-        (subst (IsTaught (slice_set others i new) first i) (sym same) (get_written others i new inside ∙ ap Some taught, owns)))
+    let owns : own_among old.reporter first.changes ≡ own_positions old = sym (ap own_positions taught) ∙ learnt.own in (
+      c.split-told.ensures.same ∙ before.0,
+      length-set others i new ∙ before.1,
+      λ k least. (let other : k ≢ i = omega arith in get_other others i k new other) ∙ before.2 k (omega arith),
+      each_below {P = IsTaught (slice_set others i new) first} start i d
+          (λ k token less is. let other : k ≢ i = omega arith in let rest = before.3 k token less is in
+          subst (λ (s : Sight). IsTaught (slice_set others i new) s k token) (sym c.split-told.ensures.same) (get_other others i k new other ∙ rest.0, rest.1))
+          (subst (IsTaught (slice_set others i new) first i) (sym same) (get_written others i new inside ∙ ap Some taught, owns)),
+    )
 
 pub returns-clause-each : goal.returns-clause-each
 returns-clause-each g c k token is =

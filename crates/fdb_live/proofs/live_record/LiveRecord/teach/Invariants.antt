@@ -8,5 +8,5 @@ invariant-loop-other g l =
     × (length l.others ≡ length l.initial.others)
     × ((k : ℕ) → l.other-index ≤ k → slice_get l.others k ≡ slice_get l.initial.others k)
     × ((k : ℕ) (token : Sight) → k < l.other-index → slice_get l.initial.others k ≡ Some token
-        → (slice_get l.others k ≡ Some (record { reporter = token.reporter; changes = l.first.changes }))
-        × (own_among token.reporter l.first.changes ≡ own_positions token))
+    → (slice_get l.others k ≡ Some (record { reporter = token.reporter; changes = l.first.changes }))
+    × (own_among token.reporter l.first.changes ≡ own_positions token))
