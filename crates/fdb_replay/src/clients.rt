@@ -3,8 +3,6 @@
 ghost use Rattle.std.specs.Prelude.{◌≡◌, ◌<◌, ◌≤◌, ℕ, [], IfOk, OnOk, Some, length, slice_get, vec_len};
 ghost use Rattle.std.specs.List.{FoldsTo};
 ghost use Rattle.fdb_client.specs.Account.{new_account};
-ghost use Rattle.fdb_client.specs.Settling.{AllAgree};
-ghost use Rattle.fdb_live.specs.Gathering.{AreNumbered};
 ghost use Rattle.fdb_replay.specs.private.Rounds.{logs_of};
 ghost use Rattle.fdb_script.specs.Answering.{AnswersRound};
 
@@ -41,13 +39,27 @@ impl<'a, J: Live> Model for Clients<'a, J> {
 
 /// What the clients of a run leave: their logs, each at the place of its client's number, and beside
 /// each the token that it agrees with.
+///
+/// Contracts see it as the logs.
 #[derive(Drop)]
 pub(crate) struct Finished<J: Live> {
     pub(crate) logs: Vec<ClientLog>,
     pub(crate) tokens: Vec<Seen<J>>,
-    ghost count: { length tokens.items ≡ length logs.items },
-    ghost numbered: { AreNumbered tokens.items },
-    ghost agree: { AllAgree J.start logs.items tokens.items },
+}
+
+impl<J: Live> Model for Finished<J> {
+    ghost use Rattle.std.specs.Prelude.{◌≡◌, List, length};
+    ghost use Rattle.fdb_client.specs.Settling.{AllAgree};
+    ghost use Rattle.fdb_history.specs.declared.log.ClientLog.{ClientLog};
+    ghost use Rattle.fdb_live.specs.Gathering.{AreNumbered};
+
+    ghost Value = { List ClientLog };
+
+    ghost view = { λ finished. finished.logs.items };
+
+    ghost invariant = { λ finished. (length finished.tokens.items ≡ length finished.logs.items)
+        × AreNumbered finished.tokens.items
+        × AllAgree J.start finished.logs.items finished.tokens.items };
 }
 
 impl<'a, J: Live + Send + Sync> Clients<'a, J> {
@@ -55,7 +67,7 @@ impl<'a, J: Live + Send + Sync> Clients<'a, J> {
     pub(crate) fn new(alloc: Global, clients: Vec<Client<'a, J>>) -> Result<Self, AllocError>
         requires { (k : ℕ) → k < vec_len clients
             → slice_get clients.items k ≡ Some (new_account k []) }
-        ensures { IfOk result (λ made. made ≡ clients.items) }
+        ensures { IfOk result (λ made. made ≡ clients.entry.items) }
     {
         let mut players = Vec::with_capacity(alloc, clients.len())?;
         for client in clients {
@@ -87,7 +99,7 @@ impl<'a, J: Live + Send + Sync> Clients<'a, J> {
 
     /// What the clients leave.
     pub(crate) fn finish(self, alloc: Global) -> Result<Finished<J>, AllocError>
-        ensures { IfOk result (λ finished. finished.logs.items ≡ logs_of self.entry) }
+        ensures { IfOk result (λ finished. finished ≡ logs_of self.entry) }
     {
         let Clients { players } = self;
         let mut logs = Vec::new(alloc);

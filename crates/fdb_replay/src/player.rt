@@ -46,7 +46,7 @@ impl<'a, J: Live> Player<'a, J> {
     pub(crate) fn new(client: Client<'a, J>) -> Self
         requires begun { client.begun ≡ 0 }
         requires calls { client.calls ≡ [] }
-        ensures { result ≡ client }
+        ensures { result ≡ client.entry }
     {
         Player { client, reads: 0 }
     }

@@ -140,9 +140,8 @@ fn finished_at<'a, J: Live + Send + Sync, R: Threads + Wait + Sync, G: Gate>(
     requires count { vec_len tokens ≡ script.now.setup.clients }
     requires numbered { (k : ℕ) → k < vec_len tokens
         → slice_get tokens.items k ≡ Some (record { reporter = Some k; changes = [] }) }
-    ensures answers { IfOk result (λ finished. Answers script.now finished.logs.items) }
-    ensures count { IfOk result
-        (λ finished. length finished.logs.items ≡ script.now.setup.clients) }
+    ensures answers { IfOk result (Answers script.now) }
+    ensures count { IfOk result (λ logs. length logs ≡ script.now.setup.clients) }
 {
     let clients = Clients::new(alloc, clients_of(alloc, cluster.live(), tokens)?)?;
     let world = World { cluster, gate };

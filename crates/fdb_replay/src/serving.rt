@@ -29,8 +29,7 @@ pub(crate) fn served<J: Live + Send + Sync, R: Threads + Wait + Sync, G: Gate>(
     rounds: &[Sequence<Command>],
 ) -> Result<Finished<J>, AllocError>
     requires { length clients ≤ 64 }
-    ensures { IfOk result (λ finished.
-        FoldsTo AnswersRound (logs_of clients.entry) rounds.now finished.logs.items) }
+    ensures { IfOk result (FoldsTo AnswersRound (logs_of clients.entry) rounds.now) }
 {
     let (played, all_served) = serve_while(
         rt,
@@ -39,8 +38,8 @@ pub(crate) fn served<J: Live + Send + Sync, R: Threads + Wait + Sync, G: Gate>(
         first,
         move || -> Result<Finished<J>, AllocError>
             requires { length clients ≤ 64 }
-            ensures { IfOk result (λ finished. FoldsTo AnswersRound
-                (logs_of clients.entry) rounds.entry.now finished.logs.items) }
+            ensures { IfOk result
+                (FoldsTo AnswersRound (logs_of clients.entry) rounds.entry.now) }
         { played(rt, alloc, world, clients, rounds) },
     )?;
     if all_served { played } else { Err(AllocError) }
@@ -55,8 +54,7 @@ fn played<J: Live + Send + Sync, R: Threads + Wait + Sync, G: Gate>(
     rounds: &[Sequence<Command>],
 ) -> Result<Finished<J>, AllocError>
     requires { length clients ≤ 64 }
-    ensures { IfOk result (λ finished.
-        FoldsTo AnswersRound (logs_of clients.entry) rounds.now finished.logs.items) }
+    ensures { IfOk result (FoldsTo AnswersRound (logs_of clients.entry) rounds.now) }
 {
     clients.play(rt, alloc, world, rounds)?;
     clients.finish(alloc)

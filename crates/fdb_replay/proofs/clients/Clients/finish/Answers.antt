@@ -12,7 +12,10 @@ loop-player-preserved g c =
     let yielded = c.loop-player.yielded in
     let player = c.in-Some.player in
     record {
-      logs = rw (c.in_ok-push.ensures.items, c.finish.ensures.log, inv.logs) (sym (map-append _ yielded (player ∷ [])));
-      tokens = rw (c.in_ok-push-2.ensures.items, c.finish.ensures.seen, inv.tokens) (sym (map-append _ yielded (player ∷ [])));
-      settled = one_more (IsSettled g.J.Service.start) yielded player inv.settled (record { begun = c.finish.ensures.begun; agrees = c.finish.ensures.agrees });
+      logs = rw (c.in_ok-push.ensures.items, c.finish-log.ensures.log, inv.logs) (sym (map-append _ yielded (player ∷ [])));
+      tokens = rw (c.in_ok-push-2.ensures.items, c.finish-log.ensures.seen, inv.tokens) (sym (map-append _ yielded (player ∷ [])));
+      settled = one_more (IsSettled g.J.Service.start) yielded player inv.settled (record { begun = c.finish-log.ensures.begun; agrees = c.finish-log.ensures.agrees });
     }
+
+pub invariant_of-result : goal.invariant_of-result
+invariant_of-result g c = ?
