@@ -1,5 +1,5 @@
 -- A run has played all rounds, and is audited.
-use Rattle.std.proofs.Common.{◌≡◌, ◌≢◌, ℕ, ◌+◌, ◌<◌, List, [], ◌∷◌, Result, Ok, Err, IfErr, length, replicate, drop, get_or, refl, ap, sym, ◌∙◌, subst}
+use Rattle.std.proofs.Common.{◌≡◌, ◌≢◌, ℕ, suc, ◌+◌, ◌<◌, List, [], ◌∷◌, Result, Ok, Err, IfErr, length, replicate, drop, get_or, refl, ap, sym, ◌∙◌, subst}
 use Rattle.std.specs.List.{FoldsTo}
 use Rattle.std.proofs.lemmas.List.{drop_more, length-replicate}
 use Rattle.fdb_history.specs.Audit.{IsAudited, IsFirstFault}
