@@ -1,9 +1,9 @@
 -- A round is performed part by part.
-use Rattle.std.proofs.Common.{◌≡◌, ℕ, suc, ◌+◌, ◌<◌, List, [], ◌∷◌, ◌++◌, length, drop, get_or, map, set, refl, ap, ap₂, sym, ◌∙◌, subst, append_assoc, arith}
+use Rattle.std.proofs.Common.{◌≡◌, ℕ, suc, ◌+◌, ◌<◌, List, [], ◌∷◌, ◌++◌, length, get_or, set, refl, ap, ap₂, sym, ◌∙◌, subst, append_assoc, arith}
 use Rattle.std.specs.List.{FoldsTo}
 use Rattle.std.proofs.lemmas.List.{append-nil, drop_all, map-append}
 use Rattle.fdb_client.specs.Account.{Account}
-use Rattle.fdb_replay.specs.private.Rounds.{IsPlayed, PerformsFrom, Tell, all_tells, numbers_of, tells_since}
+use Rattle.fdb_replay.specs.private.Rounds.{IsPlayed, PerformsFrom, Tell, all_tells, tells_since}
 use Rattle.fdb_script.specs.Answering.{AnswersCommand, commands_of}
 use Rattle.fdb_script.specs.declared.script.Command.{Command}
 

@@ -1,9 +1,8 @@
-use Rattle.std.proofs.Common.{◌≡◌, ap, rules, sym, subst, ◌∙◌}
+use Rattle.std.proofs.Common.{◌≡◌, rules, sym, subst}
 use Rattle.std.proofs.lemmas.Result.{err_from_is_err_and}
 use Rattle.fdb_client.specs.Settling.{AllAgree}
 use Rattle.fdb_history.specs.Chain.{IsChain}
 use Rattle.fdb_live.specs.Gathering.{AreNumbered}
-use Rattle.fdb_replay.specs.Outcome.{opening}
 use Rattle.fdb_script.specs.Answering.{Answers}
 use Rattle.fdb_replay.proofs.Runs.{fails}
 use Rattle.fdb_replay.proofs.running.run_named.Goals as goal

@@ -1,4 +1,5 @@
-use Rattle.std.proofs.Common.{[], ◌∷◌, ◌++◌, length, length-append, append_assoc, arith, ap, refl, sym, ◌∙◌}
+use Rattle.std.proofs.Common.{List, [], ◌∷◌, ◌++◌, length, length-append, append_assoc, arith, ap, refl, sym, ◌∙◌}
+use Rattle.fdb_client.specs.Account.{Account}
 use Rattle.fdb_replay.proofs.clients.Clients.new.Goals as goal
 
 pub new-requires : goal.new-requires
@@ -24,6 +25,6 @@ loop-client-preserved g c =
     record {
       capacity = rw c.push_reserved.ensures.capacity inv.capacity;
       left = append_assoc yielded (client ∷ []) c.next.new.self.rest.items ∙ (ap (λ rest. yielded ++ rest) (sym c.in-Some.ensures.steps.0) ∙ inv.left);
-      made = rw (c.push_reserved.ensures.items, c.new.ensures, inv.made) refl;
+      made = rw (c.push_reserved.ensures.items, c.new.ensures, inv.made) (refl {A = List Account});
       new = left.1;
     }
