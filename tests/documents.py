@@ -154,6 +154,16 @@ def believed(_program):
         yield f"{document}: {said}", None if said in text_of(f"{ROOT}/{document}") else "it does not say so"
 
 
+def settling(_program):
+    """A run settles its logs before it audits them, and audits nowhere else: no contract can force that call."""
+    settled = "settle(rt, live, first, tokens, logs);\n    audit(alloc, start, chain, logs)\n"
+    running = text_of(f"{ROOT}/crates/fdb_replay/src/running.rt")
+    yield "what settles logs audits them", None if settled in running else "it does not"
+    yield "a run settles", None if running.count("let history = settled(") == 1 else "it does not, or not once"
+    audits = [path for path in files_below("crates/fdb_replay/src", ".rt") for _ in re.findall(r"\baudit\(", text_of(path))]
+    yield "audits of a run", None if len(audits) == 1 else f"{len(audits)} calls in place of one"
+
+
 def blocks():
     """Yields the blocks of code of README.md and of docs/, each with the document that has it."""
     for path in [f"{ROOT}/README.md", *files_below("docs", ".md")]:

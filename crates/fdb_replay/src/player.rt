@@ -110,7 +110,7 @@ impl<'a, J: Live> Player<'a, J> {
         let calls = self.client.calls().len() as u64;
         prove!(self.reads < calls);
         self.reads += 1;
-        settled(answer)
+        unless_out_of_memory(answer)
     }
 
     /// Asks for the next commit version.
@@ -125,7 +125,7 @@ impl<'a, J: Live> Player<'a, J> {
             (input.Ask (length (fresh_answers self.old.calls) + 1) processed at) self.new) }
     {
         let sequencer = world.cluster.sequencer();
-        settled(self.client.ask(rt, world.gate, sequencer, processed, at))
+        unless_out_of_memory(self.client.ask(rt, world.gate, sequencer, processed, at))
     }
 
     /// Asks for the commit version under a number.
@@ -140,7 +140,7 @@ impl<'a, J: Live> Player<'a, J> {
         ensures { OnOk result (CallsOnce self.old (input.Ask num processed at) self.new) }
     {
         let sequencer = world.cluster.sequencer();
-        settled(
+        unless_out_of_memory(
             self.client
                 .reask(rt, world.gate, sequencer, num, processed, at),
         )
@@ -159,7 +159,7 @@ impl<'a, J: Live> Player<'a, J> {
         ensures { OnOk result
             (CallsOnce self.old (input.Report num locked metadata min_known) self.new) }
     {
-        settled(
+        unless_out_of_memory(
             self.client
                 .report(rt, world.gate, num, locked, metadata, min_known),
         )
@@ -202,7 +202,7 @@ fn is_logged<T>(answer: &Result<T, ClientError>) -> bool
 
 /// What an answer leaves to be done: nothing, but where memory was refused,
 /// which is also why a proxy closes its desk while rounds are played.
-fn settled<T: Drop>(answer: Result<T, ClientError>) -> Result<(), AllocError>
+fn unless_out_of_memory<T: Drop>(answer: Result<T, ClientError>) -> Result<(), AllocError>
     ensures { OnOk result (answer ≢ Err ClientError.Memory) }
 {
     match answer {

@@ -42,7 +42,7 @@ impl<'a> Round<'a> {
         }
     }
 
-    /// Whether one of so many clients has a command, the first of whom has this number.
+    /// Whether any of some clients has a command: so many, from this number on.
     fn acts_among(&self, first: u32, clients: usize) -> bool
         requires { first + clients ≤ 64 }
         ensures some { result ≡ true → 0 < clients }

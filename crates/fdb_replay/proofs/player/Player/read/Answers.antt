@@ -26,6 +26,6 @@ returns g c =
       number = read.logged.number;
       added = adds_read _ _ _ _ _ c.self.invariant.0 read;
     } in
-    on_ok_weaker c.settled.result
+    on_ok_weaker c.unless_out_of_memory.result
     (λ logged. subst (λ client. CallsOnce client (input.Grv c.args.opts.now) after) before (subst (λ opts. CallsOnce c.self.inside.client (input.Grv opts) after) opts called))
-    c.settled.ensures
+    c.unless_out_of_memory.ensures
