@@ -137,6 +137,16 @@ def believed(_program):
         yield f"{document}: {said}", None if said in text_of(f"{ROOT}/{document}") else "it does not say so"
 
 
+def settling(_program):
+    """A run settles its logs before it audits them, and audits nowhere else: no contract can force that call."""
+    settled = "settle(rt, live, first, tokens, logs);\n    audit(alloc, start, chain, logs)\n"
+    running = text_of(f"{ROOT}/crates/fdb_replay/src/running.rt")
+    yield "what settles logs audits them", None if settled in running else "it does not"
+    yield "a run settles", None if running.count("let history = settled(") == 1 else "it does not, or not once"
+    audits = [path for path in files_below("crates/fdb_replay/src", ".rt") for _ in re.findall(r"\baudit\(", text_of(path))]
+    yield "audits of a run", None if len(audits) == 1 else f"{len(audits)} calls in place of one"
+
+
 def shown(program):
     """A block that shows a run of the program shows what it prints, and one that is a script is one of the examples."""
     scripts = [text_of(f"{EXAMPLES}/{name}").strip() for name in os.listdir(EXAMPLES) if name.endswith(".json")]

@@ -26,4 +26,4 @@ pub use error::ClientError;
 pub use read::ReadVersion;
 pub use serving::serve_while;
 pub use settling::settle;
-pub use workload::{Workload, WorkloadOutcome, run_workload};
+pub use workload::{Workload, WorkloadOutcome, clients_of, run_workload};
