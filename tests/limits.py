@@ -5,7 +5,7 @@ import re
 from harness import ROOT
 
 CONSTANT = re.compile(r"^pub const (MAX_\w+|IDLE_BURST): \w+ = ([\d_]+);", re.MULTILINE)
-FORMATS, DEFINITIONS = "docs/FORMATS.md", "docs/DEFINITIONS.md"
+FORMATS, DEFINITIONS, README = "docs/FORMATS.md", "docs/DEFINITIONS.md", "README.md"
 # What a document says of limits, with the names of the constants in the code.
 SAID = (
     (FORMATS, "at most {MAX_SCRIPT_BYTES:,} bytes"),
@@ -42,6 +42,18 @@ SAID = (
     ("docs/DECISIONS.md", "would be above {MAX_VERSION:,} is"),
     ("docs/DECISIONS.md", "less than {MAX_STEP:,} below the greatest"),
     ("docs/COSTS.md", "at most {MAX_CLIENTS} clients, commit proxies and reporters"),
+    (README, "at most {MAX_SCRIPT_BYTES:,} bytes, {MAX_ROUNDS:,} rounds, {MAX_COMMANDS:,} com"),
+    (README, "and {MAX_THROTTLES:,} throttles; 1 to {MAX_CLIENTS} clients"),
+    (README, "1 to {MAX_COUNT:,} transactions; in a script at most {MAX_TAGS} tags"),
+    (README, "tags, of at most {MAX_TAG} bytes"),
+    (README, "at most {MAX_CLIENTS} logs"),
+    (README, "0 to {MAX_VERSION:,} |"),
+    (README, "1 to {MAX_PROXIES} commit proxies, 1 to {MAX_REPORTERS} reporters"),
+    (README, "room for 1 to {MAX_ROOM:,} requests; a normal limit of 1 to {MAX_RATE:,}"),
+    (README, "a batch limit of 0 to {MAX_RATE:,} transactions"),
+    (README, "1 to {MAX_ELAPSED:,} microseconds after the last one; at most {MAX_STARTED:,} req"),
+    ("docs/STARTING.md", "at most {MAX_CLIENTS} logs"),
+    ("crates/fdb_history/README.md", "at most {MAX_CLIENTS} logs"),
 )
 
 
