@@ -1,13 +1,13 @@
 //! Two clients that read at once, each in a thread of its own, and an audit of their logs.
 
-ghost use Rattle.std.specs.Prelude.{◌≡◌, ◌+◌, ◌<◌, ℕ, [], IfOk, OnOk, Some, slice_get, vec_len};
+ghost use Rattle.std.specs.Prelude.{◌≡◌};
 ghost use Rattle.fdb_client.specs.Cluster.{IsClusterConfig};
 
 use crate::logs::{START, explain};
 use anyhow::{Result, anyhow};
-use fdb_client::{Client, Cluster, ClusterConfig, ReadVersion, serve_while};
+use fdb_client::{Client, Cluster, ClusterConfig, ReadVersion, clients_of, serve_while};
 use fdb_history::{ClientLog, GrvOpts, OpenGate, Priority, Sequence};
-use fdb_live::{Live, LiveRecord, Opened, Seen};
+use fdb_live::{Live, LiveRecord, Opened};
 use fdb_proxy::Desk;
 use fdb_queue::QueueConfig;
 use std::alloc::Global;
@@ -49,14 +49,12 @@ fn run_named<J: Live + Send + Sync, R: Print + Threads + Wait + Sync>(
     requires recovery { config.start.version ≡ J.recovery }
     requires start { config.start ≡ J.start }
     requires clients { config.clients ≡ J.reporters }
-    requires two { J.reporters ≡ 2 }
 {
-    let (live, first, mut tokens) = opened.parts::<J>()?;
+    let (live, first, tokens) = opened.parts::<J>()?;
     let cluster = Cluster::new(alloc, live, config)?;
-    let one = Client::new(alloc, 1, cluster.live(), last_of(&mut tokens)?);
-    let zero = Client::new(alloc, 0, cluster.live(), last_of(&mut tokens)?);
+    let clients = clients_of(alloc, cluster.live(), tokens)?;
     let (logs, all_served) = serve_while(rt, alloc, &cluster, first, || {
-        read_both(rt, alloc, &cluster, zero, one)
+        read_both(rt, alloc, &cluster, clients)
     })?;
     let logs = logs?;
     if !all_served {
@@ -65,28 +63,16 @@ fn run_named<J: Live + Send + Sync, R: Print + Threads + Wait + Sync>(
     explain(rt, alloc, &cluster.into_chain(), &logs)
 }
 
-/// The last token that is left, of a reporter that has seen nothing.
-#[tactic(auto, using(std::proofs::lemmas::Option::get_or_from_slice_get, std::proofs::lemmas::Option::gets))]
-fn last_of<J: Live>(tokens: &mut Vec<Seen<J>>) -> Result<Seen<J>>
-    requires { (k : ℕ) → k < vec_len tokens.old
-        → slice_get tokens.old.items k ≡ Some (record { reporter = Some k; changes = [] }) }
-    ensures last { IfOk result
-        (λ token. token ≡ record { reporter = Some (vec_len tokens.new); changes = [] }) }
-    ensures count { OnOk result (vec_len tokens.new + 1 ≡ vec_len tokens.old) }
-    ensures left { OnOk result ((k : ℕ) → k < vec_len tokens.new
-        → slice_get tokens.new.items k ≡ Some (record { reporter = Some k; changes = [] })) }
-{
-    tokens.pop().ok_or(anyhow!("no token"))
-}
-
 /// Both read, each in a thread and at a desk of its own. Answers their logs.
 fn read_both<J: Live + Send + Sync, R: Print + Threads + Wait + Sync>(
     rt: &R,
     alloc: Global,
     cluster: &Cluster<'_, J>,
-    mut zero: Client<'_, J>,
-    mut one: Client<'_, J>,
+    mut clients: Vec<Client<'_, J>>,
 ) -> Result<Vec<ClientLog>> {
+    let (Some(mut one), Some(mut zero)) = (clients.pop(), clients.pop()) else {
+        return Err(anyhow!("two clients are wanted"));
+    };
     let (first, second) = thread::join(
         rt,
         || read(rt, alloc, cluster.desk(0), &mut zero),
