@@ -22,6 +22,8 @@ HELPING = [
     ("-h",),
     ("--help", "--none"),
     ("--help", "--help"),
+    ("-h", "--proxies", "99"),
+    ("--help", "--proxies=99"),
     ("--history", "none.json", "--help"),
     ("--history", "--proxies", "2", "none.json", "--help"),
     ("--proxies", "2", "--history", "one.json", "--help"),
@@ -192,6 +194,9 @@ def helped(program):
     helps = done(HELP)
     for given in HELPING:
         yield f"the arguments {given}", fault_of(run([program, *given], b"{"), helps)
+    # clap takes arguments in their order: the first that is refused, or asks for help, decides.
+    for given in (("--proxies", "99", "-h"), ("--proxies=99", "--help"), ("--proxies", "-h")):
+        yield f"the arguments {given}", fault_of(run([program, *given]), ARGUMENTS_REFUSED)
     yield "help behind refused arguments", fault_of(run([program, "--none", "--help"]), ARGUMENTS_REFUSED)
     yield "help behind five arguments of which one is refused", fault_of(run([program, "--history", "--proxies", "2", "x", "y", "--help"]), ARGUMENTS_REFUSED)
     yield "help behind --", fault_of(run([program, "--", "--help"]), READING_FAILED)

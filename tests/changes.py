@@ -64,7 +64,7 @@ class Text:
 
 
 def record_read(read):
-    return Record(int(read[1]), not read[2], None if read[3] == "none" else int(read[3]), int(read[4] or 0))
+    return Record(int(read[1]), not read[2], None if read[3] == "none" else bytes.fromhex(read[3]), int(read[4] or 0))
 
 
 def record_of(it, said):
@@ -171,6 +171,18 @@ def minimum_left_out(text, index, said):
     return said.replace(f" min {read[4]}", "", 1) if read[4] else said.replace(record, f"{record} min 0", 1)
 
 
+def metadata_for(change):
+    """Changes the metadata version that a read gave, by its digits; none stays as it is."""
+
+    def changed(text, index, said):
+        read = READ.match(said)
+        if text.calls[index][2].do != "grv" or not read or read[3] in (None, "none"):
+            return None
+        return said.replace(f"locked {read[3]}", f"locked {change(read[3])}", 1)
+
+    return changed
+
+
 def live_version_used(text, index, said):
     """Says that a read which asked for the minimum used the live version."""
     read = READ.match(said)
@@ -274,6 +286,10 @@ REPLIES = {
     "the live version used for the minimum": live_version_used,
     "used for not used, or the other way round": used_or_not,
     "the version of a locked record lower by one": number_moved(READ, 6, -1),
+    "the first byte of a metadata version another": metadata_for(lambda it: f"{int(it[:2], 16) ^ 1:02x}{it[2:]}"),
+    "the last byte of a metadata version another": metadata_for(lambda it: f"{it[:18]}{int(it[18:], 16) ^ 1:02x}"),
+    "a metadata version without its last byte": metadata_for(lambda it: it[:18]),
+    "no metadata version where there is one": metadata_for(lambda it: "none"),
     "a stale read in a later round": stale_in_a_later_round,
     "a stale read after what its client had seen": stale_after_own,
     "a read ahead of its round": ahead_of_its_round,

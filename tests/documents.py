@@ -5,6 +5,7 @@ import re
 from believed import counts
 from edits import BESIDE, TRIED, crates, edits_in, fault_of_edit
 from harness import EXAMPLES, ROOT, done, fault_of, run
+from readmes import blocks
 
 DEFINED = re.compile(r"^(?:abbrev )?pub (?:record |data )?(?!(?:use|mod)\b)([^\s:({]+)", re.MULTILINE)
 # What is in this folder of a crate's specs/ is private to the crate, and what this section of docs/DEFINITIONS.md names so.
@@ -128,24 +129,6 @@ def edits(_program):
         yield f"crates/{crate}/{TRIED}", f"it has {tried} edits, and {MOST_TRIED} are the most" if tried > MOST_TRIED else None
 
 
-def promised(_program):
-    """Each planted wrong body is named once in its crate's section of docs/PROMISES.md, in bold exactly where the gate tries it."""
-    parts = re.split(r"^## (.*)$", text_of(f"{ROOT}/docs/PROMISES.md"), flags=re.MULTILINE)
-    sections_by_title = dict(zip(parts[1::2], parts[2::2]))
-    for crate in crates():
-        section = sections_by_title.get(f"`{crate}`", "")
-        for folder, form in ((TRIED, "**`{}`**"), (BESIDE, "`{}`")):
-            wrong = [name for name in edits_in(crate, folder)[0] if named(name, section) != [form.format(name)]]
-            yield f"crates/{crate}/{folder} in docs/PROMISES.md", f"not named once, as {form.format('it')}: {', '.join(wrong)}" if wrong else None
-        stale = sorted(set(re.findall(r"\*\*`(\w+)`\*\*", section)) - set(edits_in(crate, TRIED)[0]))
-        yield f"what docs/PROMISES.md has in bold of {crate}", f"the gate does not try {', '.join(stale)}" if stale else None
-
-
-def named(name, text):
-    """How a text names something in `code`: each time with the stars around it, if it is in bold."""
-    return re.findall(rf"(?:\*\*)?`{name}`(?:\*\*)?", text)
-
-
 def believed(_program):
     """What README.md and docs/DEFINITIONS.md say of how much a reader has to believe is so."""
     found = counts()
@@ -154,17 +137,22 @@ def believed(_program):
         yield f"{document}: {said}", None if said in text_of(f"{ROOT}/{document}") else "it does not say so"
 
 
-def blocks():
-    """Yields the blocks of code of README.md and of docs/, each with the document that has it."""
-    for path in [f"{ROOT}/README.md", *files_below("docs", ".md")]:
-        for block in re.findall(r"^```\n(.*?)^```$", text_of(path), re.MULTILINE | re.DOTALL):
-            yield os.path.relpath(path, ROOT), block
+def settling(_program):
+    """A run settles its logs before it audits them, and audits nowhere else: no contract can force that call."""
+    settled = "settle(rt, live, first, tokens, logs);\n    audit(alloc, start, chain, logs)\n"
+    running = text_of(f"{ROOT}/crates/fdb_replay/src/running.rt")
+    yield "what settles logs audits them", None if settled in running else "it does not"
+    yield "a run settles", None if running.count("let history = settled(") == 1 else "it does not, or not once"
+    audits = [path for path in files_below("crates/fdb_replay/src", ".rt") for _ in re.findall(r"\baudit\(", text_of(path))]
+    yield "audits of a run", None if len(audits) == 1 else f"{len(audits)} calls in place of one"
 
 
 def shown(program):
     """A block that shows a run of the program shows what it prints, and one that is a script is one of the examples."""
     scripts = [text_of(f"{EXAMPLES}/{name}").strip() for name in os.listdir(EXAMPLES) if name.endswith(".json")]
-    for document, block in blocks():
+    for document, language, block in blocks():
+        if language:
+            continue
         first, _, rest = block.partition("\n")
         if first.startswith("$ ./fdb_replay "):
             arguments = first.split()[2:]

@@ -15,6 +15,8 @@ COUNTS = [0, 1, 100_001, HIGHEST]
 QUEUE = {"normal": [1, 100_000], "batch": [0, 100_000], "room": [1, 100_000], "elapsed": [1, 10_000_000]}
 # Minimum known committed versions that reports tell, some of them above the version that is reported.
 MINIMA = [0, 0, 1, 2, 99, 100, 101, 102, 1107, 10**9, LAST_VERSION - 20_000_000, LAST_VERSION - 6, LAST_VERSION, HIGHEST]
+# Metadata versions: none, the least, the greatest, two that differ in their last byte, and one in capitals.
+METADATA = [None, None, "0" * 20, "f" * 20, "0102030405060708090a", "0102030405060708090b", "0A1B2C3D4E5F60718293"]
 IGNORED = {"note": {"client": [None, 1e-3]}, "to ": "é😀\n", "Do": -1, "": [[], {}]}
 
 
@@ -53,7 +55,7 @@ class Drawing:
         return {"num": num, "at": self.at()}, {"processed": self.processed(client)}
 
     def report(self, client):
-        metadata = self.dice.choice([None, None, 0, 7, HIGHEST])
+        metadata = self.dice.choice(METADATA)
         locked, min_known = self.dice.random() < 0.4, self.dice.choice(MINIMA)
         return {"num": self.num(client)}, {"locked": locked, "metadata": metadata, "min_known": min_known}
 
@@ -134,7 +136,8 @@ MARKS = list("[]{},:")
 NUMBERS = ["0", "1", "2", "63", "64", "65", "-0", "-1", "1.0", "1e3", "18446744073709551615", "18446744073709551616", "1e309", "01"]
 LISTS = ["[]", "{}", "[[]]", '["t"]', '["t","t","t","t","t","t"]', "[{}]", "5", "null", "true", "false"]
 TEXTS = ['""', '" "', '"t"', '"\\u0074"', '"\\ud800"', '"seventeen-bytes-ab"', '"\u00e9"', '"grv"', '"ask"', '"reask"', '"tell"', '"batch"']
-NAMES = ['"do"', '"client"', '"clients"', '"at"', '"num"', '"to"', '"rounds"', '"throttles"', '"tags"', '"tag"', '"locked"', '"min_known"', '"use_min"', '"priority"', '"x"']
+TEXTS += [f'"{it}"' for it in ("00000000000000000000", "fFfFfFfFfFfFfFfFfFfF", "0102030405060708090", "0102030405060708090ab", "01020304050607080 0a", "01020304050607080é0a")]
+NAMES = ['"do"', '"client"', '"clients"', '"at"', '"num"', '"to"', '"rounds"', '"throttles"', '"tags"', '"tag"', '"locked"', '"metadata"', '"min_known"', '"use_min"', '"priority"', '"x"']
 
 
 def spoilt(dice, text):

@@ -17,7 +17,7 @@ LARGE = [[do("ask", at=9 * it) for it in range(500)], [do("report", num=it + 1) 
 # Two clients with throttles, tags and tells, of whose calls some are refused.
 THROTTLES = [{"priority": "default", "tag": tag, "rate": 5, "expires": 5000} for tag in ("t", "sixteen-bytes-ab", "t")]
 TWO = [
-    [do("ask", at=1000), do("ask", at=3000), do("report", num=2, locked=True, metadata=7, min_known=5), do("tell", to=1), do("reask", num=2, at=1)],
+    [do("ask", at=1000), do("ask", at=3000), do("report", num=2, locked=True, metadata="0102030405060708090A", min_known=5), do("tell", to=1), do("reask", num=2, at=1)],
     [do("grv", 1, tags=["t", "u", "sixteen-bytes-ab", "t"], lock_aware=True, use_min=True), do("grv", 1), do("ask", 1, at=5), do("tell", 1, to=0)],
     [do("report", num=3), do("report", num=1, min_known=7), do("report", num=1, min_known=101), do("reask", num=9, at=1), do("grv", priority="batch", tags=["t"]), do("tell", to=1), do("tell", to=1)],
 ]
@@ -30,6 +30,10 @@ BEARING = {crate: r"^refused_memory::" for crate in ("fdb_tests", "fdb_service_t
 # Those of them that pass also where all are refused from any one on.
 WITHOUT = r"::without_memory$"
 PASSED = done(b"\ntest result: ok\n")
+# What a test prints where one request alone was refused memory in its offer and all others had
+# their replies. How many such requests there have to be over a sweep: the queue grows twice.
+ALONE = re.compile(rb"request (\d+) alone was refused memory\n")
+OFTEN = {"refused_memory::proxies::a_proxy_bears_it": 2}
 # The library in use, and how it ends where it is refused what it can't do without.
 USES, FAILED = f"{ROOT}/crates/fdb_uses/out/fdb_uses", Ran(1, None, None)
 # What tests/refuse.c tells where it refuses the start of a thread.
@@ -46,12 +50,12 @@ class Refused(NamedTuple):
     fault: str
 
 
-def built(folder):
-    """Compiles what refuses memory, by the compiler of the kit."""
+def built(folder, source=SOURCE):
+    """Compiles what is preloaded, such as what refuses memory, by the compiler of the kit."""
     kit = os.path.dirname(os.path.dirname(os.path.realpath(shutil.which("rt"))))
-    made = f"{folder}/refuse.so"
-    words = [f"{kit}/toolchain/bin/clang", "-O2", "-shared", "-fPIC", "-nostdlib", "-o", made, SOURCE]
-    subprocess.run(words, check=True, stdin=subprocess.DEVNULL)
+    made = f"{folder}/preloaded.so"
+    words = [f"{kit}/toolchain/bin/clang", "-O2", "-shared", "-fPIC", "-nostdlib", "-o", made]
+    subprocess.run([*words, source], check=True, stdin=subprocess.DEVNULL)
     return made
 
 
@@ -171,7 +175,21 @@ def borne(_program):
             names = bearing_tests(tests, pattern)
             yield f"{crate}'s tests", None if names else f"none matches {pattern!r}"
             for name in names:
+                alone = set()
                 for goes_on in (False, True) if re.search(WITHOUT, name) else (False,):
                     what = f"{name}, {'from ' if goes_on else ''}allocation or thread"
-                    for it in swept([tests, name], preloaded, b"", PASSED, exactly(PASSED), goes_on, each):
+                    words = ([tests, name], preloaded, b"", PASSED, passed(alone), goes_on, each)
+                    for it in swept(*words):
                         yield f"{what} {it.number}", it.fault
+                fault = f"only of {sorted(alone)}" if len(alone) < OFTEN.get(name, 0) else None
+                yield f"{name}, requests that alone are refused memory", fault
+
+
+def passed(alone):
+    """Asks that a test passed, and notes which request it says was refused memory alone."""
+
+    def fault_of_ran(ran):
+        alone.update(map(int, ALONE.findall(ran.out)))
+        return fault_of(ran._replace(out=ALONE.sub(b"", ran.out)), PASSED)
+
+    return fault_of_ran

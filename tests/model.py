@@ -17,11 +17,11 @@ UNCHANGED = "not raised"
 class Record(NamedTuple):
     version: int
     locked: bool
-    metadata: Optional[int]
+    metadata: Optional[bytes]
     min_known: int = 0
 
     def __str__(self):
-        lock, metadata = "locked" if self.locked else "unlocked", "none" if self.metadata is None else self.metadata
+        lock, metadata = "locked" if self.locked else "unlocked", "none" if self.metadata is None else self.metadata.hex()
         return f"{self.version} {lock} {metadata}{f' min {self.min_known}' if self.min_known else ''}"
 
     def after(self, reported):

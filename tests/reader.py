@@ -73,7 +73,7 @@ def priority(it):
 
 
 def metadata(it):
-    return it is None or whole()(it)
+    return it is None or type(it) is str and re.fullmatch("[0-9A-Fa-f]{20}", it) is not None
 
 
 def tag(it):
@@ -138,6 +138,8 @@ def command_of(it, clients):
     what = members_of(it, COMMANDS[who["do"]]) if who else None
     if what is None or who["do"] == "tell" and (what["to"] == who["client"] or what["to"] >= clients):
         return None
+    if what.get("metadata") is not None:
+        what["metadata"] = bytes.fromhex(what["metadata"])
     return SimpleNamespace(**who, **what)
 
 

@@ -3,6 +3,15 @@ from harness import ASK, GRV, REPORT, command, fault_of, first_script, members, 
 
 ABOVE_64_BITS = "18446744073709551616"
 NO_NUMBERS = ["-1", "-0", "1.0", "1.5", "1e3", "1E0", ABOVE_64_BITS, "1e30", '"1"', "null", "true", "false", "[1]", "{}"]
+DIGITS = "0102030405060708090a"
+NO_METADATA = [
+    *["7", "0", "true", "[]", "{}", '[1,2,3,4,5,6,7,8,9,10]', f'["{DIGITS}"]', '""', '"7"', '"none"', '"null"', f'"0x{DIGITS}"'],
+    *[f'"{it}"' for it in (DIGITS[:-1], DIGITS + "b", DIGITS[:-2], DIGITS * 2, f"-{DIGITS[1:]}", f"+{DIGITS[1:]}", f" {DIGITS[1:]}")],
+    *[f'"{it}"' for it in (f"{DIGITS[:-1]} ", f"{DIGITS[:-1]}g", f"{DIGITS[:-1]}G", f"{DIGITS[:-1]}`", f"{DIGITS[:-1]}@", f"{DIGITS[:-1]}:", f"{DIGITS[:-1]}/")],
+    *[f'"{it}"' for it in (f" {DIGITS}", f"{DIGITS} ", f"{DIGITS[:8]} {DIGITS[9:]}", f"{DIGITS[:10]}-{DIGITS[11:]}", f"{DIGITS[:-1]}\\u0000")],
+    # Digits that are not ASCII, as so many characters or as so many bytes.
+    *[f'"{it}"' for it in (f"{DIGITS[:-1]}٣", f"{DIGITS[:-2]}٣", f"{DIGITS[:-1]}１", f"{DIGITS[:-3]}１", "é" * 10, "٣" * 20, f"{DIGITS[:-1]}\\u0661")],
+]
 NO_FLAGS = ["0", "1", '"true"', '""', "null", "[]", "{}", "[true]"]
 NO_LISTS = ["null", "{}", '"[]"', "0", "true"]
 NO_PRIORITIES = ['"high"', '"Default"', '"default "', '""', "null", "0", "true", '["default"]', "{}"]
@@ -67,7 +76,7 @@ DEEP = [("lists", "[" * 126 + "]" * 126), ("objects", '{"a":' * 125 + "[1]" + "}
 # Values that are no JSON wherever they stand, also in a member that is ignored or overwritten.
 NO_VALUES = [
     *[(f"{name}, too deep by one", f"[{text}]") for name, text in DEEP],
-    ("lists 100,000 deep", "[" * 100_000 + "]" * 100_000),
+    *[(f"lists {depth} deep", "[" * depth + "]" * depth) for depth in (200, 100_000)],
     *[(f"the number {it}", it) for it in ["1e309", "-1e309", "1e400", "18e307", "1E+999", "1e99999999999", "123.4e400"]],
     ("a number of 400 digits", "1" * 400),
     *[(f"the text {it}", it) for it in ['"\\ud800"', '"\\udfff"', '"\\ud800x"', '"\\ud800\\n"', '"\\ud800\\u0041"', '"\\ud800\\ud800"', '"\\udc00\\ud800"', '"x\\uDBFF"']],
@@ -181,7 +190,7 @@ WRONG_FIELDS = {
     "grv": {"at": NO_NUMBERS, "priority": NO_PRIORITIES, "count": NO_NUMBERS, "tags": NO_TAG_LISTS, "lock_aware": NO_FLAGS, "use_min": NO_FLAGS},
     "ask": {"at": NO_NUMBERS, "processed": NO_NUMBERS},
     "reask": {"num": NO_NUMBERS, "at": NO_NUMBERS, "processed": NO_NUMBERS},
-    "report": {"num": NO_NUMBERS, "locked": NO_FLAGS, "metadata": [it for it in NO_NUMBERS if it != "null"], "min_known": NO_NUMBERS},
+    "report": {"num": NO_NUMBERS, "locked": NO_FLAGS, "metadata": NO_METADATA, "min_known": NO_NUMBERS},
     "tell": {"to": [*NO_NUMBERS, "0", "3", "64", "18446744073709551615"]},
 }
 

@@ -93,6 +93,42 @@ class ChangesReplace(Run):
         return said
 
 
+class TornMetadata(Run):
+    """A report that raises the version leaves the metadata version as it was: it is another report's."""
+
+    def reported(self, client, record):
+        metadata = self.record.metadata
+        said = super().reported(client, record)
+        self.record = self.record._replace(metadata=metadata)
+        return said
+
+
+class TornBytes(Run):
+    """A report that raises the version leaves the last two bytes of the metadata version as they were."""
+
+    def reported(self, client, record):
+        metadata = self.record.metadata
+        said = super().reported(client, record)
+        if metadata is not None and self.record.metadata is not None:
+            self.record = self.record._replace(metadata=self.record.metadata[:8] + metadata[8:])
+        return said
+
+
+class ReversedBytes(Run):
+    """The bytes of a metadata version are kept in the other order."""
+
+    def reported(self, client, record):
+        given = record if record.metadata is None else record._replace(metadata=record.metadata[::-1])
+        return super().reported(client, given)
+
+
+class ZeroesForNone(Run):
+    """A metadata version of ten zero bytes is taken for none."""
+
+    def reported(self, client, record):
+        return super().reported(client, record if record.metadata != bytes(10) else record._replace(metadata=None))
+
+
 class AboveTaken(Run):
     """A minimum above its version is taken for that version."""
 
@@ -367,6 +403,7 @@ class CachedReads(Run):
 # Where one of these says anything else than the right service in the same schedule, no schedule gives that.
 ALWAYS = [
     *(LowPositions, LaterReplaces, NeverRaises, LastMinimum, MinimumOfRaises, MinimumInPlace, ChangesReplace, AboveTaken, AboveByOne),
+    *(TornMetadata, TornBytes, ReversedBytes, ZeroesForNone),
     *(AboveFirst, UsesTheLive, UsesForAll, KeepsLock, ForgottenRepeats, KeepsAll, SaysFresh, DrawsForRepeats, EarlyByTwo),
     *(OneNumbering, Forks, NoCap, StepsOfTwo, PassesTheLast, ExhaustedFromTheFirst, NoLimits, LimitsForAll, LimitsAtExpiry),
     *(LocksOutAll, LocksOutNobody, CountsFromNought, ThrottledFirst, ReportsAnything, ReportsKeptAlone),

@@ -268,7 +268,7 @@ fn is_commit_version(
 fn is_report(
     chain: &[Issued],
     own: &Drawn,
-    (num, locked, metadata, min_known): (u64, bool, Option<u64>, u64),
+    (num, locked, metadata, min_known): (u64, bool, Option<[u8; 10]>, u64),
     answer: &CallAnswer,
 ) -> bool {
     let drawn = own.any(num).and_then(|place| chain.get(place));

@@ -150,7 +150,7 @@ impl Client {
         &mut self,
         service: &Service,
         num: u64,
-        (locked, metadata, min_known): (bool, Option<u64>, u64),
+        (locked, metadata, min_known): (bool, Option<[u8; 10]>, u64),
     ) -> (Input, CallAnswer) {
         let input = Input::Report {
             num,

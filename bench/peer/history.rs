@@ -8,7 +8,7 @@ use std::fmt;
 pub struct Record {
     pub version: u64,
     pub locked: bool,
-    pub metadata: Option<u64>,
+    pub metadata: Option<[u8; 10]>,
     pub min_known: u64,
 }
 
@@ -47,7 +47,12 @@ impl fmt::Display for Record {
         let lock = if self.locked { "locked" } else { "unlocked" };
         match self.metadata {
             None => write!(f, "{} {lock} none", self.version)?,
-            Some(metadata) => write!(f, "{} {lock} {metadata}", self.version)?,
+            Some(metadata) => {
+                write!(f, "{} {lock} ", self.version)?;
+                for byte in metadata {
+                    write!(f, "{byte:02x}")?;
+                }
+            }
         }
         match self.min_known {
             0 => Ok(()),
@@ -90,7 +95,7 @@ pub enum Input {
     Report {
         num: u64,
         locked: bool,
-        metadata: Option<u64>,
+        metadata: Option<[u8; 10]>,
         min_known: u64,
     },
     Tell {

@@ -15,22 +15,27 @@ pub struct Fetched {
 }
 
 impl Fetched {
-    fn to_words(self) -> [u64; 5] {
+    fn to_words(self) -> [u64; 6] {
         let locked = if self.rec.locked { LOCKED } else { 0 };
         let (flags, metadata) = match self.rec.metadata {
-            None => (locked, 0),
+            None => (locked, [0; 10]),
             Some(metadata) => (locked | HAS_METADATA, metadata),
         };
+        let [a, b, c, d, e, f, g, h, i, j] = metadata;
         [
             self.position,
             self.rec.version,
             flags,
-            metadata,
+            u64::from_be_bytes([a, b, c, d, e, f, g, h]),
+            u64::from(u16::from_be_bytes([i, j])),
             self.rec.min_known,
         ]
     }
 
-    fn from_words([position, version, flags, metadata, min_known]: [u64; 5]) -> Fetched {
+    fn from_words([position, version, flags, first, second, min_known]: [u64; 6]) -> Fetched {
+        let [a, b, c, d, e, f, g, h] = first.to_be_bytes();
+        let [.., i, j] = second.to_be_bytes();
+        let metadata = [a, b, c, d, e, f, g, h, i, j];
         let rec = Record {
             version,
             locked: flags & LOCKED != 0,
@@ -58,7 +63,7 @@ pub struct Seen {
 pub struct LiveRecord {
     /// Odd while the words are being replaced.
     sequence: AtomicU64,
-    words: [AtomicU64; 5],
+    words: [AtomicU64; 6],
     /// What the words say, for the reports.
     reports: Mutex<Fetched>,
 }
@@ -108,8 +113,8 @@ impl LiveRecord {
         loop {
             let before = self.sequence.load(Ordering::Acquire);
             if before % 2 == 0 {
-                let words =
-                    [0, 1, 2, 3, 4].map(|place: usize| self.words[place].load(Ordering::Relaxed));
+                let words = [0, 1, 2, 3, 4, 5]
+                    .map(|place: usize| self.words[place].load(Ordering::Relaxed));
                 fence(Ordering::Acquire);
                 if self.sequence.load(Ordering::Relaxed) == before {
                     return Fetched::from_words(words);

@@ -44,7 +44,7 @@ pub enum Act {
     Report {
         num: u64,
         locked: bool,
-        metadata: Option<u64>,
+        metadata: Option<[u8; 10]>,
         min_known: u64,
     },
     Tell {
@@ -163,7 +163,7 @@ fn command_of(value: &Value, clients: u32) -> Option<Command> {
             locked: flag(value, "locked")?,
             metadata: match value.get("metadata") {
                 None | Some(Value::Null) => None,
-                Some(metadata) => Some(metadata.whole()?),
+                Some(metadata) => Some(metadata_of(metadata.text()?)?),
             },
             min_known: whole_or(value, "min_known", 0)?,
         },
@@ -173,6 +173,18 @@ fn command_of(value: &Value, clients: u32) -> Option<Command> {
         _ => return None,
     };
     Some(Command { client, act })
+}
+
+fn metadata_of(digits: &str) -> Option<[u8; 10]> {
+    let mut bytes = [0; 10];
+    if digits.len() != 2 * bytes.len() {
+        return None;
+    }
+    for (byte, pair) in bytes.iter_mut().zip(digits.as_bytes().chunks(2)) {
+        let [high, low] = [pair[0], pair[1]].map(|digit| char::from(digit).to_digit(16));
+        *byte = (high? * 16 + low?) as u8;
+    }
+    Some(bytes)
 }
 
 fn opts_of(value: &Value) -> Option<GrvOpts> {

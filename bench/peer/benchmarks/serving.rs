@@ -92,7 +92,7 @@ fn unlocked(version: u64) -> Record {
 fn record_word(rec: &Record) -> u64 {
     rec.version
         .wrapping_add(u64::from(rec.locked))
-        .wrapping_add(rec.metadata.unwrap_or(0))
+        .wrapping_add(rec.metadata.map_or(0, |[.., last]| u64::from(last)))
         .wrapping_add(rec.min_known)
 }
 

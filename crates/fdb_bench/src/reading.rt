@@ -19,9 +19,17 @@ pub(crate) fn read_in_turn<J: Live, R: Wait>(
             .rec
             .version
             .wrapping_add(u64::from(fetched.rec.locked))
-            .wrapping_add(fetched.rec.metadata.unwrap_or(0))
+            .wrapping_add(last_byte(fetched.rec.metadata))
             .wrapping_add(fetched.rec.min_known);
         tally = tally.with_call(word, fetched.position < before);
     }
     tally
+}
+
+/// The last byte of a metadata version, or 0 where there is none.
+fn last_byte(metadata: Option<[u8; 10]>) -> u64 {
+    match metadata {
+        Some(metadata) => u64::from(metadata[9]),
+        None => 0,
+    }
 }

@@ -54,7 +54,7 @@ impl<S: Service> NamedCore<S> {
         ensures in_range { IfOk result (λ issued. issued.version ≤ MAX_VERSION) }
         ensures refused { IfErr result (MayRefuse ask) }
     {
-        // its type keeps that its answers are one chain
+        // The check learns here that the answers of a core are one chain.
         let _ = self.core.answers();
         self.core.ask(ask)
     }
@@ -113,7 +113,7 @@ impl<S: Service> Sequencer<S> {
     {
         let Sequencer { held } = self;
         let core = held.into_inner().into_core();
-        // its type keeps that its answers are one chain
+        // The check learns here that the answers of a core are one chain.
         let _ = core.answers();
         core
     }

@@ -5,3 +5,5 @@ pub mod Numbered
 pub mod Own
 pub mod Reading
 pub mod Refused
+pub mod Agreements
+pub mod Settled

@@ -27,6 +27,10 @@ abbrev pub new_account : ℕ → List Change → Account
 new_account number changes =
     record { number = number; begun = length changes; calls = []; changes = changes }
 
+-- It is the same client as before: its number and the position that it began with have stayed.
+abbrev pub IsSameClient : Account → Account → Type 0
+IsSameClient before after = (after.number ≡ before.number) × (after.begun ≡ before.begun)
+
 -- whether a client may have seen more after a call than before it: where the register answered, and
 -- after a learn
 abbrev pub may_see_more : Input → CallAnswer → Bool

@@ -76,8 +76,8 @@ IsReportRefusal version min_known _ = ⊥
 -- A report is of the version that the client's calls have under its number, with the flags and the
 -- minimum known committed version that it was given. It changes the record as the client, or finds
 -- one that it does not change.
-abbrev pub IsReportAnswer : Record → Option ℕ → Bool → Option ℕ → ℕ → Account → Account
-    → CallAnswer → Type 0
+abbrev pub IsReportAnswer : Record → Option ℕ → Bool → Option (List ℕ) → ℕ → Account
+    → Account → CallAnswer → Type 0
 IsReportAnswer start version locked metadata min_known before after (Acked rec raised changed) =
     (version ≡ Some rec.version) × (rec.locked ≡ locked) × (rec.metadata ≡ metadata)
     × (rec.min_known ≡ min_known) × IsRecord rec
@@ -88,8 +88,8 @@ IsReportAnswer start version locked metadata min_known before after (Refused cau
 IsReportAnswer start version locked metadata min_known before after _ = ⊥
 
 -- A report was logged, and returned what it logged.
-pub record Reports (start : Record) (num : ℕ) (locked : Bool) (metadata : Option ℕ) (min_known : ℕ)
-    (before after : Account) (result : Result Ack ClientError) : Type 0 where
+pub record Reports (start : Record) (num : ℕ) (locked : Bool) (metadata : Option (List ℕ))
+    (min_known : ℕ) (before after : Account) (result : Result Ack ClientError) : Type 0 where
   pub answer : CallAnswer
   pub logged : Logs before (input.Report num locked metadata min_known) answer after
   pub answered : IsReportAnswer start (issued_under before.calls num) locked metadata min_known

@@ -2,7 +2,8 @@
 
 ghost use Rattle.std.specs.Prelude.{◌≡◌, ◌≢◌, [], length};
 ghost use Rattle.std.specs.Prelude.{IfOk, IfErr, OnOk, OnErr, None, Some};
-ghost use Rattle.fdb_client.specs.Account.{Account, new_account, sight};
+ghost use Rattle.fdb_client.specs.Account.{Account, IsSameClient, new_account, sight};
+ghost use Rattle.fdb_client.specs.Agreeing.{Agrees};
 ghost use Rattle.fdb_client.specs.Calls.{Asks, Learns, Reads, Reports, Tells};
 ghost use Rattle.fdb_client.specs.Calls.{next_number, request_of};
 ghost use Rattle.fdb_chain.specs.ChainCore.{IsFor};
@@ -45,6 +46,7 @@ pub struct Client<'a, J: Live> {
 impl<'a, J: Live> Model for Client<'a, J> {
     ghost use Rattle.std.specs.Prelude.{◌≡◌, Some, length};
     ghost use Rattle.fdb_client.specs.Account.{Account};
+    ghost use Rattle.fdb_client.specs.Agreeing.{Agrees};
     ghost use Rattle.fdb_history.specs.Log.{position_after_calls};
 
     ghost Value = { Account };
@@ -58,7 +60,13 @@ impl<'a, J: Live> Model for Client<'a, J> {
 
     ghost invariant = { λ client. (client.seen.reporter ≡ Some client.id)
         × (position_after_calls client.begun client.journal.calls.items
-        ≡ length client.seen.changes) };
+        ≡ length client.seen.changes)
+        × Agrees J.start (record {
+          number = client.id;
+          begun = client.begun;
+          calls = client.journal.calls.items;
+          changes = client.seen.changes;
+        }) };
 }
 
 impl<'a, J: Live> Client<'a, J> {
@@ -130,6 +138,7 @@ impl<'a, J: Live> Client<'a, J> {
         ensures logged { result ≢ Err ClientError.Memory
             → Reads J.start opts self.old self.new result }
         ensures memory { result ≡ Err ClientError.Memory → self.new ≡ self.old }
+        ensures client { IsSameClient self.old self.new }
     {
         self.journal.reserve()?;
         let logged = opts.clone()?;
@@ -183,6 +192,7 @@ impl<'a, J: Live> Client<'a, J> {
         ensures request { IfOk result
             (IsFor (request_of self.old (next_number self.old) processed at)) }
         ensures memory { result ≡ Err ClientError.Memory → self.new ≡ self.old }
+        ensures client { IsSameClient self.old self.new }
     {
         let num = self.journal.next_number();
         self.reask(rt, gate, sequencer, num, processed, at)
@@ -205,6 +215,7 @@ impl<'a, J: Live> Client<'a, J> {
             → Asks J.epoch_end J.recovery num processed at self.old self.new result }
         ensures request { IfOk result (IsFor (request_of self.old num processed at)) }
         ensures memory { result ≡ Err ClientError.Memory → self.new ≡ self.old }
+        ensures client { IsSameClient self.old self.new }
     {
         self.journal.reserve_under(num)?;
         let input = Input::Ask { num, processed, at };
@@ -239,12 +250,13 @@ impl<'a, J: Live> Client<'a, J> {
         gate: &G,
         num: u64,
         locked: bool,
-        metadata: Option<u64>,
+        metadata: Option<[u8; 10]>,
         min_known: u64,
     ) -> Result<Ack, ClientError>
         ensures logged { result ≢ Err ClientError.Memory
             → Reports J.start num locked metadata min_known self.old self.new result }
         ensures memory { result ≡ Err ClientError.Memory → self.new ≡ self.old }
+        ensures client { IsSameClient self.old self.new }
     {
         self.journal.reserve()?;
         let input = Input::Report {
@@ -296,6 +308,7 @@ impl<'a, J: Live> Client<'a, J> {
             told ≡ record { reporter = None; changes = self.old.changes }) }
         ensures memory { IfErr result (λ cause. cause ≡ ClientError.Memory) }
         ensures unchanged { OnErr result (self.new ≡ self.old) }
+        ensures client { IsSameClient self.old self.new }
     {
         self.journal.reserve()?;
         let told = self.live.split(&mut self.seen);
@@ -323,6 +336,7 @@ impl<'a, J: Live> Client<'a, J> {
         ensures memory { IfErr result (λ refused. refused.0 ≡ ClientError.Memory) }
         ensures handed_back { IfErr result (λ refused. refused.1 ≡ told) }
         ensures unchanged { OnErr result (self.new ≡ self.old) }
+        ensures client { IsSameClient self.old self.new }
     {
         if self.journal.reserve().is_err() {
             return Err((ClientError::Memory, told));
@@ -338,12 +352,13 @@ impl<'a, J: Live> Client<'a, J> {
         Ok(())
     }
 
-    /// The log and the token. Takes no memory.
+    /// The log and the token, which agree with one another. Takes no memory.
     pub fn finish(self) -> (ClientLog, Seen<J>)
         ensures log { result.0 ≡ record { calls = self.entry.calls } }
         ensures seen { result.1 ≡ sight self.entry }
         ensures come_to { position_after_calls self.entry.begun self.entry.calls
             ≡ length self.entry.changes }
+        ensures agrees { Agrees J.start self.entry }
     {
         let Client {
             alloc: _,

@@ -139,13 +139,21 @@ impl<'c, J: Live> Cluster<'c, J> {
     pub fn into_chain(self) -> Vec<Issued>
         ensures { IsChain J.epoch_end J.recovery result.items }
     {
+        self.into_parts().0
+    }
+
+    /// The chain of commit versions, once nobody calls any more, and the live record.
+    pub fn into_parts(self) -> (Vec<Issued>, LiveRecord<J>)
+        ensures one_chain { IsChain J.epoch_end J.recovery result.0.items }
+        ensures live { result.1 ≡ self.entry.live }
+    {
         let Cluster {
             config: _,
             sequencer,
-            live: _,
+            live,
             desks: _,
         } = self;
-        sequencer.close().into_answers()
+        (sequencer.close().into_answers(), live)
     }
 }
 

@@ -12,7 +12,7 @@ use fdb_proxy::{Answer, Desk, Reply, Request};
 use fdb_queue::Req;
 use std::sync::Wait;
 
-/// What tells the answer to a request from others.
+/// What the answer to a request has to carry: any other is the answer to another request.
 #[derive(Clone, Copy, PartialEq, Eq)]
 pub(crate) struct Mark {
     /// The client that asked.

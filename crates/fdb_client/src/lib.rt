@@ -16,6 +16,7 @@ mod journal;
 mod read;
 mod reply;
 mod serving;
+mod settling;
 mod versions;
 mod workload;
 
@@ -24,4 +25,5 @@ pub use cluster::{Cluster, ClusterConfig};
 pub use error::ClientError;
 pub use read::ReadVersion;
 pub use serving::serve_while;
-pub use workload::{Workload, WorkloadOutcome, run_workload};
+pub use settling::settle;
+pub use workload::{Workload, WorkloadOutcome, clients_of, run_workload};

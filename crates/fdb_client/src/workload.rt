@@ -138,8 +138,10 @@ fn started<J: Live + Send + Sync, R: Threads + Wait + Sync, W: Workload<R> + Dro
     )
 }
 
-/// A client for each token, which has called nobody yet.
-fn clients_of<'a, J: Live>(
+/// A client for each token, which has called nobody yet and has seen nothing. The one at a place has
+/// the token there, and the place for its number. It takes memory for the clients, in one piece, and
+/// is refused for that alone.
+pub fn clients_of<'a, J: Live>(
     alloc: Global,
     live: &'a LiveRecord<J>,
     tokens: Vec<Seen<J>>,

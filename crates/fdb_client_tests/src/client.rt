@@ -51,8 +51,8 @@ pub(crate) enum Case {
     Lines(&'static str),
     /// Two clients report, tell each other and read, over two proxies.
     OverTwoProxies,
-    /// Each of six clients begins with another call, which may be refused memory.
-    BeginEach,
+    /// Each of six clients begins with another call, which may be refused memory: once, or from then on.
+    BeginEach { once: bool },
 }
 
 /// A record with no lock and no metadata version.
@@ -121,7 +121,7 @@ fn play_at<J: Live + Send + Sync, R: Threads + Wait + Abort + Sync>(
     match case {
         Case::Lines(text) => play_lines(rt, &mut stand_of(rt, service, served, tokens)?, text),
         Case::OverTwoProxies => over_two_proxies(rt, &mut stand_of(rt, service, served, tokens)?),
-        Case::BeginEach => begin_each(rt, service, served, tokens),
+        Case::BeginEach { once } => begin_each(rt, service, served, tokens, once),
     }
 }
 
@@ -172,6 +172,7 @@ reask 0 2 1 9000 => 2100 after 100, kept
 ask 0 2 9000 => 8100 after 2100, fresh
 reask 0 1 0 9000 => the answer is not kept any more
 ask 1 0 9000 => there is no such commit proxy
+last 1 => refused UnknownProxy
 report 1 1 => no commit version was issued under this number
 log 0 => 11 calls, at 1
 log 1 => 2 calls, at 0
@@ -235,6 +236,33 @@ meet => ok
 #[test]
 fn reads_at_a_desk(rt: HostRuntime) -> Result<(), Fail> {
     play(&rt, rt.alloc(), 2, 1, Case::Lines(READS))?;
+    Ok(())
+}
+
+/// A desk that is closed between two reads of a client, who goes on with all that needs no proxy: it
+/// is a commit proxy that the sequencer knows.
+const CLOSED: &str = "
+ask 1 0 1000 => 100 after 0, fresh
+read 1 served => 100 at 0
+last 1 => answered
+shut => ok
+read 1 served => the GRV proxy is closed
+last 1 => refused ProxyClosed
+log 1 => 3 calls, at 0
+ask 1 0 3000 => 2100 after 100, fresh
+last 1 => answered
+report 1 2 => raised at 1
+read 1 served => the GRV proxy is closed
+last 1 => refused ProxyClosed
+aside 1 served => 2100 at 1
+ask 1 0 4000 => 3100 after 2100, fresh
+log 1 => 8 calls, at 1
+meet => ok
+";
+
+#[test]
+fn a_desk_that_is_closed_between_two_reads(rt: HostRuntime) -> Result<(), Fail> {
+    play(&rt, rt.alloc(), 2, 2, Case::Lines(CLOSED))?;
     Ok(())
 }
 

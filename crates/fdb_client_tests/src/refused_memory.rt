@@ -3,4 +3,5 @@
 //! memory of their own. What refuses is asked once more, and has changed nothing before.
 
 pub mod clients;
+mod settling;
 pub mod workloads;

@@ -23,7 +23,7 @@ use std::thread::Threads;
 const START: Record = Record {
     version: 100,
     locked: true,
-    metadata: Some(7),
+    metadata: Some([1, 2, 3, 4, 5, 6, 7, 8, 9, 10]),
     min_known: 100,
 };
 
@@ -64,7 +64,7 @@ impl CommitAndRead {
         mut client: Client<'_, J>,
     ) -> Result<ClientLog, ClientError> {
         client.ask(rt, &OpenGate, cluster.sequencer(), 0, 1_000)?;
-        client.report(rt, &OpenGate, 1, true, Some(8), 90)?;
+        client.report(rt, &OpenGate, 1, true, Some([8; 10]), 90)?;
         for number in 0..self.grv_proxies {
             client.read_version(rt, &OpenGate, cluster.desk(number), one_read(self.alloc))?;
         }

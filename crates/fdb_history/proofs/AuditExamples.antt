@@ -34,8 +34,12 @@ plain version = record { version = version; locked = false; metadata = None; min
 abbrev locked : ℕ → Record
 locked version = record { version = version; locked = true; metadata = None; min_known = 0 }
 
-abbrev with_metadata : ℕ → ℕ → Record
+abbrev with_metadata : ℕ → List ℕ → Record
 with_metadata version metadata = record { version = version; locked = false; metadata = Some metadata; min_known = 0 }
+
+-- a metadata version with this first byte and this last one
+abbrev stamp : ℕ → ℕ → List ℕ
+stamp first last = first ∷ 0 ∷ 0 ∷ 0 ∷ 0 ∷ 0 ∷ 0 ∷ 0 ∷ 0 ∷ last ∷ []
 
 abbrev knowing : ℕ → ℕ → Record
 knowing version min_known = record { version = version; locked = false; metadata = None; min_known = min_known }
@@ -206,11 +210,17 @@ report_of_another_number = refl
 report_of_another_lock : is_justified entries 0 (drew_first ∷ []) (called (input.Report 1 true None 0) (Acked (plain 100) true true)) ≡ false
 report_of_another_lock = refl
 
-report_of_metadata : is_justified entries 0 (drew_first ∷ []) (called (input.Report 1 false (Some 7) 0) (Acked (with_metadata 100 7) true true)) ≡ true
+report_of_metadata : is_justified entries 0 (drew_first ∷ []) (called (input.Report 1 false (Some (stamp 7 8)) 0) (Acked (with_metadata 100 (stamp 7 8)) true true)) ≡ true
 report_of_metadata = refl
 
-report_of_other_metadata : is_justified entries 0 (drew_first ∷ []) (called (input.Report 1 false (Some 7) 0) (Acked (with_metadata 100 8) true true)) ≡ false
-report_of_other_metadata = refl
+report_of_another_first_byte : is_justified entries 0 (drew_first ∷ []) (called (input.Report 1 false (Some (stamp 7 8)) 0) (Acked (with_metadata 100 (stamp 6 8)) true true)) ≡ false
+report_of_another_first_byte = refl
+
+report_of_another_last_byte : is_justified entries 0 (drew_first ∷ []) (called (input.Report 1 false (Some (stamp 7 8)) 0) (Acked (with_metadata 100 (stamp 7 9)) true true)) ≡ false
+report_of_another_last_byte = refl
+
+report_of_zeroes_for_none : is_justified entries 0 (drew_first ∷ []) (called (input.Report 1 false None 0) (Acked (with_metadata 100 (stamp 0 0)) true true)) ≡ false
+report_of_zeroes_for_none = refl
 
 report_of_another_minimum : is_justified entries 0 (drew_first ∷ []) (called (input.Report 1 false None 7) (Acked (knowing 100 8) true true)) ≡ false
 report_of_another_minimum = refl

@@ -3,7 +3,6 @@ use Rattle.std.proofs.Common.{◌≡◌, ◌≢◌, ℕ, zero, suc, ◌-◌, ◌
 use Rattle.std.specs.List.{AllByRecursion}
 use Rattle.std.proofs.lemmas.Bool.{and_parts, not-true, eqb-true, cases_eq, cases_Bool, true≢false, false≢true}
 use Rattle.std.proofs.lemmas.List.{nil_from_length}
-use Rattle.std.proofs.lemmas.Option.{same_Some, none-some}
 use Rattle.fdb_history.specs.Register.{raises, changes}
 use Rattle.fdb_history.specs.Event.{IsTrueOf, IsLegal, is_change}
 use Rattle.fdb_history.specs.declared.event.Placed.{Placed}
@@ -33,12 +32,23 @@ decide_Bool true false = inr true≢false
 decide_Bool false true = inr false≢true
 decide_Bool false false = inl refl
 
+-- and so are two lists of bytes
+decide_bytes : (x y : List ℕ) → OneOrNot x y
+decide_bytes [] [] = inl refl
+decide_bytes [] (n ∷ y) = inr (λ e. cc)
+decide_bytes (m ∷ x) [] = inr (λ e. cc)
+decide_bytes (m ∷ x) (n ∷ y) =
+    elim (cases_eq m n) [
+      | inr apart ↦ inr (λ e. apart cc)
+      | inl first ↦ elim (decide_bytes x y) [ inl rest ↦ inl cc | inr apart ↦ inr (λ e. apart cc) ]
+    ]
+
 -- and so are two metadata versions
-decide_Option : (x y : Option ℕ) → OneOrNot x y
-decide_Option None None = inl refl
-decide_Option None (Some n) = inr (λ e. none-some n e)
-decide_Option (Some m) None = inr (λ e. none-some m (sym e))
-decide_Option (Some m) (Some n) = elim (cases_eq m n) [ inl same ↦ inl (ap Some same) | inr apart ↦ inr (λ e. apart (same_Some m n e)) ]
+decide_metadata : (x y : Option (List ℕ)) → OneOrNot x y
+decide_metadata None None = inl refl
+decide_metadata None (Some n) = inr (λ e. cc)
+decide_metadata (Some m) None = inr (λ e. cc)
+decide_metadata (Some m) (Some n) = elim (decide_bytes m n) [ inl same ↦ inl (ap Some same) | inr apart ↦ inr (λ e. apart cc) ]
 
 -- records that are not apart are one
 pub same_record : (x y : Record) → (x ≢ y → ⊥) → x ≡ y
@@ -47,7 +57,7 @@ same_record x y close =
       | inr apart ↦ absurd (close (λ e. apart (ap (λ (r : Record). r.version) e)))
       | inl a ↦ elim (decide_Bool x.locked y.locked) [
         | inr apart ↦ absurd (close (λ e. apart (ap (λ (r : Record). r.locked) e)))
-        | inl b ↦ elim (decide_Option x.metadata y.metadata) [
+        | inl b ↦ elim (decide_metadata x.metadata y.metadata) [
           | inr apart ↦ absurd (close (λ e. apart (ap (λ (r : Record). r.metadata) e)))
           | inl c ↦ elim (cases_eq x.min_known y.min_known) [
             | inr apart ↦ absurd (close (λ e. apart (ap (λ (r : Record). r.min_known) e)))

@@ -2,6 +2,7 @@
 -- commit versions and by what its client's log has so far. (this product's own)
 use Rattle.std.specs.Prelude.{◌≡◌, ◌⊎◌, ℕ, ◌+◌, ◌-◌, ◌==◌, nat_eq, nat_lt, Bool, true, false, ◌&&◌, not, List, length, Option, None, Some, is_none, Result, Ok, Err, slice_get}
 use Rattle.std.specs.List.{find, list_any}
+use Rattle.std.specs.Cmp.Lexicographic.{pointwise}
 use Rattle.std.specs.Option.{option_eq, option_map, option_map_or}
 use mathlib.Core.Bool.{beq}
 use Rattle.fdb_history.specs.Issuing.{by_number, kept}
@@ -123,7 +124,7 @@ issued_under before num =
 abbrev pub is_of_issued : Option ℕ → Input → CallAnswer → Bool
 is_of_issued version (input.Report num locked metadata min_known) (Acked rec raised changed) =
     option_eq nat_eq version (Some rec.version)
-    && (beq rec.locked locked && (option_eq nat_eq rec.metadata metadata
+    && (beq rec.locked locked && (option_eq (pointwise nat_eq) rec.metadata metadata
     && (rec.min_known == min_known)))
 is_of_issued version (input.Report num locked metadata min_known) (Refused NotIssued) = is_none version
 is_of_issued version (input.Report num locked metadata min_known) (Refused MinAbove) =

@@ -1,13 +1,14 @@
 -- How a record and a refusal are printed. (this product's own)
 use Rattle.std.specs.Prelude.{ℕ, List, [], ◌==◌, ◌++◌, Option, None, Some, codes, decimal, if◌then◌else◌}
+use Rattle.hex.specs.Hex.{encode_lower}
 use Rattle.fdb_history.specs.declared.log.Refusal.{Refusal}
 use Rattle.fdb_history.specs.declared.log.Refusal.TheVariants.{Early, Forgotten, UnknownProxy, Exhausted, BadCount, BatchThrottled, Full, ProxyClosed, NotIssued, Stranger, TooLarge, MinAbove}
 use Rattle.fdb_history.specs.declared.register.Record.{Record}
 
--- a metadata version, or `none`
-abbrev pub metadata_text : Option ℕ → List ℕ
+-- a metadata version, each of its bytes as two hexadecimal digits in lower case, or `none`
+abbrev pub metadata_text : Option (List ℕ) → List ℕ
 metadata_text None = codes "none"
-metadata_text (Some metadata) = decimal metadata
+metadata_text (Some metadata) = encode_lower metadata
 
 -- a minimum known committed version, which is told where it is not 0
 abbrev pub min_text : ℕ → List ℕ

@@ -28,7 +28,7 @@ pub enum Input {
         /// Whether the database is locked from this version on.
         locked: bool,
         /// The metadata version, if there is one.
-        metadata: Option<u64>,
+        metadata: Option<[u8; 10]>,
         /// The minimum known committed version, 0 where none is told.
         min_known: u64,
     },

@@ -22,8 +22,8 @@ pub struct Record {
     pub version: u64,
     /// Whether the database is locked.
     pub locked: bool,
-    /// The metadata version, if there is one.
-    pub metadata: Option<u64>,
+    /// The metadata version, if there is one: a versionstamp, which is ten bytes.
+    pub metadata: Option<[u8; 10]>,
     /// The minimum known committed version: each version up to it is known to be committed. It is
     /// the greatest that was reported, and 0 before any report.
     pub min_known: u64,
@@ -75,6 +75,28 @@ impl Record {
     }
 }
 
+/// The twenty hexadecimal digits of a metadata version, in lower case.
+#[derive(Clone, Copy)]
+struct Digits([u8; 10]);
+
+impl fmt::Display for Digits {
+    ghost use Rattle.std.specs.Prelude.{Some};
+    ghost use Rattle.hex.specs.Hex.{encode_lower};
+
+    ghost output = { λ digits. Some (encode_lower digits.0) };
+
+    fn fmt<W: fmt::Write>(&self, f: &mut fmt::Formatter<W>) -> fmt::Result {
+        let mut digits = [0; 20];
+        let Ok(()) = hex::encode_to_slice(self.0, &mut digits) else {
+            unreachable!();
+        };
+        let Ok(text) = str::from_utf8(&digits) else {
+            unreachable!();
+        };
+        f.write_str(text)
+    }
+}
+
 /// The version, `locked` or `unlocked`, the metadata version or `none`, and `min` with the minimum
 /// known committed version where that is not 0.
 impl fmt::Display for Record {
@@ -92,7 +114,10 @@ impl fmt::Display for Record {
         };
         match self.metadata {
             None => write!(f, "{version}{lock}none")?,
-            Some(metadata) => write!(f, "{version}{lock}{metadata}")?,
+            Some(metadata) => {
+                let digits = Digits(metadata);
+                write!(f, "{version}{lock}{digits}")?;
+            }
         }
         match self.min_known {
             0 => Ok(()),

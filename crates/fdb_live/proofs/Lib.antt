@@ -9,3 +9,5 @@ pub mod InWords
 pub mod Tokens
 pub mod Reports
 pub mod Opening
+pub mod MetadataWords
+pub mod Owners

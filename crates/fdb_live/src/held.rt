@@ -1,7 +1,7 @@
 //! How the cell keeps the record and its position.
 
-ghost use Rattle.std.specs.Prelude.{◌≡◌};
-ghost use Rattle.fdb_live.specs.private.Words.{fetched_of, held_of};
+ghost use Rattle.std.specs.Prelude.{◌≡◌, Some};
+ghost use Rattle.fdb_live.specs.private.Words.{fetched_of, first_word, held_of, metadata_of, second_word};
 
 use crate::fetched::Fetched;
 use crossbeam_utils::atomic::Words;
@@ -13,7 +13,7 @@ const LOCKED: u64 = 1;
 /// The flag of a record with a metadata version.
 const HAS_METADATA: u64 = 2;
 
-/// The record and its position in five words. They have no gaps, which a copy of a [`Fetched`]
+/// The record and its position in six words. They have no gaps, which a copy of a [`Fetched`]
 /// would move as well, a few bytes at a time.
 #[derive(Clone, Copy)]
 pub(crate) struct Held {
@@ -23,8 +23,11 @@ pub(crate) struct Held {
     pub(crate) version: u64,
     /// Whether the database is locked, and whether there is a metadata version.
     pub(crate) flags: u64,
-    /// The metadata version, and 0 where there is none.
-    pub(crate) metadata: u64,
+    /// The first eight bytes of the metadata version as a number, the first byte the highest, and 0
+    /// where there is none.
+    pub(crate) first_metadata: u64,
+    /// The last two bytes of the metadata version, likewise.
+    pub(crate) second_metadata: u64,
     /// The minimum known committed version.
     pub(crate) min_known: u64,
 }
@@ -37,15 +40,16 @@ impl Held {
         ensures back { fetched_of result ≡ fetched }
     {
         let locked = if fetched.rec.locked { LOCKED } else { 0 };
-        let (flags, metadata) = match fetched.rec.metadata {
-            None => (locked, 0),
-            Some(metadata) => (locked + HAS_METADATA, metadata),
+        let (flags, (first_metadata, second_metadata)) = match fetched.rec.metadata {
+            None => (locked, (0, 0)),
+            Some(metadata) => (locked + HAS_METADATA, words_of_metadata(metadata)),
         };
         Held {
             position: fetched.position,
             version: fetched.rec.version,
             flags,
-            metadata,
+            first_metadata,
+            second_metadata,
             min_known: fetched.rec.min_known,
         }
     }
@@ -56,7 +60,7 @@ impl Held {
         ensures { result ≡ fetched_of self }
     {
         let metadata = if self.flags & HAS_METADATA != 0 {
-            Some(self.metadata)
+            Some(metadata_of(self.first_metadata, self.second_metadata))
         } else {
             None
         };
@@ -72,30 +76,62 @@ impl Held {
     }
 }
 
-impl Words<5> for Held {
+/// The first eight bytes of a metadata version and its last two, each as a number.
+#[inline]
+fn words_of_metadata(metadata: [u8; 10]) -> (u64, u64)
+    ensures first { result.0 ≡ first_word (Some metadata) }
+    ensures second { result.1 ≡ second_word (Some metadata) }
+    ensures back { metadata_of result.0 result.1 ≡ metadata }
+{
+    let [a, b, c, d, e, f, g, h, i, j] = metadata;
+    let first = u64::from_be_bytes([a, b, c, d, e, f, g, h]);
+    let second = u16::from_be_bytes([i, j]);
+    (first, u64::from(second))
+}
+
+/// The metadata version of two such numbers.
+#[inline]
+fn metadata_of(first: u64, second: u64) -> [u8; 10]
+    ensures { result ≡ metadata_of first second }
+{
+    let [a, b, c, d, e, f, g, h] = first.to_be_bytes();
+    let [_, _, _, _, _, _, i, j] = second.to_be_bytes();
+    [a, b, c, d, e, f, g, h, i, j]
+}
+
+impl Words<6> for Held {
     ghost use Rattle.fdb_live.specs.private.Words.{words_of};
 
     ghost words = { words_of };
 
     #[inline]
-    fn to_words(self) -> [u64; 5] {
+    fn to_words(self) -> [u64; 6] {
         [
             self.position,
             self.version,
             self.flags,
-            self.metadata,
+            self.first_metadata,
+            self.second_metadata,
             self.min_known,
         ]
     }
 
     #[inline]
-    fn from_words(bits: &[u64; 5]) -> Held {
-        let [position, version, flags, metadata, min_known] = *bits;
+    fn from_words(bits: &[u64; 6]) -> Held {
+        let [
+            position,
+            version,
+            flags,
+            first_metadata,
+            second_metadata,
+            min_known,
+        ] = *bits;
         Held {
             position,
             version,
             flags,
-            metadata,
+            first_metadata,
+            second_metadata,
             min_known,
         }
     }

@@ -6,6 +6,7 @@ mod ack;
 mod change;
 mod error;
 mod fetched;
+mod gathering;
 mod held;
 mod live;
 mod live_record;

@@ -19,7 +19,7 @@ use std::sync::{Mutex, Wait};
 /// The live committed version of the service `J`, in one register that threads share
 /// (`liveCommittedVersion` and its companions in masterserver, FoundationDB 7.1).
 ///
-/// Reports take turns under a lock that only they take. A read does not take it: it loads the five
+/// Reports take turns under a lock that only they take. A read does not take it: it loads the six
 /// words of a sequence cell, and only where a replacement came between does it take the cell's own
 /// lock for a moment. No call on it takes memory, and each takes constant time, waiting aside.
 #[derive(Drop)]
@@ -139,8 +139,8 @@ impl<J: Live> LiveRecord<J> {
         }
     }
 
-    /// Of what the holders of two tokens have seen, one begins the other. Both tokens stay as they
-    /// are.
+    /// Compares two tokens: one holder has seen all that the other has, from the first change on.
+    /// Both tokens stay as they are.
     #[inline]
     pub fn meet<R: Wait>(&self, rt: &R, first: &mut Seen<J>, second: &mut Seen<J>)
         ensures first { first.new ≡ first.old }

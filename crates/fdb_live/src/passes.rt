@@ -55,9 +55,10 @@ fn opening<S: Service>(pass: &Pass, start: Record) -> Held
     })
 }
 
-/// Loads the record.
+/// Loads the record. It is always inlined, as is what loads below: LLVM leaves out what the caller
+/// does not use, and by itself it inlines a load of no more than four words.
 #[tactic(auto, using(crate::proofs::InWords::looks_in_words))]
-#[inline]
+#[inline(always)]
 pub(crate) fn look<R: Wait>(rt: &R, cell: &Cell, pass: &mut Pass) -> Fetched
     requires { pass.old.table_id ≡ cell.now.table.shared.table_id }
     ensures cell { IsSamePass pass.old pass.new }
@@ -152,7 +153,7 @@ pub(crate) fn give_all(cell: &Cell, pass: &mut Pass) -> Pass
 }
 
 /// Takes in what another pass has seen.
-#[inline]
+#[inline(always)]
 pub(crate) fn learn<R: Wait>(rt: &R, cell: &Cell, pass: &mut Pass, other: Pass) -> Fetched
     requires cell { pass.old.table_id ≡ cell.now.table.shared.table_id }
     requires other { (other.table_id ≡ pass.old.table_id) × (other.me.1 ≡ []) }
@@ -176,7 +177,7 @@ fn join(cell: &Cell, pass: &mut Pass, other: Pass)
 }
 
 /// Ends a join by a load, and leaves what was seen as it is.
-#[inline]
+#[inline(always)]
 fn settle<R: Wait>(rt: &R, cell: &Cell, pass: &mut Pass) -> Fetched
     requires cell { pass.old.table_id ≡ cell.now.table.shared.table_id }
     requires may_settle { Turns Keeps pass.old.id (cell_view pass.old) (λ x. x) (InWords Settles) }

@@ -40,8 +40,8 @@ impl Protocol<Held, View> for Law {
     ghost first = { first };
 }
 
-/// The cell: one record and its position, in five words.
-pub(crate) type Cell = RuledSeqCell<Held, View, Law, 5>;
+/// The cell: one record and its position, in six words.
+pub(crate) type Cell = RuledSeqCell<Held, View, Law, 6>;
 
 /// A step that opens the service of a name.
 pub(crate) struct Opens<S: Service> {

@@ -43,9 +43,9 @@ impl<T: Drop> Line<T> {
     /// window. Where there is none, the windows before it that start nothing are held
     /// at once. Whoever is turned away is added to the list, which has room for all.
     ///
-    /// It is refused as `Memory` alone: for the list of those that start, of which there is one
-    /// then, when all have been offered. A growth of the queue that is refused turns away the one
-    /// that was offered, as `Memory`.
+    /// It is refused for memory alone: where some start and there is none for their list. All have
+    /// been offered by then. A growth of the queue that is refused turns away the one that was
+    /// offered, as `Memory`.
     pub(crate) fn turn(
         &mut self,
         offered: Vec<Req<T>>,

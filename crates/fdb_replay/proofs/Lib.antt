@@ -1,9 +1,9 @@
 pub mod Acts
+pub mod Finished
 pub mod Given
 pub mod Grown
 pub mod Pieces
 pub mod Learnt
-pub mod Numbered
 pub mod Parts
 pub mod Performed
 pub mod Runs

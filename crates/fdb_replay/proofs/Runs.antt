@@ -1,38 +1,31 @@
 -- A run has played all rounds, and is audited.
-use Rattle.std.proofs.Common.{◌≡◌, ℕ, zero, suc, ◌+◌, ◌<◌, List, [], ◌∷◌, length, replicate, drop, get_or, refl, ap, sym, ◌∙◌, subst}
+use Rattle.std.proofs.Common.{◌≡◌, ◌≢◌, ℕ, suc, ◌+◌, ◌<◌, List, [], ◌∷◌, Result, Ok, Err, IfErr, length, replicate, drop, get_or, refl, ap, sym, ◌∙◌, subst}
 use Rattle.std.specs.List.{FoldsTo}
 use Rattle.std.proofs.lemmas.List.{drop_more, length-replicate}
-use Rattle.fdb_history.specs.Audit.{IsFirstFault}
+use Rattle.fdb_history.specs.Audit.{IsAudited, IsFirstFault}
 use Rattle.fdb_history.specs.Chain.{IsChain}
+use Rattle.fdb_history.specs.Faults.{IsFaultless}
 use Rattle.fdb_history.specs.declared.chain.Issued.{Issued}
+use Rattle.fdb_history.specs.declared.event.History.{History}
 use Rattle.fdb_history.specs.declared.fault.AuditFault.{AuditFault}
 use Rattle.fdb_history.specs.declared.fault.AuditFault.TheVariants.{Order, Clash, Gap, Wrong, Stray, NotAbove, Memory}
 use Rattle.fdb_history.specs.declared.log.Call.{Call}
 use Rattle.fdb_history.specs.declared.log.ClientLog.{ClientLog}
-use Rattle.fdb_replay.specs.Outcome.{Fails, opening, run_fault}
-use Rattle.fdb_replay.specs.private.Rounds.{logs_of}
+use Rattle.fdb_history.specs.declared.register.Record.{Record}
+use Rattle.fdb_replay.specs.Outcome.{Fails, IsOfAnAnswer, opening, run_fault}
 use Rattle.fdb_script.specs.Answering.{Answers, AnswersRound, added_calls, learnt_from}
 use Rattle.fdb_script.specs.Plan.{Plan}
 use Rattle.fdb_script.specs.declared.script.Command.{Command}
 
 -- ---- the rounds
 
-no_calls : (clients : ℕ) → logs_of (replicate clients []) ≡ replicate clients (record { calls = [] })
-no_calls zero = refl
-no_calls (suc n) = ap (λ others. record { calls = [] } ∷ others) (no_calls n)
-
--- who plays all rounds from the start answers the script
-pub from_the_start : (plan : Plan) (clients : List (List Call)) (last : List ClientLog) → clients ≡ replicate plan.setup.clients [] → FoldsTo AnswersRound (logs_of clients) plan.rounds last
-    → Answers plan last
-from_the_start plan clients last new played = subst (λ logs. FoldsTo AnswersRound logs plan.rounds last) (ap logs_of new ∙ no_calls plan.setup.clients) played
-
 -- who plays a round and then those behind it has played those from it on
-pub one_round_more : (rounds : List (List Command)) (round : ℕ) (commands : List Command) (before after : List (List Call)) (last : List ClientLog) → round < length rounds
-    → commands ≡ get_or rounds round commands → AnswersRound (logs_of before) commands (logs_of after) → FoldsTo AnswersRound (logs_of after) (drop (round + 1) rounds) last
-    → FoldsTo AnswersRound (logs_of before) (drop round rounds) last
+pub one_round_more : (rounds : List (List Command)) (round : ℕ) (commands : List Command) (before after last : List ClientLog) → round < length rounds
+    → commands ≡ get_or rounds round commands → AnswersRound before commands after → FoldsTo AnswersRound after (drop (round + 1) rounds) last
+    → FoldsTo AnswersRound before (drop round rounds) last
 one_round_more rounds round commands before after last within here answered rest =
     let left : drop round rounds ≡ commands ∷ drop (round + 1) rounds = drop_more rounds round commands within ∙ ap (λ first. first ∷ drop (round + 1) rounds) (sym here) in
-    subst (λ left. FoldsTo AnswersRound (logs_of before) left last) (sym left) (logs_of after, answered, rest)
+    subst (λ left. FoldsTo AnswersRound before left last) (sym left) (after, answered, rest)
 
 -- ---- as many clients as before
 
@@ -51,23 +44,32 @@ same_clients plan logs answers = rounds_length (replicate plan.setup.clients (re
 
 -- ---- the audit
 
-abbrev IsOther : AuditFault → Type 0
-IsOther Memory = ⊥
-IsOther _ = Unit {0}
+-- where the history has no fault, the first that stands is one of an answer
+of_an_answer : (start : Record) (chain : List Issued) (logs : List ClientLog) (fault : AuditFault) → IsFaultless start logs → IsFirstFault start chain logs fault → fault ≢ Memory
+    → IsOfAnAnswer fault
+of_an_answer start chain logs (Order client call) none first other = none.order client call first.stands
+of_an_answer start chain logs (Clash position) none first other = none.clash position first.1.stands
+of_an_answer start chain logs (Gap position) none first other = none.gap position first.2.stands
+of_an_answer start chain logs (Wrong client call) none first other = none.wrong client call first.3.stands
+of_an_answer start chain logs (Stray client call) none first other = tt
+of_an_answer start chain logs (NotAbove client call) none first other = tt
+of_an_answer start chain logs Memory none first other = other refl
+
+-- and so of what an audit answers there
+pub others_of_an_answer : (start : Record) (chain : List Issued) (logs : List ClientLog) (result : Result History AuditFault) → IsFaultless start logs → IsAudited start chain logs result
+    → IfErr result (λ fault. fault ≢ Memory → IsOfAnAnswer fault)
+others_of_an_answer start chain logs (Ok history) none audited = tt
+others_of_an_answer start chain logs (Err fault) none audited = of_an_answer start chain logs fault none audited
 
 -- a run fails as its audit says
 pub fails : (plan : Plan) (chain : List Issued) (logs : List ClientLog) (fault : AuditFault) → Answers plan logs → IsChain plan.setup.epoch_end plan.setup.recovery chain
-    → IsFirstFault (opening plan.setup.recovery) chain logs fault → Fails plan (run_fault fault)
-fails plan chain logs Memory answers one_chain first = tt
-fails plan chain logs (Order client call) answers one_chain first =
-    record { chain = chain; logs = logs; answers = answers; one_chain = one_chain; first = first; not_memory = λ same. subst IsOther same tt }
-fails plan chain logs (Clash position) answers one_chain first =
-    record { chain = chain; logs = logs; answers = answers; one_chain = one_chain; first = first; not_memory = λ same. subst IsOther same tt }
-fails plan chain logs (Gap position) answers one_chain first =
-    record { chain = chain; logs = logs; answers = answers; one_chain = one_chain; first = first; not_memory = λ same. subst IsOther same tt }
-fails plan chain logs (Wrong client call) answers one_chain first =
-    record { chain = chain; logs = logs; answers = answers; one_chain = one_chain; first = first; not_memory = λ same. subst IsOther same tt }
-fails plan chain logs (Stray client call) answers one_chain first =
-    record { chain = chain; logs = logs; answers = answers; one_chain = one_chain; first = first; not_memory = λ same. subst IsOther same tt }
-fails plan chain logs (NotAbove client call) answers one_chain first =
-    record { chain = chain; logs = logs; answers = answers; one_chain = one_chain; first = first; not_memory = λ same. subst IsOther same tt }
+    → IsFirstFault (opening plan.setup.recovery) chain logs fault → (fault ≢ Memory → IsOfAnAnswer fault) → Fails plan (run_fault fault)
+fails plan chain logs Memory answers one_chain first other = tt
+fails plan chain logs (Order client call) answers one_chain first other = absurd (other (λ same. cc))
+fails plan chain logs (Clash position) answers one_chain first other = absurd (other (λ same. cc))
+fails plan chain logs (Gap position) answers one_chain first other = absurd (other (λ same. cc))
+fails plan chain logs (Wrong client call) answers one_chain first other = absurd (other (λ same. cc))
+fails plan chain logs (Stray client call) answers one_chain first other =
+    record { chain = chain; logs = logs; answers = answers; one_chain = one_chain; first = first; of_an_answer = tt }
+fails plan chain logs (NotAbove client call) answers one_chain first other =
+    record { chain = chain; logs = logs; answers = answers; one_chain = one_chain; first = first; of_an_answer = tt }

@@ -1,5 +1,5 @@
 -- What a run promises of its outcome. (this product's own)
-use Rattle.std.specs.Prelude.{◌≡◌, ◌≢◌, ℕ, false, None, List}
+use Rattle.std.specs.Prelude.{◌≡◌, ℕ, false, None, List}
 use Rattle.fdb_history.specs.Audit.{IsFirstFault, Low}
 use Rattle.fdb_history.specs.Chain.{IsChain}
 use Rattle.fdb_history.specs.Explained.{explained}
@@ -44,17 +44,24 @@ abbrev pub run_fault : AuditFault → RunFault
 run_fault audit.Memory = Memory
 run_fault fault = Audit fault
 
--- The clients did what the script says, and the audit of
--- what they were answered finds this fault first.
+-- A fault of one answer: nothing justifies it, or it is a commit version that
+-- is not above what its asker had seen.
+abbrev pub IsOfAnAnswer : AuditFault → Type 0
+IsOfAnAnswer (audit.Stray client call) = Unit {0}
+IsOfAnAnswer (audit.NotAbove client call) = Unit {0}
+IsOfAnAnswer _ = ⊥
+
+-- The clients did what the script says, and the audit of what they were
+-- answered finds this fault first. It is no fault of the register's history.
 pub record IsFaulty (plan : Plan) (fault : AuditFault) : Type 0 where
   pub chain : List Issued
   pub logs : List ClientLog
   pub answers : Answers plan logs
   pub one_chain : IsChain plan.setup.epoch_end plan.setup.recovery chain
   pub first : IsFirstFault (opening plan.setup.recovery) chain logs fault
-  pub not_memory : fault ≢ audit.Memory
+  pub of_an_answer : IsOfAnAnswer fault
 
--- A run fails where memory runs out, or with the fault that its audit finds.
+-- A run fails where memory runs out, or with a fault of an answer that its audit finds.
 abbrev pub Fails : Plan → RunFault → Type 0
 Fails plan Memory = Unit {0}
 Fails plan (Audit fault) = IsFaulty plan fault

@@ -1,25 +1,26 @@
 //! A client of a run.
 
-ghost use Rattle.std.specs.Prelude.{◌≡◌, ◌≢◌, ◌+◌, ◌++◌, ◌∷◌, [], Err, Some, true, false, OnOk, IfOk, drop, length};
-ghost use Rattle.fdb_history.specs.Added.{AddsCall};
+ghost use Rattle.std.specs.Prelude.{◌≡◌, ◌≢◌, ◌+◌, ◌++◌, [], Err, true, false, OnOk, length};
+ghost use Rattle.fdb_client.specs.Account.{sight};
+ghost use Rattle.fdb_client.specs.Agreeing.{Agrees};
 ghost use Rattle.fdb_history.specs.Log.{fresh_answers};
 ghost use Rattle.fdb_history.specs.declared.log.Input.TheVariants as input;
-ghost use Rattle.fdb_replay.specs.private.Rounds.{tells_by, tells_in};
+ghost use Rattle.fdb_replay.specs.private.Rounds.{CallsOnce, tells_since};
 ghost use Rattle.fdb_script.specs.Answering.{input_of, learns};
 
 use crate::tell::Tell;
 use crate::world::World;
 use fdb_client::{Client, ClientError};
 use fdb_history::{ClientLog, Gate, GrvOpts};
-use fdb_live::{Live, LiveRecord, Seen};
+use fdb_live::{Live, Seen};
 use fdb_script::Act;
-use std::alloc::{AllocError, Global};
+use std::alloc::AllocError;
 use std::marker::Model;
 use std::sync::Wait;
 
 /// A client of a run.
 ///
-/// Contracts see it as the calls of its log.
+/// Contracts see it as the client that it is.
 #[derive(Drop)]
 pub(crate) struct Player<'a, J: Live> {
     client: Client<'a, J>,
@@ -28,13 +29,13 @@ pub(crate) struct Player<'a, J: Live> {
 }
 
 impl<'a, J: Live> Model for Player<'a, J> {
-    ghost use Rattle.std.specs.Prelude.{◌≡◌, List};
-    ghost use Rattle.fdb_history.specs.declared.log.Call.{Call};
+    ghost use Rattle.std.specs.Prelude.{◌≡◌};
+    ghost use Rattle.fdb_client.specs.Account.{Account};
     ghost use Rattle.fdb_replay.specs.private.Routing.{reads_of};
 
-    ghost Value = { List Call };
+    ghost Value = { Account };
 
-    ghost view = { λ player. player.client.calls };
+    ghost view = { λ player. player.client };
 
     ghost invariant = { λ player. (player.client.begun ≡ 0)
         × (player.reads ≡ reads_of player.client.calls) };
@@ -42,22 +43,23 @@ impl<'a, J: Live> Model for Player<'a, J> {
 
 impl<'a, J: Live> Player<'a, J> {
     /// A client that has called nobody yet.
-    pub(crate) fn new(alloc: Global, number: u32, live: &'a LiveRecord<J>, seen: Seen<J>) -> Self
-        requires { seen ≡ record { reporter = Some number; changes = [] } }
-        ensures { result ≡ [] }
+    pub(crate) fn new(client: Client<'a, J>) -> Self
+        requires begun { client.begun ≡ 0 }
+        requires calls { client.calls ≡ [] }
+        ensures { result ≡ client.entry }
     {
-        Player {
-            client: Client::new(alloc, number, live, seen),
-            reads: 0,
-        }
+        Player { client, reads: 0 }
     }
 
-    /// Its log.
-    pub(crate) fn into_log(self) -> ClientLog
-        ensures { result ≡ record { calls = self.entry } }
+    /// Its log and its token, which agree with one another.
+    pub(crate) fn finish(self) -> (ClientLog, Seen<J>)
+        ensures log { result.0 ≡ record { calls = self.entry.calls } }
+        ensures seen { result.1 ≡ sight self.entry }
+        ensures begun { self.entry.begun ≡ 0 }
+        ensures agrees { Agrees J.start self.entry }
     {
         let Player { client, reads: _ } = self;
-        client.finish().0
+        client.finish()
     }
 
     /// Does what a command says, as the client with this number. What it tells
@@ -70,9 +72,9 @@ impl<'a, J: Live> Player<'a, J> {
         act: &Act,
         tells: &mut Vec<Tell<J>>,
     ) -> Result<(), AllocError>
-        ensures ok { OnOk result (AddsCall self.old (input_of self.old act.now) self.new) }
-        ensures told { OnOk result (tells.new.items
-            ≡ tells.old.items ++ tells_in number (drop (length self.old) self.new)) }
+        ensures ok { OnOk result (CallsOnce self.old (input_of self.old.calls act.now) self.new) }
+        ensures told { OnOk result
+            (tells.new.items ≡ tells.old.items ++ tells_since number self.old self.new) }
     {
         match act {
             Act::Grv(opts) => self.read(rt, world, number, opts),
@@ -96,7 +98,7 @@ impl<'a, J: Live> Player<'a, J> {
         number: u32,
         opts: &GrvOpts,
     ) -> Result<(), AllocError>
-        ensures { OnOk result (AddsCall self.old (input.Grv opts.now) self.new) }
+        ensures { OnOk result (CallsOnce self.old (input.Grv opts.now) self.new) }
     {
         let opts = opts.clone()?;
         let desk = world.route(number, self.reads);
@@ -108,7 +110,7 @@ impl<'a, J: Live> Player<'a, J> {
         let calls = self.client.calls().len() as u64;
         prove!(self.reads < calls);
         self.reads += 1;
-        settled(answer)
+        unless_out_of_memory(answer)
     }
 
     /// Asks for the next commit version.
@@ -119,11 +121,11 @@ impl<'a, J: Live> Player<'a, J> {
         processed: u64,
         at: u64,
     ) -> Result<(), AllocError>
-        ensures { OnOk result (AddsCall self.old
-            (input.Ask (length (fresh_answers self.old) + 1) processed at) self.new) }
+        ensures { OnOk result (CallsOnce self.old
+            (input.Ask (length (fresh_answers self.old.calls) + 1) processed at) self.new) }
     {
         let sequencer = world.cluster.sequencer();
-        settled(self.client.ask(rt, world.gate, sequencer, processed, at))
+        unless_out_of_memory(self.client.ask(rt, world.gate, sequencer, processed, at))
     }
 
     /// Asks for the commit version under a number.
@@ -135,10 +137,10 @@ impl<'a, J: Live> Player<'a, J> {
         processed: u64,
         at: u64,
     ) -> Result<(), AllocError>
-        ensures { OnOk result (AddsCall self.old (input.Ask num processed at) self.new) }
+        ensures { OnOk result (CallsOnce self.old (input.Ask num processed at) self.new) }
     {
         let sequencer = world.cluster.sequencer();
-        settled(
+        unless_out_of_memory(
             self.client
                 .reask(rt, world.gate, sequencer, num, processed, at),
         )
@@ -151,13 +153,13 @@ impl<'a, J: Live> Player<'a, J> {
         world: &World<'_, J, G>,
         num: u64,
         locked: bool,
-        metadata: Option<u64>,
+        metadata: Option<[u8; 10]>,
         min_known: u64,
     ) -> Result<(), AllocError>
         ensures { OnOk result
-            (AddsCall self.old (input.Report num locked metadata min_known) self.new) }
+            (CallsOnce self.old (input.Report num locked metadata min_known) self.new) }
     {
-        settled(
+        unless_out_of_memory(
             self.client
                 .report(rt, world.gate, num, locked, metadata, min_known),
         )
@@ -165,9 +167,9 @@ impl<'a, J: Live> Player<'a, J> {
 
     /// Tells another what it has seen.
     fn tell(&mut self, number: u32, to: u32, tells: &mut Vec<Tell<J>>) -> Result<(), AllocError>
-        ensures ok { OnOk result (AddsCall self.old (input.Tell to) self.new) }
-        ensures told { OnOk result (tells.new.items
-            ≡ tells.old.items ++ tells_in number (drop (length self.old) self.new)) }
+        ensures ok { OnOk result (CallsOnce self.old (input.Tell to) self.new) }
+        ensures told { OnOk result
+            (tells.new.items ≡ tells.old.items ++ tells_since number self.old self.new) }
     {
         let Ok(seen) = self.client.tell(to) else {
             return Err(AllocError);
@@ -178,8 +180,9 @@ impl<'a, J: Live> Player<'a, J> {
 
     /// Learns what it was told.
     pub(crate) fn learn<R: Wait>(&mut self, rt: &R, tell: Tell<J>) -> Result<(), AllocError>
-        ensures { OnOk result
-            (self.new ≡ learns self.old (record { teller = tell.from; position = tell.position })) }
+        ensures number { OnOk result (self.new.number ≡ self.old.number) }
+        ensures learnt { OnOk result (self.new.calls ≡ learns self.old.calls
+            (record { teller = tell.from; position = tell.position })) }
     {
         let Tell { to: _, from, seen } = tell;
         match self.client.learn(rt, from, seen) {
@@ -199,7 +202,7 @@ fn is_logged<T>(answer: &Result<T, ClientError>) -> bool
 
 /// What an answer leaves to be done: nothing, but where memory was refused,
 /// which is also why a proxy closes its desk while rounds are played.
-fn settled<T: Drop>(answer: Result<T, ClientError>) -> Result<(), AllocError>
+fn unless_out_of_memory<T: Drop>(answer: Result<T, ClientError>) -> Result<(), AllocError>
     ensures { OnOk result (answer ≢ Err ClientError.Memory) }
 {
     match answer {

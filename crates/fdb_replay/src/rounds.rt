@@ -1,9 +1,9 @@
 //! A round of a run: each client does its commands, and then they learn what they told one another.
 
-ghost use Rattle.std.specs.Prelude.{◌≡◌, ◌+◌, ◌++◌, ◌≤◌, ◌<◌, [], ℕ, true, false, OnOk, IfOk, length, drop, fold, get_or, map, slice_index_or, vec_len};
+ghost use Rattle.std.specs.Prelude.{◌≡◌, ◌+◌, ◌++◌, ◌≤◌, ◌<◌, [], ℕ, true, false, OnOk, IfOk, length, fold, slice_index_or, vec_len};
 ghost use Rattle.std.specs.List.{FoldsTo};
 ghost use Rattle.std.specs.Thread.{IsSync, IsSend};
-ghost use Rattle.fdb_replay.specs.private.Rounds.{IsPlayed, PerformsFrom, all_tells, logs_of, teach, tells_in};
+ghost use Rattle.fdb_replay.specs.private.Rounds.{IsPlayed, logs_of, numbers_of, teach, tells_since};
 ghost use Rattle.fdb_script.specs.Answering.{AnswersCommand, AnswersRound, commands_of};
 
 use crate::player::Player;
@@ -42,7 +42,7 @@ impl<'a> Round<'a> {
         }
     }
 
-    /// Whether one of so many clients has a command, the first of whom has this number.
+    /// Whether any of some clients has a command: so many, from this number on.
     fn acts_among(&self, first: u32, clients: usize) -> bool
         requires { first + clients ≤ 64 }
         ensures some { result ≡ true → 0 < clients }
@@ -93,8 +93,10 @@ pub(crate) fn play_rounds<'a, J: Live + Send + Sync, R: Threads + Wait + Sync, G
     rounds: &[Sequence<Command>],
 ) -> Result<Vec<Player<'a, J>>, AllocError>
     requires few { length clients.items ≤ 64 }
-    ensures { IfOk result (λ after.
+    ensures ok { IfOk result (λ after.
         FoldsTo AnswersRound (logs_of clients.entry.items) rounds.now (logs_of after.items)) }
+    ensures numbers { IfOk result
+        (λ after. numbers_of after.items ≡ numbers_of clients.entry.items) }
 {
     for commands in rounds {
         clients = play_round(rt, alloc, world, clients, commands.as_slice())?;
@@ -113,7 +115,8 @@ fn play_round<'a, J: Live + Send + Sync, R: Threads + Wait + Sync, G: Gate>(
     requires few { length clients.items ≤ 64 }
     ensures ok { IfOk result
         (λ after. AnswersRound (logs_of clients.entry.items) commands.now (logs_of after.items)) }
-    ensures few { IfOk result (λ after. length after.items ≡ length clients.entry.items) }
+    ensures numbers { IfOk result
+        (λ after. numbers_of after.items ≡ numbers_of clients.entry.items) }
 {
     let round = Round::new(commands);
     let playing = Playing {
@@ -239,8 +242,8 @@ fn play_alone<'a, J: Live, R: Wait, G: Gate>(
     Ok(Part { clients, tells })
 }
 
-/// Has two halves of the clients do their commands of a round: where both
-/// have a client that acts, the front one in a new thread.
+/// Has two halves of the clients do their commands of a round: where both have a client that acts,
+/// the front one in a new thread. Where that cannot be had, neither half begins.
 #[cycle(parts)]
 fn play_halves<'s, 'a: 's, E, J: Live + Send + Sync, R: Threads + Wait + Sync, G: Gate>(
     scope: &'s Scope<'s, E>,
@@ -260,37 +263,14 @@ fn play_halves<'s, 'a: 's, E, J: Live + Send + Sync, R: Threads + Wait + Sync, G
 {
     let next = first + front.len() as u32;
     let round = &playing.round;
-    if round.acts_among(first, front.len()) && round.acts_among(next, back.len()) {
-        return play_apart(scope, playing, first, front, back);
+    if !round.acts_among(first, front.len()) || !round.acts_among(next, back.len()) {
+        let front = play_part(scope, playing, first, front)?;
+        let back = play_part(scope, playing, next, back)?;
+        return Ok((front, back));
     }
-    let front = play_part(scope, playing, first, front)?;
-    let back = play_part(scope, playing, next, back)?;
-    Ok((front, back))
-}
-
-/// Has two halves of the clients do their commands of a round, the front one
-/// in a new thread. Where that cannot be had, neither half begins.
-#[cycle(parts)]
-fn play_apart<'s, 'a: 's, E, J: Live + Send + Sync, R: Threads + Wait + Sync, G: Gate>(
-    scope: &'s Scope<'s, E>,
-    playing: &'s Playing<'s, R, J, G>,
-    first: u32,
-    front: Vec<Player<'a, J>>,
-    back: Vec<Player<'a, J>>,
-) -> Result<(Part<'a, J>, Part<'a, J>), AllocError>
-    requires some_front { 0 < vec_len front }
-    requires some_back { 0 < vec_len back }
-    requires few { first + (vec_len front + vec_len back) ≤ 64 }
-    ensures front { IfOk result (λ parts. IsPlayed first playing.now.round.commands.now
-        front.entry.items parts.0.clients.items parts.0.tells.items) }
-    ensures back { IfOk result (λ parts.
-        IsPlayed (first + vec_len front.entry) playing.now.round.commands.now
-        back.entry.items parts.1.clients.items parts.1.tells.items) }
-{
-    let next = first + front.len() as u32;
     let promise = Plays {
         first,
-        commands: playing.round.commands,
+        commands: round.commands,
         clients: Snapshot::of(&front),
     };
     let play_front = move || -> Result<Part<'_, J>, AllocError>
@@ -315,10 +295,11 @@ fn play_client<J: Live, R: Wait, G: Gate>(
     number: u32,
     client: &mut Player<'_, J>,
 ) -> Result<Vec<Tell<J>>, AllocError>
-    ensures ok { OnOk result (FoldsTo AnswersCommand client.old
-        (commands_of number playing.now.round.commands.now) client.new) }
+    ensures ok { OnOk result (FoldsTo AnswersCommand client.old.calls
+        (commands_of number playing.now.round.commands.now) client.new.calls) }
+    ensures number { OnOk result (client.new.number ≡ client.old.number) }
     ensures told { IfOk result
-        (λ tells. tells.items ≡ tells_in number (drop (length client.old) client.new)) }
+        (λ tells. tells.items ≡ tells_since number client.old client.new) }
 {
     let commands = playing.round.commands;
     let mut tells = Vec::new(playing.alloc);
@@ -331,13 +312,16 @@ fn play_client<J: Live, R: Wait, G: Gate>(
 }
 
 /// Has each client learn what it was told.
+#[tactic(auto, using(crate::proofs::Learnt::one_learns, crate::proofs::Learnt::nobody_learns, crate::proofs::Learnt::same_numbers))]
 fn learn_all<J: Live, R: Wait>(
     rt: &R,
     clients: &mut Vec<Player<'_, J>>,
     tells: Vec<Tell<J>>,
 ) -> Result<(), AllocError>
-    ensures ok { OnOk result (clients.new.items ≡ fold teach clients.old.items tells.items) }
-    ensures len { OnOk result (length clients.new.items ≡ length clients.old.items) }
+    ensures learnt { OnOk result
+        (logs_of clients.new.items ≡ fold teach (logs_of clients.old.items) tells.items) }
+    ensures numbers { OnOk result
+        (numbers_of clients.new.items ≡ numbers_of clients.old.items) }
 {
     for tell in tells {
         let to = tell.to as usize;

@@ -1,19 +1,22 @@
 //! A run of a script.
 
-ghost use Rattle.std.specs.Prelude.{◌≡◌, ◌<◌, ◌≤◌, ℕ, [], length, IfOk, IfErr, Some, slice_get, vec_len};
+ghost use Rattle.std.specs.Prelude.{◌≡◌, ◌≢◌, ◌<◌, ◌≤◌, ℕ, [], length, IfOk, IfErr, Some, slice_get, vec_len};
 ghost use Rattle.fdb_client.specs.Cluster.{IsClusterConfig};
-ghost use Rattle.fdb_history.specs.Chain.{IsChain};
-ghost use Rattle.fdb_replay.specs.Outcome.{IsRunOf, Fails, opening};
+ghost use Rattle.fdb_client.specs.Settling.{AllAgree};
+ghost use Rattle.fdb_history.specs.Audit.{IsAudited};
+ghost use Rattle.fdb_history.specs.Linear.{IsLinear};
+ghost use Rattle.fdb_live.specs.Gathering.{AreNumbered};
+ghost use Rattle.fdb_replay.specs.Outcome.{IsRunOf, IsOfAnAnswer, Fails, opening};
 ghost use Rattle.fdb_replay.specs.private.Configured.{IsConfigFor};
 ghost use Rattle.fdb_script.specs.Answering.{Answers};
 ghost use Rattle.fdb_script.specs.Plan.{IsPlan, Plan};
 
-use crate::clients::Clients;
+use crate::clients::{Clients, Finished};
 use crate::fault::RunFault;
 use crate::serving::served;
 use crate::world::World;
-use fdb_client::{Cluster, ClusterConfig};
-use fdb_history::{ClientLog, Gate, Issued, Record, audit};
+use fdb_client::{Cluster, ClusterConfig, clients_of, settle};
+use fdb_history::{AuditFault, ClientLog, Gate, History, Issued, Record, audit};
 use fdb_live::{Live, LiveError, LiveRecord, Opened, Seen};
 use fdb_script::{Outcome, Script};
 use std::alloc::{AllocError, Global};
@@ -30,8 +33,10 @@ use std::thread::Threads;
 /// client's reads go to them in turn. The gate is passed where the sequencer's lock
 /// is held, where that of the reports is, and where an answer to a read has come.
 ///
-/// It fails where memory runs out, or a thread for a proxy or a client cannot be had,
-/// or with the fault that the audit finds. Each thread has been joined by then.
+/// It fails where memory runs out, or a thread for a proxy or a client cannot be had, or with the
+/// fault that the audit finds: `Stray` or `NotAbove`, since what all clients have seen is brought
+/// together before, which shows that no fault of the register's history stands in their logs. Each
+/// thread has been joined by then.
 pub fn run<R: Threads + Wait + Sync, G: Gate>(
     rt: &R,
     alloc: Global,
@@ -95,17 +100,34 @@ fn run_named<J: Live + Send + Sync, R: Threads + Wait + Sync, G: Gate>(
     ensures ok { IfOk result (IsRunOf script.now) }
     ensures err { IfErr result (Fails script.now) }
 {
-    let Ok((live, first, tokens)) = opened.parts::<J>() else {
+    let Ok((live, mut first, tokens)) = opened.parts::<J>() else {
         return Err(RunFault::Memory);
     };
     let cluster = Cluster::new(alloc, live, config)?;
-    let logs = logs_at(rt, alloc, &cluster, gate, script, first, tokens)?;
-    audited(alloc, script, cluster.into_chain(), logs)
+    let seen = cluster.live().split(&mut first);
+    let finished = finished_at(rt, alloc, &cluster, gate, script, seen, tokens)?;
+    let (chain, live) = cluster.into_parts();
+    let Finished { logs, mut tokens } = finished;
+    let history = settled(
+        rt,
+        alloc,
+        config.start,
+        &live,
+        &mut first,
+        &mut tokens,
+        &logs,
+        &chain,
+    )?;
+    Ok(Outcome {
+        chain,
+        logs,
+        history,
+    })
 }
 
-/// The logs of a script's clients, once all its rounds are played at a cluster that nobody has
+/// What a script's clients leave, once all its rounds are played at a cluster that nobody has
 /// called yet. It fails only where memory runs out.
-fn logs_at<'a, J: Live + Send + Sync, R: Threads + Wait + Sync, G: Gate>(
+fn finished_at<'a, J: Live + Send + Sync, R: Threads + Wait + Sync, G: Gate>(
     rt: &R,
     alloc: Global,
     cluster: &'a Cluster<'_, J>,
@@ -113,15 +135,15 @@ fn logs_at<'a, J: Live + Send + Sync, R: Threads + Wait + Sync, G: Gate>(
     script: &Script,
     first: Seen<J>,
     tokens: Vec<Seen<J>>,
-) -> Result<Vec<ClientLog>, AllocError>
+) -> Result<Finished<J>, AllocError>
     requires plan { IsPlan script.now }
     requires count { vec_len tokens ≡ script.now.setup.clients }
     requires numbered { (k : ℕ) → k < vec_len tokens
         → slice_get tokens.items k ≡ Some (record { reporter = Some k; changes = [] }) }
-    ensures answers { IfOk result (λ logs. Answers script.now logs.items) }
-    ensures few { IfOk result (λ logs. length logs.items ≤ 64) }
+    ensures answers { IfOk result (Answers script.now) }
+    ensures count { IfOk result (λ logs. length logs ≡ script.now.setup.clients) }
 {
-    let clients = Clients::new(alloc, cluster.live(), tokens)?;
+    let clients = Clients::new(alloc, clients_of(alloc, cluster.live(), tokens)?)?;
     let world = World { cluster, gate };
     served(rt, alloc, &world, first, clients, script.rounds())
 }
@@ -138,24 +160,29 @@ fn opening(recovery: u64) -> Record
     }
 }
 
-/// The outcome, with the history that the audit finds.
-fn audited(
+/// Settles what the clients of a run have left, and then audits it. A fault that the audit finds is
+/// one of a single answer, since the history of the register has none.
+fn settled<J: Live, R: Wait>(
+    rt: &R,
     alloc: Global,
-    script: &Script,
-    chain: Vec<Issued>,
-    logs: Vec<ClientLog>,
-) -> Result<Outcome, RunFault>
-    requires few { length logs.items ≤ 64 }
-    requires answers { Answers script.now logs.items }
-    requires one_chain { IsChain script.now.setup.epoch_end script.now.setup.recovery chain.items }
-    ensures ok { IfOk result (IsRunOf script.now) }
-    ensures err { IfErr result (Fails script.now) }
+    start: Record,
+    live: &LiveRecord<J>,
+    first: &mut Seen<J>,
+    tokens: &mut [Seen<J>],
+    logs: &[ClientLog],
+    chain: &[Issued],
+) -> Result<History, AuditFault>
+    requires start { start ≡ J.start }
+    requires few { length logs.now ≤ 64 }
+    requires logs { length logs.now ≡ J.reporters }
+    requires count { length tokens.old ≡ J.reporters }
+    requires numbered { AreNumbered tokens.old }
+    requires agree { AllAgree J.start logs.now tokens.old }
+    ensures audited { IsAudited start chain.now logs.now result }
+    ensures linear { IfOk result (λ history. IsLinear start logs.now history.events) }
+    ensures of_an_answer { IfErr result
+        (λ fault. fault ≢ AuditFault.Memory → IsOfAnAnswer fault) }
 {
-    let start = opening(script.setup().recovery);
-    let history = audit(alloc, start, chain.as_slice(), logs.as_slice())?;
-    Ok(Outcome {
-        chain,
-        logs,
-        history,
-    })
+    settle(rt, live, first, tokens, logs);
+    audit(alloc, start, chain, logs)
 }

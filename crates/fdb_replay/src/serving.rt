@@ -5,17 +5,17 @@ ghost use Rattle.std.specs.List.{FoldsTo};
 ghost use Rattle.fdb_replay.specs.private.Rounds.{logs_of};
 ghost use Rattle.fdb_script.specs.Answering.{AnswersRound};
 
-use crate::clients::Clients;
+use crate::clients::{Clients, Finished};
 use crate::world::World;
 use fdb_client::serve_while;
-use fdb_history::{ClientLog, Gate, Sequence};
+use fdb_history::{Gate, Sequence};
 use fdb_live::{Live, Seen};
 use fdb_script::Command;
 use std::alloc::{AllocError, Global};
 use std::sync::Wait;
 use std::thread::Threads;
 
-/// The logs of the clients, once all rounds are played. Meanwhile the GRV proxies of the cluster
+/// What the clients leave, once all rounds are played. Meanwhile the GRV proxies of the cluster
 /// serve, with tokens that are split off this one; however the rounds end, all have ended then.
 ///
 /// It fails where a proxy cannot be started, which leaves all rounds
@@ -27,37 +27,35 @@ pub(crate) fn served<J: Live + Send + Sync, R: Threads + Wait + Sync, G: Gate>(
     first: Seen<J>,
     clients: Clients<'_, J>,
     rounds: &[Sequence<Command>],
-) -> Result<Vec<ClientLog>, AllocError>
+) -> Result<Finished<J>, AllocError>
     requires { length clients ≤ 64 }
-    ensures { IfOk result
-        (λ logs. FoldsTo AnswersRound (logs_of clients.entry) rounds.now logs.items) }
+    ensures { IfOk result (FoldsTo AnswersRound (logs_of clients.entry) rounds.now) }
 {
     let (played, all_served) = serve_while(
         rt,
         alloc,
         world.cluster,
         first,
-        move || -> Result<Vec<ClientLog>, AllocError>
+        move || -> Result<Finished<J>, AllocError>
             requires { length clients ≤ 64 }
             ensures { IfOk result
-                (λ logs. FoldsTo AnswersRound (logs_of clients.entry) rounds.entry.now logs.items) }
+                (FoldsTo AnswersRound (logs_of clients.entry) rounds.entry.now) }
         { played(rt, alloc, world, clients, rounds) },
     )?;
     if all_served { played } else { Err(AllocError) }
 }
 
-/// The logs of the clients, once all rounds are played.
+/// What the clients leave, once all rounds are played.
 fn played<J: Live + Send + Sync, R: Threads + Wait + Sync, G: Gate>(
     rt: &R,
     alloc: Global,
     world: &World<'_, J, G>,
     mut clients: Clients<'_, J>,
     rounds: &[Sequence<Command>],
-) -> Result<Vec<ClientLog>, AllocError>
+) -> Result<Finished<J>, AllocError>
     requires { length clients ≤ 64 }
-    ensures { IfOk result
-        (λ logs. FoldsTo AnswersRound (logs_of clients.entry) rounds.now logs.items) }
+    ensures { IfOk result (FoldsTo AnswersRound (logs_of clients.entry) rounds.now) }
 {
     clients.play(rt, alloc, world, rounds)?;
-    clients.into_logs(alloc)
+    clients.finish(alloc)
 }

@@ -36,7 +36,7 @@ pub(crate) const REPLIES: &str = "\
 audit ok events 4 raised 1 versions 2
 ";
 
-pub(crate) const HISTORY: &str = "\
+const HISTORY: &str = "\
 history 0 client 0 call 0 read 100 unlocked none
 history 1 client 0 call 2 report 100 unlocked none not raised
 history 2 client 0 call 4 report 2100 unlocked none raised

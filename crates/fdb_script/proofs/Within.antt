@@ -132,7 +132,7 @@ reask_fits : (clients client : ℕ) (num at processed : Option ℕ) (act : Act) 
 reask_fits clients client (Some num) (Some at) (Some processed) act e = subst (IsAct clients client) (same_Some _ act e) refl
 reask_fits clients client _ _ _ act e = absurd (none-some act e)
 
-report_fits : (clients client : ℕ) (num : Option ℕ) (locked : Option Bool) (metadata : Option (Option ℕ)) (min_known : Option ℕ) (act : Act) → report_with num locked metadata min_known ≡ Some act → IsAct clients client act
+report_fits : (clients client : ℕ) (num : Option ℕ) (locked : Option Bool) (metadata : Option (Option (List ℕ))) (min_known : Option ℕ) (act : Act) → report_with num locked metadata min_known ≡ Some act → IsAct clients client act
 report_fits clients client (Some num) (Some locked) (Some metadata) (Some min_known) act e = subst (IsAct clients client) (same_Some _ act e) refl
 report_fits clients client _ _ _ _ act e = absurd (none-some act e)
 

@@ -2,7 +2,9 @@
 -- (this product's own)
 use Rattle.std.specs.Prelude.{◌≡◌, ℕ, Bool, false, IsUtf8, ◌+◌, ◌==◌, ◌&&◌, not, nat_lt, nat_le, nat_eq, List, [], ◌∷◌, length, sum_by, Option, None, Some, is_some, option_and_then, Result, Ok, Err, codes, if◌then◌else◌}
 use Rattle.std.specs.Option.{option_map}
+use Rattle.std.specs.Result.{result_ok}
 use Rattle.std.specs.Cmp.Lexicographic.{pointwise}
+use Rattle.hex.specs.Hex.{decode_sized}
 use Rattle.serde_json.specs.Read.{read}
 use Rattle.serde_json.specs.Data.{Data, Items, no_items, item}
 use Rattle.serde_json.specs.Find.{get, as_number, as_u64, as_bool, as_null, as_str, as_array}
@@ -40,9 +42,15 @@ whole_within low high value =
 abbrev pub whole_below : ℕ → Data → Option ℕ
 whole_below limit value = checked (λ number. nat_lt number limit) (whole value)
 
--- a whole number, or null for none
-abbrev pub whole_or_null : Data → Option (Option ℕ)
-whole_or_null value = if is_some (as_null value) then Some None else option_map Some (whole value)
+-- a metadata version: a text of twenty hexadecimal digits, of either case, two for each of the ten
+-- bytes
+abbrev pub metadata_of : Data → Option (List ℕ)
+metadata_of value = option_and_then (λ digits. result_ok (decode_sized digits 10)) (as_str value)
+
+-- a metadata version, or null for none
+abbrev pub metadata_or_null : Data → Option (Option (List ℕ))
+metadata_or_null value =
+    if is_some (as_null value) then Some None else option_map Some (metadata_of value)
 
 -- a priority, by its word
 abbrev pub priority_named : List ℕ → Option Priority
@@ -133,7 +141,8 @@ reask_of value =
     reask_with (member whole (codes "num") value) (member whole (codes "at") value)
     (member_or 0 whole (codes "processed") value)
 
-abbrev pub report_with : Option ℕ → Option Bool → Option (Option ℕ) → Option ℕ → Option Act
+abbrev pub report_with : Option ℕ → Option Bool → Option (Option (List ℕ)) → Option ℕ
+    → Option Act
 report_with (Some num) (Some locked) (Some metadata) (Some min_known) =
     Some (Report num locked metadata min_known)
 report_with _ _ _ _ = None
@@ -141,7 +150,7 @@ report_with _ _ _ _ = None
 abbrev pub report_of : Data → Option Act
 report_of value =
     report_with (member whole (codes "num") value) (member_or false as_bool (codes "locked") value)
-    (member_or None whole_or_null (codes "metadata") value)
+    (member_or None metadata_or_null (codes "metadata") value)
     (member_or 0 whole (codes "min_known") value)
 
 -- one of the clients, and another than the one that tells

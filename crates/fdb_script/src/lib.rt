@@ -7,6 +7,7 @@
 #![tactic(auto)]
 
 mod error;
+pub mod laws;
 mod lines;
 mod outcome;
 mod printing;

@@ -4,12 +4,14 @@
 ghost use Rattle.std.specs.Prelude.{◌≡◌};
 
 mod gates;
+pub mod gathered;
 mod held;
 mod minimum;
 pub mod steps;
 mod threads;
 
 use crate::live::gates::{pass_each, pass_one_by_one};
+use crate::live::gathered::gather_two;
 use crate::live::held::read_beside_report;
 use crate::live::minimum::keep_the_greatest;
 use crate::live::steps::{learn_crosswise, unlocked, work_through};
@@ -136,6 +138,14 @@ fn reads_and_reports(rt: HostRuntime) -> Result<(), Fail> {
     play(&rt, rt.alloc(), 2, Case::Crosswise)?;
     play(&rt, rt.alloc(), 2, Case::Minimum)?;
     play(&rt, rt.alloc(), 2, Case::ReadBesideReport)?;
+    Ok(())
+}
+
+/// Of two reporters the second raises nothing, and then raises what the first has not seen.
+#[test]
+fn all_that_was_seen_is_gathered(rt: HostRuntime) -> Result<(), Fail> {
+    gather_two(&rt, rt.alloc(), (200, 150), 1)?;
+    gather_two(&rt, rt.alloc(), (200, 300), 2)?;
     Ok(())
 }
 

@@ -23,6 +23,7 @@ use std::alloc::{AllocError, Global};
 use std::marker::Brand;
 use std::process::Abort;
 use std::sync::Wait;
+use std::sync::atomic::AtomicU64;
 use std::thread::Threads;
 
 /// How many reporters the record has.
@@ -36,13 +37,20 @@ pub(crate) enum Case<'a> {
     /// Four clients ask two proxies, each in a thread of its own.
     Crowd,
     /// A system request comes while so many default ones wait in the queue.
-    Late { waiting: u64 },
+    Late {
+        waiting: u64,
+    },
     /// A batch is served that may be refused memory.
     ServeRefused,
     /// A proxy is run that may be refused memory, with a queue that has
     /// had requests before or none. Its answers go over channels with room
-    /// for one, or over unbounded ones, to which a send needs memory.
-    RunRefused { used: bool, unbounded: bool },
+    /// for one, or over unbounded ones, to which a send needs memory. Where one request
+    /// alone was refused it, its number goes into the note, counted from 1.
+    RunRefused {
+        used: bool,
+        unbounded: bool,
+        alone: &'a AtomicU64,
+    },
 }
 
 /// Plays a case. It fails where memory is refused, and passes else.
@@ -84,6 +92,10 @@ fn play_at<J: Live + Send + Sync, R: Threads + Wait + Abort + Sync>(
         Case::Crowd => ask_all(rt, stand),
         Case::Late { waiting } => come_late(rt, stand, waiting),
         Case::ServeRefused => serve_refused(rt, stand),
-        Case::RunRefused { used, unbounded } => run_refused(rt, stand, used, unbounded),
+        Case::RunRefused {
+            used,
+            unbounded,
+            alone,
+        } => run_refused(rt, stand, used, unbounded, alone),
     }
 }

@@ -15,20 +15,20 @@ const CASES: &str = "\
 100 unlocked none read 0 100 unlocked none report 2 100 unlocked none unraised => 100 unlocked none
 100 unlocked none read 0 100 unlocked none report 2 100 unlocked none unraised \
 report 4 2100 unlocked none raised read 5 2100 unlocked none => 2100 unlocked none
-2100 locked 7 report 0 2100 unlocked none unraised => 2100 locked 7
-2100 locked 7 report 0 2099 unlocked none unraised => 2100 locked 7
-2100 locked 7 report 0 0 unlocked none unraised => 2100 locked 7
-2100 locked 7 report 0 2101 unlocked none unraised => 2101 unlocked none
-2100 locked 7 report 0 2101 locked none unraised => 2101 locked none
-2100 locked 7 report 0 18446744073709551615 unlocked none unraised => 18446744073709551615 unlocked none
-2100 locked 7 report 0 2100 unlocked none min 5 unraised => 2100 locked 7 min 5
-2100 locked 7 min 5 report 0 2100 unlocked none min 5 raised => 2100 locked 7 min 5
-2100 locked 7 min 5 report 0 2101 unlocked none min 4 raised => 2101 unlocked none min 5
-2100 locked 7 min 5 report 0 2099 unlocked none min 2099 min_raised => 2100 locked 7 min 2099
-2100 locked 7 min 5 report 0 2101 unlocked 8 min 6 unraised => 2101 unlocked 8 min 6
+2100 locked 0102030405060708090a report 0 2100 unlocked none unraised => 2100 locked 0102030405060708090a
+2100 locked 0102030405060708090a report 0 2099 unlocked none unraised => 2100 locked 0102030405060708090a
+2100 locked 0102030405060708090a report 0 0 unlocked none unraised => 2100 locked 0102030405060708090a
+2100 locked 0102030405060708090a report 0 2101 unlocked none unraised => 2101 unlocked none
+2100 locked 0102030405060708090a report 0 2101 locked none unraised => 2101 locked none
+2100 locked 0102030405060708090a report 0 18446744073709551615 unlocked none unraised => 18446744073709551615 unlocked none
+2100 locked 0102030405060708090a report 0 2100 unlocked none min 5 unraised => 2100 locked 0102030405060708090a min 5
+2100 locked 0102030405060708090a min 5 report 0 2100 unlocked none min 5 raised => 2100 locked 0102030405060708090a min 5
+2100 locked 0102030405060708090a min 5 report 0 2101 unlocked none min 4 raised => 2101 unlocked none min 5
+2100 locked 0102030405060708090a min 5 report 0 2099 unlocked none min 2099 min_raised => 2100 locked 0102030405060708090a min 2099
+2100 locked 0102030405060708090a min 5 report 0 2101 unlocked ff00ff00ff00ff00ff00 min 6 unraised => 2101 unlocked ff00ff00ff00ff00ff00 min 6
 100 unlocked none report 2 2100 unlocked none min 100 raised report 4 2100 unlocked none min 2000 min_raised \
 report 5 100 unlocked none min 50 unraised => 2100 unlocked none min 2000
-2100 locked 7 report 0 0 unlocked none min 18446744073709551615 unraised => 2100 locked 7 min 18446744073709551615
+2100 locked 0102030405060708090a report 0 0 unlocked none min 18446744073709551615 unraised => 2100 locked 0102030405060708090a min 18446744073709551615
 ";
 
 /// The events of a line.

@@ -104,7 +104,7 @@ const COMMANDS: &str = r#"{"epoch_end":0,"recovery":100,"clients":3,"rounds":[[]
 {"do":"reask","client":0,"num":2,"at":9000},
 {"do":"reask","client":0,"num":2,"at":9000,"processed":1},
 {"do":"report","client":2,"num":3},
-{"do":"report","client":2,"num":3,"locked":true,"metadata":4,"min_known":5},
+{"do":"report","client":2,"num":3,"locked":true,"metadata":"0102030405060708090A","min_known":5},
 {"do":"report","client":2,"num":3,"locked":false,"metadata":null,"min_known":18446744073709551615},
 {"do":"tell","client":2,"to":0}]]}"#;
 
@@ -120,7 +120,7 @@ round
 0 reask 2 0 9000
 0 reask 2 1 9000
 2 report 3 false None 0
-2 report 3 true Some(4) 5
+2 report 3 true Some([1, 2, 3, 4, 5, 6, 7, 8, 9, 10]) 5
 2 report 3 false None 18446744073709551615
 2 tell 0
 ";

@@ -4,7 +4,7 @@ use crate::client::Stand;
 use crate::client::served::{Reading, Way, Whom, read_served};
 use crate::line::{Line, tag};
 use fdb_client::{Client, ClientError, ReadVersion};
-use fdb_history::{GrvOpts, Issued, OpenGate, Priority, Sequence};
+use fdb_history::{Call, CallAnswer, GrvOpts, Issued, OpenGate, Priority, Sequence};
 use fdb_live::{Ack, Live, Seen};
 use std::alloc::{AllocError, Global};
 use std::process::Abort;
@@ -54,6 +54,7 @@ fn called<J: Live + Send + Sync, R: Threads + Wait + Abort + Sync>(
         "tell" => told(rt, stand, line),
         "learn" => learnt(rt, stand, line),
         "log" => logged(rt, stand, line),
+        "last" => last_answered(rt, stand, line),
         "meet" => meet(rt, stand),
         "shut" => shut(rt, stand),
         _ => line.fails(rt, "no call"),
@@ -240,6 +241,25 @@ fn logged<J: Live>(
         return String::from_str(alloc, "the log and the token differ");
     }
     format!(in alloc; "{} calls, at {position}", calls.len())
+}
+
+/// What the last call in a client's log was refused for, if it was.
+fn last_answered<J: Live>(
+    rt: &impl Abort,
+    stand: &mut Stand<'_, J>,
+    line: &mut Line<'_>,
+) -> Result<String, AllocError> {
+    let alloc = stand.service.alloc;
+    match client_at(rt, stand, line).calls().last() {
+        Some(
+            Call {
+                answer: CallAnswer::Refused(cause),
+                ..
+            },
+        ) => format!(in alloc; "refused {cause}"),
+        Some(_) => String::from_str(alloc, "answered"),
+        None => String::from_str(alloc, "no call"),
+    }
 }
 
 /// The clients finish, and their tokens meet.

@@ -8,7 +8,7 @@ use crate::same::{holds, same};
 use fdb_chain::ChainError;
 use fdb_client::{Client, ClientError, ReadVersion};
 use fdb_history::{GrvOpts, OpenGate, Priority, Sequence};
-use fdb_live::{Ack, Live, Seen};
+use fdb_live::{Ack, Fetched, Live, Seen};
 use fdb_proxy::{GrvProxy, Request};
 use fdb_queue::{GrvQueue, QueueConfig};
 use std::alloc::{AllocError, Global};
@@ -21,27 +21,39 @@ use std::thread::Threads;
 
 /// A client, whose calls are repeated where they are refused memory.
 #[derive(Drop)]
-struct Caller<'a, J: Live> {
+pub(crate) struct Caller<'a, J: Live> {
     service: &'a Service<J>,
-    client: Client<'a, J>,
+    pub(crate) client: Client<'a, J>,
+    /// The token of somebody who hears nothing from the client.
+    witness: Seen<J>,
 }
 
 impl<'a, J: Live> Caller<'a, J> {
     /// The client of the last of some tokens of reporters.
-    fn new(rt: &impl Abort, service: &'a Service<J>, tokens: &mut Vec<Seen<J>>) -> Self {
-        let token = tokens.pop().expect(rt, "a token is left");
+    pub(crate) fn new(rt: &impl Abort, service: &'a Service<J>, tokens: &mut Vec<Seen<J>>) -> Self {
+        let mut token = tokens.pop().expect(rt, "a token is left");
+        let witness = service.live.split(&mut token);
         let client = client_of(rt, service, token);
-        Caller { service, client }
+        Caller {
+            service,
+            client,
+            witness,
+        }
+    }
+
+    /// What stands in the live record.
+    fn looks<R: Wait>(&mut self, rt: &R) -> Fetched {
+        self.service.live.read(rt, &mut self.witness)
     }
 
     /// Checks that its log has so many calls, and comes to this position.
-    fn is_at(&self, rt: &impl Abort, calls: usize, position: u64) {
+    pub(crate) fn is_at(&self, rt: &impl Abort, calls: usize, position: u64) {
         let found = (self.client.calls().len(), self.client.position());
         same(rt, &found, &(calls, position), &"calls and position");
     }
 
     /// Asks for a version under a number.
-    fn asks<R: Wait + Abort>(
+    pub(crate) fn asks<R: Wait + Abort>(
         &mut self,
         rt: &R,
         num: u64,
@@ -66,16 +78,18 @@ impl<'a, J: Live> Caller<'a, J> {
         Ok(issued.version)
     }
 
-    /// Reports the version under a number.
-    fn reports<R: Wait + Abort>(
+    /// Reports the version under a number. Where it is refused memory, nobody reads anything of it.
+    pub(crate) fn reports<R: Wait + Abort>(
         &mut self,
         rt: &R,
         num: u64,
         wanted: Result<Ack, ClientError>,
     ) -> Result<(), AllocError> {
         let (calls, position) = (self.client.calls().len(), self.client.position());
+        let before = self.looks(rt);
         let mut found = self.client.report(rt, &OpenGate, num, false, None, 0);
         if found == Err(ClientError::Memory) {
+            same(rt, &self.looks(rt), &before, &"after a refused report");
             self.is_at(rt, calls, position);
             found = self.client.report(rt, &OpenGate, num, false, None, 0);
         }
@@ -171,13 +185,14 @@ pub(crate) fn begin_each<J: Live + Send + Sync, R: Threads + Wait + Abort + Sync
     service: &Service<J>,
     mut served: Seen<J>,
     mut tokens: Vec<Seen<J>>,
+    once: bool,
 ) -> Result<(), AllocError> {
     commit_and_tell(rt, service, &mut tokens)?;
     begin_otherwise(rt, service, &mut tokens)?;
     ask_again(rt, service, &mut tokens)?;
     let mut reader = Caller::new(rt, service, &mut tokens);
     let token = service.live.split(&mut served);
-    serve(rt, &mut reader, token)
+    serve(rt, &mut reader, token, once)
 }
 
 /// One client asks, reports and tells, and another learns.
@@ -192,7 +207,19 @@ fn commit_and_tell<J: Live, R: Wait + Abort>(
     exchange(rt, &mut first, &mut learner)?;
     first.is_at(rt, 6, 1);
     learner.is_at(rt, 1, 1);
+    leaves(rt, first, 6);
+    leaves(rt, learner, 1);
     Ok(())
+}
+
+/// Checks that a client leaves a log of so many calls and a token at position 1, for which it
+/// takes no memory.
+fn leaves<J: Live>(rt: &impl Abort, caller: Caller<'_, J>, calls: usize) {
+    let number = caller.client.number();
+    let (log, token) = caller.client.finish();
+    same(rt, &log.calls.len(), &calls, &"the log that is left");
+    let left = (token.reporter(), token.position());
+    same(rt, &left, &(Some(number), 1), &"the token that is left");
 }
 
 /// A client asks for four versions and reports the last one. No time passes, so that each is one
@@ -258,6 +285,7 @@ fn serve<J: Live + Send + Sync, R: Threads + Wait + Abort + Sync>(
     rt: &R,
     reader: &mut Caller<'_, J>,
     token: Seen<J>,
+    once: bool,
 ) -> Result<(), AllocError> {
     let service = reader.service;
     let (alloc, live, desk) = (service.alloc, &service.live, &service.desk);
@@ -268,7 +296,10 @@ fn serve<J: Live + Send + Sync, R: Threads + Wait + Abort + Sync>(
         let found = reader.reads(rt);
         desk.close(rt);
         let served = running.join(rt);
-        is_read(rt, reader, found, served)
+        match found {
+            Ok(read) => is_read(rt, reader, &read),
+            Err(cause) => is_refused(rt, reader, cause, served, once),
+        }
     })
 }
 
@@ -276,29 +307,26 @@ fn serve<J: Live + Send + Sync, R: Threads + Wait + Abort + Sync>(
 fn is_read<J: Live>(
     rt: &impl Abort,
     reader: &Caller<'_, J>,
-    found: Result<ReadVersion, ClientError>,
-    served: bool,
+    read: &ReadVersion,
 ) -> Result<(), AllocError> {
-    let read = match found {
-        Ok(read) => read,
-        Err(cause) => return is_refused(rt, reader, cause, served),
-    };
     same(rt, &(read.rec, read.position), &(unlocked(103), 1), &"read");
     same(rt, &read.limits.len(), &1, &"limits");
     reader.is_at(rt, 1, 1);
     Ok(())
 }
 
-/// Checks that a read failed for memory, of which its log has nothing, or that its proxy ended for
-/// that, and then the log says that the proxy is closed.
+/// Checks that a read failed since its proxy ended for memory, and then the log says that the
+/// proxy is closed. Where memory is refused more than once, the read itself may have failed for it,
+/// of which the log has nothing.
 fn is_refused<J: Live>(
     rt: &impl Abort,
     reader: &Caller<'_, J>,
     cause: ClientError,
     served: bool,
+    once: bool,
 ) -> Result<(), AllocError> {
     let closed = cause == ClientError::ProxyClosed;
-    holds(rt, closed || cause == ClientError::Memory, &cause);
+    holds(rt, closed || !once && cause == ClientError::Memory, &cause);
     holds(rt, !closed || !served, &"closed, though it served");
     reader.is_at(rt, usize::from(closed), 0);
     Err(AllocError)
@@ -321,8 +349,9 @@ fn throttled_queue<J: Live>(alloc: Global) -> Result<GrvQueue<Request<J>>, Alloc
 /// What is refused memory in what stands round the calls begins anew.
 #[test]
 fn a_client_bears_it(rt: HostRuntime) -> Result<(), Fail> {
-    match play(&rt, rt.alloc(), 6, 6, Case::BeginEach) {
-        Err(_) => play(&rt, rt.alloc(), 6, 6, Case::BeginEach)?,
+    let once = Case::BeginEach { once: true };
+    match play(&rt, rt.alloc(), 6, 6, once) {
+        Err(_) => play(&rt, rt.alloc(), 6, 6, once)?,
         Ok(()) => {}
     }
     Ok(())
@@ -332,6 +361,6 @@ fn a_client_bears_it(rt: HostRuntime) -> Result<(), Fail> {
 /// memory, or as ever.
 #[test]
 fn without_memory(rt: HostRuntime) -> Result<(), Fail> {
-    let _ended = play(&rt, rt.alloc(), 6, 6, Case::BeginEach);
+    let _ended = play(&rt, rt.alloc(), 6, 6, Case::BeginEach { once: false });
     Ok(())
 }

@@ -11,11 +11,11 @@ use std::alloc::{AllocError, Global};
 
 /// A report that changed the register, and its position.
 #[derive(Clone, Copy)]
-pub(crate) struct PlacedChange {
+pub struct PlacedChange {
     /// The position.
-    pub(crate) position: u64,
+    pub position: u64,
     /// What was reported.
-    pub(crate) rec: Record,
+    pub rec: Record,
 }
 
 /// The changes among some events, in their order.

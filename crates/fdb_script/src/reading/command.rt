@@ -9,7 +9,7 @@ ghost use Rattle.std.specs.Prelude.{codes, false};
 
 use crate::error::ScriptError;
 use crate::reading::members::{
-    client_member, flag_or_false, text_member, whole_member, whole_or, whole_or_none,
+    client_member, flag_or_false, metadata_or_none, text_member, whole_member, whole_or,
 };
 use crate::reading::tags::{priority_of, tags_or_none};
 use crate::script::{Act, Command};
@@ -85,7 +85,7 @@ fn report_of(value: &Value) -> Option<Act>
 {
     let num = whole_member(value, "num")?;
     let locked = flag_or_false(value, "locked")?;
-    let metadata = whole_or_none(value, "metadata")?;
+    let metadata = metadata_or_none(value)?;
     let min_known = whole_or(value, "min_known", 0)?;
     Some(Act::Report {
         num,

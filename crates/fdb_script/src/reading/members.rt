@@ -1,11 +1,12 @@
 //! Values of a kind, and the members of an object that are such values.
 
-ghost use Rattle.std.specs.Prelude.{◌≡◌, ◌≤◌, false, map, IfSome};
+ghost use Rattle.std.specs.Prelude.{◌≡◌, ◌≤◌, false, codes, map, IfSome};
 ghost use Rattle.std.specs.Option.{option_map};
 ghost use Rattle.serde_json.specs.Find.{as_bool, as_str};
 ghost use Rattle.serde_json.specs.View.{view};
-ghost use Rattle.fdb_script.specs.Reading.{array_of, array_within, member, member_or, whole, whole_below, whole_or_null, whole_within};
+ghost use Rattle.fdb_script.specs.Reading.{array_of, array_within, member, member_or, metadata_of, metadata_or_null, whole, whole_below, whole_within};
 
+use hex::FromHex;
 use serde_json::Value;
 
 /// The items of an array.
@@ -98,24 +99,32 @@ pub(crate) fn flag_or_false(value: &Value, name: &str) -> Option<bool>
     }
 }
 
-/// A whole number, or null for none.
-fn whole_or_null(value: &Value) -> Option<Option<u64>>
-    ensures { result ≡ whole_or_null (view value.now) }
+/// A metadata version: twenty hexadecimal digits, of either case.
+fn metadata_of(value: &Value) -> Option<[u8; 10]>
+    ensures { result ≡ metadata_of (view value.now) }
+{
+    let digits = value.as_str()?;
+    <[u8; 10]>::from_hex(digits).ok()
+}
+
+/// A metadata version, or null for none.
+fn metadata_or_null(value: &Value) -> Option<Option<[u8; 10]>>
+    ensures { result ≡ metadata_or_null (view value.now) }
 {
     if value.is_null() {
         return Some(None);
     }
-    let number = value.as_u64()?;
-    Some(Some(number))
+    let metadata = metadata_of(value)?;
+    Some(Some(metadata))
 }
 
-/// A member that is a whole number or null for none, and none where there is no such member.
-pub(crate) fn whole_or_none(value: &Value, name: &str) -> Option<Option<u64>>
-    ensures { result ≡ member_or None whole_or_null name.now (view value.now) }
+/// The metadata version of a report, if it has one.
+pub(crate) fn metadata_or_none(value: &Value) -> Option<Option<[u8; 10]>>
+    ensures { result ≡ member_or None metadata_or_null (codes "metadata") (view value.now) }
 {
-    match value.get(name) {
+    match value.get("metadata") {
         None => Some(None),
-        Some(member) => whole_or_null(member),
+        Some(member) => metadata_or_null(member),
     }
 }
 

@@ -93,7 +93,7 @@ pub(crate) fn pass_each<J: Live, R: Wait + Abort>(rt: &R, parts: &mut Parts<J>) 
     let mut token = parts.last(rt);
     let gate = OneByOne::new();
     let mut version = 100u64;
-    for metadata in [None, Some(0), Some(7), None] {
+    for metadata in [None, Some([0; 10]), Some([7; 10]), None] {
         for locked in [false, true] {
             version = version.saturating_add(1);
             let rec = Record {

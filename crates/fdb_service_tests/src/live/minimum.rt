@@ -21,7 +21,7 @@ fn locked(version: u64, min_known: u64) -> Record {
     Record {
         version,
         locked: true,
-        metadata: Some(7),
+        metadata: Some([1, 2, 3, 4, 5, 6, 7, 8, 9, 10]),
         min_known,
     }
 }

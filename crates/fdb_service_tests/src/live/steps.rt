@@ -41,7 +41,7 @@ pub(crate) fn report_as<J: Live, R: Wait + Abort, G: Gate>(
 }
 
 /// Checks what the report of a version is answered, and its token's position.
-fn reports<J: Live, R: Wait + Abort>(
+pub(crate) fn reports<J: Live, R: Wait + Abort>(
     rt: &R,
     live: &LiveRecord<J>,
     seen: &mut Seen<J>,

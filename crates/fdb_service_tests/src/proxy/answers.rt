@@ -80,20 +80,14 @@ fn add_reply<J: Live>(
     Ok(())
 }
 
-/// Adds the version, the lock and the metadata version of a record, and its position.
+/// Adds a record and its position.
 fn add_record(
     alloc: Global,
     text: &mut String,
     rec: Record,
     position: u64,
 ) -> Result<(), AllocError> {
-    let version = rec.version;
-    let lock = if rec.locked { "locked" } else { "unlocked" };
-    let found = match rec.metadata {
-        Some(metadata) => format!(in alloc; "{version} {lock} {metadata} at {position}"),
-        None => format!(in alloc; "{version} {lock} none at {position}"),
-    };
-    text.push_str(&found?)
+    text.push_str(&format!(in alloc; "{rec} at {position}")?)
 }
 
 fn add_limit(alloc: Global, text: &mut String, limit: &TagLimit) -> Result<(), AllocError> {

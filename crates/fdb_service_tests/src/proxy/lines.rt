@@ -27,6 +27,7 @@ use crate::proxy::stand::{Ended, Queue, Stand, Waiter, opts_of, queue_of, submit
 use fdb_history::{GrvOpts, Priority, Record, Tag};
 use fdb_live::Live;
 use fdb_proxy::{GrvProxy, ProxyError, Request, Taken, serve_batch};
+use hex::FromHex;
 use std::alloc::{AllocError, Global};
 use std::process::Abort;
 use std::sync::Wait;
@@ -99,7 +100,7 @@ fn record(rt: &impl Abort, line: &mut Line<'_>) -> Record {
     Record {
         version,
         locked,
-        metadata: line.word(rt).parse().ok(),
+        metadata: <[u8; 10]>::from_hex(line.word(rt)).ok(),
         min_known: 0,
     }
 }

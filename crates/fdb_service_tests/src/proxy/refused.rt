@@ -10,11 +10,12 @@ use fdb_queue::{QueueError, Req};
 use std::alloc::AllocError;
 use std::process::Abort;
 use std::sync::Wait;
+use std::sync::atomic::{AtomicU64, Ordering};
 use std::thread;
 use std::thread::Threads;
 
-/// How many requests wait at the desk.
-const REQUESTS: u64 = 3;
+/// How many requests wait at the desk: so many that a queue with nothing in it grows twice.
+const REQUESTS: u64 = 6;
 
 /// Leaves the requests of client 0 on the desk, with serial numbers from 0 on.
 fn submit_all<J: Live, R: Wait + Abort>(
@@ -186,6 +187,8 @@ struct Heard {
     replies: u64,
     /// How many were answered that their offer was refused memory.
     refused: u64,
+    /// The number of the last of these, counted from 1.
+    last_refused: u64,
     /// How many were dropped without an answer.
     dropped: u64,
 }
@@ -197,17 +200,22 @@ struct Ran {
     heard: Heard,
 }
 
-/// Runs a proxy. A used queue has had as many requests before.
+/// Runs a proxy. A used queue has had as many requests before. Notes the number of the request that
+/// was refused memory while all others had their replies, if there is one.
 pub(crate) fn run_refused<J: Live + Send + Sync, R: Threads + Wait + Abort + Sync>(
     rt: &R,
     stand: &mut Stand<J>,
     used: bool,
     unbounded: bool,
+    alone: &AtomicU64,
 ) -> Result<(), AllocError> {
     let queue = queue_for(stand, used)?;
     submit_all(rt, stand, unbounded)?;
     stand.report(rt, unlocked(2100));
     let ran = run_and_hear(rt, stand, queue)?;
+    if ran.ended.is_ok() && ran.heard.refused == 1 {
+        alone.store(ran.heard.last_refused, Ordering::SeqCst);
+    }
     ends_as_it_should(rt, stand, used, ran)
 }
 
@@ -223,6 +231,8 @@ fn ends_as_it_should<J: Live, R: Wait + Abort>(
     match ended {
         Ok(()) => {
             same(rt, &heard.dropped, &0, &"are dropped");
+            let answered = heard.replies.saturating_add(heard.refused);
+            same(rt, &answered, &REQUESTS, &"are answered");
             holds(rt, !used || heard.refused == 0, &"there was capacity");
             Ok(())
         }
@@ -339,6 +349,7 @@ fn hear_all<J: Live, R: Wait + Abort>(rt: &R, waiters: &[Waiter<J>]) -> Heard {
     let mut heard = Heard {
         replies: 0,
         refused: 0,
+        last_refused: 0,
         dropped: 0,
     };
     for (serial, waiter) in waiters.iter().enumerate() {
@@ -363,6 +374,7 @@ fn hear<J: Live, R: Wait + Abort>(rt: &R, heard: &mut Heard, serial: u64, waiter
             &"an answer that is not due",
         );
         heard.refused = heard.refused.saturating_add(1);
+        heard.last_refused = serial.saturating_add(1);
     }
 }
 

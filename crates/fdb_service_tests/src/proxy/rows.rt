@@ -17,8 +17,8 @@ position => 1
 submit 2 7 default 1 4999 t u t => in
 submit 2 8 default 1 5000 t => in
 submit 3 9 batch 1 4999 t => in
-report 2200 locked 7 => 2
-serve => 2/7 from 1: 2200 locked 7 at 2, t 5 5000, t 5 5000; 2/8 from 1: 2200 locked 7 at 2; 3/9 from 1: 2200 locked 7 at 2
+report 2200 locked 0102030405060708090a => 2
+serve => 2/7 from 1: 2200 locked 0102030405060708090a at 2, t 5 5000, t 5 5000; 2/8 from 1: 2200 locked 0102030405060708090a at 2; 3/9 from 1: 2200 locked 0102030405060708090a at 2
 # an empty batch makes no read
 report 2300 locked none => 3
 serve =>

@@ -1,5 +1,6 @@
 //! Live records.
 
+use crate::live::gathered::gather_two;
 use crate::live::{Case, play};
 use crate::same::same;
 use fdb_live::LiveError;
@@ -36,6 +37,21 @@ fn without_memory(rt: HostRuntime) -> Result<(), Fail> {
     for case in &[Case::Worked, Case::Crosswise] {
         if let Err(cause) = play(&rt, rt.alloc(), 2, *case) {
             same(&rt, &cause, &LiveError::Memory, &"without memory");
+        }
+    }
+    if let Err(cause) = gather_two(&rt, rt.alloc(), (200, 300), 2) {
+        same(&rt, &cause, &LiveError::Memory, &"gathered without memory");
+    }
+    Ok(())
+}
+
+/// What all have seen is gathered without memory.
+#[test]
+fn gathering_bears_it(rt: HostRuntime) -> Result<(), Fail> {
+    for (reported, position) in [((200, 150), 1), ((200, 300), 2)] {
+        match gather_two(&rt, rt.alloc(), reported, position) {
+            Err(LiveError::Memory) => gather_two(&rt, rt.alloc(), reported, position)?,
+            outcome => outcome?,
         }
     }
     Ok(())

@@ -4,6 +4,7 @@ use crate::proxy::{Case, play};
 use std::alloc::{AllocError, Global};
 use std::process::Abort;
 use std::sync::Wait;
+use std::sync::atomic::{AtomicU64, Ordering};
 use std::test::Fail;
 use std::thread::Threads;
 
@@ -25,19 +26,33 @@ fn a_batch_bears_it(rt: HostRuntime) -> Result<(), Fail> {
     Ok(())
 }
 
+/// Whoever alone is refused memory in its offer is printed, which `tests/run` looks for: the proxy
+/// goes on, and all others have their replies.
 #[test]
 fn a_proxy_bears_it(rt: HostRuntime) -> Result<(), Fail> {
     for used in [false, true] {
-        let unbounded = false;
-        bears(&rt, rt.alloc(), Case::RunRefused { used, unbounded })?;
+        let alone = AtomicU64::new(0);
+        bears(&rt, rt.alloc(), run(used, false, &alone))?;
+        let number = alone.load(Ordering::SeqCst);
+        if number > 0 {
+            println!(rt; "request {number} alone was refused memory")?;
+        }
     }
     Ok(())
 }
 
+/// A proxy that is run.
+fn run(used: bool, unbounded: bool, alone: &AtomicU64) -> Case<'_> {
+    Case::RunRefused {
+        used,
+        unbounded,
+        alone,
+    }
+}
+
 #[test]
 fn a_proxy_that_cannot_send_bears_it(rt: HostRuntime) -> Result<(), Fail> {
-    let (used, unbounded) = (true, true);
-    bears(&rt, rt.alloc(), Case::RunRefused { used, unbounded })?;
+    bears(&rt, rt.alloc(), run(true, true, &AtomicU64::new(0)))?;
     Ok(())
 }
 
@@ -47,7 +62,7 @@ fn a_proxy_that_cannot_send_bears_it(rt: HostRuntime) -> Result<(), Fail> {
 fn without_memory(rt: HostRuntime) -> Result<(), Fail> {
     let _ended = play(&rt, rt.alloc(), Case::ServeRefused);
     for (used, unbounded) in [(false, false), (true, false), (true, true)] {
-        let _ended = play(&rt, rt.alloc(), Case::RunRefused { used, unbounded });
+        let _ended = play(&rt, rt.alloc(), run(used, unbounded, &AtomicU64::new(0)));
     }
     Ok(())
 }

@@ -52,7 +52,7 @@ log; call 0 0 grv read 99 unlocked none; => Wrong 0 0
 log; call 0 0 grv read 101 unlocked none; => Wrong 0 0
 log; call 0 0 grv read 300 unlocked none; => Wrong 0 0
 log; call 0 0 grv turned_away 100 locked none; => Wrong 0 0
-log; call 0 0 grv read 100 unlocked 0; => Wrong 0 0
+log; call 0 0 grv read 100 unlocked 00000000000000000000; => Wrong 0 0
 # raises that are not above the start
 log; raises 0 1 1 0; => Wrong 0 0
 log; raises 0 1 1 99; => Wrong 0 0

@@ -120,24 +120,28 @@ log; draws 0 0 0 1 0 0 200 200 fresh; draws 0 1 0 2 0 200 300 300 fresh";
 
 const REPORTS: &str = "
 # what it reports then
-call 0 1 report 1 locked 7 acked 200 locked 7 raised; => ok
-call 0 1 report 2 locked 7 acked 200 locked 7 raised; => Stray 0 2
-call 0 1 report 3 locked 7 acked 200 locked 7 raised; => Stray 0 2
-call 0 1 report 0 locked 7 acked 200 locked 7 raised; => Stray 0 2
-call 0 1 report 1 unlocked 7 acked 200 locked 7 raised; => Stray 0 2
-call 0 1 report 1 locked 8 acked 200 locked 7 raised; => Stray 0 2
-call 0 1 report 1 locked none acked 200 locked 7 raised; => Stray 0 2
+call 0 1 report 1 locked 0102030405060708090a acked 200 locked 0102030405060708090a raised; => ok
+call 0 1 report 2 locked 0102030405060708090a acked 200 locked 0102030405060708090a raised; => Stray 0 2
+call 0 1 report 3 locked 0102030405060708090a acked 200 locked 0102030405060708090a raised; => Stray 0 2
+call 0 1 report 0 locked 0102030405060708090a acked 200 locked 0102030405060708090a raised; => Stray 0 2
+call 0 1 report 1 unlocked 0102030405060708090a acked 200 locked 0102030405060708090a raised; => Stray 0 2
+call 0 1 report 1 locked 0102030405060708090b acked 200 locked 0102030405060708090a raised; => Stray 0 2
+call 0 1 report 1 locked 1102030405060708090a acked 200 locked 0102030405060708090a raised; => Stray 0 2
+call 0 1 report 1 locked 0102030405060708190a acked 200 locked 0102030405060708090a raised; => Stray 0 2
+call 0 1 report 1 locked none acked 200 locked 0102030405060708090a raised; => Stray 0 2
+call 0 1 report 1 locked none acked 200 locked 00000000000000000000 raised; => Stray 0 2
+call 0 1 report 1 locked 0102030405060708090A acked 200 locked 0102030405060708090a raised; => ok
 call 0 0 report 1 unlocked none refused NotIssued; => Stray 0 2
 call 0 0 report 2 unlocked none refused NotIssued; => Stray 0 2
 call 0 0 report 3 unlocked none refused NotIssued; => ok
 call 0 0 report 0 unlocked none refused NotIssued; => ok
 call 0 0 report 18446744073709551615 unlocked none refused NotIssued; => ok
 # the minimum that it tells then
-call 0 1 report 1 locked 7 min 50 acked 200 locked 7 min 50 raised; => ok
+call 0 1 report 1 locked 0102030405060708090a min 50 acked 200 locked 0102030405060708090a min 50 raised; => ok
 call 0 1 report 1 unlocked none min 200 acked 200 unlocked none min 200 raised; => ok
-call 0 1 report 1 locked 7 min 50 acked 200 locked 7 min 49 raised; => Stray 0 2
-call 0 1 report 1 locked 7 acked 200 locked 7 min 50 raised; => Stray 0 2
-call 0 1 report 1 locked 7 min 50 acked 200 locked 7 raised; => Stray 0 2
+call 0 1 report 1 locked 0102030405060708090a min 50 acked 200 locked 0102030405060708090a min 49 raised; => Stray 0 2
+call 0 1 report 1 locked 0102030405060708090a acked 200 locked 0102030405060708090a min 50 raised; => Stray 0 2
+call 0 1 report 1 locked 0102030405060708090a min 50 acked 200 locked 0102030405060708090a raised; => Stray 0 2
 call 0 0 report 1 unlocked none min 201 refused MinAbove; => ok
 call 0 0 report 1 unlocked none min 18446744073709551615 refused MinAbove; => ok
 call 0 0 report 2 unlocked none min 301 refused MinAbove; => ok

@@ -4,6 +4,7 @@ use crate::line::Line;
 use fdb_history::{
     AuditFault, Call, CallAnswer, GrvOpts, Input, Issued, Priority, Record, Refusal, Sequence,
 };
+use hex::FromHex;
 use std::alloc::Global;
 use std::process::Abort;
 
@@ -170,11 +171,11 @@ pub(crate) fn record(rt: &impl Abort, line: &mut Line<'_>) -> Record {
     }
 }
 
-fn metadata(rt: &impl Abort, line: &mut Line<'_>) -> Option<u64> {
+fn metadata(rt: &impl Abort, line: &mut Line<'_>) -> Option<[u8; 10]> {
     match line.word(rt) {
         "none" => None,
-        number => match number.parse() {
-            Ok(number) => Some(number),
+        digits => match <[u8; 10]>::from_hex(digits) {
+            Ok(bytes) => Some(bytes),
             Err(_) => line.fails(rt, "no metadata"),
         },
     }

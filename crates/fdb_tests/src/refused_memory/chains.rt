@@ -63,3 +63,56 @@ fn a_chain_bears_it(rt: HostRuntime) -> Result<(), Fail> {
     same(&rt, &chain.answers().len(), &80, &"four proxies");
     Ok(())
 }
+
+/// A request that takes no memory: who asks and under which number, and how it is answered, by the
+/// version or why there is none.
+const REQUESTS: [(u32, u64, Result<u64, ChainError>); 6] = [
+    (4, 1, Err(ChainError::UnknownProxy)),
+    (0, 4, Err(ChainError::Early { expected: 3 })),
+    (0, 0, Err(ChainError::Forgotten)),
+    (0, 3, Err(ChainError::Exhausted)),
+    (0, 2, Ok(9_223_372_036_854_775_807)),
+    (3, 1, Err(ChainError::Exhausted)),
+];
+
+/// A chain that has come to its end: proxy 0 has the last two versions.
+fn used_up(rt: &impl Abort, alloc: Global) -> Result<ChainCore, ChainError> {
+    let last = 9_223_372_036_854_775_806;
+    let mut chain = match ChainCore::new(alloc, 0, last, 4) {
+        Err(ChainError::Memory) => ChainCore::new(alloc, 0, last, 4)?,
+        outcome => outcome?,
+    };
+    for num in [1, 2] {
+        answer(rt, &mut chain, numbered(0, num))?;
+    }
+    Ok(chain)
+}
+
+/// A request at moment 0 of a proxy that has processed nothing.
+fn numbered(proxy: u32, num: u64) -> Ask {
+    Ask {
+        proxy,
+        num,
+        processed: 0,
+        at: 0,
+    }
+}
+
+/// What a chain answers: the version, or why there is none.
+fn version(chain: &mut ChainCore, ask: Ask) -> Result<u64, ChainError> {
+    let issued = chain.ask(ask)?;
+    Ok(issued.version)
+}
+
+/// A refused request and a repeated one take no memory, and leave the chain as it is.
+#[test]
+fn what_draws_no_version(rt: HostRuntime) -> Result<(), Fail> {
+    let mut chain = used_up(&rt, rt.alloc())?;
+    for (proxy, num, wanted) in &REQUESTS {
+        let found = version(&mut chain, numbered(*proxy, *num));
+        same(&rt, &found, wanted, num);
+        same(&rt, &chain.answers().len(), &2, num);
+    }
+    same(&rt, &chain.into_answers().len(), &2, &"at the end");
+    Ok(())
+}

@@ -12,14 +12,8 @@ use std::test::Fail;
 fn offer(
     rt: &impl Abort,
     queue: &mut GrvQueue<u32>,
-    priority: Priority,
-    payload: u32,
+    request: Req<u32>,
 ) -> Result<Option<u32>, QueueError> {
-    let request = Req {
-        priority,
-        count: 1,
-        payload,
-    };
     let lengths = queue.lengths();
     let outcome = match queue.offer(request) {
         Err((QueueError::Memory, request)) => {
@@ -48,16 +42,25 @@ fn window(rt: &impl Abort, queue: &mut GrvQueue<u32>) -> Result<Vec<Req<u32>>, Q
     }
 }
 
+/// A request of one transaction.
+fn one(priority: Priority, payload: u32) -> Req<u32> {
+    Req {
+        priority,
+        count: 1,
+        payload,
+    }
+}
+
 /// Offers 20 requests of each priority to an empty queue with room for
 /// 60, and then one more that pushes out the oldest batch request.
 fn overfill(rt: &impl Abort, queue: &mut GrvQueue<u32>) -> Result<(), QueueError> {
     for payload in 0..20 {
         for priority in [Priority::Batch, Priority::Default, Priority::System] {
-            let out = offer(rt, queue, priority, payload)?;
+            let out = offer(rt, queue, one(priority, payload))?;
             same(rt, &out, &None, &payload);
         }
     }
-    let out = offer(rt, queue, Priority::System, 20)?;
+    let out = offer(rt, queue, one(Priority::System, 20))?;
     same(rt, &out, &Some(0), &"the oldest batch request");
     Ok(())
 }
@@ -121,5 +124,31 @@ fn without_memory(rt: HostRuntime) -> Result<(), Fail> {
         limits_nothing(&rt, &queue, priority)?;
     }
     is_idle(&rt, &mut queue)?;
+    Ok(())
+}
+
+/// How long requests wait takes no memory to tell: at a limit of 1 and windows of a microsecond,
+/// what one of 100,000 transactions waits for is more than any walk through the windows comes to.
+#[test]
+fn how_long_a_request_waits(rt: HostRuntime) -> Result<(), Fail> {
+    let mut queue = queue(rt.alloc(), 1, 1, 60)?;
+    same(&rt, &queue.waits(1), &None, &"nobody waits");
+    let many = Req {
+        priority: Priority::Default,
+        count: 100_000,
+        payload: 0,
+    };
+    same(&rt, &offer(&rt, &mut queue, many)?, &None, &"it waits");
+    for time in 0..3 {
+        same(&rt, &queue.waits(1), &Some(199_998_000_000), &time);
+        same(&rt, &queue.lengths().default_, &1, &time);
+    }
+    same(&rt, &queue.skip_idle(1), &199_998_000_000, &"skipped");
+    same(
+        &rt,
+        &queue.waits(1),
+        &Some(0),
+        &"after all that start nothing",
+    );
     Ok(())
 }

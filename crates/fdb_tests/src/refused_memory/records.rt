@@ -1,9 +1,9 @@
 //! Sequences, and texts.
 
-use crate::audits::words::{fault, refusal};
+use crate::audits::words::{fault, plain, refusal};
 use crate::line::Line;
 use crate::same::{holds, same, says};
-use fdb_history::{AuditFault, Sequence};
+use fdb_history::{AuditFault, Event, Record, Sequence, register_after};
 use std::alloc::AllocError;
 use std::process::Abort;
 use std::test::Fail;
@@ -113,3 +113,37 @@ Wrong 4294967295 0
 Stray 2 30
 NotAbove 1 1
 ";
+
+/// A report of some version and minimum, which says of itself that it changed nothing.
+fn report(call: u64, version: u64, min_known: u64) -> Event {
+    Event::Report {
+        client: 0,
+        call,
+        rec: known(version, min_known),
+        raised: false,
+        changed: false,
+    }
+}
+
+/// A record with a minimum known committed version.
+fn known(version: u64, min_known: u64) -> Record {
+    Record {
+        min_known,
+        ..plain(version)
+    }
+}
+
+/// The register after reports takes no memory.
+#[test]
+fn a_register_after_reports(rt: HostRuntime) {
+    let events = [
+        report(0, 2100, 100),
+        report(1, 2100, 2000),
+        report(2, 100, 50),
+        report(3, 2200, 60),
+    ];
+    let after = register_after(plain(100), &events);
+    same(&rt, &after, &known(2200, 2000), &"four reports");
+    let none = register_after(plain(100), &[]);
+    same(&rt, &none, &plain(100), &"no report");
+}

@@ -7,8 +7,5 @@ decreases-play_part g l = 4 * l.clients.len
 abbrev pub decreases-play_halves : goal.decreases-play_halves
 decreases-play_halves g l = 4 * (l.front.len + l.back.len) - 1
 
-abbrev pub decreases-play_apart : goal.decreases-play_apart
-decreases-play_apart g l = 4 * (l.front.len + l.back.len) - 2
-
-abbrev pub decreases-play_apart-play_front : goal.decreases-play_apart-play_front
-decreases-play_apart-play_front g l = 4 * l.front.len + 1
+abbrev pub decreases-play_halves-play_front : goal.decreases-play_halves-play_front
+decreases-play_halves-play_front g l = 4 * l.front.len + 1

@@ -16,6 +16,6 @@ loop-commands-preserved g c =
     let answered : AnswersRound (logs_of before) commands (logs_of after) =
     subst (λ own. AnswersRound (logs_of before) own (logs_of after)) c.as_slice.ensures c.in_ok-clients.ensures.ok in
     record {
-      same_clients = c.in_ok-clients.ensures.few ∙ so_far.same_clients;
-      forwards = λ last rest. so_far.forwards last (one_round_more rounds place commands before after (logs_of last) within c.commands-item.is answered rest);
+      numbers = c.in_ok-clients.ensures.numbers ∙ so_far.numbers;
+      forwards = λ last rest. so_far.forwards last (one_round_more rounds place commands (logs_of before) (logs_of after) last within c.commands-item.is answered rest);
     }

@@ -1,0 +1,31 @@
+use Rattle.std.proofs.Common.{◌≡◌, ap, ◌∙◌, sym, subst, slice_get, slice_set, get_or, arith}
+use Rattle.std.proofs.lemmas.List.{set-get_or}
+use Rattle.std.proofs.lemmas.Option.{slice_get_within}
+use mathlib.Core.List.{IsPrefix}
+use Rattle.fdb_live.proofs.Owners.{each_below}
+use Rattle.fdb_live.proofs.Prefixes.{prefix_trans}
+use Rattle.fdb_live.proofs.live_record.LiveRecord.learn_from.Goals as goal
+
+pub loop-other-preserved : goal.loop-other-preserved
+loop-other-preserved g c =
+    let others = c.loop-other.others in
+    let i = c.loop-other.other-index in
+    let old = get_or others i c.other-item.result in
+    let new = c.learn.new.seen in
+    let before = c.loop-other.invariant in
+    let learnt = c.learn.ensures in
+    let whole : slice_set others i c.split-told.new.seen ≡ others = ap (slice_set others i) c.split-told.ensures.same ∙ set-get_or others i c.other-item.result in
+    let told : IsPrefix old.changes new.changes = subst (λ t. IsPrefix t.changes new.changes) c.split-told.ensures.given learnt.told in (
+      whole ∙ before.0,
+      learnt.reporter ∙ before.1,
+      prefix_trans _ _ _ before.2 learnt.extends,
+      λ k token below is. each_below {P = λ _ t. IsPrefix t.changes new.changes} others i c.other-item.result
+          (λ n t less at. prefix_trans _ _ _ (before.3 n t less at) learnt.extends) told k token below (sym (ap (λ l. slice_get l k) whole) ∙ is),
+      learnt.own ∙ before.4,
+    )
+
+pub returns-clause-each : goal.returns-clause-each
+returns-clause-each g c k token is =
+    let within = slice_get_within c.args.others.now k token is in
+    let done = c.loop-other-test.false in
+    c.loop-other.invariant.3 k token (omega arith) (ap (λ l. slice_get l k) c.loop-other.invariant.0 ∙ is)

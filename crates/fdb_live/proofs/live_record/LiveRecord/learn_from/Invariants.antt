@@ -1,0 +1,12 @@
+use Rattle.std.proofs.Common.{◌≡◌, ◌<◌, ℕ, Some, slice_get}
+use mathlib.Core.List.{IsPrefix}
+use Rattle.fdb_live.specs.Seen.{Sight, own_positions}
+use Rattle.fdb_live.proofs.live_record.LiveRecord.learn_from.Given as goal
+
+abbrev pub invariant-loop-other : goal.invariant-loop-other
+invariant-loop-other g l =
+    (l.others ≡ l.initial.others)
+    × (l.first.reporter ≡ l.initial.first.reporter)
+    × IsPrefix l.initial.first.changes l.first.changes
+    × ((k : ℕ) (token : Sight) → k < l.other-index → slice_get l.others k ≡ Some token → IsPrefix token.changes l.first.changes)
+    × (own_positions l.first ≡ own_positions l.initial.first)

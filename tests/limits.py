@@ -1,0 +1,85 @@
+"""The limits that documents name are those of the code."""
+import os
+import re
+
+from harness import ROOT
+
+CONSTANT = re.compile(r"^pub const (MAX_\w+|IDLE_BURST): \w+ = ([\d_]+);", re.MULTILINE)
+FORMATS, DEFINITIONS, README = "docs/FORMATS.md", "docs/DEFINITIONS.md", "README.md"
+# What a document says of limits, with the names of the constants in the code.
+SAID = (
+    (FORMATS, "at most {MAX_SCRIPT_BYTES:,} bytes"),
+    (FORMATS, "more than {MAX_SCRIPT_BYTES:,} bytes come"),
+    (FORMATS, "a whole number, at most {MAX_VERSION}: the first"),
+    (FORMATS, "would be above {MAX_VERSION} |"),
+    (FORMATS, "the version is above {MAX_VERSION} |"),
+    (FORMATS, "a whole number from 1 to {MAX_CLIENTS} |"),
+    (FORMATS, "at most {MAX_ROUNDS:,} rounds, each a list of commands; at most {MAX_COMMANDS:,}"
+              " commands in all"),
+    (FORMATS, "at most {MAX_ROUNDS:,} rounds, {MAX_COMMANDS:,} commands and {MAX_THROTTLES:,} thr"),
+    (FORMATS, "rates: 1 to {MAX_RATE:,}, and 0 to {MAX_RATE:,} |"),
+    (FORMATS, "capacity of its queue: 1 to {MAX_ROOM:,} |"),
+    (FORMATS, "its windows: 1 to {MAX_ELAPSED:,} |"),
+    (FORMATS, "a list of at most {MAX_THROTTLES:,} throttles |"),
+    (FORMATS, "A tag is a text of 1 to {MAX_TAG} characters"),
+    (FORMATS, "`tags`: none, and at most {MAX_TAGS};"),
+    (FORMATS, "a `grv` at most {MAX_TAGS} tags, each of 1 to {MAX_TAG} characters"),
+    (FORMATS, "a tag of 1 to {MAX_TAG} characters"),
+    (FORMATS, "at least 1 and at most {MAX_STEP:,}"),
+    (FORMATS, "more than {MAX_COUNT:,}, or at batch priority for more than the normal limit plus"
+              " {IDLE_BURST} |"),
+    (FORMATS, "**A log for each client**, at most {MAX_CLIENTS}"),
+    (DEFINITIONS, "at least 1, at most {MAX_STEP:,};"),
+    (DEFINITIONS, "less than {MAX_STEP:,} below the greatest"),
+    (DEFINITIONS, "1 to {MAX_PROXIES} commit proxies"),
+    (DEFINITIONS, "1 to {MAX_CLIENTS} clients"),
+    (DEFINITIONS, "if they are at most {MAX_STARTED:,} and"),
+    (DEFINITIONS, "cut to {IDLE_BURST} transactions if nothing waits for it, and to {MAX_BURST:,}"),
+    (DEFINITIONS, "a count is 1 to {MAX_COUNT:,}, and for batch at most the normal limit plus"
+                  " {IDLE_BURST} |"),
+    (DEFINITIONS, "1 to {MAX_TAG} visible characters"),
+    (DEFINITIONS, "a read has at most {MAX_TAGS} tags"),
+    ("docs/DECISIONS.md", "would be above {MAX_VERSION:,} is"),
+    ("docs/DECISIONS.md", "less than {MAX_STEP:,} below the greatest"),
+    ("docs/COSTS.md", "at most {MAX_CLIENTS} clients, commit proxies and reporters"),
+    (README, "at most {MAX_SCRIPT_BYTES:,} bytes, {MAX_ROUNDS:,} rounds, {MAX_COMMANDS:,} com"),
+    (README, "and {MAX_THROTTLES:,} throttles; 1 to {MAX_CLIENTS} clients"),
+    (README, "1 to {MAX_COUNT:,} transactions; in a script at most {MAX_TAGS} tags"),
+    (README, "tags, of at most {MAX_TAG} bytes"),
+    (README, "at most {MAX_CLIENTS} logs"),
+    (README, "0 to {MAX_VERSION:,} |"),
+    (README, "1 to {MAX_PROXIES} commit proxies, 1 to {MAX_REPORTERS} reporters"),
+    (README, "room for 1 to {MAX_ROOM:,} requests; a normal limit of 1 to {MAX_RATE:,}"),
+    (README, "a batch limit of 0 to {MAX_RATE:,} transactions"),
+    (README, "1 to {MAX_ELAPSED:,} microseconds after the last one; at most {MAX_STARTED:,} req"),
+    ("docs/STARTING.md", "at most {MAX_CLIENTS} logs"),
+    ("crates/fdb_history/README.md", "at most {MAX_CLIENTS} logs"),
+)
+
+
+def text_of(file):
+    with open(f"{ROOT}/{file}", encoding="utf-8") as it:
+        return it.read()
+
+
+def constants():
+    """The limits by name, each with the values that it has in the crates."""
+    found = {}
+    for crate in sorted(os.listdir(f"{ROOT}/crates")):
+        src = f"crates/{crate}/src"
+        for name in sorted(os.listdir(f"{ROOT}/{src}")):
+            text = text_of(f"{src}/{name}") if name.endswith(".rt") else ""
+            for limit, value in CONSTANT.findall(text):
+                found.setdefault(limit, set()).add(int(value.replace("_", "")))
+    return found
+
+
+def limits(_program):
+    """Where a document names a limit, it is that of the code, which has one value for it."""
+    found = constants()
+    several = [name for name, values in found.items() if len(values) > 1]
+    yield "each limit has one value", f"not {', '.join(several)}" if several else None
+    by_name = {name: min(values) for name, values in found.items()}
+    for document, form in SAID:
+        said = form.format(**by_name)
+        yield f"{document}: {said}", None if said in text_of(document) else "it does not say so"
