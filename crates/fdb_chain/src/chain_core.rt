@@ -1,9 +1,12 @@
 //! The chain of commit versions.
 
-ghost use Rattle.std.specs.Prelude.{◌≡◌, ◌+◌, ◌<◌, ◌≤◌, ◌⊎◌, ◌↔◌, ◌∷◌, ◌++◌, ◌^◌, [], false, All, IsSome, IfSome, OnOk, OnErr, IfOk, IfErr};
-ghost use Rattle.fdb_history.specs.Issuing.{answer_to, fresh_answer, kept, kept_answer, next_answer, with_answer};
+ghost use Rattle.std.specs.Prelude.{◌≡◌, ◌+◌, ◌<◌, ◌≤◌, ◌⊎◌, ◌↔◌, ◌∷◌, ◌++◌, ◌^◌, [], false, All};
+ghost use Rattle.std.specs.Prelude.{IsSome, IfSome, OnOk, OnErr, IfOk, IfErr};
+ghost use Rattle.fdb_history.specs.Issuing.{answer_to, fresh_answer, kept, kept_answer};
+ghost use Rattle.fdb_history.specs.Issuing.{next_answer, with_answer};
 ghost use Rattle.fdb_history.specs.Chain.{IsChain, IsNext, latest};
-ghost use Rattle.fdb_chain.specs.ChainCore.{IsAnswer, IsEpoch, IsFor, IsProxyCount, MayRefuse, new_chain};
+ghost use Rattle.fdb_chain.specs.ChainCore.{IsAnswer, IsEpoch, IsFor, IsProxyCount, MayRefuse};
+ghost use Rattle.fdb_chain.specs.ChainCore.{new_chain};
 
 use crate::error::ChainError;
 use crate::version;

@@ -1,6 +1,7 @@
 //! The log of a client, and what makes it quick to look into.
 
-ghost use Rattle.std.specs.Prelude.{◌≡◌, ℕ, ◌+◌, ◌<◌, ◌≤◌, ◌++◌, ◌∷◌, [], IfNone, IfSome, OnOk, Some};
+ghost use Rattle.std.specs.Prelude.{◌≡◌, ℕ, ◌+◌, ◌<◌, ◌≤◌, ◌++◌, ◌∷◌, [], IfNone, IfSome, OnOk};
+ghost use Rattle.std.specs.Prelude.{Some};
 ghost use Rattle.std.specs.Prelude.{filter, length, vec_len, vec_capacity};
 ghost use Rattle.fdb_client.specs.Returned.{error_of};
 ghost use Rattle.fdb_client.specs.private.Refusals.{refusal_for};

@@ -1,6 +1,6 @@
 //! The audit of a run's logs: their history, or the first fault that stands.
 
-ghost use Rattle.std.specs.Prelude.{◌≡◌, ◌≤◌, ◌⊎◌, length, List, OnOk, IfOk, IfErr, Ok, Err};
+ghost use Rattle.std.specs.Prelude.{◌≡◌, ◌≤◌, ◌^◌, ◌⊎◌, length, List, OnOk, IfOk, IfErr, Ok, Err};
 ghost use Rattle.fdb_history.specs.Audit.{IsAudited, IsFirstFault, Low};
 ghost use Rattle.fdb_history.specs.private.Auditing.{AreChangesOf, AreRegisters};
 ghost use Rattle.fdb_history.specs.private.Explaining.{AreEventsByPosition, changes_of};
@@ -44,7 +44,7 @@ pub fn audit(
     chain: &[Issued],
     logs: &[ClientLog],
 ) -> Result<History, AuditFault>
-    requires { length logs.now ≤ 64 }
+    requires { length logs.now ≤ 2 ^ 32 }
     ensures audited { IsAudited start chain.now logs.now result }
     ensures linear { IfOk result (λ history. IsLinear start logs.now history.events) }
     ensures complete { (history : List Event) → IsLinear start logs.now history
@@ -61,7 +61,7 @@ fn history_or_fault(
     chain: &[Issued],
     logs: &[ClientLog],
 ) -> Result<History, AuditFault>
-    requires { length logs.now ≤ 64 }
+    requires { length logs.now ≤ 2 ^ 32 }
     ensures { IsAudited start chain.now logs.now result }
 {
     if let Some(CallName { client, call }) = order::first_out_of_order(logs) {
@@ -86,7 +86,7 @@ fn faultless_registers(
     events: &[Placed],
     logs: &[ClientLog],
 ) -> Result<Registers, AuditFault>
-    requires clients { length logs.now ≤ 64 }
+    requires clients { length logs.now ≤ 2 ^ 32 }
     requires order { Nowhere (OutOfOrder logs.now) }
     requires sorted { AreEventsByPosition events.now }
     requires changes { AreChangesOf logs.now (changes_of events.now) }

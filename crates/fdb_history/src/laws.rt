@@ -3,7 +3,9 @@
 //! Each is the contract of a function that does nothing, so that the check proves it. It
 //! holds of every list that the definitions speak of, and so of each that the service makes.
 
-ghost use Rattle.std.specs.Prelude.{◌≡◌, ℕ, Bool, ◌+◌, ◌*◌, ◌<◌, ◌≤◌, ◌≢◌, ◌==◌, ◌&&◌, [], ◌∷◌, ◌++◌, List, length, take, slice_get, false, Some, Ok, IsTrue, option_map};
+ghost use Rattle.std.specs.Prelude.{◌≡◌, ℕ, Bool, ◌+◌, ◌*◌, ◌<◌, ◌≤◌, ◌≢◌, ◌==◌, ◌&&◌, [], ◌∷◌};
+ghost use Rattle.std.specs.Prelude.{◌++◌, List, length, take, slice_get, false, Some, Ok, IsTrue};
+ghost use Rattle.std.specs.Prelude.{option_map};
 ghost use Rattle.std.specs.List.{All, AllPairs, find, list_any};
 ghost use Rattle.fdb_history.specs.Issuing.{Chain, kept, answer_to, chain_after, after_asks};
 ghost use Rattle.fdb_history.specs.Chain.{IsChain};

@@ -1,9 +1,11 @@
 //! The replies that are kept for one commit proxy.
 
-ghost use Rattle.std.specs.Prelude.{◌≡◌, ℕ, ◌<◌, ◌^◌, ◌∷◌, ◌++◌, [], List, length, All, OnOk, OnErr, IfOk, IfSome, slice_get};
+ghost use Rattle.std.specs.Prelude.{◌≡◌, ℕ, ◌<◌, ◌^◌, ◌∷◌, ◌++◌, [], List, length, All, OnOk};
+ghost use Rattle.std.specs.Prelude.{OnErr, IfOk, IfSome, slice_get};
 ghost use Rattle.std.specs.Option.{option_and_then};
 ghost use Rattle.fdb_history.specs.Chain.{IsNext};
-ghost use Rattle.fdb_history.specs.Replies.{AreRepliesOf, AreRepliesOfAll, all_after, drawn_place, no_replies, place_of, replies_after, reply};
+ghost use Rattle.fdb_history.specs.Replies.{AreRepliesOf, AreRepliesOfAll, all_after, drawn_place};
+ghost use Rattle.fdb_history.specs.Replies.{no_replies, place_of, replies_after, reply};
 ghost use Rattle.fdb_history.specs.declared.chain.Issued.{Issued};
 
 use crate::chain::Issued;

@@ -1,7 +1,8 @@
 //! How the cell keeps the record and its position.
 
 ghost use Rattle.std.specs.Prelude.{◌≡◌, Some};
-ghost use Rattle.fdb_live.specs.private.Words.{fetched_of, first_word, held_of, metadata_of, second_word};
+ghost use Rattle.fdb_live.specs.private.Words.{fetched_of, first_word, held_of, metadata_of};
+ghost use Rattle.fdb_live.specs.private.Words.{second_word};
 
 use crate::fetched::Fetched;
 use crossbeam_utils::atomic::Words;

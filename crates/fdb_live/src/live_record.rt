@@ -1,8 +1,10 @@
 //! The live record.
 
-ghost use Rattle.std.specs.Prelude.{◌≡◌, ◌≢◌, ◌*◌, ◌<◌, ◌≤◌, ◌⊎◌, ◌↔◌, length, Option, None, IsSome, IfOk, OnOk, OnErr, true, false};
+ghost use Rattle.std.specs.Prelude.{◌≡◌, ◌≢◌, ◌*◌, ◌<◌, ◌≤◌, ◌⊎◌, ◌↔◌, length, Option, None};
+ghost use Rattle.std.specs.Prelude.{IsSome, IfOk, OnOk, OnErr, true, false};
 ghost use mathlib.Core.List.{IsPrefix};
-ghost use Rattle.fdb_live.specs.Seen.{IsLog, IsNotChangedBy, IsChangedBy, last_record, longer, own_positions};
+ghost use Rattle.fdb_live.specs.Seen.{IsLog, IsNotChangedBy, IsChangedBy, last_record, longer};
+ghost use Rattle.fdb_live.specs.Seen.{own_positions};
 
 use crate::ack::Ack;
 use crate::error::LiveError;

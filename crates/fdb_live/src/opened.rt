@@ -1,6 +1,7 @@
 //! A live record that was opened, before its service has a name.
 
-ghost use Rattle.std.specs.Prelude.{◌≡◌, ◌+◌, ◌<◌, ◌≤◌, ◌↔◌, ℕ, [], true, Some, None, IfOk, IfErr, vec_len, slice_get};
+ghost use Rattle.std.specs.Prelude.{◌≡◌, ◌+◌, ◌<◌, ◌≤◌, ◌↔◌, ℕ, [], true, Some, None, IfOk, IfErr};
+ghost use Rattle.std.specs.Prelude.{vec_len, slice_get};
 ghost use Rattle.crossbeam_utils.specs.Seq.{cell_view};
 ghost use Rattle.fdb_live.specs.Seen.{IsRecord};
 ghost use Rattle.fdb_live.specs.private.Rule.{opened, view};

@@ -6,7 +6,9 @@ ghost use Rattle.crossbeam_utils.specs.Seq.{IsSamePass, cell_view};
 ghost use Rattle.fdb_history.specs.Register.{after_report, changes};
 ghost use Rattle.fdb_live.specs.Seen.{IsRecord, last_record};
 ghost use Rattle.fdb_live.specs.private.Token.{IsReported};
-ghost use Rattle.fdb_live.specs.private.Rule.{Adds, InWords, Keeps, Looks, Opens, Settles, copy_of, first, joined, lowest_of, opened, spent, taken, without_lowest};
+ghost use Rattle.fdb_live.specs.private.Rule.{Adds, InWords, Keeps, Looks, Opens, Settles, copy_of};
+ghost use Rattle.fdb_live.specs.private.Rule.{first, joined, lowest_of, opened, spent, taken};
+ghost use Rattle.fdb_live.specs.private.Rule.{without_lowest};
 ghost use Rattle.fdb_live.specs.private.Words.{fetched_of};
 
 use crate::ack::Ack;

@@ -1,6 +1,7 @@
 //! The desk at which requests wait for a proxy.
 
-ghost use Rattle.std.specs.Prelude.{◌≡◌, ◌<◌, ◌==◌, ◌&&◌, [], ◌∷◌, ◌++◌, IfErr, OnErr, OnOk, not, true, false, vec_len};
+ghost use Rattle.std.specs.Prelude.{◌≡◌, ◌<◌, ◌==◌, ◌&&◌, [], ◌∷◌, ◌++◌, IfErr, OnErr, OnOk, not};
+ghost use Rattle.std.specs.Prelude.{true, false, vec_len};
 ghost use Rattle.std.specs.List.{list_all};
 ghost use Rattle.fdb_proxy.specs.Options.{has_own_options};
 

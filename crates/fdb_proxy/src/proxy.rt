@@ -4,7 +4,8 @@ ghost use Rattle.std.specs.Prelude.{◌≡◌, [], All, IfOk, IfErr, OnOk, lengt
 ghost use Rattle.std.specs.List.{FoldsTo};
 ghost use mathlib.Core.List.{IsPrefix};
 ghost use Rattle.fdb_proxy.specs.Cause.{is_of_an_offer, may_be_refused_for};
-ghost use Rattle.fdb_proxy.specs.private.Sent.{AreClosed, AreTurnedAway, IsRefused, IsServed, IsServedOrLast};
+ghost use Rattle.fdb_proxy.specs.private.Sent.{AreClosed, AreTurnedAway, IsRefused, IsServed};
+ghost use Rattle.fdb_proxy.specs.private.Sent.{IsServedOrLast};
 ghost use Rattle.fdb_proxy.specs.private.Turn.{emptied};
 ghost use Rattle.fdb_queue.specs.Config.{IsElapsed};
 ghost use Rattle.fdb_queue.specs.Waiting.{row};

@@ -4,7 +4,8 @@
 //! every queue that the definitions speak of, whatever its limits, budgets and requests, or of
 //! every one that keeps to `IsQueue`, as each `GrvQueue` does.
 
-ghost use Rattle.std.specs.Prelude.{◌≡◌, ℕ, ◌+◌, ◌*◌, ◌<◌, ◌≤◌, ◌⊎◌, [], ◌∷◌, ◌++◌, List, length, take, true, false, Some, None, option_to_list, IsPermutation};
+ghost use Rattle.std.specs.Prelude.{◌≡◌, ℕ, ◌+◌, ◌*◌, ◌<◌, ◌≤◌, ◌⊎◌, [], ◌∷◌, ◌++◌, List, length};
+ghost use Rattle.std.specs.Prelude.{take, true, false, Some, None, option_to_list, IsPermutation};
 ghost use Rattle.fdb_queue.specs.Admission.{refusal_of, admitted, pushed_out};
 ghost use Rattle.fdb_queue.specs.Kept.{IsQueue};
 ghost use Rattle.fdb_queue.specs.Laws.{list_of, rank};

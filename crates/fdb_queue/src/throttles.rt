@@ -1,8 +1,10 @@
 //! The throttles of tags.
 
-ghost use Rattle.std.specs.Prelude.{◌≡◌, ◌<◌, [], ◌∷◌, length, reverse, OnOk, OnErr, IfOk, option_map, option_to_list};
+ghost use Rattle.std.specs.Prelude.{◌≡◌, ◌<◌, [], ◌∷◌, length, reverse, OnOk, OnErr, IfOk};
+ghost use Rattle.std.specs.Prelude.{option_map, option_to_list};
 ghost use Rattle.std.specs.List.{list_all};
-ghost use Rattle.fdb_queue.specs.Throttles.{is_throttle, last_set, limits_of, unexpired, SameThrottles};
+ghost use Rattle.fdb_queue.specs.Throttles.{is_throttle, last_set, limits_of, unexpired};
+ghost use Rattle.fdb_queue.specs.Throttles.{SameThrottles};
 
 use crate::config::MAX_TAG;
 use fdb_history::{Priority, Tag, TagLimit};

@@ -1,6 +1,8 @@
 //! The requests that wait, by priority.
 
-ghost use Rattle.std.specs.Prelude.{◌≡◌, [], ◌+◌, ◌<◌, ◌^◌, ◌==◌, ◌++◌, not, length, take, drop, vec_len, vec_capacity, IsOk, IfOk, ◌≤◌, if◌then◌else◌, OnOk, OnErr, IfErr};
+ghost use Rattle.std.specs.Prelude.{◌≡◌, [], ◌+◌, ◌<◌, ◌^◌, ◌==◌, ◌++◌, not, length, take, drop};
+ghost use Rattle.std.specs.Prelude.{vec_len, vec_capacity, IsOk, IfOk, ◌≤◌, if◌then◌else◌, OnOk};
+ghost use Rattle.std.specs.Prelude.{OnErr, IfErr};
 ghost use Rattle.std.specs.Option.{option_copied};
 ghost use Rattle.fdb_queue.specs.Admission.{below, without_oldest};
 ghost use Rattle.fdb_queue.specs.Kept.{IsQueue};

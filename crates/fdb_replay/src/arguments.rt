@@ -1,9 +1,12 @@
 //! The arguments of the command line, and what they ask for.
 
-ghost use Rattle.std.specs.Prelude.{◌≡◌, ◌≢◌, false, [], List, Ok, Err, IfOk, IfErr, map, string_bytes};
-ghost use Rattle.clap.specs.Words.{IsParsedFrom, Text, app_of, found_of, kind_of, matches_of, rows_of, rule_of};
+ghost use Rattle.std.specs.Prelude.{◌≡◌, ◌≢◌, false, [], List, Ok, Err, IfOk, IfErr, map};
+ghost use Rattle.std.specs.Prelude.{string_bytes};
+ghost use Rattle.clap.specs.Words.{IsParsedFrom, Text, app_of, found_of, kind_of, matches_of};
+ghost use Rattle.clap.specs.Words.{rows_of, rule_of};
 ghost use Rattle.clap.specs.declared.builder.command.Command.{Command};
-ghost use Rattle.fdb_replay.specs.Arguments.{AreWrong, command as command_read, faults, history_argument, proxies_argument, script_argument};
+ghost use Rattle.fdb_replay.specs.Arguments.{AreWrong, command as command_read, faults};
+ghost use Rattle.fdb_replay.specs.Arguments.{history_argument, proxies_argument, script_argument};
 ghost use Rattle.fdb_replay.specs.private.Asked.{Ask, AskReplay};
 
 use clap::error::ErrorKind;

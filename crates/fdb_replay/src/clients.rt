@@ -1,6 +1,7 @@
 //! The clients of a run.
 
-ghost use Rattle.std.specs.Prelude.{◌≡◌, ◌<◌, ◌≤◌, ℕ, [], IfOk, OnOk, Some, length, slice_get, vec_len};
+ghost use Rattle.std.specs.Prelude.{◌≡◌, ◌<◌, ◌≤◌, ℕ, [], IfOk, OnOk, Some, length, slice_get};
+ghost use Rattle.std.specs.Prelude.{vec_len};
 ghost use Rattle.std.specs.List.{FoldsTo};
 ghost use Rattle.fdb_client.specs.Account.{new_account};
 ghost use Rattle.fdb_replay.specs.private.Rounds.{logs_of};

@@ -1,9 +1,14 @@
 //! The program, over a reader and two writers.
 
-ghost use Rattle.std.specs.Prelude.{◌≡◌, ◌≢◌, ◌⊎◌, ◌+◌, ◌++◌, ◌<◌, ◌≤◌, ℕ, List, IfOk, IfErr, IfSome, OnOk, OnErr, IsOkAnd, MatchResult, true, false, is_some, length, map, option_map, string_bytes, vec_len};
+ghost use Rattle.std.specs.Prelude.{◌≡◌, ◌≢◌, ◌⊎◌, ◌+◌, ◌++◌, ◌<◌, ◌≤◌, ℕ, List, IfOk, IfErr};
+ghost use Rattle.std.specs.Prelude.{IfSome, OnOk, OnErr, IsOkAnd, MatchResult, true, false};
+ghost use Rattle.std.specs.Prelude.{is_some, length, map, option_map, string_bytes, vec_len};
 ghost use Rattle.std.specs.Io.KnownBytes.{Consumes, IsAtEnd};
 ghost use Rattle.std.specs.IoError.{error_kind};
-ghost use Rattle.fdb_replay.specs.Arguments.{AreTaken, AreWrong, IsBegun, IsCutShort, IsDone, MayAskFaulty, MayAskInVain, MayBeFaulty, MayBeNoScript, MayBeRead, ReadsInput, Replayed, TakesAtMost};
+ghost use Rattle.fdb_replay.specs.Arguments.{AreTaken, AreWrong, IsBegun, IsCutShort, IsDone};
+ghost use Rattle.fdb_replay.specs.Arguments.{MayAskFaulty, MayAskInVain, MayBeFaulty};
+ghost use Rattle.fdb_replay.specs.Arguments.{MayBeNoScript, MayBeRead, ReadsInput, Replayed};
+ghost use Rattle.fdb_replay.specs.Arguments.{TakesAtMost};
 ghost use Rattle.fdb_history.specs.declared.fault.AuditFault.{AuditFault};
 ghost use Rattle.fdb_script.specs.declared.error.ScriptError.{ScriptError};
 ghost use Rattle.fdb_script.specs.declared.script.TheConstants.{MAX_SCRIPT_BYTES};
@@ -84,7 +89,8 @@ impl Fault {
 
 impl From<ArgumentsFault> for Fault {
     ghost use Rattle.std.specs.Prelude.{◌≢◌};
-    ghost use Rattle.fdb_replay.specs.declared.driving.Fault.TheVariants.{Arguments, Memory, Writing};
+    ghost use Rattle.fdb_replay.specs.declared.driving.Fault.TheVariants.{Arguments, Memory};
+    ghost use Rattle.fdb_replay.specs.declared.driving.Fault.TheVariants.{Writing};
     ghost use Rattle.fdb_replay.specs.declared.arguments.ArgumentsFault.TheVariants as cause;
 
     ghost from_gives = { λ fault made. (fault ≡ cause.Refused → made ≡ Arguments)

@@ -1,6 +1,8 @@
 //! The bytes of a script, from a file or from the input.
 
-ghost use Rattle.std.specs.Prelude.{◌≡◌, ◌≢◌, ◌+◌, ◌++◌, ◌<◌, ◌≤◌, ℕ, List, Some, None, Ok, Err, IfOk, IfErr, IsErrAnd, IfSome, OnErr, false, true, is_some, length, option_map, vec_len};
+ghost use Rattle.std.specs.Prelude.{◌≡◌, ◌≢◌, ◌+◌, ◌++◌, ◌<◌, ◌≤◌, ℕ, List, Some, None, Ok, Err};
+ghost use Rattle.std.specs.Prelude.{IfOk, IfErr, IsErrAnd, IfSome, OnErr, false, true, is_some};
+ghost use Rattle.std.specs.Prelude.{length, option_map, vec_len};
 ghost use Rattle.std.specs.Io.KnownBytes.{Consumes, IsAtEnd};
 ghost use Rattle.std.specs.IoError.{error_kind};
 ghost use Rattle.fdb_replay.specs.Arguments.{MayBeRead, TakesAtMost};

@@ -1,9 +1,11 @@
 //! A round of a run: each client does its commands, and then they learn what they told one another.
 
-ghost use Rattle.std.specs.Prelude.{◌≡◌, ◌+◌, ◌++◌, ◌≤◌, ◌<◌, [], ℕ, true, false, OnOk, IfOk, length, fold, slice_index_or, vec_len};
+ghost use Rattle.std.specs.Prelude.{◌≡◌, ◌+◌, ◌++◌, ◌≤◌, ◌<◌, [], ℕ, true, false, OnOk, IfOk};
+ghost use Rattle.std.specs.Prelude.{length, fold, slice_index_or, vec_len};
 ghost use Rattle.std.specs.List.{FoldsTo};
 ghost use Rattle.std.specs.Thread.{IsSync, IsSend};
-ghost use Rattle.fdb_replay.specs.private.Rounds.{IsPlayed, logs_of, numbers_of, teach, tells_since};
+ghost use Rattle.fdb_replay.specs.private.Rounds.{IsPlayed, logs_of, numbers_of, teach};
+ghost use Rattle.fdb_replay.specs.private.Rounds.{tells_since};
 ghost use Rattle.fdb_script.specs.Answering.{AnswersCommand, AnswersRound, commands_of};
 
 use crate::player::Player;

@@ -1,6 +1,7 @@
 //! A run of a script.
 
-ghost use Rattle.std.specs.Prelude.{◌≡◌, ◌≢◌, ◌<◌, ◌≤◌, ℕ, [], length, IfOk, IfErr, Some, slice_get, vec_len};
+ghost use Rattle.std.specs.Prelude.{◌≡◌, ◌≢◌, ◌<◌, ◌≤◌, ℕ, [], length, IfOk, IfErr, Some};
+ghost use Rattle.std.specs.Prelude.{slice_get, vec_len};
 ghost use Rattle.fdb_client.specs.Cluster.{IsClusterConfig};
 ghost use Rattle.fdb_client.specs.Settling.{AllAgree};
 ghost use Rattle.fdb_history.specs.Audit.{IsAudited};

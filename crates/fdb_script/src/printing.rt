@@ -1,10 +1,13 @@
 //! The printed text: the replies by round, client and command, the audit line, and the history
 //! where it is wanted.
 
-ghost use Rattle.std.specs.Prelude.{◌≡◌, ◌++◌, ◌∷◌, [], ◌==◌, MatchOption, IfOk, IfErr, OnOk, count_by, drop, map, string_bytes};
+ghost use Rattle.std.specs.Prelude.{◌≡◌, ◌++◌, ◌∷◌, [], ◌==◌, MatchOption, IfOk, IfErr, OnOk};
+ghost use Rattle.std.specs.Prelude.{count_by, drop, map, string_bytes};
 ghost use Rattle.fdb_history.specs.Event.{raise_count};
 ghost use Rattle.fdb_script.specs.Answering.{Answers};
-ghost use Rattle.fdb_script.specs.Text.{audit_text, calls_after, client_lines, is_learn, replies_of, history_lines, line, reply_lines, round_lines, text};
+ghost use Rattle.fdb_script.specs.Text.{audit_text, calls_after, client_lines, is_learn};
+ghost use Rattle.fdb_script.specs.Text.{replies_of, history_lines, line, reply_lines, round_lines};
+ghost use Rattle.fdb_script.specs.Text.{text};
 
 use crate::error::ScriptError;
 use crate::lines::{AuditLine, HistoryLine, ReplyLine};

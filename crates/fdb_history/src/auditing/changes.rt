@@ -1,7 +1,8 @@
 //! The changes among the events of the logs.
 
 ghost use Rattle.std.specs.Prelude.{◌≡◌, ◌≤◌, [], IfOk};
-ghost use Rattle.fdb_history.specs.private.Auditing.{AreByPosition, AreTwoAt, IsLeastIfAny, StandInTurn};
+ghost use Rattle.fdb_history.specs.private.Auditing.{AreByPosition, AreTwoAt, IsLeastIfAny};
+ghost use Rattle.fdb_history.specs.private.Auditing.{StandInTurn};
 ghost use Rattle.fdb_history.specs.private.Explaining.{changes_of};
 ghost use Rattle.fdb_history.specs.Faults.{AtNoPosition, at_position};
 

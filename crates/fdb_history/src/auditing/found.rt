@@ -25,7 +25,7 @@ pub(crate) trait CallFault {
 
 /// The first call of all logs that has the fault.
 pub(crate) fn first_call<F: CallFault>(fault: &F, logs: &[ClientLog]) -> Option<CallName>
-    requires { length logs.now ≤ 64 }
+    requires { length logs.now ≤ 2 ^ 32 }
     ensures { IsFirstCall (StandsAt (F.Stands fault.now) logs.now) result }
 {
     for (client, log) in logs.iter().enumerate() {

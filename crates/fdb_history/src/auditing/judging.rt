@@ -1,7 +1,7 @@
 //! Answers that the register would not have given, and commit
 //! versions that are not above what their askers had seen.
 
-ghost use Rattle.std.specs.Prelude.{◌≤◌, length};
+ghost use Rattle.std.specs.Prelude.{◌≤◌, ◌^◌, length};
 ghost use Rattle.fdb_history.specs.Audit.{Low};
 ghost use Rattle.fdb_history.specs.private.Auditing.{AreRegisters, IsFirstCall};
 ghost use Rattle.fdb_history.specs.Faults.{Nowhere, OutOfOrder, WronglyAnswered};
@@ -12,7 +12,7 @@ use crate::log::{Call, CallAnswer, ClientLog};
 
 /// The first call that the register would not have answered so at its position.
 pub(crate) fn first_wrong(registers: &Registers, logs: &[ClientLog]) -> Option<CallName>
-    requires clients { length logs.now ≤ 64 }
+    requires clients { length logs.now ≤ 2 ^ 32 }
     requires registers { AreRegisters registers.now.start logs.now registers.now }
     ensures { IsFirstCall (WronglyAnswered registers.now.start logs.now) result }
 {
@@ -21,7 +21,7 @@ pub(crate) fn first_wrong(registers: &Registers, logs: &[ClientLog]) -> Option<C
 
 /// The first commit version that was drawn and is not above what its asker had seen.
 pub(crate) fn first_low(registers: &Registers, logs: &[ClientLog]) -> Option<CallName>
-    requires clients { length logs.now ≤ 64 }
+    requires clients { length logs.now ≤ 2 ^ 32 }
     requires order { Nowhere (OutOfOrder logs.now) }
     requires registers { AreRegisters registers.now.start logs.now registers.now }
     ensures { IsFirstCall (Low registers.now.start logs.now) result }

@@ -4,7 +4,10 @@ ghost use Rattle.std.specs.Prelude.{◌≡◌, false, length, slice_get};
 ghost use Rattle.std.specs.Option.{option_map_or};
 ghost use Rattle.fdb_history.specs.private.Justifying.{drawn_version};
 ghost use Rattle.fdb_history.specs.Replies.{reply};
-ghost use Rattle.fdb_history.specs.Strays.{goes_with, is_again, is_justified_by, is_due, is_early, is_fresh_answer, is_near_the_end, is_of_chain, is_of_issued, is_rightly_locked_out, is_same, may_refuse, number_of};
+ghost use Rattle.fdb_history.specs.Strays.{goes_with, is_again, is_justified_by, is_due, is_early};
+ghost use Rattle.fdb_history.specs.Strays.{is_fresh_answer, is_near_the_end, is_of_chain};
+ghost use Rattle.fdb_history.specs.Strays.{is_of_issued, is_rightly_locked_out, is_same};
+ghost use Rattle.fdb_history.specs.Strays.{may_refuse, number_of};
 
 use crate::chain::{Issued, MAX_STEP};
 use crate::log::{Call, CallAnswer, Input, Refusal};

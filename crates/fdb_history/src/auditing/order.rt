@@ -1,6 +1,6 @@
 //! Calls that were answered from before what their client had seen.
 
-ghost use Rattle.std.specs.Prelude.{◌≡◌, ◌≤◌, length};
+ghost use Rattle.std.specs.Prelude.{◌≡◌, ◌≤◌, ◌^◌, length};
 ghost use Rattle.fdb_history.specs.Faults.{OutOfOrder};
 ghost use Rattle.fdb_history.specs.private.Auditing.{IsFirstCall};
 ghost use Rattle.fdb_history.specs.Log.{answer_changes, position_after_calls};
@@ -10,7 +10,7 @@ use crate::log::{Call, CallAnswer, ClientLog};
 
 /// The first call that is out of order.
 pub(crate) fn first_out_of_order(logs: &[ClientLog]) -> Option<CallName>
-    requires { length logs.now ≤ 64 }
+    requires { length logs.now ≤ 2 ^ 32 }
     ensures { IsFirstCall (OutOfOrder logs.now) result }
 {
     found::first_call(&Order {}, logs)

@@ -1,6 +1,6 @@
 //! The register's events in the logs, in the order of the history.
 
-ghost use Rattle.std.specs.Prelude.{◌≡◌, ◌≤◌, ◌++◌, map, length, OnOk, IfOk};
+ghost use Rattle.std.specs.Prelude.{◌≡◌, ◌≤◌, ◌^◌, ◌++◌, map, length, OnOk, IfOk};
 ghost use Rattle.fdb_history.specs.private.Auditing.{AreChangesOf, IsWithin};
 ghost use Rattle.fdb_history.specs.Explained.{explained, placed_in};
 ghost use Rattle.fdb_history.specs.private.Explaining.{AreEventsByPosition, changes_of};
@@ -18,7 +18,7 @@ pub(crate) fn events_by_position(
     alloc: Global,
     logs: &[ClientLog],
 ) -> Result<Vec<Placed>, AllocError>
-    requires { length logs.now ≤ 64 }
+    requires { length logs.now ≤ 2 ^ 32 }
     ensures sorted { IfOk result (λ events. AreEventsByPosition events.items) }
     ensures changes { IfOk result (λ events. AreChangesOf logs.now (changes_of events.items)) }
     ensures history { IfOk result
@@ -33,7 +33,7 @@ pub(crate) fn events_by_position(
 
 /// The register's events in the logs with their positions, by client and then by call.
 fn placed_in(alloc: Global, logs: &[ClientLog]) -> Result<Vec<Placed>, AllocError>
-    requires { length logs.now ≤ 64 }
+    requires { length logs.now ≤ 2 ^ 32 }
     ensures { IfOk result (λ all. all.items ≡ placed_in 0 logs.now) }
 {
     let mut all = Vec::new(alloc);

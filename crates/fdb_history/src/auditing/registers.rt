@@ -1,8 +1,10 @@
 //! The register at each position, by the changes in the logs.
 
 ghost use Rattle.std.specs.Prelude.{◌≡◌, ◌≤◌, ℕ, slice_get, Some, IfOk, OnOk, IfErr};
-ghost use Rattle.fdb_history.specs.private.Auditing.{AreByPosition, AreChangesOf, AreRegisters, IsChangeFault, IsTable, by_table};
-ghost use Rattle.fdb_history.specs.Faults.{OutOfOrder, IsClash, IsGap, IsReached, AtNoPosition, Nowhere};
+ghost use Rattle.fdb_history.specs.private.Auditing.{AreByPosition, AreChangesOf, AreRegisters};
+ghost use Rattle.fdb_history.specs.private.Auditing.{IsChangeFault, IsTable, by_table};
+ghost use Rattle.fdb_history.specs.Faults.{OutOfOrder, IsClash, IsGap, IsReached, AtNoPosition};
+ghost use Rattle.fdb_history.specs.Faults.{Nowhere};
 ghost use Rattle.fdb_history.specs.declared.log.Call.{Call};
 
 use crate::auditing::changes::{PlacedChange, first_clash, first_missing};

@@ -1,8 +1,10 @@
 //! The first answer that nothing justifies.
 
-ghost use Rattle.std.specs.Prelude.{◌≡◌, ◌<◌, ◌≤◌, ◌==◌, ◌&&◌, ◌||◌, ℕ, Bool, true, false, length, slice_get, IfOk, OnOk, IsTrue};
+ghost use Rattle.std.specs.Prelude.{◌≡◌, ◌<◌, ◌≤◌, ◌^◌, ◌==◌, ◌&&◌, ◌||◌, ℕ, Bool, true, false};
+ghost use Rattle.std.specs.Prelude.{length, slice_get, IfOk, OnOk, IsTrue};
 ghost use Rattle.std.specs.Option.{option_map_or};
-ghost use Rattle.fdb_history.specs.private.Auditing.{AreMarks, HasUnmarked, IsFirstCall, IsFirstOf, IsLeastIfAny};
+ghost use Rattle.fdb_history.specs.private.Auditing.{AreMarks, HasUnmarked, IsFirstCall, IsFirstOf};
+ghost use Rattle.fdb_history.specs.private.Auditing.{IsLeastIfAny};
 ghost use Rattle.fdb_history.specs.private.Justifying.{own_after};
 ghost use Rattle.fdb_history.specs.Log.{calls_of};
 ghost use Rattle.fdb_history.specs.Strays.{IsStray, NotJustified, is_justified, is_drawn, is_same};
@@ -25,7 +27,7 @@ pub(crate) fn first_stray(
     chain: &[Issued],
     logs: &[ClientLog],
 ) -> Result<Option<CallName>, AllocError>
-    requires { length logs.now ≤ 64 }
+    requires { length logs.now ≤ 2 ^ 32 }
     ensures { IfOk result (IsFirstCall (IsStray chain.now logs.now)) }
 {
     let unjustified = first_not_justified(alloc, chain, logs)?;
@@ -48,7 +50,7 @@ fn first_not_justified(
     chain: &[Issued],
     logs: &[ClientLog],
 ) -> Result<Option<CallName>, AllocError>
-    requires { length logs.now ≤ 64 }
+    requires { length logs.now ≤ 2 ^ 32 }
     ensures { IfOk result (IsFirstCall (NotJustified chain.now logs.now)) }
 {
     for (client, log) in logs.iter().enumerate() {
@@ -100,7 +102,7 @@ fn drawn_entries(
     chain: &[Issued],
     logs: &[ClientLog],
 ) -> Result<Vec<bool>, AllocError>
-    requires { length logs.now ≤ 64 }
+    requires { length logs.now ≤ 2 ^ 32 }
     ensures { IfOk result (λ drawn. AreMarks chain.now drawn.items
         (λ place entry. is_drawn (calls_of logs.now entry.proxy) place entry)) }
 {

@@ -4,7 +4,9 @@ ghost use Rattle.std.specs.Prelude.{◌≡◌, IfOk, map};
 ghost use Rattle.serde_json.specs.View.{view};
 ghost use Rattle.serde_json.specs.Find.{as_bool};
 ghost use Rattle.fdb_history.specs.declared.grv.Priority.TheVariants.{Default};
-ghost use Rattle.fdb_script.specs.Reading.{act_of, ask_of, command_of, commands_from, grv_of, grv_with, IsUnlessMemory, member_or, priority_of, reask_of, report_of, rounds_from, tell_of, whole};
+ghost use Rattle.fdb_script.specs.Reading.{act_of, ask_of, command_of, commands_from, grv_of};
+ghost use Rattle.fdb_script.specs.Reading.{grv_with, IsUnlessMemory, member_or, priority_of};
+ghost use Rattle.fdb_script.specs.Reading.{reask_of, report_of, rounds_from, tell_of, whole};
 ghost use Rattle.std.specs.Prelude.{codes, false};
 
 use crate::error::ScriptError;

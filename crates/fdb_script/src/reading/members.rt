@@ -4,7 +4,8 @@ ghost use Rattle.std.specs.Prelude.{◌≡◌, ◌≤◌, false, codes, map, IfS
 ghost use Rattle.std.specs.Option.{option_map};
 ghost use Rattle.serde_json.specs.Find.{as_bool, as_str};
 ghost use Rattle.serde_json.specs.View.{view};
-ghost use Rattle.fdb_script.specs.Reading.{array_of, array_within, member, member_or, metadata_of, metadata_or_null, whole, whole_below, whole_within};
+ghost use Rattle.fdb_script.specs.Reading.{array_of, array_within, member, member_or, metadata_of};
+ghost use Rattle.fdb_script.specs.Reading.{metadata_or_null, whole, whole_below, whole_within};
 
 use hex::FromHex;
 use serde_json::Value;

@@ -1,12 +1,15 @@
 //! A script as a whole: its numbers, its throttles, and its rounds as lists of values.
 
-ghost use Rattle.std.specs.Prelude.{◌≡◌, ◌<◌, ◌≤◌, [], codes, length, map, nat_le, nat_lt, ◌&&◌, sum_by, IfOk, IfSome};
+ghost use Rattle.std.specs.Prelude.{◌≡◌, ◌<◌, ◌≤◌, [], codes, length, map, nat_le, nat_lt, ◌&&◌};
+ghost use Rattle.std.specs.Prelude.{sum_by, IfOk, IfSome};
 ghost use Rattle.std.specs.Option.{option_map};
 ghost use Rattle.serde_json.specs.View.{view};
 ghost use Rattle.fdb_history.specs.declared.register.TheConstants.{MAX_VERSION};
 ghost use Rattle.fdb_queue.specs.Config.{IsConfig, IsElapsed};
 ghost use Rattle.fdb_queue.specs.declared.config.TheConstants.{MAX_ELAPSED};
-ghost use Rattle.fdb_script.specs.Reading.{arrays_of, checked, config_of, frame_of, frame_with, is_frame, member, member_or, priority_of, throttle_of, throttle_with, throttles_of, whole, whole_within};
+ghost use Rattle.fdb_script.specs.Reading.{arrays_of, checked, config_of, frame_of, frame_with};
+ghost use Rattle.fdb_script.specs.Reading.{is_frame, member, member_or, priority_of, throttle_of};
+ghost use Rattle.fdb_script.specs.Reading.{throttle_with, throttles_of, whole, whole_within};
 ghost use Rattle.fdb_script.specs.declared.script.TheConstants.{MAX_CLIENTS, MAX_COMMANDS};
 
 use crate::reading::members::{items, items_within, member_within, whole_member, within_or};

@@ -1,4 +1,4 @@
-use Rattle.fdb_history.proofs.Audited.{audited_linear, audited_complete}
+use Rattle.fdb_history.proofs.faults.Audited.{audited_linear, audited_complete}
 use Rattle.fdb_history.proofs.auditing.audit.Goals as goal
 
 pub returns-clause-linear : goal.returns-clause-linear

@@ -1,6 +1,6 @@
 use Rattle.std.proofs.Common.{subst, sym, ◌∙◌}
-use Rattle.fdb_history.proofs.Audited.{no_fault}
-use Rattle.fdb_history.proofs.Explaining.{changes_by_position}
+use Rattle.fdb_history.proofs.faults.Audited.{no_fault}
+use Rattle.fdb_history.proofs.faultless.Sorted.{changes_by_position}
 use Rattle.fdb_history.specs.private.Auditing.{AreByPosition}
 use Rattle.fdb_history.specs.Faults.{Nowhere, WronglyAnswered}
 use Rattle.fdb_history.specs.declared.register.Record.{Record}

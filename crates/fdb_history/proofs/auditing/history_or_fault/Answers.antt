@@ -1,7 +1,7 @@
 use Rattle.std.proofs.Common.{subst, ◌∙◌}
 use Rattle.std.proofs.lemmas.Result.{err_from_is_err_and}
-use Rattle.fdb_history.proofs.Audited.{nothing_found}
-use Rattle.fdb_history.proofs.Faultless.{all_events_within}
+use Rattle.fdb_history.proofs.faults.Audited.{nothing_found}
+use Rattle.fdb_history.proofs.faultless.Explained.{all_events_within}
 use Rattle.fdb_history.specs.Audit.{Low}
 use Rattle.fdb_history.specs.Faults.{Nowhere}
 use Rattle.fdb_history.specs.declared.register.Record.{Record}

@@ -1,4 +1,4 @@
-use Rattle.fdb_history.proofs.AnswerLaws.{IsChain-step, IsChain-from_nothing, asks-keep, asks-stay}
+use Rattle.fdb_history.proofs.chains.AnswerLaws.{IsChain-step, IsChain-from_nothing, asks-keep, asks-stay}
 use Rattle.fdb_history.proofs.laws.asks_make_a_chain.Goals as goal
 
 pub returns-clause-step : goal.returns-clause-step

@@ -1,4 +1,4 @@
-use Rattle.fdb_history.proofs.ExplainedFaultless.{faultless}
+use Rattle.fdb_history.proofs.explained.NoFault.{faultless}
 use Rattle.fdb_history.proofs.laws.explained_logs_are_faultless.Goals as goal
 
 pub returns : goal.returns

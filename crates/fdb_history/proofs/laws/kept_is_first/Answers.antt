@@ -1,4 +1,4 @@
-use Rattle.fdb_history.proofs.AnswerLaws.{kept-first, kept-is, repeated-kept}
+use Rattle.fdb_history.proofs.chains.AnswerLaws.{kept-first, kept-is, repeated-kept}
 use Rattle.fdb_history.proofs.laws.kept_is_first.Goals as goal
 
 pub returns-clause-first : goal.returns-clause-first

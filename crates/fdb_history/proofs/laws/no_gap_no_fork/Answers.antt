@@ -1,4 +1,4 @@
-use Rattle.fdb_history.proofs.ChainLaws.{chain-begins, no_gap, no_fork}
+use Rattle.fdb_history.proofs.chains.ChainLaws.{chain-begins, no_gap, no_fork}
 use Rattle.fdb_history.proofs.laws.no_gap_no_fork.Goals as goal
 
 pub returns-clause-begins : goal.returns-clause-begins

@@ -1,7 +1,7 @@
 use Rattle.std.proofs.Common.{◌∷◌}
 use Rattle.std.proofs.lemmas.List.Elements.{recursion_from_All}
 use Rattle.fdb_history.specs.Laws.{reports_of}
-use Rattle.fdb_history.proofs.HistoryLaws.{positions_from-counts, change_count-below, positions_from-below, positions_from-twice, IsWithin}
+use Rattle.fdb_history.proofs.histories.HistoryLaws.{positions_from-counts, change_count-below, positions_from-below, positions_from-twice, IsWithin}
 use Rattle.fdb_history.proofs.laws.positions_below_versions.Goals as goal
 
 pub returns-clause-counts : goal.returns-clause-counts

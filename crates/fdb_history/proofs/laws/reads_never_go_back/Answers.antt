@@ -1,4 +1,4 @@
-use Rattle.fdb_history.proofs.HistoryLaws.{seen_at-in_order, seen_at-at_least}
+use Rattle.fdb_history.proofs.histories.HistoryLaws.{seen_at-in_order, seen_at-at_least}
 use Rattle.fdb_history.proofs.laws.reads_never_go_back.Goals as goal
 
 pub returns-clause-in_order : goal.returns-clause-in_order

@@ -1,5 +1,5 @@
 use Rattle.std.proofs.Common.{le_trans}
-use Rattle.fdb_history.proofs.KnownCommits.{known, follows_in}
+use Rattle.fdb_history.proofs.histories.KnownCommits.{known, follows_in}
 use Rattle.fdb_history.proofs.laws.reads_see_what_was_acknowledged.Goals as goal
 
 pub returns-clause-known : goal.returns-clause-known

@@ -1,4 +1,4 @@
-use Rattle.fdb_history.proofs.ChainLaws.{versions-AllPairs}
+use Rattle.fdb_history.proofs.chains.ChainLaws.{versions-AllPairs}
 use Rattle.fdb_history.proofs.laws.versions_rise.Goals as goal
 
 pub returns : goal.returns

@@ -1,5 +1,5 @@
 use Rattle.std.proofs.Common.{arith}
-use Rattle.fdb_history.proofs.FirstClash.{clash-none, clash-at}
+use Rattle.fdb_history.proofs.faults.FirstClash.{clash-none, clash-at}
 use Rattle.fdb_history.proofs.auditing.changes.first_clash.Goals as goal
 
 pub returns-then-changes-place : goal.returns-then-changes-place

@@ -1,4 +1,4 @@
-use Rattle.fdb_history.proofs.FirstClash.{RisesBelow}
+use Rattle.fdb_history.proofs.faults.FirstClash.{RisesBelow}
 use Rattle.fdb_history.proofs.auditing.changes.first_clash.Given as goal
 
 -- the positions so far rise

@@ -1,5 +1,5 @@
 use Rattle.std.proofs.Common.{arith}
-use Rattle.fdb_history.proofs.FirstMissing.{missing-here, missing-after}
+use Rattle.fdb_history.proofs.faults.FirstMissing.{missing-here, missing-after}
 use Rattle.fdb_history.proofs.auditing.changes.first_missing.Goals as goal
 
 pub returns-then-change-position-clause-missing : goal.returns-then-change-position-clause-missing

@@ -1,4 +1,4 @@
-use Rattle.fdb_history.proofs.FirstMissing.{InTurnBelow}
+use Rattle.fdb_history.proofs.faults.FirstMissing.{InTurnBelow}
 use Rattle.fdb_history.proofs.auditing.changes.first_missing.Given as goal
 
 -- the changes so far stand at 1, 2 and so on

@@ -1,4 +1,4 @@
-use Rattle.fdb_history.proofs.FirstCalls.{calls-at, first, none_more, nowhere}
+use Rattle.fdb_history.proofs.faults.FirstCalls.{calls-at, first, none_more, nowhere}
 use Rattle.std.proofs.Common.{◌∙◌, sym}
 use Rattle.fdb_history.proofs.auditing.found.first_call.Goals as goal
 

@@ -1,7 +1,7 @@
 use Rattle.std.proofs.Common.{refl, arith}
 use Rattle.std.proofs.lemmas.Bool.{both_ways}
 use Rattle.std.proofs.lemmas.Option.{slice_get_read, slice_get_within}
-use Rattle.fdb_history.proofs.FirstCalls.{call_more}
+use Rattle.fdb_history.proofs.faults.FirstCalls.{call_more}
 use Rattle.fdb_history.proofs.auditing.found.first_of.Goals as goal
 
 pub returns-then-stands_at : goal.returns-then-stands_at

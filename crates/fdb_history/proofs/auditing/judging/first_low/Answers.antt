@@ -1,4 +1,4 @@
-use Rattle.fdb_history.proofs.ByTable.{first_low}
+use Rattle.fdb_history.proofs.faults.ByTable.{first_low}
 use Rattle.fdb_history.proofs.auditing.judging.first_low.Goals as goal
 
 pub returns : goal.returns

@@ -1,5 +1,5 @@
 use Rattle.std.proofs.Common.{◌-◌, length, arith}
-use Rattle.fdb_history.proofs.FirstCalls.{position-last}
+use Rattle.fdb_history.proofs.faults.FirstCalls.{position-last}
 use Rattle.fdb_history.proofs.auditing.order.position_after_calls.Goals as goal
 
 pub returns-in-len1-up : goal.returns-in-len1-up

@@ -1,6 +1,6 @@
 use Rattle.std.proofs.Common.{rules}
 use Rattle.std.proofs.lemmas.List.Sorted.{answers_always}
-use Rattle.fdb_history.proofs.Explaining.{sort_key, sorted_by_position, sorted_changes, sorted_explained}
+use Rattle.fdb_history.proofs.faultless.Sorted.{sort_key, sorted_by_position, sorted_changes, sorted_explained}
 use Rattle.fdb_history.proofs.auditing.placed.events_by_position.Goals as goal
 
 -- The sort goes by the key that the closure gives: at that key its clauses are what the lemmas ask.

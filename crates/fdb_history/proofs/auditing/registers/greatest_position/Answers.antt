@@ -1,8 +1,8 @@
 use Rattle.std.proofs.Common.{◌≡◌, slice_get, inl, inr, sym, ap, ◌∙◌, arith}
 use Rattle.std.proofs.lemmas.Bool.{cases_lt}
 use Rattle.fdb_history.specs.Log.{calls_of}
-use Rattle.fdb_history.proofs.FirstCalls.{calls-at}
-use Rattle.fdb_history.proofs.ReachedPositions.{no-call, greater}
+use Rattle.fdb_history.proofs.faults.FirstCalls.{calls-at}
+use Rattle.fdb_history.proofs.faults.ReachedPositions.{no-call, greater}
 use Rattle.fdb_history.proofs.auditing.registers.greatest_position.Goals as goal
 
 pub loop-log-preserved : goal.loop-log-preserved

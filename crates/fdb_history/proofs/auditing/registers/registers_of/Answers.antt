@@ -1,7 +1,7 @@
 use Rattle.std.proofs.Common.{◌∙◌, arith}
 use Rattle.fdb_history.specs.declared.auditing.changes.PlacedChange.{PlacedChange}
-use Rattle.fdb_history.proofs.ChangeFaults.{none-at-zero, no-clash, gap-least, no-gap}
-use Rattle.fdb_history.proofs.RegisterTable.{table-right}
+use Rattle.fdb_history.proofs.faults.ChangeFaults.{none-at-zero, no-clash, gap-least, no-gap}
+use Rattle.fdb_history.proofs.faults.RegisterTable.{table-right}
 use Rattle.fdb_history.proofs.auditing.registers.registers_of.Goals as goal
 
 pub first_missing-position-requires-clause-from_one : goal.first_missing-position-requires-clause-from_one

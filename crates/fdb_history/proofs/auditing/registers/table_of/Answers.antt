@@ -1,5 +1,5 @@
 use Rattle.std.proofs.Common.{arith}
-use Rattle.fdb_history.proofs.RegisterTable.{table-more}
+use Rattle.fdb_history.proofs.faults.RegisterTable.{table-more}
 use Rattle.fdb_history.proofs.auditing.registers.table_of.Goals as goal
 
 pub loop-change-preserved : goal.loop-change-preserved

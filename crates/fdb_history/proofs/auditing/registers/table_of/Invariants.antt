@@ -1,5 +1,5 @@
 use Rattle.std.proofs.Common.{◌+◌, ◌≤◌, length, vec_capacity}
-use Rattle.fdb_history.proofs.RegisterTable.{IsTableUpTo}
+use Rattle.fdb_history.proofs.faults.RegisterTable.{IsTableUpTo}
 use Rattle.fdb_history.proofs.auditing.registers.table_of.Given as goal
 
 -- the register after each of the changes so far is in the table, and there is capacity for the others

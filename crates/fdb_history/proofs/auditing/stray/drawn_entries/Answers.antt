@@ -1,6 +1,6 @@
 use Rattle.std.proofs.Common.{◌≡◌, length, drop, sym, ◌∙◌, arith}
-use Rattle.fdb_history.proofs.FirstCalls.{calls-at}
-use Rattle.fdb_history.proofs.Marks.{drawn_below, marks-none, marks-more, marks-all, written_back}
+use Rattle.fdb_history.proofs.faults.FirstCalls.{calls-at}
+use Rattle.fdb_history.proofs.chains.Marks.{drawn_below, marks-none, marks-more, marks-all, written_back}
 use Rattle.fdb_history.proofs.auditing.stray.drawn_entries.Goals as goal
 
 pub loop-client-init : goal.loop-client-init

@@ -1,5 +1,5 @@
 use Rattle.fdb_history.specs.private.Auditing.{AreMarks}
-use Rattle.fdb_history.proofs.Marks.{drawn_below}
+use Rattle.fdb_history.proofs.chains.Marks.{drawn_below}
 use Rattle.fdb_history.proofs.auditing.stray.drawn_entries.Given as goal
 
 -- what the clients before this one drew is marked

@@ -1,6 +1,6 @@
 use Rattle.std.proofs.Common.{◌≡◌, false, ◌∙◌, sym}
 use Rattle.fdb_history.specs.Strays.{is_justified}
-use Rattle.fdb_history.proofs.FirstCalls.{calls-at, first, none_more, nowhere}
+use Rattle.fdb_history.proofs.faults.FirstCalls.{calls-at, first, none_more, nowhere}
 use Rattle.fdb_history.proofs.auditing.stray.first_not_justified.Goals as goal
 
 pub returns-in-Some : goal.returns-in-Some

@@ -2,9 +2,9 @@ use Rattle.std.proofs.Common.{◌≡◌, false, refl, sym, take, ◌∙◌, arit
 use Rattle.std.proofs.lemmas.Bool.{both_ways}
 use Rattle.std.proofs.lemmas.Option.{slice_get_read, slice_get_within}
 use Rattle.fdb_history.specs.Strays.{is_justified}
-use Rattle.fdb_history.proofs.FirstCalls.{call_more}
+use Rattle.fdb_history.proofs.faults.FirstCalls.{call_more}
 use Rattle.fdb_history.proofs.Lists.{take-push}
-use Rattle.fdb_history.proofs.Own.{OwnAfter-none, OwnAfter-call, justified-same}
+use Rattle.fdb_history.proofs.chains.Own.{OwnAfter-none, OwnAfter-call, justified-same}
 use Rattle.fdb_history.proofs.auditing.stray.first_of.Goals as goal
 
 pub loop-place-init : goal.loop-place-init

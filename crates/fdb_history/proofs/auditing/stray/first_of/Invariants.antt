@@ -1,7 +1,7 @@
 use Rattle.std.proofs.Common.{◌≡◌, false, take}
 use Rattle.fdb_history.specs.private.Auditing.{NoneBefore}
 use Rattle.fdb_history.specs.Strays.{is_justified}
-use Rattle.fdb_history.proofs.Own.{OwnAfter}
+use Rattle.fdb_history.proofs.chains.Own.{OwnAfter}
 use Rattle.fdb_history.proofs.auditing.stray.first_of.Given as goal
 
 -- the calls before this one are justified, and `own` is what they have drawn

@@ -1,5 +1,5 @@
 use Rattle.std.proofs.Common.{None, Some, inl, arith}
-use Rattle.fdb_history.proofs.FirstStray.{calls_only, call_first, entry_first, least_undrawn}
+use Rattle.fdb_history.proofs.faults.FirstStray.{calls_only, call_first, entry_first, least_undrawn}
 use Rattle.fdb_history.proofs.auditing.stray.first_stray.Goals as goal
 use Rattle.fdb_history.proofs.auditing.stray.first_stray.Goals.{in_default-unjustified-via-in-Some-unjustified+else-name-client, in_default-unjustified-via-in_default-unjustified}
 

@@ -1,6 +1,6 @@
 use Rattle.std.proofs.Common.{◌≡◌, length, take, get_or, false, arith, ◌∙◌, ap}
 use Rattle.std.proofs.lemmas.List.{take_all, take_more, length-take}
-use Rattle.fdb_history.proofs.Marks.{no_entry, least-marked, least-first, least-more}
+use Rattle.fdb_history.proofs.chains.Marks.{no_entry, least-marked, least-first, least-more}
 use Rattle.fdb_history.proofs.auditing.stray.least_undrawn.Goals as goal
 use Rattle.fdb_history.proofs.auditing.stray.least_undrawn.Goals.{then-not-drawn-place+in-Some, then-not-drawn-place+in-None, else-not-drawn-place}
 

@@ -1,5 +1,5 @@
 use Rattle.std.proofs.Common.{sym, ◌∙◌, arith}
-use Rattle.fdb_history.proofs.Marks.{marked, unmarked}
+use Rattle.fdb_history.proofs.chains.Marks.{marked, unmarked}
 use Rattle.fdb_history.proofs.auditing.stray.mark.Goals as goal
 
 pub returns-then-draws : goal.returns-then-draws

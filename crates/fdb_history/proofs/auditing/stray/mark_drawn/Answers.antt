@@ -2,7 +2,7 @@ use Rattle.std.proofs.Common.{◌∙◌, ap, sym}
 use Rattle.std.proofs.lemmas.List.{take_all}
 use Rattle.fdb_history.specs.Log.{answer_in}
 use Rattle.fdb_history.specs.declared.log.Call.{Call}
-use Rattle.fdb_history.proofs.Marks.{drawn_too-none, drawn_too-answered, drawn_too-other, no_answer}
+use Rattle.fdb_history.proofs.chains.Marks.{drawn_too-none, drawn_too-answered, drawn_too-other, no_answer}
 use Rattle.fdb_history.proofs.auditing.stray.mark_drawn.Goals as goal
 use Rattle.fdb_history.proofs.auditing.stray.mark_drawn.Goals.{in-Answered, in_default}
 

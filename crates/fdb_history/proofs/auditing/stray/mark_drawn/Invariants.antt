@@ -1,7 +1,7 @@
 use Rattle.std.proofs.Common.{ℕ, Bool, take}
 use Rattle.fdb_history.specs.private.Auditing.{AreMarks}
 use Rattle.fdb_history.specs.declared.chain.Issued.{Issued}
-use Rattle.fdb_history.proofs.Marks.{drawn_too}
+use Rattle.fdb_history.proofs.chains.Marks.{drawn_too}
 use Rattle.fdb_history.proofs.auditing.stray.mark_drawn.Given as goal
 
 -- what the calls before this one drew is marked

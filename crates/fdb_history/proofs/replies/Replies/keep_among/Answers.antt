@@ -1,7 +1,7 @@
 use Rattle.std.proofs.Common.{◌≡◌, ap, get_or}
 use Rattle.std.proofs.lemmas.Result.{on_ok_weaker}
 use Rattle.fdb_history.specs.Replies.{replies_after}
-use Rattle.fdb_history.proofs.KeptReplies.{AreRepliesOfAll-push}
+use Rattle.fdb_history.proofs.chains.KeptReplies.{AreRepliesOfAll-push}
 use Rattle.fdb_history.proofs.replies.Replies.keep_among.Goals as goal
 
 pub returns-clause-kept : goal.returns-clause-kept

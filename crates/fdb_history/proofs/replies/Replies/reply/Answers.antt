@@ -1,6 +1,6 @@
 use Rattle.std.proofs.Common.{slice_get, ap, ◌∙◌}
 use Rattle.std.specs.Option.{option_and_then}
-use Rattle.fdb_history.proofs.KeptReplies.{reply-of_the_request}
+use Rattle.fdb_history.proofs.chains.KeptReplies.{reply-of_the_request}
 use Rattle.fdb_history.proofs.replies.Replies.reply.Goals as goal
 
 pub returns-clause-of_the_request : goal.returns-clause-of_the_request

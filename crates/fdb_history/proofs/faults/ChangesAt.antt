@@ -5,7 +5,7 @@ use Rattle.std.proofs.lemmas.List.{nil_from_length}
 use Rattle.fdb_history.specs.private.Auditing.{AreTwoAt}
 use Rattle.fdb_history.specs.Faults.{at_position}
 use Rattle.fdb_history.specs.declared.auditing.changes.PlacedChange.{PlacedChange}
-use Rattle.fdb_history.proofs.FaultlessBlocks.{kept, left_out}
+use Rattle.fdb_history.proofs.faultless.Blocks.{kept, left_out}
 
 -- where no change has the position, none stands there
 pub at-none : (position : ℕ) (changes : List PlacedChange) → ((k : ℕ) (d : PlacedChange) → k < length changes → (get_or changes k d).position ≡ position → ⊥) → at_position position changes ≡ []

@@ -14,10 +14,10 @@ use Rattle.fdb_history.specs.declared.log.Call.{Call}
 use Rattle.fdb_history.specs.declared.log.CallAnswer.TheVariants.{Version, Acked}
 use Rattle.fdb_history.specs.declared.log.ClientLog.{ClientLog}
 use Rattle.fdb_history.specs.declared.register.Record.{Record}
-use Rattle.fdb_history.proofs.AfterReport.{version-at_least, min_known-at_least}
-use Rattle.fdb_history.proofs.ExplainedFaultless.{all_parts, all_at, of_client, faultless}
-use Rattle.fdb_history.proofs.FaultlessBlocks.{kept, left_out}
-use Rattle.fdb_history.proofs.FaultlessLegal.{same_record, answered_so}
+use Rattle.fdb_history.proofs.histories.AfterReport.{version-at_least, min_known-at_least}
+use Rattle.fdb_history.proofs.explained.NoFault.{all_parts, all_at, of_client, faultless}
+use Rattle.fdb_history.proofs.faultless.Blocks.{kept, left_out}
+use Rattle.fdb_history.proofs.faultless.Legal.{same_record, answered_so}
 
 -- ---- of lists
 

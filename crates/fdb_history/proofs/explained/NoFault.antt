@@ -14,11 +14,11 @@ use Rattle.fdb_history.specs.declared.log.CallAnswer.{CallAnswer}
 use Rattle.fdb_history.specs.declared.log.CallAnswer.TheVariants.{Version, Answered, Acked, Told, Refused}
 use Rattle.fdb_history.specs.declared.log.ClientLog.{ClientLog}
 use Rattle.fdb_history.specs.declared.register.Record.{Record}
-use Rattle.fdb_history.proofs.ExplainedStamps.{changes_to, AtMostOne, at_most_one, filled}
-use Rattle.fdb_history.proofs.ExplainedClients.{own_placed}
-use Rattle.fdb_history.proofs.ExplainedChanges.{changes_at-history, answered}
-use Rattle.fdb_history.proofs.FaultlessLegal.{IsRightAt}
-use Rattle.fdb_history.proofs.FaultlessLogs.{length-changes, placed_call}
+use Rattle.fdb_history.proofs.explained.Stamps.{changes_to, AtMostOne, at_most_one, filled}
+use Rattle.fdb_history.proofs.explained.Clients.{own_placed}
+use Rattle.fdb_history.proofs.explained.Changes.{changes_at-history, answered}
+use Rattle.fdb_history.proofs.faultless.Legal.{IsRightAt}
+use Rattle.fdb_history.proofs.faultless.Logs.{length-changes, placed_call}
 
 -- ---- of lists
 

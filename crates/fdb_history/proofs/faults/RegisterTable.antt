@@ -8,7 +8,7 @@ use Rattle.fdb_history.specs.Register.{after_report}
 use Rattle.fdb_history.specs.declared.auditing.changes.PlacedChange.{PlacedChange}
 use Rattle.fdb_history.specs.declared.log.ClientLog.{ClientLog}
 use Rattle.fdb_history.specs.declared.register.Record.{Record}
-use Rattle.fdb_history.proofs.ChangesAt.{at-only}
+use Rattle.fdb_history.proofs.faults.ChangesAt.{at-only}
 
 -- ---- the table
 

@@ -18,12 +18,12 @@ use Rattle.fdb_history.specs.declared.event.Event.{Event}
 use Rattle.fdb_history.specs.declared.event.Event.TheVariants.{Report, Read}
 use Rattle.fdb_history.specs.declared.log.ClientLog.{ClientLog}
 use Rattle.fdb_history.specs.declared.register.Record.{Record}
-use Rattle.fdb_history.proofs.Faultless.{events-blocks}
-use Rattle.fdb_history.proofs.FaultlessBlocks.{is_change_at, block, blocks_up_to}
-use Rattle.fdb_history.proofs.FaultlessLogs.{change_of, filter-changes, changes-at}
-use Rattle.fdb_history.proofs.FaultlessChanges.{events_of}
-use Rattle.fdb_history.proofs.Grouped.{Rising, rising_from, from_rising, in_order, same_group}
-use Rattle.fdb_history.proofs.Ranks.{rank, rank-least, rank-most, rank_of, of_rank, changes-rank, block-rank, RisesByRank, back_in_order}
+use Rattle.fdb_history.proofs.faultless.Explained.{events-blocks}
+use Rattle.fdb_history.proofs.faultless.Blocks.{is_change_at, block, blocks_up_to}
+use Rattle.fdb_history.proofs.faultless.Logs.{change_of, filter-changes, changes-at}
+use Rattle.fdb_history.proofs.faultless.Changes.{events_of}
+use Rattle.fdb_history.proofs.faultless.Grouped.{Rising, rising_from, from_rising, in_order, same_group}
+use Rattle.fdb_history.proofs.faultless.Ranks.{rank, rank-least, rank-most, rank_of, of_rank, changes-rank, block-rank, RisesByRank, back_in_order}
 
 -- ---- the sort, by ranks
 

@@ -13,8 +13,8 @@ use Rattle.fdb_history.specs.declared.fault.AuditFault.{AuditFault}
 use Rattle.fdb_history.specs.declared.fault.AuditFault.TheVariants.{Order, Clash, Gap, Wrong, Stray, NotAbove, Memory}
 use Rattle.fdb_history.specs.declared.log.ClientLog.{ClientLog}
 use Rattle.fdb_history.specs.declared.register.Record.{Record}
-use Rattle.fdb_history.proofs.ExplainedFaultless.{faultless}
-use Rattle.fdb_history.proofs.Faultless.{linear}
+use Rattle.fdb_history.proofs.explained.NoFault.{faultless}
+use Rattle.fdb_history.proofs.faultless.Explained.{linear}
 
 -- the parts of a history without a fault
 pub no_fault : (start : Record) (logs : List ClientLog) → Nowhere (OutOfOrder logs) → AtNoPosition (IsClash logs) → AtNoPosition (IsGap logs) → Nowhere (WronglyAnswered start logs) → IsFaultless start logs

@@ -14,10 +14,10 @@ use Rattle.fdb_history.specs.declared.event.Event.{Event}
 use Rattle.fdb_history.specs.declared.event.Event.TheVariants.{Report, Read}
 use Rattle.fdb_history.specs.declared.log.CallAnswer.TheVariants.{Version, Answered, Acked, Told, Refused}
 use Rattle.fdb_history.specs.declared.log.ClientLog.{ClientLog}
-use Rattle.fdb_history.proofs.AfterReport.{unchanged}
-use Rattle.fdb_history.proofs.FaultlessBlocks.{is_change_at, is_other_at, kept, left_out}
-use Rattle.fdb_history.proofs.FaultlessChanges.{changes_here, one_change, events_of}
-use Rattle.fdb_history.proofs.FaultlessLogs.{change_of, Passes}
+use Rattle.fdb_history.proofs.histories.AfterReport.{unchanged}
+use Rattle.fdb_history.proofs.faultless.Blocks.{is_change_at, is_other_at, kept, left_out}
+use Rattle.fdb_history.proofs.faultless.Changes.{changes_here, one_change, events_of}
+use Rattle.fdb_history.proofs.faultless.Logs.{change_of, Passes}
 
 -- ---- two records are one or not
 

@@ -11,11 +11,11 @@ use Rattle.fdb_history.specs.declared.event.Event.{Event}
 use Rattle.fdb_history.specs.declared.event.Event.TheVariants.{Report, Read}
 use Rattle.fdb_history.specs.declared.log.ClientLog.{ClientLog}
 use Rattle.fdb_history.specs.declared.register.Record.{Record}
-use Rattle.fdb_history.proofs.AfterReport.{unchanged}
-use Rattle.fdb_history.proofs.ExplainedStamps.{changes_to, quiet_stamp, other_stamp, change_stamp}
-use Rattle.fdb_history.proofs.ExplainedClients.{changes_in_history}
-use Rattle.fdb_history.proofs.FaultlessLegal.{IsRightAt}
-use Rattle.fdb_history.proofs.FaultlessLogs.{changes-at}
+use Rattle.fdb_history.proofs.histories.AfterReport.{unchanged}
+use Rattle.fdb_history.proofs.explained.Stamps.{changes_to, quiet_stamp, other_stamp, change_stamp}
+use Rattle.fdb_history.proofs.explained.Clients.{changes_in_history}
+use Rattle.fdb_history.proofs.faultless.Legal.{IsRightAt}
+use Rattle.fdb_history.proofs.faultless.Logs.{changes-at}
 
 -- ---- the changes of the logs
 

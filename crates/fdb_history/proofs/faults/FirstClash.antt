@@ -5,7 +5,7 @@ use Rattle.std.proofs.lemmas.List.{get_or_default}
 use Rattle.fdb_history.specs.private.Auditing.{AreByPosition, AreTwoAt}
 use Rattle.fdb_history.specs.Faults.{AtNoPosition, IsLeast}
 use Rattle.fdb_history.specs.declared.auditing.changes.PlacedChange.{PlacedChange}
-use Rattle.fdb_history.proofs.ChangesAt.{at-two, at-most_one}
+use Rattle.fdb_history.proofs.faults.ChangesAt.{at-two, at-most_one}
 
 -- the positions of the changes before a place rise
 abbrev pub RisesBelow : ℕ → List PlacedChange → Type 0

@@ -11,7 +11,7 @@ use Rattle.fdb_history.specs.Laws.{seen_version, seen_at, reports_of}
 use Rattle.fdb_history.specs.declared.register.Record.{Record}
 use Rattle.fdb_history.specs.declared.event.Event.{Event}
 use Rattle.fdb_history.specs.declared.event.Event.TheVariants.{Report, Read}
-use Rattle.fdb_history.proofs.AfterReport.{version-at_least, min_known-at_least, raised-version, changed-rises, known-within}
+use Rattle.fdb_history.proofs.histories.AfterReport.{version-at_least, min_known-at_least, raised-version, changed-rises, known-within}
 
 pub after_event-at_least : (current : Record) (event : Event) → current.version ≤ (after_event current event).version
 after_event-at_least current (Report client call rec raised changed) = (version-at_least current rec).0

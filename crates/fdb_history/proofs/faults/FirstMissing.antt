@@ -5,7 +5,7 @@ use Rattle.std.proofs.lemmas.List.{get_or_default}
 use Rattle.fdb_history.specs.private.Auditing.{AreByPosition, AreTwoAt}
 use Rattle.fdb_history.specs.Faults.{at_position, AtNoPosition}
 use Rattle.fdb_history.specs.declared.auditing.changes.PlacedChange.{PlacedChange}
-use Rattle.fdb_history.proofs.ChangesAt.{at-none, at-some, at-two}
+use Rattle.fdb_history.proofs.faults.ChangesAt.{at-none, at-some, at-two}
 
 -- the changes before a place stand at 1, 2 and so on
 abbrev pub InTurnBelow : ℕ → List PlacedChange → Type 0

@@ -18,7 +18,7 @@ use Rattle.fdb_history.specs.declared.log.Call.{Call}
 use Rattle.fdb_history.specs.declared.log.CallAnswer.{CallAnswer}
 use Rattle.fdb_history.specs.declared.log.CallAnswer.TheVariants.{Version, Answered, Acked, Told, Refused}
 use Rattle.fdb_history.specs.declared.log.ClientLog.{ClientLog}
-use Rattle.fdb_history.proofs.FirstCalls.{calls-past}
+use Rattle.fdb_history.proofs.faults.FirstCalls.{calls-past}
 use Rattle.fdb_history.proofs.Lists.{at_left, at_push, slice_get-append_seam}
 
 -- marks by a test are marks by each test that agrees with it

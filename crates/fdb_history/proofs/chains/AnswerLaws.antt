@@ -11,7 +11,7 @@ use Rattle.fdb_history.specs.declared.chain.Ask.{Ask}
 use Rattle.fdb_history.specs.declared.chain.Issued.{Issued}
 use Rattle.fdb_history.specs.declared.log.Refusal.TheVariants.{UnknownProxy, Early, Exhausted}
 use Rattle.fdb_history.specs.declared.register.TheConstants.{MAX_VERSION}
-use Rattle.fdb_history.proofs.ChainLaws.{IsNext-at, GoesOn-push}
+use Rattle.fdb_history.proofs.chains.ChainLaws.{IsNext-at, GoesOn-push}
 
 -- whether an answer is the one of this proxy with this number
 abbrev pub is_for : ℕ → ℕ → Issued → Bool

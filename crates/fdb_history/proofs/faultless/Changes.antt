@@ -10,8 +10,8 @@ use Rattle.fdb_history.specs.Event.{stamped, position_after, is_change, change_c
 use Rattle.fdb_history.specs.declared.event.Placed.{Placed}
 use Rattle.fdb_history.specs.Explained.{events_at, events_up_to}
 use Rattle.fdb_history.specs.declared.event.Event.{Event}
-use Rattle.fdb_history.proofs.HistoryLaws.{added, change_count-cons}
-use Rattle.fdb_history.proofs.FaultlessBlocks.{is_change_at, is_other_at, block, blocks_up_to, kept, left_out}
+use Rattle.fdb_history.proofs.histories.HistoryLaws.{added, change_count-cons}
+use Rattle.fdb_history.proofs.faultless.Blocks.{is_change_at, is_other_at, block, blocks_up_to, kept, left_out}
 
 -- ---- how many changes there are
 

@@ -7,8 +7,8 @@ use Rattle.std.proofs.lemmas.Bool.Decides.{nat_tests}
 use Rattle.std.proofs.lemmas.List.Elements.{filter_agree}
 use Rattle.fdb_history.specs.Event.{is_change}
 use Rattle.fdb_history.specs.declared.event.Placed.{Placed}
-use Rattle.fdb_history.proofs.FaultlessBlocks.{is_change_at, is_other_at, block, blocks_up_to, kept, Climbing}
-use Rattle.fdb_history.proofs.Grouped.{Rising, more}
+use Rattle.fdb_history.proofs.faultless.Blocks.{is_change_at, is_other_at, block, blocks_up_to, kept, Climbing}
+use Rattle.fdb_history.proofs.faultless.Grouped.{Rising, more}
 
 -- the rank of a position and kind
 abbrev pub rank : ℕ → Bool → ℕ

@@ -20,9 +20,9 @@ use Rattle.fdb_history.specs.declared.log.CallAnswer.{CallAnswer}
 use Rattle.fdb_history.specs.declared.log.CallAnswer.TheVariants.{Version, Answered, Acked, Told, Refused}
 use Rattle.fdb_history.specs.declared.log.Input.{Input}
 use Rattle.fdb_history.specs.declared.log.Input.TheVariants as input
-use Rattle.fdb_history.proofs.KeptReplies.{kept-append_new, kept-append_erased, kept-append_old, latest-append, place_of-new, place_of-erased, place_of-old}
+use Rattle.fdb_history.proofs.chains.KeptReplies.{kept-append_new, kept-append_erased, kept-append_old, latest-append, place_of-new, place_of-erased, place_of-old}
 use Rattle.fdb_history.proofs.Lists.{slice_get-append_left, slice_get-append_seam}
-use Rattle.fdb_history.proofs.SameIssued.{is_same-equal}
+use Rattle.fdb_history.proofs.chains.SameIssued.{is_same-equal}
 
 abbrev as_fresh : Issued → Issued
 as_fresh entry = record entry { fresh = true }

@@ -10,8 +10,8 @@ use Rattle.fdb_history.specs.Log.{placed_from, calls_of}
 use Rattle.fdb_history.specs.declared.event.Event.{Event}
 use Rattle.fdb_history.specs.declared.log.ClientLog.{ClientLog}
 use Rattle.fdb_history.specs.declared.register.Record.{Record}
-use Rattle.fdb_history.proofs.ExplainedStamps.{changes_to, put_at, AtMostOne, at_most_one}
-use Rattle.fdb_history.proofs.FaultlessBlocks.{filter_swap}
+use Rattle.fdb_history.proofs.explained.Stamps.{changes_to, put_at, AtMostOne, at_most_one}
+use Rattle.fdb_history.proofs.faultless.Blocks.{filter_swap}
 
 -- those of a client
 abbrev pub own : ℕ → List Placed → List Placed

@@ -11,7 +11,7 @@ use Rattle.fdb_history.specs.Issuing.{kept, kept_among}
 use Rattle.fdb_history.specs.Chain.{latest, IsNext}
 use Rattle.fdb_history.specs.declared.chain.Issued.{Issued}
 use Rattle.fdb_history.specs.Replies.{KeptReplies, AreRepliesOf, AreRepliesOfAll, place_of, reply, replies_after}
-use Rattle.fdb_history.proofs.AnswerLaws.{kept-is}
+use Rattle.fdb_history.proofs.chains.AnswerLaws.{kept-is}
 use Rattle.fdb_history.proofs.Lists.{slice_get-append_left, slice_get-append_seam}
 
 -- a search begins with the newest answer

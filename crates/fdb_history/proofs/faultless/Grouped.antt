@@ -6,7 +6,7 @@ use Rattle.std.proofs.lemmas.Bool.{ltb-false, le-leb, lt-leb, eq-eqb, ne_eqb, ca
 use Rattle.std.proofs.lemmas.Bool.Decides.{nat_tests}
 use Rattle.std.proofs.lemmas.List.Elements.{filter_agree}
 use Rattle.std.proofs.lemmas.List.Sorted.{IsNonDecreasingBy-from_all_adjacent}
-use Rattle.fdb_history.proofs.FaultlessBlocks.{kept, left_out}
+use Rattle.fdb_history.proofs.faultless.Blocks.{kept, left_out}
 
 -- no number falls below the one before it
 abbrev pub Rising : {X : Type 0} → (X → ℕ) → ℕ → List X → Type 0

@@ -14,11 +14,11 @@ use Rattle.fdb_history.specs.Log.{placed_from, calls_of, answer_changes}
 use Rattle.fdb_history.specs.declared.log.Call.{Call}
 use Rattle.fdb_history.specs.declared.log.ClientLog.{ClientLog}
 use Rattle.fdb_history.specs.declared.register.Record.{Record}
-use Rattle.fdb_history.proofs.FaultlessBlocks.{is_change_at, is_other_at, block, blocks_up_to, blocks-filter, kept, left_out}
-use Rattle.fdb_history.proofs.Ranks.{back_in_order, climbing_rises}
-use Rattle.fdb_history.proofs.FaultlessChanges.{changes_here, changes_among, reached_at_most, each_filled, stamped-up_to, change_count-up_to, events_of}
-use Rattle.fdb_history.proofs.FaultlessLogs.{is_of, every_log, every_in, every_call, every_from, every_placed, passes_bound, passes_raised, own_in, client_in_order, climbing, changes-at, length-changes}
-use Rattle.fdb_history.proofs.FaultlessLegal.{IsRight, passes_right, legal_up_to}
+use Rattle.fdb_history.proofs.faultless.Blocks.{is_change_at, is_other_at, block, blocks_up_to, blocks-filter, kept, left_out}
+use Rattle.fdb_history.proofs.faultless.Ranks.{back_in_order, climbing_rises}
+use Rattle.fdb_history.proofs.faultless.Changes.{changes_here, changes_among, reached_at_most, each_filled, stamped-up_to, change_count-up_to, events_of}
+use Rattle.fdb_history.proofs.faultless.Logs.{is_of, every_log, every_in, every_call, every_from, every_placed, passes_bound, passes_raised, own_in, client_in_order, climbing, changes-at, length-changes}
+use Rattle.fdb_history.proofs.faultless.Legal.{IsRight, passes_right, legal_up_to}
 
 -- all events of the logs
 abbrev all_of : List ClientLog → List Placed

@@ -19,7 +19,7 @@ use Rattle.fdb_history.specs.declared.log.Call.{Call}
 use Rattle.fdb_history.specs.declared.log.CallAnswer.{CallAnswer}
 use Rattle.fdb_history.specs.declared.log.CallAnswer.TheVariants.{Version, Answered, Acked, Told, Refused}
 use Rattle.fdb_history.specs.declared.log.ClientLog.{ClientLog}
-use Rattle.fdb_history.proofs.FaultlessBlocks.{is_change_at, kept, left_out, Climbing}
+use Rattle.fdb_history.proofs.faultless.Blocks.{is_change_at, kept, left_out, Climbing}
 
 -- ---- each call, and each event
 

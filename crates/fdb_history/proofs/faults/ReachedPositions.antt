@@ -5,7 +5,7 @@ use Rattle.std.proofs.lemmas.Bool.Decides.{nat_tests}
 use Rattle.fdb_history.specs.Log.{calls_of}
 use Rattle.fdb_history.specs.declared.log.Call.{Call}
 use Rattle.fdb_history.specs.declared.log.ClientLog.{ClientLog}
-use Rattle.fdb_history.proofs.FirstCalls.{calls-past}
+use Rattle.fdb_history.proofs.faults.FirstCalls.{calls-past}
 
 -- past the logs there is no call
 pub no-call : (logs : List ClientLog) (client place : ℕ) (call : Call) → length logs ≤ client → slice_get (calls_of logs client) place ≡ Some call → ⊥

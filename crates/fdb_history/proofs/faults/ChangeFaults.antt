@@ -11,9 +11,9 @@ use Rattle.fdb_history.specs.declared.log.Call.{Call}
 use Rattle.fdb_history.specs.declared.log.CallAnswer.{CallAnswer}
 use Rattle.fdb_history.specs.declared.log.CallAnswer.TheVariants.{Version, Answered, Acked, Told, Refused}
 use Rattle.fdb_history.specs.declared.log.ClientLog.{ClientLog}
-use Rattle.fdb_history.proofs.FaultlessBlocks.{left_out}
-use Rattle.fdb_history.proofs.FaultlessLogs.{every_call}
-use Rattle.fdb_history.proofs.ChangesAt.{at-some}
+use Rattle.fdb_history.proofs.faultless.Blocks.{left_out}
+use Rattle.fdb_history.proofs.faultless.Logs.{every_call}
+use Rattle.fdb_history.proofs.faults.ChangesAt.{at-some}
 
 -- ---- none stands at 0
 

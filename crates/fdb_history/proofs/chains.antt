@@ -1,0 +1,7 @@
+pub mod ChainLaws
+mod ChainExamples
+pub mod AnswerLaws
+pub mod KeptReplies
+pub mod SameIssued
+pub mod Own
+pub mod Marks

@@ -1,0 +1,4 @@
+pub mod Stamps
+pub mod Clients
+pub mod Changes
+pub mod NoFault

@@ -1,0 +1,4 @@
+pub mod AfterReport
+pub mod HistoryLaws
+pub mod KnownCommits
+mod Examples
