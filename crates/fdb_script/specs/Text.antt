@@ -140,10 +140,8 @@ counts_text events raised versions =
     codes "audit ok events " ++ decimal events ++ codes " raised " ++ decimal raised
     ++ codes " versions " ++ decimal versions
 
-abbrev pub audit_text : Outcome → List ℕ
-audit_text outcome =
-    counts_text (length outcome.history.events) (raise_count outcome.history.events)
-    (length outcome.chain.items)
+abbrev pub audit_text : List Event → ℕ → List ℕ
+audit_text events versions = counts_text (length events) (raise_count events) versions
 
 -- an event, with its place in the history
 abbrev pub history_text : ℕ → Event → List ℕ
@@ -160,10 +158,13 @@ history_lines number [] = []
 history_lines number (event ∷ events) =
     line (history_text number event) ++ history_lines (number + 1) events
 
--- The whole text: the replies by round, client and command, the audit line, and the history where
--- it is wanted.
+-- What an audit found in logs without a fault: the audit line, and the history where it is wanted.
+abbrev pub verdict_text : List Event → ℕ → Bool → List ℕ
+verdict_text events versions with_history =
+    line (audit_text events versions) ++ (if with_history then history_lines 0 events else [])
+
+-- The whole text: the replies by round, client and command, and the audit's verdict.
 abbrev pub text : Plan → Outcome → Bool → List ℕ
 text plan outcome with_history =
     reply_lines 0 plan.rounds (map (λ log. replies_of log.calls) outcome.logs.items)
-    ++ line (audit_text outcome)
-    ++ (if with_history then history_lines 0 outcome.history.events else [])
+    ++ verdict_text outcome.history.events (length outcome.chain.items) with_history

@@ -16,8 +16,8 @@ mod script;
 
 pub use error::ScriptError;
 pub use outcome::Outcome;
-pub use printing::text;
-pub use reading::read_script;
+pub use printing::{push_verdict, text};
+pub use reading::{members, read_script};
 pub use script::{
     Act, Command, MAX_CLIENTS, MAX_COMMANDS, MAX_ROUNDS, MAX_SCRIPT_BYTES, MAX_TAGS, MAX_THROTTLES,
     Script, Setup,

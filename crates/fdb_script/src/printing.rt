@@ -7,13 +7,13 @@ ghost use Rattle.fdb_history.specs.Event.{raise_count};
 ghost use Rattle.fdb_script.specs.Answering.{Answers};
 ghost use Rattle.fdb_script.specs.Text.{audit_text, calls_after, client_lines, is_learn};
 ghost use Rattle.fdb_script.specs.Text.{replies_of, history_lines, line, reply_lines, round_lines};
-ghost use Rattle.fdb_script.specs.Text.{text};
+ghost use Rattle.fdb_script.specs.Text.{text, verdict_text};
 
 use crate::error::ScriptError;
 use crate::lines::{AuditLine, HistoryLine, ReplyLine};
 use crate::outcome::Outcome;
 use crate::script::{Command, Script};
-use fdb_history::{Call, ClientLog, Event, Input, Sequence};
+use fdb_history::{Call, ClientLog, Event, History, Input, Sequence};
 use std::alloc::{AllocError, Global};
 use std::fmt::Write;
 
@@ -36,11 +36,33 @@ pub fn text(
     let mut printed = String::new(alloc);
     let mut left = logged_calls(alloc, &outcome.logs)?;
     push_replies(&mut printed, script.rounds(), &mut left)?;
-    push_audit(&mut printed, outcome)?;
-    if with_history {
-        push_history(&mut printed, outcome.history.events.as_slice())?;
-    }
+    push_verdict(
+        &mut printed,
+        &outcome.history,
+        outcome.chain.len() as u64,
+        with_history,
+    )?;
     Ok(printed.into_bytes())
+}
+
+/// Appends what an audit found in logs without a fault: the audit line, for so many commit
+/// versions, and the history where it is wanted. It fails only where memory runs out.
+pub fn push_verdict(
+    printed: &mut String,
+    history: &History,
+    versions: u64,
+    with_history: bool,
+) -> Result<(), AllocError>
+    ensures { OnOk result
+        (string_bytes printed.new
+        ≡ string_bytes printed.old ++ verdict_text history.now.events versions with_history) }
+{
+    let events = history.events.as_slice();
+    push_audit(printed, events, versions)?;
+    if with_history {
+        push_history(printed, events)?;
+    }
+    Ok(())
 }
 
 /// The calls of each log.
@@ -158,15 +180,15 @@ fn is_learn(input: &Input) -> bool
 }
 
 /// Appends the audit line.
-fn push_audit(printed: &mut String, outcome: &Outcome) -> Result<(), AllocError>
+fn push_audit(printed: &mut String, events: &[Event], versions: u64) -> Result<(), AllocError>
     ensures { OnOk result
-        (string_bytes printed.new ≡ string_bytes printed.old ++ line (audit_text outcome.now)) }
+        (string_bytes printed.new
+        ≡ string_bytes printed.old ++ line (audit_text events.now versions)) }
 {
-    let events = outcome.history.events.as_slice();
     let line = AuditLine {
         events: events.len() as u64,
         raised: raised_count(events) as u64,
-        versions: outcome.chain.len() as u64,
+        versions,
     };
     writeln!(printed, "{line}")
 }

@@ -5,7 +5,7 @@ ghost use Rattle.serde_json.specs.View.{view};
 ghost use Rattle.fdb_script.specs.Reading.{frame_of, framed_plan, IsUnlessMemory, ReadsAs};
 
 mod command;
-mod members;
+pub mod members;
 mod tags;
 mod whole;
 

@@ -11,14 +11,14 @@ use hex::FromHex;
 use serde_json::Value;
 
 /// The items of an array.
-pub(crate) fn items(value: &Value) -> Option<&[Value]>
+pub fn items(value: &Value) -> Option<&[Value]>
     ensures { option_map (λ items. map view items.now) result ≡ array_of (view value.now) }
 {
     Some(value.as_array()?.as_slice())
 }
 
 /// The items of an array that has at most so many.
-pub(crate) fn items_within(value: &Value, most: usize) -> Option<&[Value]>
+pub fn items_within(value: &Value, most: usize) -> Option<&[Value]>
     ensures { option_map (λ items. map view items.now) result ≡ array_within most (view value.now) }
 {
     let items = items(value)?;
@@ -41,7 +41,7 @@ fn whole_within(value: &Value, low: u64, high: u64) -> Option<u64>
 }
 
 /// A member that is a whole number.
-pub(crate) fn whole_member(value: &Value, name: &str) -> Option<u64>
+pub fn whole_member(value: &Value, name: &str) -> Option<u64>
     ensures { result ≡ member whole name.now (view value.now) }
 {
     value.get(name)?.as_u64()
