@@ -1,0 +1,13 @@
+//! The audit of the logs of any system that has read versions and commit versions.
+//!
+//! A [`Trace`] is what such a system logged: the versions that were issued, and for each client
+//! its calls. [`read_trace`] makes one of the bytes of a JSON text. What a system does not log
+//! (positions, flags, numbers of requests) is worked out by [`work_out`], as
+//! `specs/WorkedOut.antt` says, and [`fdb_history::audit`] judges the logs that come of it.
+#![tactic(auto)]
+
+mod error;
+mod trace;
+
+pub use error::TraceError;
+pub use trace::{Drawn, MAX_TRACE_BYTES, MAX_TRACE_CLIENTS, Step, Trace};
