@@ -3,3 +3,4 @@ pub mod WorkedOut
 pub mod Circular
 pub mod Laws
 pub use Rattle.fdb_history.specs.Audit
+pub mod private
