@@ -1,7 +1,7 @@
 -- What a system does not log is worked out: positions, flags, ordinals and numbers of requests. (all
 -- of this is this product's own)
 use Rattle.std.specs.Prelude.{◌≡◌, ℕ, zero, suc, ◌+◌, ◌≤◌, ◌==◌, true, false, nat_lt, nat_le, max, List, [], ◌∷◌, ◌++◌, length, count_by, None, Some, slice_get, unwrap_or, if◌then◌else◌}
-use Rattle.std.specs.List.{Contains, find}
+use Rattle.std.specs.List.{Contains, find, slice_index_or}
 use Rattle.std.specs.List.Sorted.{IsStrictlyIncreasing}
 use Rattle.fdb_history.specs.Chain.{latest}
 use Rattle.fdb_history.specs.declared.chain.Issued.{Issued}
@@ -87,6 +87,11 @@ pub record AreMarks (raised marks : List ℕ) : Type 0 where
 -- The position of a version: how many versions up to it raised the live committed version.
 abbrev pub position_of : List ℕ → ℕ → ℕ
 position_of marks version = count_by (λ mark. nat_le mark version) marks
+
+-- The live committed version at a position: the start, and then the version that raised it there.
+abbrev pub mark_at : ℕ → List ℕ → ℕ → ℕ
+mark_at start marks zero = start
+mark_at start marks (suc position) = slice_index_or marks position start
 
 -- ---- the chain
 
