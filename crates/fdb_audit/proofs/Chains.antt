@@ -1,7 +1,7 @@
 -- The chain of the versions that were issued.
-use Rattle.std.proofs.Common.{◌≡◌, ◌+◌, ◌==◌, ℕ, List, [], ◌∷◌, ◌++◌, length, map, count_by, true, ap, refl, sym, ◌∙◌, append_assoc, append-nil, cond, sum_by, arith}
+use Rattle.std.proofs.Common.{◌≡◌, ◌+◌, ◌==◌, ℕ, List, [], ◌∷◌, ◌++◌, length, map, true, ap, sym, ◌∙◌, append_assoc, append-nil, cond}
 use Rattle.std.proofs.lemmas.List.{map-append}
-use Rattle.std.proofs.lemmas.List.Sums.{sum_by-append}
+use Rattle.std.proofs.lemmas.List.Sums.{sum_by_push}
 use Rattle.fdb_history.specs.Chain.{latest}
 use Rattle.fdb_history.specs.declared.chain.Issued.{Issued}
 use Rattle.fdb_audit.specs.WorkedOut.{chain_from, chain_of}
@@ -32,5 +32,5 @@ pub versions_of : (versions : List Drawn) → map (λ entry. entry.version) (cha
 versions_of versions = versions_from [] 0 versions
 
 -- one more entry makes its client's number greater by one, and no other's
-pub latest_more : (client : ℕ) (before : List Issued) (entry : Issued) → latest client (before ++ entry ∷ []) ≡ latest client before + latest client (entry ∷ [])
-latest_more client before entry = sum_by-append (λ answer. cond (answer.proxy == client) 1 0) before (entry ∷ [])
+pub latest_more : (client : ℕ) (before : List Issued) (entry : Issued) → latest client (before ++ entry ∷ []) ≡ latest client before + cond (entry.proxy == client) 1 0
+latest_more client before entry = sum_by_push (λ old. cond (old.proxy == client) 1 0) before entry

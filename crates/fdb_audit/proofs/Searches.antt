@@ -1,5 +1,5 @@
 -- What a search in an ordered list finds.
-use Rattle.std.proofs.Common.{◌≡◌, ◌≢◌, ◌+◌, ◌==◌, ◌<◌, ◌≤◌, ℕ, zero, suc, Bool, true, false, List, [], ◌∷◌, length, map, get_or, None, Some, Ok, Err, Result, MatchResult, eqb, ap, refl, sym, ◌∙◌, cond, count_by, arith}
+use Rattle.std.proofs.Common.{◌≡◌, ◌≢◌, ◌==◌, ◌<◌, ◌≤◌, ℕ, zero, suc, Bool, true, false, List, [], ◌∷◌, length, map, get_or, None, Some, Ok, Err, Result, MatchResult, ap, refl, sym, ◌∙◌, cond, count_by, arith}
 use Rattle.std.proofs.lemmas.Bool.Decides.{nat_tests}
 use Rattle.std.proofs.lemmas.Cmp.{ranked}
 use Rattle.std.proofs.lemmas.List.{length-map, get_or-map}
@@ -16,11 +16,11 @@ pub counted : {X : Type 0} (p : X → Bool) (xs : List X) (i : ℕ) → IsPartit
 counted p [] i point le = omega (arith, le)
 counted p (x ∷ xs) zero point le =
     let rest = counted p xs zero ((λ k d a b. absurd (omega (arith, b))), (λ k d a b. point.1 (suc k) d (omega arith) (omega (arith, b)))) (omega arith) in
-    let fails : cond (p x) 1 0 ≡ 0 = ap (λ b. cond b 1 0) (point.1 zero x (omega arith) (omega arith)) in
+    let fails : ◌≡◌ {A = ℕ} (cond (p x) 1 0) 0 = ap (λ b. cond b 1 0) (point.1 zero x (omega arith) (omega arith)) in
     sum_by-cons (λ y. cond (p y) 1 0) x xs ∙ omega (arith, fails, rest)
 counted p (x ∷ xs) (suc i) point le =
     let rest = counted p xs i ((λ k d a b. point.0 (suc k) d (omega arith) (omega (arith, b))), (λ k d a b. point.1 (suc k) d (omega (arith, a)) (omega (arith, b)))) (omega (arith, le)) in
-    let passes : cond (p x) 1 0 ≡ 1 = ap (λ b. cond b 1 0) (point.0 zero x (omega arith) (omega arith)) in
+    let passes : ◌≡◌ {A = ℕ} (cond (p x) 1 0) 1 = ap (λ b. cond b 1 0) (point.0 zero x (omega arith) (omega arith)) in
     sum_by-cons (λ y. cond (p y) 1 0) x xs ∙ omega (arith, passes, rest)
 
 -- numbers that rise
@@ -35,7 +35,7 @@ module _ (entries : List Issued) (rising : IsStrictlyIncreasing (map (λ entry. 
   pub version_below : (i j : ℕ) (d : Issued) → i < j → j < length entries → (get_or entries i d).version < (get_or entries j d).version
   version_below i j d less within =
       let versions = map (λ (entry : Issued). entry.version) entries in
-      let below = rising_below versions rising i j d.version less (omega (arith, within, length-map (λ (entry : Issued). entry.version) entries)) in
+      let below = rising_below versions rising i j d.version less (omega (arith, within, length-map entries (λ (entry : Issued). entry.version))) in
       grind (arith, below, get_or-map (λ (entry : Issued). entry.version) entries i d, get_or-map (λ (entry : Issued). entry.version) entries j d)
 
   comparisons_rise : (d : Issued) → IsNonDecreasingBy (λ entry. ordering_index (nat_cmp entry.version version)) entries

@@ -1,7 +1,7 @@
 //! The chain of the commit versions that were issued.
 
-ghost use Rattle.std.specs.Prelude.{◌≡◌, ◌+◌, ◌<◌, ◌^◌, ℕ, IfOk, Some, length, map, slice_get};
-ghost use Rattle.std.specs.Prelude.{slice_index_or, slice_set};
+ghost use Rattle.std.specs.Prelude.{◌≡◌, ◌+◌, ◌<◌, ◌≤◌, ◌^◌, ℕ, All, IfOk, Some, [], length, map};
+ghost use Rattle.std.specs.Prelude.{slice_get, slice_index_or, slice_set, vec_capacity};
 ghost use Rattle.std.specs.List.Sorted.{IsStrictlyIncreasing};
 ghost use Rattle.fdb_audit.specs.WorkedOut.{chain_of, entry_of, number_in};
 ghost use Rattle.fdb_audit.specs.declared.trace.Drawn.{Drawn};
@@ -23,9 +23,22 @@ pub(crate) fn chain_of(
 {
     let mut numbers = vec![in alloc; 0; clients]?;
     let mut chain = Vec::with_capacity(alloc, versions.len())?;
+    add_entries(&mut chain, &mut numbers, versions);
+    Ok(chain)
+}
+
+/// Adds the entries of all versions to an empty chain. `numbers` are the clients' latest ones.
+fn add_entries(chain: &mut Vec<Issued>, numbers: &mut [u64], versions: &[Drawn])
+    requires empty { chain.old.items ≡ [] }
+    requires room { length versions.now ≤ vec_capacity chain.old }
+    requires none { All (λ number. number ≡ 0) numbers.old }
+    requires issued { (place : ℕ) (drawn : Drawn) → slice_get versions.now place ≡ Some drawn
+        → drawn.client < length numbers.old }
+    ensures { chain.new.items ≡ chain_of versions.now }
+{
     let mut prev = 0;
     for drawn in versions {
-        let num = next_number(&mut numbers, drawn.client);
+        let num = next_number(numbers, drawn.client);
         chain.push_reserved(Issued {
             ordinal: chain.len() as u64,
             proxy: drawn.client,
@@ -38,7 +51,6 @@ pub(crate) fn chain_of(
         });
         prev = drawn.version;
     }
-    Ok(chain)
 }
 
 /// The next number of a client, which is then its latest.
