@@ -7,6 +7,7 @@
 #![tactic(auto)]
 
 mod error;
+mod seen;
 mod trace;
 
 pub use error::TraceError;
