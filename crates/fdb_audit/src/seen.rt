@@ -80,7 +80,7 @@ impl Progress {
         let mut table = Vec::with_capacity(alloc, clients.len())?;
         for steps in clients {
             let row = Vec::with_capacity(alloc, steps.len())?;
-            table.push_reserved(Sequence::from(row));
+            table.push(Sequence::from(row))?;
         }
         Ok(Progress {
             table,
