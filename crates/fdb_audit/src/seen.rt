@@ -3,7 +3,7 @@
 ghost use Rattle.std.specs.Prelude.{◌≡◌, ◌<◌, ◌≤◌, ◌⊎◌, ℕ, [], false, length, slice_get};
 ghost use Rattle.std.specs.Prelude.{IfErr, IfOk, IfSome, IfNone, OnOk};
 ghost use Rattle.fdb_audit.specs.Circular.{IsCircular};
-ghost use Rattle.fdb_audit.specs.Trace.{AreNamed, steps_of};
+ghost use Rattle.fdb_audit.specs.Trace.{steps_of};
 ghost use Rattle.fdb_audit.specs.WorkedOut.{IsSeen, seen_before};
 ghost use Rattle.fdb_audit.specs.private.Seen.{HasMoved, IsComplete, IsSeenSoFar, IsStuck};
 ghost use Rattle.fdb_audit.specs.private.Seen.{row_of, seen_at, shown_by};
@@ -24,8 +24,7 @@ pub(crate) fn seen_by(
     start: u64,
     clients: &[Sequence<Step>],
 ) -> Result<Vec<Sequence<u64>>, TraceError>
-    requires named { AreNamed clients.now }
-    requires few { length clients.now ≤ MAX_TRACE_CLIENTS }
+    requires { length clients.now ≤ MAX_TRACE_CLIENTS }
     ensures lengths { IfOk result (λ table. IsComplete clients.now table.items) }
     ensures ok { IfOk result (λ table. IsSeen start clients.now (seen_at table.items)) }
     ensures err { IfErr result (λ error. (error ≡ TraceError.Memory)
@@ -48,6 +47,7 @@ fn first_unfinished(clients: &[Sequence<Step>], table: &[Sequence<u64>]) -> Opti
     requires count { length table.now ≡ length clients.now }
     requires within { (client : ℕ) → length (row_of table.now client)
         ≤ length (steps_of clients.now client) }
+    ensures within { IfSome result (λ client. client < length table.now) }
     ensures some { IfSome result (λ client. length (row_of table.now client)
         < length (steps_of clients.now client)) }
     ensures none { IfNone result (IsComplete clients.now table.now) }
@@ -146,20 +146,46 @@ impl Progress {
         ensures ready { IfOk result (λ moved. moved ≡ false
             → self.new.waiters.ready.items ≡ self.old.waiters.ready.items) }
     {
-        let mut moved = false;
-        while work_out_next(start, clients, &mut self.table, client)? {
-            moved = true;
+        let moved = work_out_calls(start, clients, &mut self.table, client)?;
+        self.park(clients, client)?;
+        if !moved {
+            return Ok(false);
         }
-        if moved {
-            self.waiters.wake(client, count_row(self.table.as_slice(), client))?;
-        }
-        if let Some(Step::Learn { from, call }) =
-            next_step(clients, self.table.as_slice(), client)
-        {
-            self.waiters.park(Waiter { call, client }, from)?;
-        }
-        Ok(moved)
+        let reached = count_calls(self.table.as_slice(), client);
+        self.waiters.wake(client, reached)?;
+        Ok(true)
     }
+
+    /// Lets a client that has come to a learn wait for what it learns from.
+    fn park(&mut self, clients: &[Sequence<Step>], client: u32) -> Result<(), AllocError>
+        requires { length self.old.table.items ≡ length clients.now }
+        ensures table { self.new.table.items ≡ self.old.table.items }
+        ensures ready { self.new.waiters.ready.items ≡ self.old.waiters.ready.items }
+    {
+        match next_step(clients, self.table.as_slice(), client) {
+            Some(Step::Learn { from, call }) => self.waiters.park(Waiter { call, client }, from),
+            _ => Ok(()),
+        }
+    }
+}
+
+/// Works out a client's calls as far as it can: whether a call was worked out.
+fn work_out_calls(
+    start: u64,
+    clients: &[Sequence<Step>],
+    table: &mut Vec<Sequence<u64>>,
+    client: u32,
+) -> Result<bool, AllocError>
+    requires { IsSeenSoFar start clients.now table.old.items }
+    ensures so_far { OnOk result (IsSeenSoFar start clients.now table.new.items) }
+    ensures moved { IfOk result (HasMoved clients.now table.old.items table.new.items) }
+    ensures stuck { OnOk result (IsStuck clients.now table.new.items client) }
+{
+    let mut moved = false;
+    while work_out_next(start, clients, table, client)? {
+        moved = true;
+    }
+    Ok(moved)
 }
 
 /// Works out the call that a client has come to: whether it could.
@@ -223,7 +249,9 @@ fn last_seen(start: u64, table: &[Sequence<u64>], client: u32) -> u64
 }
 
 /// How many calls of a client the table has.
-fn count_row(table: &[Sequence<u64>], client: u32) -> u64 {
+fn count_calls(table: &[Sequence<u64>], client: u32) -> u64
+    ensures { result ≡ length (row_of table.now client) }
+{
     match table.get(client as usize) {
         Some(row) => row.len() as u64,
         None => 0,

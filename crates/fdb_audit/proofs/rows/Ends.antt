@@ -1,8 +1,9 @@
 -- how a table begins, and what it says in the end
-use Rattle.std.proofs.Common.{◌≡◌, ℕ, zero, suc, ◌<◌, ◌≤◌, List, [], ◌∷◌, ◌++◌, length, get_or, None, Some, inl, inr, refl, sym, ap, ◌∙◌, arith}
+use Rattle.std.proofs.Common.{◌≡◌, ℕ, zero, suc, ◌<◌, ◌≤◌, List, [], ◌∷◌, ◌++◌, length, get_or, None, Some, inl, inr, refl, sym, ap, subst, ◌∙◌, arith}
 use Rattle.std.specs.Prelude.{slice_get}
 use Rattle.std.proofs.lemmas.Bool.{cases_lt}
-use Rattle.std.proofs.lemmas.Option.{slice_get-get_or, slice_get_within}
+use Rattle.std.proofs.lemmas.Option.{slice_get-get_or, slice_get_within, unwrap_or-slice_get}
+use Rattle.std.proofs.lemmas.List.{get_or_read}
 use Rattle.fdb_audit.specs.Circular.{IsCircular}
 use Rattle.fdb_audit.specs.Trace.{steps_of}
 use Rattle.fdb_audit.specs.WorkedOut.{IsSeen}
@@ -76,3 +77,13 @@ circular clients table client stuck below = record {
       let wait = waits_for table next.0 (stuck c next.0 next.1) in
       (wait.0, wait.1, next.1 ∙ ap Some wait.2, wait.3);
 }
+
+-- the same, where the row is read at the client's index
+pub circular-read : (clients : List (List Step)) (table : List (List ℕ)) (client count : ℕ) (row : List ℕ)
+    → ((c : ℕ) → IsStuck clients table c)
+    → length (row_of table client) < length (steps_of clients client)
+    → client < length table → row ≡ get_or table client row → count ≡ length row
+    → IsCircular clients client count
+circular-read clients table client count row stuck short below is counted =
+    let same : count ≡ length (row_of table client) = counted ∙ ap length (get_or_read table client row below is [] ∙ sym (unwrap_or-slice_get table client [])) in
+    subst (IsCircular clients client) (sym same) (circular clients table client stuck short)

@@ -1,5 +1,5 @@
 -- a table in which one client's row has one call more
-use Rattle.std.proofs.Common.{◌≡◌, ℕ, zero, suc, ◌+◌, ◌<◌, ◌≤◌, max, List, [], ◌∷◌, ◌++◌, length, get_or, set, None, Some, ◌⊎◌, inl, inr, refl, sym, ap, ◌∙◌, arith}
+use Rattle.std.proofs.Common.{◌≡◌, ℕ, zero, suc, ◌<◌, ◌≤◌, max, List, [], ◌∷◌, ◌++◌, length, get_or, set, None, Some, ◌⊎◌, inl, inr, refl, sym, ap, ◌∙◌, arith}
 use Rattle.std.specs.Prelude.{slice_get, unwrap_or}
 use Rattle.std.proofs.lemmas.Bool.{cases_eq, cases_lt}
 use Rattle.std.proofs.lemmas.List.{get_or-set_same, get_or-set_other, get_or_append_left, get_or_push, get_or_read, length_push, length-set}
@@ -155,7 +155,7 @@ so_far-more start clients before after client step last version so_far here is l
     let end' = length (row_of before client) in
     let source = has_source before step version is in
     let known : (c place : ℕ) (s : Step) → place < length (row_of before c) → IsStep clients c place s → HasSource before s =
-        λ c place s below at from call learn. so_far.learnt c place from call below (at ∙ ap Some learn) in
+    λ c place s below at from call learn. so_far.learnt c place from call below (at ∙ ap Some learn) in
     record {
       count = g.count ∙ so_far.count;
       within = λ c.
@@ -200,7 +200,7 @@ so_far-more start clients before after client step last version so_far here is l
                   shown_is before step version is,
                   shown_bound start clients before bound so_far bounds step source,
                   own.0,
-                  own.1
+                  own.1,
                 )
           ];
     }
