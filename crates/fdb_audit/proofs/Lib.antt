@@ -1,3 +1,4 @@
 pub mod Searches
 pub mod Chains
 pub mod registers
+pub mod rows
