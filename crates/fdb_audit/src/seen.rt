@@ -25,7 +25,8 @@ pub(crate) fn seen_by(
     clients: &[Sequence<Step>],
 ) -> Result<Vec<Sequence<u64>>, TraceError>
     requires { length clients.now ≤ MAX_TRACE_CLIENTS }
-    ensures lengths { IfOk result (λ table. IsComplete clients.now table.items) }
+    ensures ordered { OnOk result
+        ((client call : ℕ) → IsCircular clients.now client call → ⊥) }
     ensures ok { IfOk result (λ table. IsSeen start clients.now (seen_at table.items)) }
     ensures err { IfErr result (λ error. (error ≡ TraceError.Memory)
         ⊎ ((client call : ℕ) × (error ≡ TraceError.Circular client call)

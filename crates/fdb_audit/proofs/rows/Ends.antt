@@ -29,6 +29,7 @@ so_far-none start clients table count empty = record {
   learnt = λ client place from call below at. absurd (omega (arith, below, ap length (empty client)));
   greatest = λ client place step below at. absurd (omega (arith, below, ap length (empty client)));
   least = λ bound bounds client place below. absurd (omega (arith, below, ap length (empty client)));
+  free = λ reached waits client. omega (arith, ap length (empty client));
 }
 
 -- a table with each call says what each client had seen
@@ -41,6 +42,13 @@ seen-complete start clients table so_far complete = record {
   least = λ bound bounds client place step at.
       so_far.least bound bounds client place (omega (arith, complete client, slice_get_within (steps_of clients client) place step at));
 }
+
+-- and no call waits for one that waits for it
+pub ordered-complete : (start : ℕ) (clients : List (List Step)) (table : List (List ℕ))
+    → IsSeenSoFar start clients table → IsComplete clients table
+    → (client call : ℕ) → IsCircular clients client call → ⊥
+ordered-complete start clients table so_far complete client call circle =
+    omega (arith, so_far.free circle.reached circle.waits client, complete client, circle.here, circle.stopped)
 
 -- what a list has at a place within it
 there : {A : Type 0} (xs : List A) (place : ℕ) → place < length xs

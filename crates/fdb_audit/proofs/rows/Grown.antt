@@ -4,6 +4,7 @@ use Rattle.std.specs.Prelude.{slice_get, unwrap_or}
 use Rattle.std.proofs.lemmas.Bool.{cases_eq, cases_lt}
 use Rattle.std.proofs.lemmas.List.{get_or-set_same, get_or-set_other, get_or_append_left, get_or_push, get_or_read, length_push, length-set}
 use Rattle.std.proofs.lemmas.Option.{unwrap_or-slice_get, get_or_from_slice_get, slice_get_past, slice_get_within}
+use Rattle.fdb_audit.specs.Circular.{Waits}
 use Rattle.fdb_audit.specs.Trace.{steps_of}
 use Rattle.fdb_audit.specs.WorkedOut.{IsBound, IsStep, seen_before, shown}
 use Rattle.fdb_audit.specs.private.Seen.{IsSeenSoFar, row_of, seen_at, shown_by}
@@ -142,6 +143,21 @@ same_step clients c client place n step other e q there here =
     let moved : IsStep clients client n other = ap (λ k. slice_get (steps_of clients k) n) (sym e) ∙ (ap (λ k. slice_get (steps_of clients c) k) (sym q) ∙ there) in
     cc
 
+-- a call whose source is there comes before those that wait for one another
+not_reached : (clients : List (List Step)) (table : List (List ℕ)) (client : ℕ) (step : Step) (reached : ℕ → ℕ)
+    → Waits clients reached → ((c : ℕ) → length (row_of table c) ≤ reached c)
+    → IsStep clients client (length (row_of table client)) step → HasSource table step
+    → length (row_of table client) < reached client
+not_reached clients table client step reached waits free here source =
+    elim (cases_lt (length (row_of table client)) (reached client)) [
+      | inl below ↦ below
+      | inr past ↦
+          let same : reached client ≡ length (row_of table client) = omega (arith, past, free client) in
+          let wait = waits client (omega (arith, same, slice_get_within (steps_of clients client) (length (row_of table client)) step here)) in
+          let learns : step ≡ Learn wait.0 wait.1 = sym (same_step clients client client (reached client) (length (row_of table client)) step (Learn wait.0 wait.1) refl same wait.2 here) in
+          absurd (omega (arith, source wait.0 wait.1 learns, free wait.0, wait.3))
+    ]
+
 -- A call is worked out: the table then says what it leaves seen, and all that it said.
 pub so_far-more : (start : ℕ) (clients : List (List Step)) (before after : List (List ℕ)) (client : ℕ) (step : Step) (last version : ℕ)
     → IsSeenSoFar start clients before
@@ -202,6 +218,13 @@ so_far-more start clients before after client step last version so_far here is l
                   own.0,
                   own.1,
                 )
+          ];
+      free = λ reached waits c.
+          elim (row_cases client v before after g c) [
+            | inl e ↦ omega (arith, ap length e, so_far.free reached waits c)
+            | inr e ↦
+                let further = not_reached clients before client step reached waits (so_far.free reached waits) here source in
+                omega (arith, ap length e.1, length_push (row_of before c) v, ap reached e.0, ap (λ k. length (row_of before k)) e.0, further)
           ];
     }
 

@@ -1,5 +1,6 @@
 -- What each client had seen, as far as it is worked out. (this product's own)
 use Rattle.std.specs.Prelude.{◌≡◌, ℕ, ◌+◌, ◌-◌, ◌<◌, ◌≤◌, Bool, true, false, max, List, [], ◌∷◌, length, Option, None, Some, slice_get, slice_index_or, unwrap_or}
+use Rattle.fdb_audit.specs.Circular.{Waits}
 use Rattle.fdb_audit.specs.Trace.{steps_of}
 use Rattle.fdb_audit.specs.WorkedOut.{IsBound, IsStep, seen_before, shown}
 use Rattle.fdb_audit.specs.declared.trace.Step.{Step}
@@ -35,6 +36,9 @@ pub record IsSeenSoFar
   pub least : (bound : ℕ → ℕ → ℕ) → IsBound start clients bound
       → (client place : ℕ) → place < length (row_of table client)
       → seen_at table client place ≤ bound client place
+  -- where calls wait for one another it says nothing of them
+  pub free : (reached : ℕ → ℕ) → Waits clients reached
+      → (client : ℕ) → length (row_of table client) ≤ reached client
 
 -- a client has come to its end, or to a call for which the table does not say what it shows
 abbrev pub IsStuck : List (List Step) → List (List ℕ) → ℕ → Type 0
