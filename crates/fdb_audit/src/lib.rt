@@ -7,7 +7,9 @@
 #![tactic(auto)]
 
 mod error;
+mod reading;
 mod trace;
 
 pub use error::TraceError;
+pub use reading::read_trace;
 pub use trace::{Drawn, MAX_TRACE_BYTES, MAX_TRACE_CLIENTS, Step, Trace};
