@@ -1,4 +1,5 @@
 pub mod Trace
+pub mod Reading
 pub mod WorkedOut
 pub mod Circular
 pub mod Laws
