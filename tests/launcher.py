@@ -1,4 +1,4 @@
-"""The launcher, in a folder of its own with a stand-in for rt and for the program."""
+"""The launchers, in a folder of its own with a stand-in for rt and for the programs."""
 import os
 import pty
 import re
@@ -13,7 +13,15 @@ TOOLS = "bash sh cat cp mv mkdir sleep find date readlink flock touch sed".split
 NOT_BUILT = 70
 QUICK = 0.1
 
-CRATES = "# lowest first: NAME: lower ones\nlow: thiserror\nother: low\nkept: low\nmiddle: low\nfdb_replay_cli: kept middle\nbench: low\n"
+CRATES = """# lowest first: NAME: lower ones
+low: thiserror
+other: low
+kept: low
+middle: low
+fdb_replay_cli: kept middle
+fdb_audit_cli: other
+bench: low
+"""
 # Locks the crate's folder, as rt does, and makes the program in its crate. It fails in the crate that the file `fails` names.
 RT = """#!/bin/sh
 exec 9< .
@@ -32,13 +40,13 @@ case "$name $1" in
     echo "tions checked"
     sleep ${SLOW-0}
     ;;
-"fdb_replay_cli run")
-    echo "rt: running out/fdb_replay_cli" >&2
+*"_cli run")
+    echo "rt: running out/$name" >&2
     sleep 0.2
     echo built >> "$ROOM/builds"
     mkdir -p out
     cp "$ROOM/stand_in" out/new
-    mv out/new out/fdb_replay_cli
+    mv out/new "out/$name"
     ;;
 esac
 """
@@ -71,22 +79,24 @@ rt: running out/fdb_replay_cli
 
 
 class Room:
-    """A repository with the launcher, one source, and a PATH that has the stand-in for rt."""
+    """A repository with a launcher, one source, and a PATH that has the stand-in for rt."""
 
-    def __init__(self, folder):
+    def __init__(self, folder, name="fdb_replay"):
         self.top, self.bin, self.away = f"{folder}/top", f"{folder}/bin", f"{folder}/away"
-        self.folder, self.crate = folder, f"{self.top}/crates/fdb_replay_cli"
-        for it in (f"{self.crate}/src", *(f"{self.top}/crates/{it}" for it in ("low", "kept", "middle")), self.bin, self.away):
+        self.folder, self.name, self.crate = folder, name, f"{self.top}/crates/{name}_cli"
+        for it in (f"{self.crate}/src", *(f"{self.top}/crates/{it}" for it in ("low", "other", "kept", "middle")), self.bin, self.away):
             os.makedirs(it)
-        shutil.copy(f"{ROOT}/fdb_replay", f"{self.top}/fdb_replay")
+        os.mkdir(f"{self.top}/tools")
+        for file in (name, "tools/launcher"):
+            shutil.copy(f"{ROOT}/{file}", f"{self.top}/{file}")
         self.write(f"{self.top}/crates.txt", CRATES)
-        for file in ("HANDLES", "crates/fdb_replay_cli/stdin", "crates/fdb_replay_cli/src/main.rt"):
+        for file in ("HANDLES", f"crates/{name}_cli/stdin", f"crates/{name}_cli/src/main.rt"):
             self.write(f"{self.top}/{file}", f"{file}\n")
         self.write(f"{self.bin}/rt", RT)
         self.write(f"{folder}/stand_in", PROGRAM)
         for tool in TOOLS:
             os.symlink(shutil.which(tool), f"{self.bin}/{tool}")
-        os.symlink(f"{self.top}/fdb_replay", f"{folder}/link")
+        os.symlink(f"{self.top}/{name}", f"{folder}/link")
 
     @staticmethod
     def write(file, text):
@@ -96,7 +106,7 @@ class Room:
 
     def launch(self, *arguments, given=b"bytes\n", by=None, status=0):
         env = {"PATH": self.bin, "ROOM": self.folder, "STATUS": str(status)}
-        return run([by or f"{self.top}/fdb_replay", *arguments], given, cwd=self.away, env=env)
+        return run([by or f"{self.top}/{self.name}", *arguments], given, cwd=self.away, env=env)
 
     def launch_on_terminal(self, slow):
         """Launches with a terminal as standard error, and returns how that ended and what the terminal was written."""
@@ -144,6 +154,8 @@ def launches(_program):
         yield from without_a_build(room)
     with tempfile.TemporaryDirectory(prefix="launch-") as folder:
         yield from told_launches(Room(os.path.realpath(folder)))
+    with tempfile.TemporaryDirectory(prefix="launch-") as folder:
+        yield from of_the_audit(Room(os.path.realpath(folder), "fdb_audit"))
 
 
 def first_launches(room):
@@ -178,15 +190,29 @@ def later_launches(room):
 
 def after_edits(room):
     builds = 1
-    for file in ("crates/fdb_replay_cli/src/main.rt", "crates/fdb_replay_cli/specs/Lib.antt", "crates/other/src/lib.rt", "crates.txt", "HANDLES"):
+    edits = [(f"crates/{it}", "edited\n") for it in ("fdb_replay_cli/src/main.rt", "fdb_replay_cli/specs/Lib.antt", "low/src/lib.rt")]
+    other = CRATES.replace("kept: low", "kept: low hex")
+    for file, text in (*edits, ("crates.txt", other), ("HANDLES", "edited\n")):
         os.makedirs(os.path.dirname(f"{room.top}/{file}"), exist_ok=True)
-        room.write(f"{room.top}/{file}", "edited\n")
+        room.write(f"{room.top}/{file}", text)
         builds += 1
         yield f"an edit of {file} builds again", room.fault(room.launch(), room.wanted(err=None), builds)
         yield f"once after {file}", room.fault(room.launch(), room.wanted(), builds)
-    room.write(f"{room.crate}/out/kept.rt", "made\n")
-    room.write(f"{room.top}/README.md", "edited\n")
-    yield "other files build nothing", room.fault(room.launch(), room.wanted(), builds)
+    os.mkdir(f"{room.top}/crates/other/src")
+    for file, text in (
+        ("crates/fdb_replay_cli/out/kept.rt", "made\n"),
+        ("README.md", "edited\n"),
+        ("crates/other/src/lib.rt", "edited\n"),
+        ("crates.txt", other.replace("other: low", "other: low hex") + "more: other\n"),
+    ):
+        room.write(f"{room.top}/{file}", text)
+        yield f"an edit of {file} builds nothing where the program does not need it", room.fault(room.launch(), room.wanted(), builds)
+    # The lines that were noted are not those of a program that rt built since.
+    room.write(f"{room.top}/crates.txt", CRATES)
+    shutil.copy(f"{room.folder}/stand_in", f"{room.crate}/out/fdb_replay_cli")
+    yield "a program that rt built", room.fault(room.launch(), room.wanted(), builds)
+    room.write(f"{room.top}/crates.txt", other)
+    yield "and other lines than its own", room.fault(room.launch(), room.wanted(err=None), builds + 1)
 
 
 def two_at_once(room):
@@ -209,6 +235,17 @@ def without_a_build(room):
     yield "a built program needs no rt", room.fault(room.launch(), room.wanted(), builds)
     room.write(f"{room.top}/crates.txt", "edited again\n")
     yield "an old program is not run where there is no rt", room.fault(room.launch(), Ran(NOT_BUILT, b"", None), builds)
+
+
+def of_the_audit(room):
+    """The other program has its own crates, of which the launcher of the first knows nothing."""
+    ran = room.launch("x")
+    yield "the audit's first launch builds", room.fault(ran, room.wanted("x", err=None), 1)
+    begun = b"fdb_audit: proving and building the program first"
+    yield "the audit's own name", None if ran.err.startswith(begun) else repr(ran.err)
+    yield "the audit's crates are proved in turn", other_text(f"{room.folder}/calls", b"low lib\nother lib\nfdb_audit_cli run\n")
+    room.write(f"{room.top}/crates/middle/lib.rt", "edited\n")
+    yield "the audit through a link", room.fault(room.launch(by=f"{room.folder}/link"), room.wanted(), 1)
 
 
 def told_launches(room):

@@ -3,7 +3,7 @@ use Rattle.std.proofs.Common.{◌≡◌, ℕ, ◌+◌, ◌≤◌, List, ◌++◌
 use Rattle.std.specs.Io.KnownBytes.{Consumes, IsAtEnd}
 use Rattle.std.proofs.KnownBytes.{Consumes-trans}
 use Rattle.std.proofs.lemmas.List.{length-append}
-use Rattle.fdb_replay.specs.Arguments.{TakesAtMost}
+use Rattle.fdb_command.specs.Input.{TakesAtMost}
 
 pub read_more : (first before after : Option (List ℕ)) (so_far more taken : List ℕ) → more ≡ so_far ++ taken → Consumes first before so_far → Consumes before after taken → Consumes first after more
 read_more first before after so_far more taken is read piece = subst (Consumes first after) (sym is) (Consumes-trans first before after so_far taken read piece)

@@ -1,15 +1,12 @@
-//! The bytes of a script, from a file or from the input.
+//! All bytes of a file or of the input, if they are not too many.
 
 ghost use Rattle.std.specs.Prelude.{◌≡◌, ◌≢◌, ◌+◌, ◌++◌, ◌<◌, ◌≤◌, ℕ, List, Some, None, Ok, Err};
 ghost use Rattle.std.specs.Prelude.{IfOk, IfErr, IsErrAnd, IfSome, OnErr, false, true, is_some};
 ghost use Rattle.std.specs.Prelude.{length, option_map, vec_len};
 ghost use Rattle.std.specs.Io.KnownBytes.{Consumes, IsAtEnd};
 ghost use Rattle.std.specs.IoError.{error_kind};
-ghost use Rattle.fdb_replay.specs.Arguments.{MayBeRead, TakesAtMost};
-ghost use Rattle.fdb_replay.specs.private.Failing.{IsCauseOf};
-ghost use Rattle.fdb_script.specs.declared.script.TheConstants.{MAX_SCRIPT_BYTES};
+ghost use Rattle.fdb_command.specs.Input.{IsCauseOf, MayBeRead, TakesAtMost};
 
-use fdb_script::MAX_SCRIPT_BYTES;
 use std::alloc::{AllocError, Global};
 use std::fs::{File, Files};
 use std::io;
@@ -18,10 +15,10 @@ use std::io::{ErrorKind, Read};
 /// The most bytes that one read asks for.
 const PIECE: usize = 65_536;
 
-/// Why the bytes of a script could not be had.
-#[derive(Clone, Copy)]
-pub(crate) enum InputFault {
-    /// They could not be read, or are more than a script may have.
+/// Why the bytes of an input could not be had.
+#[derive(Clone, Copy, Debug, PartialEq, Eq)]
+pub enum InputFault {
+    /// They could not be read, or are too many.
     Reading,
     /// Memory was refused.
     Memory,
@@ -29,7 +26,7 @@ pub(crate) enum InputFault {
 
 impl From<AllocError> for InputFault {
     ghost use Rattle.std.specs.Prelude.{◌≡◌};
-    ghost use Rattle.fdb_replay.specs.declared.input.InputFault.TheVariants.{Memory};
+    ghost use Rattle.fdb_command.specs.declared.input.InputFault.TheVariants.{Memory};
 
     ghost from_gives = { λ _ fault. fault ≡ Memory };
 
@@ -39,7 +36,7 @@ impl From<AllocError> for InputFault {
 }
 
 impl From<io::Error> for InputFault {
-    ghost use Rattle.fdb_replay.specs.private.Failing.{IsCauseOf};
+    ghost use Rattle.fdb_command.specs.Input.{IsCauseOf};
 
     ghost from_gives = { λ error fault. IsCauseOf error fault };
 
@@ -51,45 +48,49 @@ impl From<io::Error> for InputFault {
     }
 }
 
-/// All bytes of the file that is named, or else of the
-/// input, if they are no more than a script may have.
-pub(crate) fn script_bytes<R: Files, I: Read>(
+/// All bytes of the file that is named, or else of the input, if there are no more than `most`.
+/// One byte more is taken from the input at the most, and none where a file is named.
+pub fn input_bytes<R: Files, I: Read>(
     rt: &R,
     alloc: Global,
-    script: Option<&str>,
+    file: Option<&str>,
     input: &mut I,
+    most: usize,
 ) -> Result<Vec<u8>, InputFault>
     ensures all { IfOk result (λ bytes.
-        MayBeRead (option_map (λ path. path.now) script.entry) (I.remaining input.old)
+        MayBeRead (option_map (λ path. path.now) file.entry) (I.remaining input.old)
         bytes.items) }
-    ensures in_range { IfOk result (λ bytes. vec_len bytes ≤ MAX_SCRIPT_BYTES) }
-    ensures left { is_some script.entry ≡ true → input.new ≡ input.old }
-    ensures few { TakesAtMost (MAX_SCRIPT_BYTES + 1)
+    ensures in_range { IfOk result (λ bytes. vec_len bytes ≤ most) }
+    ensures left { is_some file.entry ≡ true → input.new ≡ input.old }
+    ensures few { TakesAtMost (most + 1)
         (I.remaining input.old) (I.remaining input.new) }
 {
-    match script {
-        Some(path) => file_bytes(alloc, File::open(rt, path)),
-        None => read_all(alloc, input),
+    match file {
+        Some(path) => file_bytes(alloc, File::open(rt, path), most),
+        None => read_all(alloc, input, most),
     }
 }
 
-/// All bytes of a file, if it could be opened and has no more than a script may have.
-fn file_bytes<F: Read + Drop>(alloc: Global, opened: io::Result<F>) -> Result<Vec<u8>, InputFault>
+/// All bytes of a file, if it could be opened and has no more than `most`.
+fn file_bytes<F: Read + Drop>(
+    alloc: Global,
+    opened: io::Result<F>,
+    most: usize,
+) -> Result<Vec<u8>, InputFault>
     ensures all { IfOk opened (λ file. IfOk result (λ bytes.
         IfSome (F.remaining file) (λ all. all ≡ bytes.items))) }
-    ensures in_range { IfOk result (λ bytes. vec_len bytes ≤ MAX_SCRIPT_BYTES) }
+    ensures in_range { IfOk result (λ bytes. vec_len bytes ≤ most) }
     ensures unopened { IfErr opened (λ error. IsErrAnd result (IsCauseOf error)) }
 {
     let mut file = opened?;
-    read_all(alloc, &mut file)
+    read_all(alloc, &mut file, most)
 }
 
-/// All bytes that the input has, if they are no more than a
-/// script may have. One byte more is taken at the most.
-fn read_all<I: Read>(alloc: Global, input: &mut I) -> Result<Vec<u8>, InputFault>
+/// All bytes that the input has, if they are no more than `most`. One byte more is taken at most.
+fn read_all<I: Read>(alloc: Global, input: &mut I, most: usize) -> Result<Vec<u8>, InputFault>
     ensures all { IfOk result (λ bytes. IfSome (I.remaining input.old) (λ all. all ≡ bytes.items)) }
-    ensures in_range { IfOk result (λ bytes. vec_len bytes ≤ MAX_SCRIPT_BYTES) }
-    ensures few { TakesAtMost (MAX_SCRIPT_BYTES + 1)
+    ensures in_range { IfOk result (λ bytes. vec_len bytes ≤ most) }
+    ensures few { TakesAtMost (most + 1)
         (I.remaining input.old) (I.remaining input.new) }
 {
     let mut bytes = Vec::new(alloc);
@@ -98,9 +99,9 @@ fn read_all<I: Read>(alloc: Global, input: &mut I) -> Result<Vec<u8>, InputFault
     let piece = piece.as_mut_slice();
     // A reader may be interrupted as often as it likes, but a loop has an end.
     for _ in 0..u64::MAX {
-        let room = piece.len().min(MAX_SCRIPT_BYTES + 1 - bytes.len());
+        let room = piece.len().min((most - bytes.len()).saturating_add(1));
         let more = read_piece(input, &mut bytes, &mut piece[..room])?;
-        if bytes.len() > MAX_SCRIPT_BYTES {
+        if bytes.len() > most {
             return Err(InputFault::Reading);
         }
         if !more {

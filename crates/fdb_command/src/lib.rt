@@ -1,0 +1,9 @@
+//! What the programs share of the command line: its arguments, the bytes
+//! of their input, and the help.
+#![tactic(auto)]
+
+mod arguments;
+mod input;
+
+pub use arguments::{ArgumentsFault, command_line, help_of, show};
+pub use input::{InputFault, input_bytes};
