@@ -14,7 +14,8 @@ use Rattle.clap.specs.declared.error.kind.ErrorKind.TheVariants.{DisplayHelp}
 use Rattle.fdb_command.specs.Input.{MayBeRead}
 use Rattle.fdb_history.specs.declared.fault.AuditFault.{AuditFault}
 use Rattle.fdb_replay.specs.Outcome.{IsFaulty}
-use Rattle.fdb_replay.specs.Replay.{IsRefused, Replays, TakesSome}
+use Rattle.fdb_command.specs.Output.{TakesSome}
+use Rattle.fdb_replay.specs.Replay.{IsRefused, Replays}
 use Rattle.fdb_script.specs.declared.script.TheConstants.{MAX_SCRIPT_BYTES}
 use Rattle.fdb_script.specs.Plan.{Plan}
 use Rattle.fdb_script.specs.Reading.{ReadsAs}

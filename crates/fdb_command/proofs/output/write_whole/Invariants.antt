@@ -1,6 +1,6 @@
 use Rattle.std.proofs.Common.{◌≡◌, ℕ, ◌<◌, List, ◌++◌, length}
 use Rattle.std.specs.Io.KnownBytes.{Appends}
-use Rattle.fdb_replay.proofs.replaying.write_whole.Given as goal
+use Rattle.fdb_command.proofs.output.write_whole.Given as goal
 
 -- what is gone from the rest was taken, and there is a rest
 abbrev pub invariant-loop : goal.invariant-loop
