@@ -1,8 +1,9 @@
 pub mod Trace
 pub mod Reading
-pub mod WorkedOut
 pub mod Circular
+pub mod WorkedOut
 pub mod Laws
+pub mod Judged
+pub mod Arguments
 pub mod private
 pub use Rattle.fdb_history.specs.Audit
-pub mod private
