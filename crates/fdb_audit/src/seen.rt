@@ -260,7 +260,7 @@ fn count_calls(table: &[Sequence<u64>], client: u32) -> u64
 }
 
 /// A client that waits for a call of another.
-#[derive(Clone, Copy, Debug, PartialEq, Eq, PartialOrd, Ord)]
+#[derive(Clone, Copy, PartialEq, Eq, PartialOrd, Ord)]
 struct Waiter {
     /// The place of the call.
     call: u64,
