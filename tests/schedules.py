@@ -121,9 +121,9 @@ class Client:
 class Schedule:
     """A run of a script in which these dice say who takes the next step."""
 
-    def __init__(self, script, proxies, dice, run=None):
+    def __init__(self, script, proxies, dice):
         self.script, self.dice = script, dice
-        self.run = run or Run(script)
+        self.run = Run(script)
         self.proxies = [Proxy(script, self.run) for _ in range(proxies)]
         self.reads, self.lines = Counter(), {}
 
