@@ -35,6 +35,8 @@ AFTER = [[ask(0), ask(0), report(0, 2), ask(0), ask(1), grv(1)]], {}
 ROUNDS = [[ask(0), ask(0), report(0, 2)], [grv(1), ask(1)], [grv(0)]], {}
 MINIMA = [[ask(0), report(0, min_known=50), ask(1), report(1, min_known=40), grv(1, use_min=True)]], {}
 APART = [[grv(0), ask(0), ask(1), grv(1)]], {"room": 1}
+LEFT = [[grv(0), ask(0), grv(2), ask(2), ask(1), grv(1)]], {"room": 1}
+WAITING = [[grv(0, priority="system"), grv(1, priority="batch", count=11)]]
 OFTEN = [[grv(0), grv(0), grv(1)]], {"room": 1}
 LONG = [[grv(0), grv(0), grv(1, count=30)]], {"room": 1, "normal": 1}
 
@@ -127,6 +129,14 @@ RACES = [
     (
         *("a queue that a read has left", APART, 1, "1 0 2", False),
         [READ, FIRST, SECOND, FULL],
+    ),
+    (
+        *("a queue that both other reads have left, of which one found it full", LEFT, 1, "1 0 3", False),
+        [READ, FIRST, THIRD, FULL, FULL, SECOND],
+    ),
+    (
+        *("a read of the system beside a batch one that waits", (WAITING, {"room": 1, "normal": 1, "batch": 1}), 1, "1 0 0", False),
+        [FULL, READ],
     ),
     (
         *("a queue in which a read may still wait", APART, 1, "1 0 2", True),
