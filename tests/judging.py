@@ -21,11 +21,15 @@ def proxies_of(seed):
 
 @lru_cache(maxsize=None)
 def drawn_script(seed):
-    """Draws a script: one in which nearly all goes, clients that race, or reads for which there is just room enough."""
+    """Draws a script: nearly all goes in it, clients race, or there is just room for all reads."""
     dice = random.Random(f"judged {seed}")
     if seed % 3 == 0:
         return script_of(drawn.lawful(dice).encode())
-    return script_of(json.dumps(drawn.racing(dice) if seed % 3 == 1 else drawn.fitting(dice, proxies_of(seed))).encode())
+    return script_of(
+        json.dumps(
+            drawn.racing(dice) if seed % 3 == 1 else drawn.fitting(dice, proxies_of(seed))
+        ).encode()
+    )
 
 
 def right_text(seed):
@@ -39,7 +43,7 @@ def judged(seed, text):
 
 
 def lawful_texts(_program):
-    """What the plainest run says is lawful, and so is what each drawn schedule gives, which is the same where nobody races."""
+    """What the plainest run and drawn schedules give is lawful, and without races the same."""
     for seed in range(DRAWN):
         serial, text = printed(drawn_script(seed), True), right_text(seed)
         yield f"the plainest run of seed {seed}", judged(seed, serial)
@@ -53,14 +57,18 @@ def worked_texts(_program):
     for name, (rounds, top), proxies, counts, is_lawful, ends in small_races.RACES:
         script = script_of(written(rounds, clients=3, **top))
         audit = "audit ok events {} raised {} versions {}".format(*counts.split())
-        calls = [(number, place, it) for number, commands in enumerate(script.rounds) for place, it in in_order(commands)]
+        calls = [
+            (number, place, it)
+            for number, commands in enumerate(script.rounds)
+            for place, it in in_order(commands)
+        ]
         lines = [line_of(number, place, it, end) for (number, place, it), end in zip(calls, ends)]
         fault = fault_of_text(script, proxies, text_of([*lines, audit]), history=False)
         yield name, None if (fault is None) == is_lawful else fault or "it was accepted"
 
 
 def wrong_texts(_program):
-    """A right text with a change in it is refused, for that change; the text without it is accepted."""
+    """A right text is accepted, and with a change in it refused for just that."""
     for script, text in wrong.RIGHTS:
         read = script_of(script)
         yield "a right text", fault_of_text(read, 1, text.encode())

@@ -13,8 +13,12 @@ TOOLS = "bash sh cat cp mv mkdir sleep find date readlink flock touch sed".split
 NOT_BUILT = 70
 QUICK = 0.1
 
-CRATES = "# lowest first: NAME: lower ones\nlow: thiserror\nother: low\nkept: low\nmiddle: low\nfdb_replay_cli: kept middle\nbench: low\n"
-# Locks the crate's folder, as rt does, and makes the program in its crate. It fails in the crate that the file `fails` names.
+CRATES = (
+    "# lowest first: NAME: lower ones\nlow: thiserror\nother: low\nkept: low\nmiddle: low\n"
+    "fdb_replay_cli: kept middle\nbench: low\n"
+)
+# Locks the crate's folder, as rt does, and makes the program in its crate. It fails in the crate
+# that the file `fails` names.
 RT = """#!/bin/sh
 exec 9< .
 flock 9
@@ -50,7 +54,8 @@ echo "fdb_replay: said" >&2
 exit ${STATUS-0}
 """
 SAID = b"fdb_replay: said\n"
-# What a build says where standard error is no terminal: a line for each crate that the program needs.
+# What a build says where standard error is no terminal: a line for each crate that the program
+# needs.
 TOLD = rb"""fdb_replay: proving and building the program first, .*
 fdb_replay: \[1/4\] low: 75 functions, \d s
 fdb_replay: \[2/4\] kept: kept
@@ -60,8 +65,15 @@ fdb_replay: built after \d seconds
 fdb_replay: said
 """
 # What a terminal is shown of the first crate, in turn, and how the next line begins.
-SHOWN = [rb"\d s so far", *[rb"0 of 75 functions, \d s so far"] * 2, rb"54 of 75 functions, \d s so far", rb"75 functions, \d s\r\n"]
-RENEWED = b"(?s)" + b".*".join(rb"\r\x1b\[Kfdb_replay: \[1/4\] low: " + it for it in SHOWN) + rb"\r\x1b\[Kfdb_replay: \[2/4\] kept: \d s so far"
+SHOWN = [
+    rb"\d s so far", *[rb"0 of 75 functions, \d s so far"] * 2, rb"54 of 75 functions, \d s so far",
+    rb"75 functions, \d s\r\n",
+]
+RENEWED = (
+    b"(?s)"
+    + b".*".join(rb"\r\x1b\[Kfdb_replay: \[1/4\] low: " + it for it in SHOWN)
+    + rb"\r\x1b\[Kfdb_replay: \[2/4\] kept: \d s so far"
+)
 LOGGED = b"""rt: proving low
 so far: 0 of 75 functions checked; the verdict comes last
 so far: 54 of 75 functions checked
@@ -76,7 +88,10 @@ class Room:
     def __init__(self, folder):
         self.top, self.bin, self.away = f"{folder}/top", f"{folder}/bin", f"{folder}/away"
         self.folder, self.crate = folder, f"{self.top}/crates/fdb_replay_cli"
-        for it in (f"{self.crate}/src", *(f"{self.top}/crates/{it}" for it in ("low", "kept", "middle")), self.bin, self.away):
+        for it in (
+            f"{self.crate}/src", *(f"{self.top}/crates/{it}" for it in ("low", "kept", "middle")),
+            self.bin, self.away,
+        ):
             os.makedirs(it)
         shutil.copy(f"{ROOT}/fdb_replay", f"{self.top}/fdb_replay")
         self.write(f"{self.top}/crates.txt", CRATES)
@@ -99,7 +114,7 @@ class Room:
         return run([by or f"{self.top}/fdb_replay", *arguments], given, cwd=self.away, env=env)
 
     def launch_on_terminal(self, slow):
-        """Launches with a terminal as standard error, and returns how that ended and what the terminal was written."""
+        """Launches with a terminal as standard error; returns how that ended and what it showed."""
         ours, theirs = pty.openpty()
         env = {"PATH": self.bin, "ROOM": self.folder, "TERM": "xterm", "SLOW": slow}
         ran = run([f"{self.top}/fdb_replay"], b"", cwd=self.away, env=env, stderr=theirs)
@@ -116,7 +131,9 @@ class Room:
     def fault(self, ran, wanted, builds):
         """Returns what is wrong with a launch, after which there were this many builds."""
         found = self.builds()
-        return fault_of(ran, wanted) or (f"{found} builds in place of {builds}" if found != builds else None)
+        return fault_of(ran, wanted) or (
+            f"{found} builds in place of {builds}" if found != builds else None
+        )
 
     def wanted(self, *arguments, given=b"bytes\n", status=0, err=SAID):
         lines = [self.away, *(f"argument {it}" for it in arguments)]
@@ -134,7 +151,7 @@ def read_terminal(file):
 
 
 def launches(_program):
-    """The launcher builds where it must, passes all on where it need not, and says so on standard error alone."""
+    """The launcher builds where it must, passes all on, and speaks on standard error alone."""
     with tempfile.TemporaryDirectory(prefix="launch-") as folder:
         room = Room(os.path.realpath(folder))
         yield from first_launches(room)
@@ -164,8 +181,12 @@ def later_launches(room):
     yield "arguments are passed on", room.fault(room.launch(*arguments), room.wanted(*arguments), 1)
     yield "the status is passed on", room.fault(room.launch(status=5), room.wanted(status=5), 1)
     yield "an empty input", room.fault(room.launch(given=b""), room.wanted(given=b""), 1)
-    yield "through a link", room.fault(room.launch("x", by=f"{room.folder}/link"), room.wanted("x"), 1)
-    yield "by a path from elsewhere", room.fault(room.launch("x", by="../top/fdb_replay"), room.wanted("x"), 1)
+    yield "through a link", room.fault(
+        room.launch("x", by=f"{room.folder}/link"), room.wanted("x"), 1
+    )
+    yield "by a path from elsewhere", room.fault(
+        room.launch("x", by="../top/fdb_replay"), room.wanted("x"), 1
+    )
     os.symlink("../link", f"{room.away}/link")
     yield "through two links", room.fault(room.launch("x", by="./link"), room.wanted("x"), 1)
     begun = []
@@ -173,16 +194,22 @@ def later_launches(room):
         at = time.monotonic()
         room.launch()
         begun.append(time.monotonic() - at)
-    yield "a launch without a build is quick", None if min(begun) < QUICK else f"{min(begun):.3f} s at best"
+    fault = None if min(begun) < QUICK else f"{min(begun):.3f} s at best"
+    yield "a launch without a build is quick", fault
 
 
 def after_edits(room):
     builds = 1
-    for file in ("crates/fdb_replay_cli/src/main.rt", "crates/fdb_replay_cli/specs/Lib.antt", "crates/other/src/lib.rt", "crates.txt", "HANDLES"):
+    for file in (
+        "crates/fdb_replay_cli/src/main.rt", "crates/fdb_replay_cli/specs/Lib.antt",
+        "crates/other/src/lib.rt", "crates.txt", "HANDLES",
+    ):
         os.makedirs(os.path.dirname(f"{room.top}/{file}"), exist_ok=True)
         room.write(f"{room.top}/{file}", "edited\n")
         builds += 1
-        yield f"an edit of {file} builds again", room.fault(room.launch(), room.wanted(err=None), builds)
+        yield f"an edit of {file} builds again", room.fault(
+            room.launch(), room.wanted(err=None), builds
+        )
         yield f"once after {file}", room.fault(room.launch(), room.wanted(), builds)
     room.write(f"{room.crate}/out/kept.rt", "made\n")
     room.write(f"{room.top}/README.md", "edited\n")
@@ -194,13 +221,18 @@ def two_at_once(room):
     before = room.builds()
     env = {"PATH": room.bin, "ROOM": room.folder}
     pipes = {"stdin": subprocess.DEVNULL, "stdout": subprocess.PIPE, "stderr": subprocess.DEVNULL}
-    both = [subprocess.Popen([f"{room.top}/fdb_replay"], env=env, cwd=room.away, **pipes) for _ in range(4)]
+    both = [
+        subprocess.Popen([f"{room.top}/fdb_replay"], env=env, cwd=room.away, **pipes)
+        for _ in range(4)
+    ]
     for started in both:
         out, _ = started.communicate(timeout=20)
         fault = fault_of(Ran(started.returncode, out, b""), room.wanted(given=b"", err=b""))
         if fault:
             return fault
-    return None if room.builds() == before + 1 else f"{room.builds() - before} builds in place of one"
+    return (
+        None if room.builds() == before + 1 else f"{room.builds() - before} builds in place of one"
+    )
 
 
 def without_a_build(room):
@@ -208,15 +240,19 @@ def without_a_build(room):
     builds = room.builds()
     yield "a built program needs no rt", room.fault(room.launch(), room.wanted(), builds)
     room.write(f"{room.top}/crates.txt", "edited again\n")
-    yield "an old program is not run where there is no rt", room.fault(room.launch(), Ran(NOT_BUILT, b"", None), builds)
+    yield "an old program is not run where there is no rt", room.fault(
+        room.launch(), Ran(NOT_BUILT, b"", None), builds
+    )
 
 
 def told_launches(room):
-    """A terminal has a line for each crate, which is renewed in place; what rt says goes to a log, which a failure names."""
+    """A terminal has a line for each crate, renewed in place; a failure names the log of rt."""
     ran, shown = room.launch_on_terminal(slow="1.6")
     yield "a launch on a terminal", room.fault(ran, room.wanted(given=b"", err=b""), 1)
     yield "what a terminal shows", None if re.search(RENEWED, shown) else repr(shown)
-    yield "the crates are proved in turn", other_text(f"{room.folder}/calls", b"low lib\nkept lib\nmiddle lib\nfdb_replay_cli run\n")
+    yield "the crates are proved in turn", other_text(
+        f"{room.folder}/calls", b"low lib\nkept lib\nmiddle lib\nfdb_replay_cli run\n"
+    )
     yield "the log has what rt said", other_text(f"{room.crate}/out/build.log", LOGGED)
     os.remove(f"{room.crate}/out/fdb_replay_cli")
     room.write(f"{room.folder}/fails", "middle")

@@ -1,4 +1,4 @@
-"""All texts of small scripts, by each order in which their calls may be made, to see that the judge accepts just these."""
+"""All texts of small scripts, by each order of their calls: the judge accepts just these."""
 import json
 import random
 import re
@@ -11,15 +11,26 @@ from reader import LAST_VERSION, script_of
 
 SCRIPTS, CROSSED = 100, 60
 RAISED = re.compile(r" report \d+ raised pos ")
-ACTS = [["ask", "report", "grv"], ["ask", "report", "grv"], ["ask", "reask", "report", "grv", "tell"]]
+ACTS = [
+    ["ask", "report", "grv"], ["ask", "report", "grv"], ["ask", "reask", "report", "grv", "tell"]
+]
 
 
 def small_script(dice):
-    """Draws a script of 2 or 3 clients with a round or two of a few commands, of which some come to the last versions."""
+    """Draws a script of 2 or 3 clients with a round or two of a few commands.
+
+    Some of them come to the last versions.
+    """
     drawing = drawn.Drawing(dice, dice.choice([2, 2, 3]), dice.choice(ACTS), [1])
-    rounds = [[drawing.command() for _ in range(size)] for size in dice.choice([[6], [7], [3, 4], [4, 3]])]
+    rounds = [
+        [drawing.command() for _ in range(size)] for size in dice.choice([[6], [7], [3, 4], [4, 3]])
+    ]
     recovery = dice.choice([1, 100, LAST_VERSION - 6])
-    return script_of(json.dumps({"epoch_end": 0, "recovery": recovery, "clients": drawing.clients, "rounds": rounds}).encode())
+    return script_of(
+        json.dumps(
+            {"epoch_end": 0, "recovery": recovery, "clients": drawing.clients, "rounds": rounds}
+        ).encode()
+    )
 
 
 def interleaved(lists):
@@ -27,7 +38,11 @@ def interleaved(lists):
     if not any(lists):
         return [[]]
     firsts = [(who, calls[0]) for who, calls in enumerate(lists) if calls]
-    return [[first, *rest] for who, first in firsts for rest in interleaved([*lists[:who], lists[who][1:], *lists[who + 1 :]])]
+    return [
+        [first, *rest]
+        for who, first in firsts
+        for rest in interleaved([*lists[:who], lists[who][1:], *lists[who + 1 :]])
+    ]
 
 
 def orders(script):
@@ -75,7 +90,7 @@ def crossed_texts(dice, clients, given):
 
 
 def errors(script, tried, lawful, history):
-    """Returns the texts of some tried ones of which the judge does not say whether they are lawful."""
+    """Returns those of the tried texts about which the judge is wrong."""
     accepts = lambda text: fault_of_text(script, 1, text, history) is None
     return [text for text in sorted(tried) if accepts(text) != (text in lawful)]
 
