@@ -1,14 +1,16 @@
 -- What a system does not log is worked out: positions, flags, ordinals and numbers of requests. (all
 -- of this is this product's own)
 use Rattle.std.specs.Prelude.{◌≡◌, ℕ, zero, suc, ◌+◌, ◌≤◌, ◌==◌, true, false, nat_lt, nat_le, max, List, [], ◌∷◌, ◌++◌, length, count_by, None, Some, slice_get, unwrap_or, if◌then◌else◌}
-use Rattle.std.specs.List.{Contains, find}
+use Rattle.std.specs.List.{Contains, find, slice_index_or}
 use Rattle.std.specs.List.Sorted.{IsStrictlyIncreasing}
 use Rattle.fdb_history.specs.Chain.{latest}
 use Rattle.fdb_history.specs.declared.chain.Issued.{Issued}
 use Rattle.fdb_history.specs.declared.grv.Priority.TheVariants.{Default}
 use Rattle.fdb_history.specs.declared.log.Call.{Call}
+use Rattle.fdb_history.specs.declared.log.CallAnswer.{CallAnswer}
 use Rattle.fdb_history.specs.declared.log.CallAnswer.TheVariants.{Version, Answered, Acked, Told}
 use Rattle.fdb_history.specs.declared.log.ClientLog.{ClientLog}
+use Rattle.fdb_history.specs.declared.log.Input.{Input}
 use Rattle.fdb_history.specs.declared.log.Input.TheVariants as input
 use Rattle.fdb_history.specs.declared.register.Record.{Record}
 use Rattle.fdb_audit.specs.Trace.{Given, steps_of}
@@ -86,6 +88,11 @@ pub record AreMarks (raised marks : List ℕ) : Type 0 where
 abbrev pub position_of : List ℕ → ℕ → ℕ
 position_of marks version = count_by (λ mark. nat_le mark version) marks
 
+-- The live committed version at a position: the start, and then the version that raised it there.
+abbrev pub mark_at : ℕ → List ℕ → ℕ → ℕ
+mark_at start marks zero = start
+mark_at start marks (suc position) = slice_index_or marks position start
+
 -- ---- the chain
 
 abbrev pub chain_from : List Issued → ℕ → List Drawn → List Issued
@@ -133,40 +140,44 @@ number_in chain client version =
 abbrev pub plain : ℕ → Record
 plain version = record { version = version; locked = false; metadata = None; min_known = 0 }
 
+-- what a call says, in the words of a log
+abbrev pub input_of : List Issued → ℕ → Step → Input
+input_of chain client (Read version) = input.Grv (record {
+  priority = Default;
+  count = 1;
+  tags = [];
+  lock_aware = true;
+  at = 0;
+  use_min = false;
+})
+input_of chain client (Ask version) = input.Ask (number_in chain client version) 0 0
+input_of chain client (Report version) =
+    input.Report (number_in chain client version) false None 0
+input_of chain client (Learn from call) = input.Learn from
+
+-- and what it was answered, where its client had seen so much before it
+abbrev pub answer_of : List Issued → ℕ → ℕ → Step → CallAnswer
+answer_of chain client before (Read version) = Version (plain version) [] false
+answer_of chain client before (Ask version) = Answered (entry_of chain client version)
+answer_of chain client before (Report version) =
+    Acked (plain version) (nat_lt before version) (nat_lt before version)
+answer_of chain client before (Learn from call) = Told
+
+-- the version whose position a call has: the one that a read got, and else what is seen after it
+abbrev pub answered_at : ℕ → Step → ℕ
+answered_at after (Read version) = version
+answered_at after (Ask version) = after
+answered_at after (Report version) = after
+answered_at after (Learn from call) = after
+
 -- A call, from what its client had seen before it and after it. It is asked at the position of what
--- was seen before. A read has the position of the version that it got, and any other call that of
--- what is seen after it.
+-- was seen before it.
 abbrev pub call_of : List Issued → List ℕ → ℕ → ℕ → ℕ → Step → Call
-call_of chain marks client before after (Read version) = record {
-  input = input.Grv (record {
-    priority = Default;
-    count = 1;
-    tags = [];
-    lock_aware = true;
-    at = 0;
-    use_min = false;
-  });
+call_of chain marks client before after step = record {
+  input = input_of chain client step;
   asked = position_of marks before;
-  position = position_of marks version;
-  answer = Version (plain version) [] false;
-}
-call_of chain marks client before after (Ask version) = record {
-  input = input.Ask (number_in chain client version) 0 0;
-  asked = position_of marks before;
-  position = position_of marks after;
-  answer = Answered (entry_of chain client version);
-}
-call_of chain marks client before after (Report version) = record {
-  input = input.Report (number_in chain client version) false None 0;
-  asked = position_of marks before;
-  position = position_of marks after;
-  answer = Acked (plain version) (nat_lt before version) (nat_lt before version);
-}
-call_of chain marks client before after (Learn from call) = record {
-  input = input.Learn from;
-  asked = position_of marks before;
-  position = position_of marks after;
-  answer = Told;
+  position = position_of marks (answered_at after step);
+  answer = answer_of chain client before step;
 }
 
 -- a client's calls from this place of its log on

@@ -6,8 +6,12 @@
 //! `specs/WorkedOut.antt` says, and [`fdb_history::audit`] judges the logs that come of it.
 #![tactic(auto)]
 
+mod chain;
 mod error;
+mod seen;
 mod trace;
+mod worked_out;
 
 pub use error::TraceError;
 pub use trace::{Drawn, MAX_TRACE_BYTES, MAX_TRACE_CLIENTS, Step, Trace};
+pub use worked_out::{WorkedOut, work_out};
