@@ -7,10 +7,13 @@ use Rattle.fdb_history.specs.Chain.{latest}
 use Rattle.fdb_history.specs.declared.chain.Issued.{Issued}
 use Rattle.fdb_history.specs.declared.grv.Priority.TheVariants.{Default}
 use Rattle.fdb_history.specs.declared.log.Call.{Call}
+use Rattle.fdb_history.specs.declared.log.CallAnswer.{CallAnswer}
 use Rattle.fdb_history.specs.declared.log.CallAnswer.TheVariants.{Version, Answered, Acked, Told}
 use Rattle.fdb_history.specs.declared.log.ClientLog.{ClientLog}
+use Rattle.fdb_history.specs.declared.log.Input.{Input}
 use Rattle.fdb_history.specs.declared.log.Input.TheVariants as input
 use Rattle.fdb_history.specs.declared.register.Record.{Record}
+use Rattle.fdb_audit.specs.Circular.{IsCircular}
 use Rattle.fdb_audit.specs.Trace.{Given, steps_of}
 use Rattle.fdb_audit.specs.declared.trace.Drawn.{Drawn}
 use Rattle.fdb_audit.specs.declared.trace.Step.{Step}
@@ -138,40 +141,44 @@ number_in chain client version =
 abbrev pub plain : ℕ → Record
 plain version = record { version = version; locked = false; metadata = None; min_known = 0 }
 
+-- what a call says, in the words of a log
+abbrev pub input_of : List Issued → ℕ → Step → Input
+input_of chain client (Read version) = input.Grv (record {
+  priority = Default;
+  count = 1;
+  tags = [];
+  lock_aware = true;
+  at = 0;
+  use_min = false;
+})
+input_of chain client (Ask version) = input.Ask (number_in chain client version) 0 0
+input_of chain client (Report version) =
+    input.Report (number_in chain client version) false None 0
+input_of chain client (Learn from call) = input.Learn from
+
+-- and what it was answered, where its client had seen so much before it
+abbrev pub answer_of : List Issued → ℕ → ℕ → Step → CallAnswer
+answer_of chain client before (Read version) = Version (plain version) [] false
+answer_of chain client before (Ask version) = Answered (entry_of chain client version)
+answer_of chain client before (Report version) =
+    Acked (plain version) (nat_lt before version) (nat_lt before version)
+answer_of chain client before (Learn from call) = Told
+
+-- the version whose position a call has: the one that a read got, and else what is seen after it
+abbrev pub answered_at : ℕ → Step → ℕ
+answered_at after (Read version) = version
+answered_at after (Ask version) = after
+answered_at after (Report version) = after
+answered_at after (Learn from call) = after
+
 -- A call, from what its client had seen before it and after it. It is asked at the position of what
--- was seen before. A read has the position of the version that it got, and any other call that of
--- what is seen after it.
+-- was seen before it.
 abbrev pub call_of : List Issued → List ℕ → ℕ → ℕ → ℕ → Step → Call
-call_of chain marks client before after (Read version) = record {
-  input = input.Grv (record {
-    priority = Default;
-    count = 1;
-    tags = [];
-    lock_aware = true;
-    at = 0;
-    use_min = false;
-  });
+call_of chain marks client before after step = record {
+  input = input_of chain client step;
   asked = position_of marks before;
-  position = position_of marks version;
-  answer = Version (plain version) [] false;
-}
-call_of chain marks client before after (Ask version) = record {
-  input = input.Ask (number_in chain client version) 0 0;
-  asked = position_of marks before;
-  position = position_of marks after;
-  answer = Answered (entry_of chain client version);
-}
-call_of chain marks client before after (Report version) = record {
-  input = input.Report (number_in chain client version) false None 0;
-  asked = position_of marks before;
-  position = position_of marks after;
-  answer = Acked (plain version) (nat_lt before version) (nat_lt before version);
-}
-call_of chain marks client before after (Learn from call) = record {
-  input = input.Learn from;
-  asked = position_of marks before;
-  position = position_of marks after;
-  answer = Told;
+  position = position_of marks (answered_at after step);
+  answer = answer_of chain client before step;
 }
 
 -- a client's calls from this place of its log on
@@ -198,3 +205,5 @@ pub record IsWorkedOut (given : Given) (seen : ℕ → ℕ → ℕ) (marks : Lis
   pub raised : AreMarks (raised_in given.start seen 0 given.clients) marks
   pub issued : chain ≡ chain_of given.versions
   pub logged : logs ≡ logs_from chain marks given.start seen 0 given.clients
+  -- no call waits for one that waits for it, as a learn waits for the call that it learns from
+  pub ordered : (client call : ℕ) → IsCircular given.clients client call → ⊥
