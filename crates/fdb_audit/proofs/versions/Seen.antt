@@ -18,7 +18,7 @@ use Rattle.fdb_audit.proofs.versions.Courses.{IsRaise, IsCourse}
 -- ---- a step before a step
 
 -- where there is a call at the next place, there is one here
-step_before : (clients : List (List Step)) (client place : ℕ) (step : Step) → IsStep clients client (suc place) step → IsStep clients client place (get_or (steps_of clients client) place (Ask 0))
+pub step_before : (clients : List (List Step)) (client place : ℕ) (step : Step) → IsStep clients client (suc place) step → IsStep clients client place (get_or (steps_of clients client) place (Ask 0))
 step_before clients client place step is =
     let within = slice_get_within (steps_of clients client) (suc place) step is in slice_get-get_or (steps_of clients client) place (Ask 0) (omega arith)
 
