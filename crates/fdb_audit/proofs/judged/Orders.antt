@@ -38,6 +38,14 @@ stays_right old new below wrong =
       | inr changed ↦ changed (sym (or_from (nat_lt old new) (nat_lt 0 0) (le-ltb old new below) refl))
     ]
 
+module _ {given : Given} {seen : ℕ → ℕ → ℕ} {marks : List ℕ} {chain : List Issued} {logs : List ClientLog} (worked : IsWorkedOut given seen marks chain logs) where
+  -- the version that a call is answered at is seen after it
+  pub answered-most : (client place : ℕ) (step : Step) → IsStep given.clients client place step → answered_at (seen client place) step ≤ seen client place
+  answered-most client place (Read version) is = let greatest = worked.saw.greatest client place (Read version) is in omega arith
+  answered-most client place (Ask version) is = omega arith
+  answered-most client place (Report version) is = omega arith
+  answered-most client place (Learn from call) is = omega arith
+
 module _ {given : Given} {seen asked position : ℕ → ℕ → ℕ} {version_at : ℕ → ℕ} {marks : List ℕ} {chain : List Issued} {logs : List ClientLog}
     (worked : IsWorkedOut given seen marks chain logs) (course : IsCourse given.start given.clients asked position version_at) where
   -- what a client had seen before a call
@@ -46,14 +54,7 @@ module _ {given : Given} {seen asked position : ℕ → ℕ → ℕ} {version_at
 
   -- ---- what a call shows
 
-  -- the version that a call is answered at is seen after it
-  answered-most : (client place : ℕ) (step : Step) → IsStep given.clients client place step → answered_at (seen client place) step ≤ seen client place
-  answered-most client place (Read version) is = let greatest = worked.saw.greatest client place (Read version) is in omega arith
-  answered-most client place (Ask version) is = omega arith
-  answered-most client place (Report version) is = omega arith
-  answered-most client place (Learn from call) is = omega arith
-
-  -- and is at least what was seen before it
+  -- the version that a call is answered at is at least what was seen before it
   answered-least : (client place : ℕ) (step : Step) → IsStep given.clients client place step → before client place ≤ answered_at (seen client place) step
   answered-least client place (Read version) is =
       let most = before-most worked.saw course client place (Read version) is in
@@ -78,7 +79,7 @@ module _ {given : Given} {seen asked position : ℕ → ℕ → ℕ} {version_at
       let is' = step_before given.clients client place step is in
       let call = call_here chain marks given.start seen client place earlier in
       let after = position_after-call 0 (calls_of logs client) place call (call-worked_out worked client place earlier is') in
-      let order = position_of-in_order marks (answered_at (seen client place) earlier) (seen client place) (answered-most client place earlier is') in
+      let order = position_of-in_order marks (answered_at (seen client place) earlier) (seen client place) (answered-most worked client place earlier is') in
       omega arith
 
   -- a change is at a later position than what was seen before it
