@@ -7,6 +7,7 @@
 #![tactic(auto)]
 
 mod error;
+pub mod laws;
 mod trace;
 
 pub use error::TraceError;

@@ -1,13 +1,12 @@
 -- Worked-out logs have no call out of order, no gap and no wrong answer, where faultless logs fit.
-use Rattle.std.proofs.Common.{◌≡◌, ℕ, zero, suc, ◌-◌, ◌<◌, ◌≤◌, nat_lt, Bool, true, false, IsTrue, Contains, List, [], length, take, get_or, Some, slice_get, refl, ap, sym, subst, ◌∙◌, inl, inr, arith}
-use Rattle.std.proofs.lemmas.Bool.{cases_lt, false≢true, lt-ltb, le-ltb, ltb-true, ltb-false, or_from, or_left}
+use Rattle.std.proofs.Common.{◌≡◌, ℕ, zero, suc, ◌-◌, ◌<◌, ◌≤◌, nat_lt, Bool, true, false, IsTrue, Contains, List, [], length, take, get_or, refl, ap, sym, subst, ◌∙◌, inl, inr, arith}
+use Rattle.std.proofs.lemmas.Bool.{false≢true, lt-ltb, le-ltb, ltb-true, ltb-false, or_from, or_left}
 use Rattle.fdb_history.specs.Faults.{register_at, changes_at, IsOutOfOrder, OutOfOrder, IsMisanswered, IsWrongBy, IsWrongAnswer, WronglyAnswered, IsGap, Nowhere, AtNoPosition}
 use Rattle.fdb_history.specs.Log.{calls_of, answer_changes, position_after_calls}
 use Rattle.fdb_history.specs.declared.chain.Issued.{Issued}
 use Rattle.fdb_history.specs.declared.log.Call.{Call}
 use Rattle.fdb_history.specs.declared.log.CallAnswer.TheVariants.{Acked}
 use Rattle.fdb_history.specs.declared.log.ClientLog.{ClientLog}
-use Rattle.fdb_history.specs.declared.register.Record.{Record}
 use Rattle.fdb_audit.specs.Trace.{Given, steps_of}
 use Rattle.fdb_audit.specs.WorkedOut.{seen_before, IsStep, position_of, mark_at, plain, answered_at, answer_of, IsWorkedOut}
 use Rattle.fdb_audit.specs.declared.trace.Step.{Step}

@@ -1,5 +1,5 @@
 -- Where no answer is stray, each version that is reported was issued to the client that reports it, and to no other.
-use Rattle.std.proofs.Common.{◌≡◌, ℕ, zero, suc, ◌<◌, ◌+◌, ◌==◌, ◌&&◌, nat_eq, append-nil, append_assoc, Bool, true, false, List, [], ◌∷◌, ◌++◌, length, map, take, get_or, Option, Some, None, slice_get, refl, ap, sym, subst, ◌∙◌, inl, inr, arith}
+use Rattle.std.proofs.Common.{◌≡◌, ℕ, zero, suc, ◌+◌, ◌==◌, ◌&&◌, nat_eq, append-nil, append_assoc, Bool, true, false, List, [], ◌∷◌, ◌++◌, length, map, take, get_or, Option, Some, None, slice_get, refl, ap, sym, subst, ◌∙◌, inl, inr, arith}
 use Rattle.std.specs.List.{AllByRecursion, find}
 use Rattle.std.specs.List.Sorted.{IsStrictlyIncreasing}
 use Rattle.std.specs.Option.{option_eq, option_map, option_map_or}
@@ -24,7 +24,6 @@ use Rattle.fdb_audit.specs.WorkedOut.{seen_before, IsStep, chain_from, number_in
 use Rattle.fdb_audit.specs.declared.trace.Drawn.{Drawn}
 use Rattle.fdb_audit.specs.declared.trace.Step.{Step}
 use Rattle.fdb_audit.specs.declared.trace.Step.TheVariants.{Read, Ask, Report, Learn}
-use Rattle.fdb_audit.proofs.calls.Answers.{step_answered}
 use Rattle.fdb_audit.proofs.calls.Placed.{call_here, call-worked_out, step-worked_out}
 
 -- ---- what is found

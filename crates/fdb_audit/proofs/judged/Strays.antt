@@ -1,11 +1,10 @@
 -- Whether an answer is stray depends on the inputs and the answers alone, but for what these say of raises: so no answer
 -- of worked-out logs is stray where none of some logs that fit is.
-use Rattle.std.proofs.Common.{◌≡◌, ◌⊎◌, ℕ, zero, suc, ◌<◌, Bool, true, false, List, [], ◌∷◌, ◌++◌, ◌==◌, length, take, filter, get_or, Option, Some, slice_get, refl, ap, sym, subst, ◌∙◌, inl, inr, arith}
+use Rattle.std.proofs.Common.{◌≡◌, ℕ, zero, suc, Bool, true, false, List, [], ◌∷◌, ◌++◌, ◌==◌, length, take, filter, get_or, Option, Some, slice_get, refl, ap, sym, subst, ◌∙◌, inl, inr, arith}
 use Rattle.std.specs.List.{AllZip, find, list_any}
 use Rattle.std.specs.Option.{option_map}
 use Rattle.std.proofs.lemmas.Option.{slice_get-get_or, slice_get_within}
 use Rattle.fdb_history.specs.Chain.{latest}
-use Rattle.fdb_history.specs.Faults.{Nowhere}
 use Rattle.fdb_history.specs.Issuing.{kept}
 use Rattle.fdb_history.specs.Log.{calls_of, answer_in, answers_in}
 use Rattle.fdb_history.specs.Strays.{number_of, is_justified_by, is_justified, NotJustified, is_same, HasUndrawn, IsStray}

@@ -1,17 +1,16 @@
 -- What is worked out passes where some logs that fit do, and fits itself.
-use Rattle.std.proofs.Common.{◌≡◌, ℕ, ◌≤◌, max, List, Some, slice_get, refl, ap, sym, subst, ◌∙◌, arith}
-use Rattle.std.proofs.lemmas.Option.{same_Some, slice_get-get_or, slice_get_within}
+use Rattle.std.proofs.Common.{◌≡◌, ℕ, ◌≤◌, List, Some, slice_get, refl, ap, sym, subst, ◌∙◌, arith}
+use Rattle.std.proofs.lemmas.Option.{same_Some}
 use Rattle.fdb_history.specs.Audit.{IsNotAbove, Low}
-use Rattle.fdb_history.specs.Faults.{register_at, IsFaultless, Nowhere}
+use Rattle.fdb_history.specs.Faults.{register_at, Nowhere}
 use Rattle.fdb_history.specs.Log.{calls_of}
 use Rattle.fdb_history.specs.Strays.{IsStray}
 use Rattle.fdb_history.specs.declared.chain.Issued.{Issued}
 use Rattle.fdb_history.specs.declared.log.Call.{Call}
-use Rattle.fdb_history.specs.declared.log.CallAnswer.TheVariants.{Answered}
 use Rattle.fdb_history.specs.declared.log.ClientLog.{ClientLog}
 use Rattle.fdb_history.specs.declared.register.Record.{Record}
 use Rattle.fdb_audit.specs.Laws.{unflagged, Fits, Passes}
-use Rattle.fdb_audit.specs.Trace.{Given, IsGiven, steps_of}
+use Rattle.fdb_audit.specs.Trace.{Given, IsGiven}
 use Rattle.fdb_audit.specs.WorkedOut.{seen_before, IsStep, position_of, plain, entry_of, answered_at, answer_of, IsWorkedOut}
 use Rattle.fdb_audit.specs.declared.trace.Step.{Step}
 use Rattle.fdb_audit.specs.declared.trace.Step.TheVariants.{Read, Ask, Report, Learn}
@@ -22,7 +21,7 @@ use Rattle.fdb_audit.proofs.judged.Orders.{answered-most, order-worked_out, gap-
 use Rattle.fdb_audit.proofs.judged.Strays.{stray-fitting}
 use Rattle.fdb_audit.proofs.registers.Positions.{position_of-most, position_of-in_order}
 use Rattle.fdb_audit.proofs.registers.Registers.{register_at-worked_out}
-use Rattle.fdb_audit.proofs.versions.Courses.{IsCourse, course, asked_in}
+use Rattle.fdb_audit.proofs.versions.Courses.{IsCourse, course}
 use Rattle.fdb_audit.proofs.versions.Fitting.{call_in, call-fitting, same-fitting}
 use Rattle.fdb_audit.proofs.versions.Seen.{before-most, known-before}
 

@@ -1,5 +1,5 @@
 -- The calls of logs that fit what is worked out.
-use Rattle.std.proofs.Common.{◌≡◌, ℕ, zero, suc, ◌<◌, List, [], ◌∷◌, length, take, get_or, Some, slice_get, refl, ap, sym, subst, ◌∙◌, arith}
+use Rattle.std.proofs.Common.{◌≡◌, ℕ, zero, suc, List, [], ◌∷◌, length, take, get_or, Some, slice_get, ap, ◌∙◌, arith}
 use Rattle.std.proofs.lemmas.Option.{same_Some, none-some, slice_get-get_or, slice_get_within, get_or_from_slice_get}
 use Rattle.fdb_history.specs.Log.{calls_of, position_after_calls}
 use Rattle.fdb_history.specs.declared.chain.Issued.{Issued}

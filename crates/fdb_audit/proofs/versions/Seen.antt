@@ -1,6 +1,6 @@
 -- What clients had seen is never above the register's version, and each version that one had seen, or that the
 -- register had, is the start or that of a mark.
-use Rattle.std.proofs.Common.{◌≡◌, ℕ, zero, suc, ◌<◌, ◌≤◌, ◌==◌, max, Bool, true, List, length, get_or, Some, slice_get, refl, ap, sym, subst, ◌∙◌, inl, inr, arith}
+use Rattle.std.proofs.Common.{◌≡◌, ℕ, zero, suc, ◌<◌, ◌≤◌, ◌==◌, max, Bool, true, List, length, get_or, refl, ap, sym, subst, inl, inr, arith}
 use Rattle.std.proofs.lemmas.Bool.{cases_lt, eq-eqb, eqb-true}
 use Rattle.std.proofs.lemmas.Option.{slice_get-get_or, slice_get_within}
 use Rattle.fdb_history.specs.declared.chain.Issued.{Issued}
@@ -13,7 +13,7 @@ use Rattle.fdb_audit.proofs.calls.Waits.{PassesOn, by_calls}
 use Rattle.fdb_audit.proofs.registers.Positions.{mark_at-position, position_of-start}
 use Rattle.fdb_audit.proofs.registers.Raised.{in_has}
 use Rattle.fdb_audit.proofs.registers.Registers.{marks-above}
-use Rattle.fdb_audit.proofs.versions.Courses.{IsRaise, IsCourse}
+use Rattle.fdb_audit.proofs.versions.Courses.{IsCourse}
 
 -- ---- a step before a step
 
