@@ -201,7 +201,7 @@ logs_from chain marks start seen client (steps ∷ others) =
 -- The logs and the chain are those of what is given, with all else worked out.
 pub record IsWorkedOut (given : Given) (seen : ℕ → ℕ → ℕ) (marks : List ℕ)
     (chain : List Issued) (logs : List ClientLog) : Type 0 where
-  -- no call waits for one that waits for it
+  -- no call waits for one that waits for it, as a learn waits for the call that it learns from
   pub ordered : (client call : ℕ) → IsCircular given.clients client call → ⊥
   pub saw : IsSeen given.start given.clients seen
   pub raised : AreMarks (raised_in given.start seen 0 given.clients) marks

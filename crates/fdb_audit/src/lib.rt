@@ -11,6 +11,7 @@ mod chain;
 mod driving;
 mod error;
 mod judging;
+pub mod laws;
 mod reading;
 mod seen;
 mod trace;
