@@ -1,7 +1,9 @@
 """What documents say: definitions, planted wrong bodies, and what is shown of the program."""
+import glob
 import os
 import re
 
+import traces
 from believed import counts
 from edits import BESIDE, TRIED, crates, edits_in, fault_of_edit
 from harness import EXAMPLES, ROOT, done, fault_of, run
@@ -198,11 +200,7 @@ def settling(_program):
 
 def shown(program):
     """A block of a run shows what the program prints, and one of a script is an example."""
-    scripts = [
-        text_of(f"{EXAMPLES}/{name}").strip()
-        for name in os.listdir(EXAMPLES)
-        if name.endswith(".json")
-    ]
+    scripts = [text_of(it).strip() for it in glob.glob(f"{EXAMPLES}/**/*.json", recursive=True)]
     for document, language, block in blocks():
         if language:
             continue
@@ -212,6 +210,10 @@ def shown(program):
             yield f"{document}: {first}", fault_of(
                 run([program, *arguments], cwd=ROOT), done(rest.encode())
             )
+        elif first.startswith("$ ./fdb_audit "):
+            ran = run([traces.PROGRAM, *first.split()[2:]], cwd=ROOT)
+            fault = None if ran.out == rest.encode() else f"it prints {ran.out[:100]!r}"
+            yield f"{document}: {first}", fault
         elif first.startswith("{"):
             fault = None if block.strip() in scripts else "it is no script of examples/"
             yield f"{document}: {first}", fault

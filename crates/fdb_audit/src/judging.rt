@@ -1,10 +1,10 @@
 //! From the bytes of a trace to what an audit of it finds.
 
-ghost use Rattle.std.specs.Prelude.{◌≡◌, ◌≢◌, ◌≤◌, ◌^◌, ◌++◌, ⊤, IfOk, IfErr, OnOk, None, Some, Ok};
-ghost use Rattle.std.specs.Prelude.{codes, length};
-ghost use Rattle.fdb_history.specs.declared.fault.AuditFault.TheVariants as fault;
+ghost use Rattle.std.specs.Prelude.{◌≡◌, ◌≤◌, ◌++◌, ℕ, List, IfOk, IfErr, Ok, codes, length};
 ghost use Rattle.fdb_script.specs.Text.{line, verdict_text};
-ghost use Rattle.fdb_audit.specs.Judged.{IsJudgement, Refuses, fault_text};
+ghost use Rattle.fdb_audit.specs.Judged.{IsJudgement, IsText, Refuses, fault_text};
+ghost use Rattle.fdb_audit.specs.Reading.{ReadsAs};
+ghost use Rattle.fdb_audit.specs.declared.trace.TheConstants.{MAX_TRACE_CLIENTS};
 
 use crate::error::TraceError;
 use crate::reading::read_trace;
@@ -34,18 +34,49 @@ pub fn judge(alloc: Global, bytes: &[u8], with_history: bool) -> Result<Judgemen
         (λ found. IsJudgement bytes.now with_history found.fault found.text.items) }
     ensures err { IfErr result (Refuses bytes.now) }
 {
-    let trace = read_trace(alloc, bytes)?;
-    let worked = work_out(alloc, &trace)?;
+    match read_trace(alloc, bytes) {
+        Ok(trace) => judge_trace(alloc, &trace, with_history),
+        Err(error) => Err(error),
+    }
+}
+
+/// What an audit of a trace finds, whatever bytes it was read from.
+fn judge_trace(alloc: Global, trace: &Trace, with_history: bool) -> Result<Judgement, TraceError>
+    ensures ok { (bytes : List ℕ) → ReadsAs bytes (Ok trace.now)
+        → IfOk result (λ found. IsJudgement bytes with_history found.fault found.text.items) }
+    ensures err { (bytes : List ℕ) → ReadsAs bytes (Ok trace.now)
+        → IfErr result (Refuses bytes) }
+{
+    match work_out(alloc, trace) {
+        Ok(worked) => judge_logs(alloc, &worked, with_history),
+        Err(error) => Err(error),
+    }
+}
+
+/// What an audit of worked-out logs finds. It is refused only where memory runs out.
+fn judge_logs(
+    alloc: Global,
+    worked: &WorkedOut,
+    with_history: bool,
+) -> Result<Judgement, TraceError>
+    requires { length worked.now.logs.items ≤ MAX_TRACE_CLIENTS }
+    ensures ok { IfOk result (λ found. IsText worked.now.start worked.now.chain.items
+        worked.now.logs.items with_history found.fault found.text.items) }
+    ensures err { IfErr result (λ error. error ≡ TraceError.Memory) }
+{
     match audit(alloc, worked.start, &worked.chain, &worked.logs) {
-        Ok(history) => Ok(Judgement {
-            fault: None,
-            text: passed(alloc, &history, worked.chain.len() as u64, with_history)?,
-        }),
+        Ok(history) => {
+            let text = passed(alloc, &history, worked.chain.len() as u64, with_history)?;
+            Ok(Judgement { fault: None, text })
+        }
         Err(AuditFault::Memory) => Err(TraceError::Memory),
-        Err(fault) => Ok(Judgement {
-            fault: Some(fault),
-            text: faulted(alloc, fault)?,
-        }),
+        Err(fault) => {
+            let text = faulted(alloc, fault)?;
+            Ok(Judgement {
+                fault: Some(fault),
+                text,
+            })
+        }
     }
 }
 

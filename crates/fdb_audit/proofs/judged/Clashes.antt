@@ -118,16 +118,16 @@ module _ {given : Given} {seen : ℕ → ℕ → ℕ} {marks : List ℕ} {chain 
   apart : AreApartIn given.start seen 0 given.clients
   apart = (
     λ k client at first later place other one version at_place at_other less is is' above.
-    let client_is : k ≡ client = omega arith in
-    let place_is : first ≡ place = omega arith in
-    let other_is : later ≡ other = omega arith in
-    apart_within client place other one version (omega arith)
-    (subst (λ c. IsStep given.clients c place (Report one)) client_is (subst (λ n. IsStep given.clients k n (Report one)) place_is is))
-    (subst (λ c. IsStep given.clients c other (Report version)) client_is (subst (λ n. IsStep given.clients k n (Report version)) other_is is'))
-    above,
+        let client_is : k ≡ client = omega arith in
+        let place_is : first ≡ place = omega arith in
+        let other_is : later ≡ other = omega arith in
+        apart_within client place other one version (omega arith)
+        (subst (λ c. IsStep given.clients c place (Report one)) client_is (subst (λ n. IsStep given.clients k n (Report one)) place_is is))
+        (subst (λ c. IsStep given.clients c other (Report version)) client_is (subst (λ n. IsStep given.clients k n (Report version)) other_is is'))
+        above,
     λ k later place other one version less is is' same.
-    let one_client = one_reporter worked justified is_given k place later other version (subst (λ v. IsStep given.clients k place (Report v)) same is) is' in
-    omega arith,
+        let one_client = one_reporter worked justified is_given k place later other version (subst (λ v. IsStep given.clients k place (Report v)) same is) is' in
+        omega arith,
   )
 
   -- the versions that raised are apart

@@ -121,7 +121,7 @@ module _ {given : Given} {worked_out logs : List ClientLog} (fits : Fits given w
         other,
         there,
         sym (justified-alike chain client (take place (calls_of worked_out client)) (take place (calls_of logs client)) fault.0 other
-        (taken place (calls_of worked_out client) (calls_of logs client) (alike_of client)) (fits.same client place fault.0 other fault.1 there)) ∙ fault.2,
+            (taken place (calls_of worked_out client) (calls_of logs client) (alike_of client)) (fits.same client place fault.0 other fault.1 there)) ∙ fault.2,
       )
 
   undrawn : (client : ℕ) → HasUndrawn chain worked_out client → HasUndrawn chain logs client
