@@ -58,7 +58,10 @@ pub(crate) fn parse<'a>(
     };
     match command.try_get_matches_from(arguments) {
         Ok(matches) => Ok(Invocation::Replay(arguments_of(&matches))),
-        Err(error) => Ok(Invocation::Help(help_of(error)?)),
+        Err(error) => match help_of(error) {
+            Ok(help) => Ok(Invocation::Help(help)),
+            Err(fault) => Err(fault),
+        },
     }
 }
 

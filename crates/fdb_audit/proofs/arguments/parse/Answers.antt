@@ -17,8 +17,8 @@ returns-in-Ok-try_get_matches_from-clause-ok c =
     c.arguments_of.ensures old arguments parse.parsed is rows taken
 
 -- what clap refuses for another reason than memory is among the faults of the arguments
-pub returns-in-Err-clause-err : goal.returns-in-Err-clause-err
-returns-in-Err-clause-err c =
+pub returns-in-Err-2-clause-err : goal.returns-in-Err-2-clause-err
+returns-in-Err-2-clause-err c =
     let error = c.in-Err.error in
     let arguments = map string_bytes c.args.arguments.now in
     let is : app_of c.in-Ok.command ≡ command_read = c.in-Ok.ensures in
