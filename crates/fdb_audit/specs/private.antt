@@ -1,3 +1,4 @@
 pub mod Seen
 pub mod Worked
 pub mod Asked
+pub mod Faulty

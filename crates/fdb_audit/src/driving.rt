@@ -104,12 +104,10 @@ impl From<InputFault> for Fault {
 }
 
 impl From<TraceError> for Fault {
-    ghost use Rattle.std.specs.Prelude.{◌≢◌};
-    ghost use Rattle.fdb_audit.specs.declared.driving.Fault.TheVariants as made;
-    ghost use Rattle.fdb_audit.specs.declared.error.TraceError.TheVariants.{Memory};
+    ghost use Rattle.std.specs.Prelude.{◌≡◌};
+    ghost use Rattle.fdb_audit.specs.private.Faulty.{fault_of};
 
-    ghost from_gives = { λ error fault. (error ≡ Memory → fault ≡ made.Memory)
-        × (error ≢ Memory → fault ≡ made.Logs error) };
+    ghost from_gives = { λ error fault. fault ≡ fault_of error };
 
     fn from(error: TraceError) -> Self {
         match error {
