@@ -1,4 +1,4 @@
-use Rattle.std.proofs.Common.{◌≡◌, ◌≤◌, ◌∙◌, ℕ, List, Option, Some, length, ap, subst, sym, arith}
+use Rattle.std.proofs.Common.{◌≡◌, ◌≤◌, ◌∙◌, Option, Some, length, ap, subst, sym, arith}
 use Rattle.std.proofs.lemmas.Result.{err_from_is_err_and}
 use Rattle.std.specs.Io.KnownBytes.{Appends}
 use Rattle.fdb_history.specs.declared.fault.AuditFault.{AuditFault}
@@ -13,13 +13,12 @@ returns-in_err-found-clause-refused g c =
     let (fault, is, gives) = err_from_is_err_and c.from_residual-in_err-found.result c.from_residual-in_err-found.ensures.1 in
     let bytes = c.in_ok-bytes.bytes.items in
     rw is (λ named says.
-      let (same, other) = refused_as _ named (sym gives ∙ says) in
-      (
-        bytes,
-        c.in_ok-bytes.ensures.all,
-        subst (λ (error : TraceError). Refuses bytes error) same (rw c.deref.ensures.value at c.in_err-found.ensures.err),
-        other,
-      ))
+    let (same, other) = refused_as _ named (sym gives ∙ says) in (
+      bytes,
+      c.in_ok-bytes.ensures.all,
+      subst (λ (error : TraceError). Refuses bytes error) same (rw c.deref.ensures.value at c.in_err-found.ensures.err),
+      other,
+    ))
 
 pub returns-clause-faulty : goal.returns-clause-faulty
 returns-clause-faulty g c = λ found says.

@@ -19,5 +19,5 @@ returns-clause-faulty g c =
     let after = g.O.Write.contents c.audit_arguments.new.out in
     let asked : AskAudit arguments c.in-Audit.arguments = rw (c.in-Audit.is, c.deref.ensures.value) at c.in_ok-help.ensures.ok in
     rw c.in-Ok.is (IfErr-weaker c.audit_arguments.result _ _
-      (λ fault gives found is. (asked.taken, found, subst (λ (logs : Option (List ℕ)). Audited logs remaining (Some found) before after) asked.logs (gives found is)))
-      c.audit_arguments.ensures.faulty)
+    (λ fault gives found is. (asked.taken, found, subst (λ (logs : Option (List ℕ)). Audited logs remaining (Some found) before after) asked.logs (gives found is)))
+    c.audit_arguments.ensures.faulty)

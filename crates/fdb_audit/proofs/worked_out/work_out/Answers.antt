@@ -19,14 +19,16 @@ returns-clause-ok c =
     let seen = seen_at c.in_ok-table.table.items in
     let start = c.start-start.ensures.value in
     let clients = c.clients-clients.ensures.value in
-    let table = c.in_ok-table.ensures in
-    (
+    let table = c.in_ok-table.ensures in (
       rw start at c.plain.ensures,
-      (seen, record {
-        ordered = subst (λ (all : List (List Step)). (client call : ℕ) → IsCircular all client call → ⊥) clients table.ordered;
-        saw = subst (λ (all : List (List Step)). IsSeen given.start all seen) clients (subst (λ (s : ℕ). IsSeen s c.clients-clients.result.now seen) start table.ok);
-        raised = rw (c.deref.ensures.value, start, clients) at c.in_ok-marks.ensures;
-        issued = c.in_ok-chain.ensures ∙ ap chain_of c.versions.ensures.value;
-        logged = rw (c.deref-2.ensures.value, c.deref-3.ensures.value, c.deref-4.ensures.value, start, clients) at c.in_ok-logs.ensures.logs;
-      }),
+      (
+        seen,
+        record {
+          ordered = subst (λ (all : List (List Step)). (client call : ℕ) → IsCircular all client call → ⊥) clients table.ordered;
+          saw = subst (λ (all : List (List Step)). IsSeen given.start all seen) clients (subst (λ (s : ℕ). IsSeen s c.clients-clients.result.now seen) start table.ok);
+          raised = rw (c.deref.ensures.value, start, clients) at c.in_ok-marks.ensures;
+          issued = c.in_ok-chain.ensures ∙ ap chain_of c.versions.ensures.value;
+          logged = rw (c.deref-2.ensures.value, c.deref-3.ensures.value, c.deref-4.ensures.value, start, clients) at c.in_ok-logs.ensures.logs;
+        },
+      ),
     )
