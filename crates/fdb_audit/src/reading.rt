@@ -23,12 +23,12 @@ use versions::versions_of;
 /// The trace that the bytes stand for.
 ///
 /// It is refused as `NotJson` where the bytes are no JSON text that `serde_json` reads, then as
-/// `BadMember` for one of the three members, then as `BadVersion` with the first issued version that
-/// has a fault, then for the first client that has one, as `BadClient` where its log is no list and
-/// else as `BadCall` with its first faulty call, and as `Memory` where memory is refused. The time
-/// grows with the bytes, and with the logarithm of how many members an object has. Until it returns,
-/// it holds the JSON value of the whole text, also of what is ignored, which may take a hundred
-/// times as much memory as the bytes.
+/// `BadMember` for one of the three members, then as `BadVersion` with the first issued version
+/// that has a fault, then for the first client that has one, as `BadClient` where its log is no
+/// list and else as `BadCall` with its first faulty call, and as `Memory` where memory is refused.
+/// The time grows with the bytes, and with the logarithm of how many members an object has. Until
+/// it returns, it holds the JSON value of the whole text, also of what is ignored, which may take
+/// a hundred times as much memory as the bytes.
 pub fn read_trace(alloc: Global, bytes: &[u8]) -> Result<Trace, TraceError>
     ensures { ReadsAs bytes.now result }
 {
