@@ -124,7 +124,7 @@ class Room:
         return run([by or f"{self.top}/{self.name}", *arguments], given, cwd=self.away, env=env)
 
     def launch_on_terminal(self, slow):
-        """Launches with a terminal as standard error: how that ended, and what was written there."""
+        """Launches with a terminal as standard error: how that ended, and what it was written."""
         ours, theirs = pty.openpty()
         env = {"PATH": self.bin, "ROOM": self.folder, "TERM": "xterm", "SLOW": slow}
         ran = run([f"{self.top}/fdb_replay"], b"", cwd=self.away, env=env, stderr=theirs)

@@ -1,16 +1,15 @@
 -- What is read of a text is a trace: its versions rise, and each learn names a call.
-use Rattle.std.proofs.Common.{◌≡◌, ℕ, zero, suc, ◌+◌, ◌<◌, ◌≤◌, ◌==◌, ◌&&◌, not, List, [], ◌∷◌, Result, Ok, Err, Option, None, Some, length, map, slice_get, unwrap_or, nat_lt, nat_le, nat_eq, codes, refl, ap, subst, arith}
+use Rattle.std.proofs.Common.{◌≡◌, ℕ, zero, suc, ◌+◌, ◌<◌, ◌≤◌, ◌==◌, ◌&&◌, not, Bool, true, false, cond, List, [], ◌∷◌, Result, Ok, Err, Option, None, Some, length, map, slice_get, unwrap_or, nat_lt, nat_le, nat_eq, codes, refl, ap, subst, arith}
 use Rattle.std.specs.Option.{option_map}
 use Rattle.std.specs.List.{AllByRecursion}
 use Rattle.std.specs.List.Sorted.{IsStrictlyIncreasing}
 use Rattle.std.specs.Cmp.Lexicographic.{pointwise}
 use Rattle.std.proofs.lemmas.Bool.{and_parts, leb-true, ltb-true}
-use Rattle.std.proofs.lemmas.Option.{none-some, same_Some, option_and_then_some}
+use Rattle.std.proofs.lemmas.Option.{cond_some, none-some, same_Some, option_and_then_some}
 use Rattle.serde_json.specs.Data.{Data}
 use Rattle.serde_json.specs.Find.{as_str}
 use Rattle.fdb_history.specs.declared.register.TheConstants.{MAX_VERSION}
 use Rattle.fdb_script.specs.Reading.{array_of, checked, whole, whole_below, whole_within}
-use Rattle.fdb_script.proofs.Within.{checked_some, chosen}
 use Rattle.fdb_audit.specs.Trace.{AreNamed, IsGiven, steps_of}
 use Rattle.fdb_audit.specs.Reading.{call_named, call_with, clients_from, drawn_in, drawn_of, drawn_with, followed_by, learn_named, learn_of, log_length, log_of, log_with, or_fault, step_in, step_of, steps_from, then_clients, versions_from}
 use Rattle.fdb_audit.specs.declared.error.TraceError.{TraceError}
@@ -19,6 +18,16 @@ use Rattle.fdb_audit.specs.declared.trace.Drawn.{Drawn}
 use Rattle.fdb_audit.specs.declared.trace.Step.{Step}
 use Rattle.fdb_audit.specs.declared.trace.Step.TheVariants.{Read, Ask, Report, Learn}
 use Rattle.fdb_audit.specs.declared.trace.TheConstants.{MAX_TRACE_CLIENTS}
+
+checked_some : {T : Type 0} (test : T → Bool) (read : Option T) (value : T) → checked test read ≡ Some value → (test value ≡ true) × (read ≡ Some value)
+checked_some test None value e = absurd (none-some value e)
+checked_some test (Some found) value e =
+    let h = cond_some (test found) found value e in
+    (subst (λ v. test v ≡ true) h.1 h.0, ap Some h.1)
+
+chosen : {T : Type 0} (P : Type 0) (b : Bool) (first other : Option T) (value : T) → (first ≡ Some value → P) → (other ≡ Some value → P) → cond b first other ≡ Some value → P
+chosen P true first other value at_first at_other e = at_first e
+chosen P false first other value at_first at_other e = at_other e
 
 within_range : (low high number : ℕ) (value : Data) → whole_within low high value ≡ Some number → (low ≤ number) × (number ≤ high)
 within_range low high number value e =

@@ -23,7 +23,7 @@ use Rattle.fdb_script.specs.declared.script.TheConstants.{MAX_CLIENTS, MAX_THROT
 
 -- ---- what passes a test, and lists
 
-pub checked_some : {T : Type 0} (test : T → Bool) (read : Option T) (value : T) → checked test read ≡ Some value → (test value ≡ true) × (read ≡ Some value)
+checked_some : {T : Type 0} (test : T → Bool) (read : Option T) (value : T) → checked test read ≡ Some value → (test value ≡ true) × (read ≡ Some value)
 checked_some test None value e = absurd (none-some value e)
 checked_some test (Some found) value e =
     let h = cond_some (test found) found value e in
@@ -32,7 +32,7 @@ checked_some test (Some found) value e =
 both_true : (a b : Bool) → a ≡ true → b ≡ true → (a && b) ≡ true
 both_true a b first second = rw (first, second) refl
 
-pub chosen : {T : Type 0} (P : Type 0) (b : Bool) (first other : Option T) (value : T) → (first ≡ Some value → P) → (other ≡ Some value → P) → cond b first other ≡ Some value → P
+chosen : {T : Type 0} (P : Type 0) (b : Bool) (first other : Option T) (value : T) → (first ≡ Some value → P) → (other ≡ Some value → P) → cond b first other ≡ Some value → P
 chosen P true first other value at_first at_other e = at_first e
 chosen P false first other value at_first at_other e = at_other e
 
