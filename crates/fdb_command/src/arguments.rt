@@ -1,6 +1,6 @@
 //! The arguments of a command line, and what is to be done where clap takes none.
 
-ghost use Rattle.std.specs.Prelude.{◌≡◌, ◌≢◌, Ok, Err, OnOk, IfErr};
+ghost use Rattle.std.specs.Prelude.{◌≡◌, ◌≢◌, Ok, Err, IfErr};
 ghost use Rattle.std.specs.IoError.{error_kind};
 ghost use Rattle.clap.specs.Words.{kind_of};
 
@@ -10,6 +10,15 @@ use std::alloc::Global;
 use std::env::Env;
 use std::io::Write;
 use std::{env, io};
+
+/// What the arguments of a command line ask for.
+#[derive(Drop)]
+pub enum Invocation<T> {
+    /// What the program is for, with these arguments.
+    Run(T),
+    /// The help, which is this error's text.
+    Help(Error),
+}
 
 /// Why arguments ask for nothing.
 #[derive(Clone, Copy, Debug, PartialEq, Eq)]
@@ -43,19 +52,18 @@ pub fn command_line<R: Env + Alloc<A = Global>>(rt: &R) -> io::Result<Vec<String
     Ok(env::args(rt)?.skip(1).collect(rt.alloc())?)
 }
 
-/// The help, which is the text of an error of clap's where that was asked for; else
-/// that memory was refused, or that the arguments are.
-pub fn help_of(error: Error) -> Result<Error, ArgumentsFault>
-    ensures help { kind_of error ≡ ErrorKind.DisplayHelp → result ≡ Ok error }
+/// What an error of clap's means: that help is asked for, that
+/// memory was refused, or else that the arguments are refused.
+pub fn of_error<T: Drop>(error: Error) -> Result<Invocation<T>, ArgumentsFault>
+    ensures help { kind_of error ≡ ErrorKind.DisplayHelp → result ≡ Ok (Invocation.Help error) }
     ensures memory { kind_of error ≡ ErrorKind.OutOfMemory → result ≡ Err ArgumentsFault.Memory }
     ensures refused { kind_of error ≢ ErrorKind.DisplayHelp → kind_of error ≢ ErrorKind.OutOfMemory
         → result ≡ Err ArgumentsFault.Refused }
-    ensures asked { OnOk result (kind_of error ≡ ErrorKind.DisplayHelp) }
     ensures wrong { IfErr result (λ fault. fault ≡ ArgumentsFault.Refused
         → (kind_of error ≢ ErrorKind.DisplayHelp) × (kind_of error ≢ ErrorKind.OutOfMemory)) }
 {
     match error.kind() {
-        ErrorKind::DisplayHelp => Ok(error),
+        ErrorKind::DisplayHelp => Ok(Invocation::Help(error)),
         ErrorKind::OutOfMemory => Err(ArgumentsFault::Memory),
         _ => Err(ArgumentsFault::Refused),
     }

@@ -5,5 +5,5 @@
 mod arguments;
 mod input;
 
-pub use arguments::{ArgumentsFault, command_line, help_of, show};
+pub use arguments::{ArgumentsFault, Invocation, command_line, of_error, show};
 pub use input::{InputFault, input_bytes};

@@ -9,8 +9,8 @@ ghost use Rattle.fdb_replay.specs.Arguments.{AreWrong, command as command_read, 
 ghost use Rattle.fdb_replay.specs.Arguments.{history_argument, proxies_argument, script_argument};
 ghost use Rattle.fdb_replay.specs.private.Asked.{Ask, AskReplay};
 
-use clap::{Arg, ArgAction, ArgMatches, Command, Error, value_parser};
-use fdb_command::{ArgumentsFault, help_of};
+use clap::{Arg, ArgAction, ArgMatches, Command, value_parser};
+use fdb_command::{ArgumentsFault, Invocation, of_error};
 use std::alloc::{AllocError, Global};
 
 /// The end of the help.
@@ -23,15 +23,6 @@ const AFTER_HELP: &str = "Exit status:
   5  reading or writing failed
 
 docs/FORMATS.md has the script, what is written, and what each refusal and fault means.";
-
-/// What the arguments of a command line ask for.
-#[derive(Drop)]
-pub(crate) enum Invocation<'a> {
-    /// A replay.
-    Replay(Arguments<'a>),
-    /// The help, which is this error's text.
-    Help(Error),
-}
 
 /// The arguments of a replay.
 #[derive(Clone, Copy)]
@@ -48,7 +39,7 @@ pub(crate) struct Arguments<'a> {
 pub(crate) fn parse<'a>(
     alloc: Global,
     arguments: &'a [String],
-) -> Result<Invocation<'a>, ArgumentsFault>
+) -> Result<Invocation<Arguments<'a>>, ArgumentsFault>
     ensures ok { IfOk result (Ask (map string_bytes arguments.entry.now)) }
     ensures err { IfErr result (λ fault. fault ≡ ArgumentsFault.Refused
         → AreWrong (map string_bytes arguments.entry.now)) }
@@ -57,8 +48,8 @@ pub(crate) fn parse<'a>(
         return Err(ArgumentsFault::Memory);
     };
     match command.try_get_matches_from(arguments) {
-        Ok(matches) => Ok(Invocation::Replay(arguments_of(&matches))),
-        Err(error) => Ok(Invocation::Help(help_of(error)?)),
+        Ok(matches) => Ok(Invocation::Run(arguments_of(&matches))),
+        Err(error) => of_error(error),
     }
 }
 

@@ -13,10 +13,10 @@ ghost use Rattle.fdb_history.specs.declared.fault.AuditFault.{AuditFault};
 ghost use Rattle.fdb_script.specs.declared.error.ScriptError.{ScriptError};
 ghost use Rattle.fdb_script.specs.declared.script.TheConstants.{MAX_SCRIPT_BYTES};
 
-use crate::arguments::{Arguments, Invocation, parse};
+use crate::arguments::{Arguments, parse};
 use crate::fault::RunFault;
 use crate::replaying::{ReplayFault, replay};
-use fdb_command::{ArgumentsFault, InputFault, input_bytes, show};
+use fdb_command::{ArgumentsFault, InputFault, Invocation, input_bytes, show};
 use fdb_history::{AuditFault, OpenGate};
 use fdb_script::{MAX_SCRIPT_BYTES, ScriptError};
 use std::alloc::Global;
@@ -239,7 +239,7 @@ fn carry_out<R: Threads + Wait + Sync + Files, I: Read, O: Write>(
     };
     match parse(alloc, &arguments)? {
         Invocation::Help(help) => show(&help, out).map_err(|_| Fault::Writing),
-        Invocation::Replay(arguments) => replay_arguments(rt, alloc, arguments, input, out),
+        Invocation::Run(arguments) => replay_arguments(rt, alloc, arguments, input, out),
     }
 }
 

@@ -4,8 +4,8 @@ use Rattle.std.specs.Option.{option_map_or}
 use Rattle.std.specs.Str.Parse.{digits_value, without_leading_plus}
 use Rattle.clap.specs.Words.{Text, matches_of, one_of}
 use Rattle.fdb_replay.specs.Arguments.{AsksHelp, command, faults, script_named, wants_history}
-use Rattle.fdb_replay.specs.declared.arguments.Invocation.{Invocation}
-use Rattle.fdb_replay.specs.declared.arguments.Invocation.TheVariants as invocation
+use Rattle.fdb_command.specs.declared.arguments.Invocation.{Invocation}
+use Rattle.fdb_command.specs.declared.arguments.Invocation.TheVariants as invocation
 use Rattle.fdb_replay.specs.declared.arguments.Arguments.{Arguments}
 
 -- the number of GRV proxies, which is 1 unless it is said
@@ -24,6 +24,6 @@ pub record AskReplay (arguments : List Text) (asked : Arguments) : Type 0 where
   pub history : asked.history ≡ wants_history arguments
 
 -- the arguments ask for this
-abbrev pub Ask : List Text → Invocation → Type 0
-Ask arguments (invocation.Replay asked) = AskReplay arguments asked
+abbrev pub Ask : List Text → Invocation Arguments → Type 0
+Ask arguments (invocation.Run asked) = AskReplay arguments asked
 Ask arguments (invocation.Help help) = AsksHelp arguments

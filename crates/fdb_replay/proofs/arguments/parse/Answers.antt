@@ -23,9 +23,9 @@ returns-in-Err-clause-err c =
     let arguments = map string_bytes c.args.arguments.now in
     let is : app_of c.in-Ok.command ≡ command_read = c.in-Ok.ensures in
     let has : HasKind (faults arguments) error = subst (λ (a : App). HasKind (fault_of a arguments) error) is (c.in-Err.ensures.kinds (ap is_simple_and_free is)) in
-    IfErr-weaker c.help_of.result _ _
+    IfErr-weaker c.of_error.result _ _
     (λ fault wrong refused. elim has [
       | inl memory ↦ absurd ((wrong refused).1 memory)
       | inr found ↦ (kind_of error, (wrong refused).0, found)
     ])
-    c.help_of.ensures.wrong
+    c.of_error.ensures.wrong

@@ -6,5 +6,5 @@ use Rattle.fdb_replay.proofs.driving.carry_out.Goals as goal
 pub returns-clause-left : goal.returns-clause-left
 returns-clause-left g c =
     let arguments = map string_bytes c.in-Ok.arguments.items in
-    let asked : AskReplay arguments c.in-Replay.arguments = rw (c.in-Replay.is, c.deref.ensures.value) at c.in_ok-help.ensures.ok in
-    rw c.in-Ok.is (λ unread. c.replay_arguments.ensures.left (file_named arguments c.in-Replay.arguments asked unread))
+    let asked : AskReplay arguments c.in-Run.arguments = rw (c.in-Run.is, c.deref.ensures.value) at c.in_ok-help.ensures.ok in
+    rw c.in-Ok.is (λ unread. c.replay_arguments.ensures.left (file_named arguments c.in-Run.arguments asked unread))
