@@ -9,7 +9,7 @@ import time
 
 from harness import ROOT, Ran, fault_of, run
 
-TOOLS = "bash sh cat cp mv mkdir mktemp rm sleep find date readlink flock touch sed".split()
+TOOLS = "bash sh cat cp mv mkdir mktemp rm sleep timeout find date readlink flock touch sed".split()
 NOT_BUILT = 70
 QUICK = 0.1
 
@@ -45,7 +45,7 @@ case "$name $1" in
     sleep ${SLOW-0}
     ;;
 "fdb_audit lib")
-    while [ "$(cat "$ROOM/aside")" != "$(printf 'kept lib\nother lib')" ]; do sleep 0.1; done
+    while [ "$(cat "$ROOM/aside")" != "$(printf 'low lib\nkept lib\nother lib')" ]; do sleep 0.1; done
     ;;
 *"_cli run")
     echo "rt: running out/$name" >&2
@@ -251,7 +251,7 @@ def of_the_audit(room):
     begun = b"fdb_audit: proving and building the program first"
     yield "the audit's own name", None if ran.err.startswith(begun) else repr(ran.err)
     yield "the audit's crates are proved in turn", other_text(f"{room.folder}/calls", b"low lib\nother lib\nkept lib\nfdb_audit lib\nfdb_audit_cli run\n")
-    yield "others meanwhile, in a copy", other_text(f"{room.folder}/aside", b"kept lib\nother lib\n")
+    yield "others meanwhile, in a copy", other_text(f"{room.folder}/aside", b"low lib\nkept lib\nother lib\n")
     room.write(f"{room.top}/crates/middle/lib.rt", "edited\n")
     yield "the audit through a link", room.fault(room.launch(by=f"{room.folder}/link"), room.wanted(), 1)
     os.remove(f"{room.crate}/out/fdb_audit_cli")
