@@ -9,7 +9,7 @@ import time
 
 from harness import ROOT, Ran, fault_of, run
 
-TOOLS = "bash sh cat cp mv mkdir sleep find date readlink flock touch sed".split()
+TOOLS = "bash sh cat cp mv mkdir mktemp rm sleep timeout find date readlink flock touch sed".split()
 NOT_BUILT = 70
 QUICK = 0.1
 
@@ -19,7 +19,8 @@ other: low
 kept: low
 middle: low
 fdb_replay_cli: kept middle
-fdb_audit_cli: other
+fdb_audit: kept other
+fdb_audit_cli: fdb_audit
 bench: low
 """
 # Locks the crate's folder, as rt does, and makes the program in its crate. It fails in the crate
@@ -28,7 +29,10 @@ RT = """#!/bin/sh
 exec 9< .
 flock 9
 name=${PWD##*/}
-echo "$name $1" >> "$ROOM/calls"
+case $PWD in
+"$ROOM/top/"*) echo "$name $1" >> "$ROOM/calls" ;;
+*) echo "$name $1" >> "$ROOM/aside"; exit ;;
+esac
 cat > "$ROOM/given"
 if [ "$name" != kept ]; then echo "rt: proving $name"; fi
 if [ -e "$ROOM/fails" ] && [ "$(cat "$ROOM/fails")" = "$name" ]; then exit 1; fi
@@ -40,6 +44,10 @@ case "$name $1" in
     sleep ${SLOW-0}
     echo "tions checked"
     sleep ${SLOW-0}
+    ;;
+"fdb_audit lib")
+    while [ "$(cat "$ROOM/aside")" != "$(printf 'low lib\nkept lib\nother lib')" ]
+    do sleep 0.1; done
     ;;
 *"_cli run")
     echo "rt: running out/$name" >&2
@@ -96,9 +104,10 @@ class Room:
         self.folder, self.name, self.crate = folder, name, f"{self.top}/crates/{name}_cli"
         for it in (
             f"{self.crate}/src",
-            *(f"{self.top}/crates/{it}" for it in ("low", "other", "kept", "middle")),
+            *(f"{self.top}/crates/{it}" for it in ("low", "other", "kept", "middle", "fdb_audit")),
             self.bin,
             self.away,
+            f"{folder}/tmp",
         ):
             os.makedirs(it)
         os.mkdir(f"{self.top}/tools")
@@ -120,7 +129,12 @@ class Room:
         os.chmod(file, 0o755)
 
     def launch(self, *arguments, given=b"bytes\n", by=None, status=0):
-        env = {"PATH": self.bin, "ROOM": self.folder, "STATUS": str(status)}
+        env = {
+            "PATH": self.bin,
+            "ROOM": self.folder,
+            "TMPDIR": f"{self.folder}/tmp",
+            "STATUS": str(status),
+        }
         return run([by or f"{self.top}/{self.name}", *arguments], given, cwd=self.away, env=env)
 
     def launch_on_terminal(self, slow):
@@ -283,12 +297,19 @@ def of_the_audit(room):
     begun = b"fdb_audit: proving and building the program first"
     yield "the audit's own name", None if ran.err.startswith(begun) else repr(ran.err)
     yield "the audit's crates are proved in turn", other_text(
-        f"{room.folder}/calls", b"low lib\nother lib\nfdb_audit_cli run\n"
+        f"{room.folder}/calls", b"low lib\nother lib\nkept lib\nfdb_audit lib\nfdb_audit_cli run\n"
+    )
+    yield "others meanwhile, in a copy", other_text(
+        f"{room.folder}/aside", b"low lib\nkept lib\nother lib\n"
     )
     room.write(f"{room.top}/crates/middle/lib.rt", "edited\n")
     yield "the audit through a link", room.fault(
         room.launch(by=f"{room.folder}/link"), room.wanted(), 1
     )
+    os.remove(f"{room.crate}/out/fdb_audit_cli")
+    room.write(f"{room.folder}/fails", "other")
+    yield "an audit that fails", room.fault(room.launch(), Ran(NOT_BUILT, b"", None), 1)
+    yield "the copies are gone", ", ".join(os.listdir(f"{room.folder}/tmp")) or None
 
 
 def told_launches(room):
