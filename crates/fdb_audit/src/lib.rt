@@ -8,6 +8,7 @@
 
 mod chain;
 mod error;
+mod explaining;
 mod reason;
 mod seen;
 mod trace;
