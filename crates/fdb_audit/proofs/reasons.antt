@@ -1,2 +1,4 @@
 pub mod Steps
 pub mod Judged
+pub mod Reporters
+pub mod Found

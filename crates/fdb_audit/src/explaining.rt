@@ -1,6 +1,6 @@
 //! Why a fault of worked-out logs stands.
 
-ghost use Rattle.std.specs.Prelude.{◌≡◌, ◌≤◌, ◌^◌, ◌↔◌, IsTrue, length};
+ghost use Rattle.std.specs.Prelude.{◌≡◌, ◌≤◌, ◌^◌, ◌↔◌, IsTrue, Some, length};
 ghost use Rattle.fdb_history.specs.Audit.{Low};
 ghost use Rattle.fdb_history.specs.private.Auditing.{IsFirstOf};
 ghost use Rattle.fdb_history.specs.Faults.{IsFirst, OutOfOrder, StandsAt, WronglyAnswered};
@@ -89,11 +89,19 @@ fn changes_at(
 ) -> bool
     ensures { IsTrue result ↔ ChangesAt position besides client before.now call.now }
 {
-    let here = CallPlace {
-        client,
-        call: before.len() as u64,
-    };
-    call.position == position && answer_changes(&call.answer) && besides != Some(here)
+    call.position == position
+        && answer_changes(&call.answer)
+        && !is_at(besides, client, before.len() as u64)
+}
+
+/// Whether a place is that of a client's call.
+fn is_at(place: Option<CallPlace>, client: u32, call: u64) -> bool
+    ensures { IsTrue result ↔ place ≡ Some (record { client = client; call = call }) }
+{
+    match place {
+        Some(place) => place.client == client && place.call == call,
+        None => false,
+    }
 }
 
 /// The live committed version at a position.

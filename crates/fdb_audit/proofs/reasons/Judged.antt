@@ -60,21 +60,21 @@ module _ {given : Given} {seen : ℕ → ℕ → ℕ} {marks : List ℕ} {chain 
           let there_is : W version true = subst (λ b. W version b) above (subst (λ v. W v (nat_lt (before worked client place) version)) same wrong) in
           let low = lt-ltb (live (position_of marks version - 1)) version was.2 in
           let judged : IsMisanswered (plain (live (position_of marks version - 1))) (plain version) true true = subst (λ (r : Record). IsMisanswered r (plain version) true true) was.1 there_is in
-          absurd (fine low judged)
+          absurd (fine _ _ low judged)
         where
-          fine : {a b : ℕ} → nat_lt a b ≡ true → IsMisanswered (plain a) (plain b) true true → ⊥
-          fine low (inl other) = other (sym low)
-          fine low (inr other) = other (sym (simp low refl))
+          fine : (a b : ℕ) → nat_lt a b ≡ true → IsMisanswered (plain a) (plain b) true true → ⊥
+          fine a b low (inl other) = other (sym low)
+          fine a b low (inr other) = other (sym (simp low refl))
       by false below =
           let W : Bool → Type 0 = λ b. IsWrongBy (register_at (plain given.start) logs) (position_of marks (seen client place)) (Acked (plain version) b b) in
           let there_is : W false = subst W below wrong in
           let judged : IsMisanswered (plain (live (position_of marks (seen client place)))) (plain version) false false = subst (λ (r : Record). IsMisanswered r (plain version) false false) (register_of (seen client place)) there_is in
-          simp below (above (nat_lt (live (position_of marks (seen client place))) version) refl judged)
+          simp below (above _ _ (nat_lt (live (position_of marks (seen client place))) version) refl judged)
         where
-          above : {a b : ℕ} (flag : Bool) → nat_lt a b ≡ flag → IsMisanswered (plain a) (plain b) false false → nat_lt a b ≡ true
-          above true is judged = is
-          above false is (inl other) = absurd (other (sym is))
-          above false is (inr other) = absurd (other (sym (simp is refl)))
+          above : (a b : ℕ) (flag : Bool) → nat_lt a b ≡ flag → IsMisanswered (plain a) (plain b) false false → nat_lt a b ≡ true
+          above a b true is judged = is
+          above a b false is (inl other) = absurd (other (sym is))
+          above a b false is (inr other) = absurd (other (sym (simp is refl)))
 
   -- A call that is wrongly answered is unlike the register.
   pub wrongly_answered : (client place : ℕ) (call : Call) → slice_get (calls_of logs client) place ≡ Some call → IsWrongAnswer (plain given.start) logs call.position call.answer

@@ -1,5 +1,5 @@
 -- The calls of worked-out logs: each is that of a step, and only reads go back.
-use Rattle.std.proofs.Common.{◌≡◌, ℕ, zero, suc, ◌+◌, ◌<◌, ◌≤◌, max, nat_lt, Bool, true, false, IsTrue, Contains, List, [], ◌∷◌, length, take, get_or, Some, slice_get, refl, ap, sym, subst, ◌∙◌, inl, inr, arith}
+use Rattle.std.proofs.Common.{◌≡◌, ℕ, zero, suc, ◌+◌, ◌<◌, ◌≤◌, ◌⊎◌, max, nat_lt, Bool, true, false, IsTrue, Contains, List, [], ◌∷◌, length, take, get_or, Some, slice_get, refl, ap, sym, subst, ◌∙◌, inl, inr, arith}
 use Rattle.std.proofs.lemmas.Bool.{cases_lt, false≢true, ltb-true}
 use Rattle.std.proofs.lemmas.List.{get_or-take, get_or_default, length-take}
 use Rattle.std.proofs.lemmas.Option.{none-some, same_Some, slice_get-get_or, slice_get_within}
@@ -35,7 +35,7 @@ at_step chain marks start seen client first (step ∷ steps) (suc k) place call 
     at_step chain marks start seen client (first + 1) steps k place call (omega arith) there
 
 -- the calls of a client
-of_client : (chain : List Issued) (marks : List ℕ) (start : ℕ) (seen : ℕ → ℕ → ℕ) (first : ℕ) (clients : List (List Step)) (k client : ℕ) → client ≡ first + k
+pub of_client : (chain : List Issued) (marks : List ℕ) (start : ℕ) (seen : ℕ → ℕ → ℕ) (first : ℕ) (clients : List (List Step)) (k client : ℕ) → client ≡ first + k
     → calls_of (logs_from chain marks start seen first clients) k ≡ calls_from chain marks start seen client 0 (steps_of clients k)
 of_client chain marks start seen first [] k client at = refl
 of_client chain marks start seen first (steps ∷ others) zero client at =
