@@ -1,5 +1,6 @@
 -- What is read of a call that a fault names.
-use Rattle.std.proofs.Common.{◌≡◌, ℕ, zero, suc, ◌<◌, ◌≤◌, Bool, false, List, [], ◌∷◌, length, take, get_or, Some, slice_get, refl, ap, sym, subst, ◌∙◌, arith}
+use Rattle.std.proofs.Common.{◌≡◌, ℕ, zero, suc, ◌<◌, ◌≤◌, Bool, true, false, List, [], ◌∷◌, length, take, get_or, Some, slice_get, refl, ap, sym, subst, ◌∙◌, arith}
+use Rattle.std.proofs.lemmas.Bool.{false≢true}
 use Rattle.std.proofs.lemmas.List.{length-take}
 use Rattle.std.proofs.lemmas.Option.{same_Some, slice_get_read, slice_get_within}
 use Rattle.fdb_history.specs.declared.chain.Issued.{Issued}
@@ -46,3 +47,25 @@ slice_get-take [] (suc count) place below = refl
 slice_get-take (call ∷ calls) zero place below = absurd (omega arith)
 slice_get-take (call ∷ calls) (suc count) zero below = refl
 slice_get-take (call ∷ calls) (suc count) (suc place) below = slice_get-take calls count place (omega arith)
+
+-- whether an answer is a read, and whether it is a report
+abbrev is_read : CallAnswer → Bool
+is_read (Version rec limits locked_out) = true
+is_read (Acked rec raised changed) = false
+is_read (Answered issued) = false
+is_read Told = false
+is_read (Refused cause) = false
+
+-- a read is no report
+pub read_apart : (answer : CallAnswer) (version : ℕ) (rec : Record) (raised changed : Bool) → answer ≡ Version (plain version) [] false → answer ≡ Acked rec raised changed → ⊥
+read_apart answer version rec raised changed is other = false≢true (ap is_read (sym other ∙ is))
+
+-- and a report is no read
+pub report_apart : (answer : CallAnswer) (version : ℕ) (read : CallAnswer) → is_read read ≡ true → answer ≡ Acked (plain version) false false → answer ≡ read → ⊥
+report_apart answer version read reads is other = false≢true (ap is_read (sym is ∙ other) ∙ reads)
+
+-- the version of a report that is a plain one
+pub plain_report : (answer : CallAnswer) (version : ℕ) (answered : CallAnswer) → answer ≡ Acked (plain version) false false → answer ≡ answered → answer ≡ Acked (plain (rec_of answered).version) false false
+plain_report answer version answered is other =
+    let same : version ≡ (rec_of answered).version = ap version_of (sym is ∙ other) in
+    is ∙ ap (λ v. Acked (plain v) false false) same

@@ -1,6 +1,6 @@
 -- Which calls of worked-out logs are out of order or wrongly answered.
 use Rattle.std.proofs.Common.{◌≡◌, ◌≢◌, ℕ, zero, suc, ◌+◌, ◌-◌, ◌<◌, ◌≤◌, ◌==◌, ◌&&◌, ◌⊎◌, max, nat_lt, not, Bool, true, false, Contains, List, [], length, take, Some, slice_get, refl, ap, sym, subst, ◌∙◌, inl, inr, arith}
-use Rattle.std.proofs.lemmas.Bool.{cases_Bool, cases_lt, cases_eq, eqb-true, false≢true, true≢false, lt-ltb, le-ltb, ltb-true, ne_eqb}
+use Rattle.std.proofs.lemmas.Bool.{and_parts, eq-eqb, false≢true, lt-ltb, ltb-true, ne_eqb, not-true}
 use Rattle.fdb_history.specs.Faults.{IsMisanswered, IsOutOfOrder, IsWrongAnswer, IsWrongBy, register_at}
 use Rattle.fdb_history.specs.Log.{calls_of}
 use Rattle.fdb_history.specs.declared.chain.Issued.{Issued}
@@ -83,3 +83,24 @@ module _ {given : Given} {seen : ℕ → ℕ → ℕ} {marks : List ℕ} {chain 
       let own = step_of worked client place call there in
       subst (λ (c : Call). is_unlike (live c.position) c.answer ≡ true) (sym own.2)
       (unlike client place own.0 own.1 (subst (λ (c : Call). IsWrongAnswer (plain given.start) logs c.position c.answer) own.2 wrong))
+
+  -- a read of another version than the live committed one, or a report of one above it that changed nothing
+  abbrev pub Differs : Call → Type 0
+  Differs call =
+      ((version : ℕ) × (call.answer ≡ Version (plain version) [] false) × (version ≢ live call.position))
+      ⊎ ((version : ℕ) × (call.answer ≡ Acked (plain version) false false) × (live call.position < version))
+
+  differs : (client place : ℕ) (step : Step) → is_unlike (live (made worked client place step).position) (made worked client place step).answer ≡ true → Differs (made worked client place step)
+  differs client place (Ask version) un = absurd (false≢true un)
+  differs client place (Learn from call) un = absurd (false≢true un)
+  differs client place (Read version) un = inl (version, refl, λ same. false≢true (sym (ap not (eq-eqb version (live (position_of marks version)) same)) ∙ un))
+  differs client place (Report version) un =
+      let parts = and_parts (not (nat_lt (before worked client place) version)) (nat_lt (live (position_of marks (seen client place))) version) un in
+      inr (version, ap (λ b. Acked (plain version) b b) (not-true (nat_lt (before worked client place) version) parts.0), ltb-true (live (position_of marks (seen client place))) version parts.1)
+
+  -- A wrongly answered call is one of these.
+  pub how_wrong : (client place : ℕ) (call : Call) → slice_get (calls_of logs client) place ≡ Some call → IsWrongAnswer (plain given.start) logs call.position call.answer → Differs call
+  how_wrong client place call there wrong =
+      let own = step_of worked client place call there in
+      subst Differs (sym own.2)
+      (differs client place own.0 (subst (λ (c : Call). is_unlike (live c.position) c.answer ≡ true) own.2 (wrongly_answered client place call there wrong)))

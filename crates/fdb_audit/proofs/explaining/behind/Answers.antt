@@ -33,7 +33,7 @@ unreachable-requires-in_default-first_at c =
     let least : 1 ≤ stands.0.asked = omega (arith, back.back, ap (λ (l : Call). l.asked) same) in
     let came = came_to worked c.args.client c.args.call stands.0 stands.1 least (λ p below fault. c.requires.stands.none_before c.args.client p (inr (refl, below)) fault) in
     let there : slice_get c.calls_of-calls.result.now came.0 ≡ Some came.1 = subst (λ l. slice_get l came.0 ≡ Some came.1) (sym calls) came.3 in
-    c.in_default-first_at.ensures tt came.0 came.1 (slice_get-take _ _ _ came.2 ∙ there) (came.4 ∙ ap (λ (l : Call). l.asked) same)
+    c.in_default-first_at.ensures came.0 came.1 (slice_get-take _ _ _ came.2 ∙ there) (came.4 ∙ ap (λ (l : Call). l.asked) same)
 
 pub live_at-requires-clause-within : goal.live_at-requires-clause-within
 live_at-requires-clause-within c =
