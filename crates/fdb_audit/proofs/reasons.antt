@@ -2,3 +2,4 @@ pub mod Steps
 pub mod Judged
 pub mod Reporters
 pub mod Found
+pub mod Clashes

@@ -153,10 +153,11 @@ IsReason start chain logs (fault.NotAbove client call) (NotAbove version seen) =
     StandsAt (λ before ask. IsLow start logs ask version seen) logs client call
 IsReason _ _ _ _ _ = ⊥
 
--- Worked-out logs have no gap, and memory may run out at any time.
+-- Worked-out logs have no gap, memory may run out at any time, and of a stray answer no reason is told yet.
 abbrev pub HasNoReason : AuditFault → Type 0
 HasNoReason (fault.Gap position) = Unit {0}
 HasNoReason fault.Memory = Unit {0}
+HasNoReason (fault.Stray client call) = Unit {0}
 HasNoReason _ = ⊥
 
 -- A fault has its reason, unless it is of a kind that needs none.

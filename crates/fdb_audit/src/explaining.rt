@@ -1,11 +1,11 @@
 //! Why a fault of worked-out logs stands.
 
 ghost use Rattle.std.specs.Prelude.{◌≡◌, ◌≤◌, ◌^◌, ◌↔◌, IsTrue, Some, length};
-ghost use Rattle.fdb_history.specs.Audit.{Low};
+ghost use Rattle.fdb_history.specs.Audit.{IsFirstFault, Low};
 ghost use Rattle.fdb_history.specs.private.Auditing.{IsFirstOf};
-ghost use Rattle.fdb_history.specs.Faults.{IsFirst, OutOfOrder, StandsAt, WronglyAnswered};
+ghost use Rattle.fdb_history.specs.Faults.{IsClash, IsFirst, OutOfOrder, StandsAt, WronglyAnswered};
 ghost use Rattle.fdb_history.specs.Log.{answer_changes, calls_of};
-ghost use Rattle.fdb_audit.specs.Reasons.{IsBy, IsLive, IsReason};
+ghost use Rattle.fdb_audit.specs.Reasons.{IsExplained, IsLive, IsReason};
 ghost use Rattle.fdb_audit.specs.Trace.{Given};
 ghost use Rattle.fdb_audit.specs.WorkedOut.{mark_at};
 ghost use Rattle.fdb_audit.specs.private.Reasons.{ChangesAt, IsFirstAt, IsFirstPlace};
@@ -14,6 +14,27 @@ ghost use Rattle.fdb_audit.specs.private.Worked.{IsWorkedOutOf};
 use crate::reason::{CallPlace, Live, Reason};
 use crate::worked_out::WorkedOut;
 use fdb_history::{AuditFault, Call, CallAnswer, ClientLog};
+
+/// Why a fault of worked-out logs stands, where it is the first one. There is no reason of a gap,
+/// which no such logs have, nor of memory that runs out, and none is told yet of a stray answer.
+///
+/// It takes time in proportion to the calls, and no memory.
+pub fn explain(worked: &WorkedOut, fault: AuditFault) -> Option<Reason>
+    requires few { length worked.now.logs.items ≤ 2 ^ 32 }
+    requires worked_out { (given : Given) × IsWorkedOutOf given worked.now }
+    requires stands { IsFirstFault worked.now.start worked.now.chain.items
+        worked.now.logs.items fault }
+    ensures { IsExplained worked.now.start worked.now.chain.items worked.now.logs.items
+        fault result }
+{
+    match fault {
+        AuditFault::Order { client, call } => Some(behind(worked, client, call)),
+        AuditFault::Clash { position } => Some(twice(worked, position)),
+        AuditFault::Wrong { client, call } => Some(not_live(worked, client, call)),
+        AuditFault::NotAbove { client, call } => Some(not_above(worked, client, call)),
+        AuditFault::Stray { .. } | AuditFault::Gap { .. } | AuditFault::Memory => None,
+    }
+}
 
 /// The calls of a client.
 fn calls_of(logs: &[ClientLog], client: u32) -> &[Call]
@@ -153,6 +174,27 @@ fn behind(worked: &WorkedOut, client: u32, call: u64) -> Reason
         version: rec.version,
         seen: live_at(worked, read.asked),
         call: earlier,
+    }
+}
+
+/// Why two changes have a position.
+fn twice(worked: &WorkedOut, position: u64) -> Reason
+    requires few { length worked.now.logs.items ≤ 2 ^ 32 }
+    requires worked_out { (given : Given) × IsWorkedOutOf given worked.now }
+    requires stands { IsClash worked.now.logs.items position }
+    ensures { IsReason worked.now.start worked.now.chain.items worked.now.logs.items
+        (AuditFault.Clash position) result }
+{
+    let Some(first) = first_change(&worked.logs, position, None) else {
+        unreachable!();
+    };
+    let Some(second) = first_change(&worked.logs, position, Some(first)) else {
+        unreachable!();
+    };
+    Reason::Twice {
+        version: version_at(worked, position),
+        first,
+        second,
     }
 }
 

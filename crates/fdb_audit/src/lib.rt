@@ -15,6 +15,7 @@ mod trace;
 mod worked_out;
 
 pub use error::TraceError;
+pub use explaining::explain;
 pub use reason::{CallPlace, Live, Reason};
 pub use trace::{Drawn, MAX_TRACE_BYTES, MAX_TRACE_CLIENTS, Step, Trace};
 pub use worked_out::{WorkedOut, work_out};
