@@ -3,3 +3,4 @@ pub mod Judged
 pub mod Reporters
 pub mod Found
 pub mod Clashes
+pub mod Texts

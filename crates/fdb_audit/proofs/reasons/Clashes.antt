@@ -125,14 +125,31 @@ some_other logs position besides clash none = two_of_clash logs position clash n
     apart : (client place later other : ℕ) → ComesBefore client place later other → client ≡ later → place ≡ other → ⊥
     apart client place later other (inl before) one two = omega arith
     apart client place later other (inr (same, before)) one two = omega arith
+
     never : (client place later other : ℕ) → ComesBefore client place later other → ChangesIn position logs client place → ChangesIn position logs later other → ⊥
     never client place later other comes one two =
-        none client place (one.0, one.1, (one.2.0, one.2.1, λ is. none later other (two.0, two.1, (two.2.0, two.2.1, λ also.
-        let same = same_Some _ _ (sym is ∙ also) in
-        let calls : length (take place (calls_of logs client)) ≡ length (take other (calls_of logs later)) = ap (λ (p : CallPlace). p.call) same in
-        let here = before-length (calls_of logs client) (calls_of logs client) place one.0 refl one.1 in
-        let there = before-length (calls_of logs later) (calls_of logs later) other two.0 refl two.1 in
-        apart client place later other comes (ap (λ (p : CallPlace). p.client) same) (here ∙ calls ∙ sym there)))))
+        none client place (
+          one.0,
+          one.1,
+          (
+            one.2.0,
+            one.2.1,
+            λ is. none later other (
+              two.0,
+              two.1,
+              (
+                two.2.0,
+                two.2.1,
+                λ also.
+                    let same = same_Some _ _ (sym is ∙ also) in
+                    let calls : length (take place (calls_of logs client)) ≡ length (take other (calls_of logs later)) = ap (λ (p : CallPlace). p.call) same in
+                    let here = before-length (calls_of logs client) (calls_of logs client) place one.0 refl one.1 in
+                    let there = before-length (calls_of logs later) (calls_of logs later) other two.0 refl two.1 in
+                    apart client place later other comes (ap (λ (p : CallPlace). p.client) same) (here ∙ calls ∙ sym there),
+              ),
+            ),
+          ),
+        )
 
 -- The first besides the first comes after it.
 pub comes_after : (logs : List ClientLog) (position : ℕ) (one two : CallPlace) → IsFirst (λ client place. StandsAt (ChangesAt position None client) logs client place) one.client one.call

@@ -32,10 +32,11 @@ module _ {given : Given} {seen : ℕ → ℕ → ℕ} {marks : List ℕ} {chain 
       let place = place_of marks worked.raised.rising version found in
       let at : position_of marks version - 1 ≡ place.0 = omega (arith, place.2) in
       let rises = mark_at-rises given.start marks worked.raised.rising (marks-above worked) place.0 place.1 in
-      let is = place.3 given.start in
-      (omega (arith, place.2),
-      register_at-worked_out worked (position_of marks version - 1) (omega (arith, place.1)),
-      subst (λ n. live n < version) (sym at) (omega (arith, rises, is)))
+      let is = place.3 given.start in (
+        omega (arith, place.2),
+        register_at-worked_out worked (position_of marks version - 1) (omega (arith, place.1)),
+        subst (λ n. live n < version) (sym at) (omega (arith, rises, is)),
+      )
 
   -- ---- wrong answers
 

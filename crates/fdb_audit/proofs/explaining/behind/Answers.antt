@@ -54,11 +54,14 @@ returns c =
     let live = live_is worked _ c.requires.worked_out.1.0 c.index-calls-call.result.asked c.live_at.result.version within c.live_at.ensures.is in
     let version : c.in-Version.rec.version ≡ back.version = ap (λ (a : CallAnswer). (rec_of a).version) (sym c.in-Version.is ∙ back.read) in
     let position = back.position in
-    let low = below_live worked back.version c.index-calls-call.result.asked (omega (arith, back.back, position)) within in
-    (c.index-calls-call.result, there, record {
-      read = plain_read _ back.version _ back.read c.in-Version.is;
-      back = back.back;
-      saw = c.live_at.ensures;
-      below = omega (arith, low, live, version);
-      by = subst (λ l. CameTo c.index-calls-call.result.asked (take c.args.call l) c.in-Some.earlier) calls c.in-Some.ensures;
-    })
+    let low = below_live worked back.version c.index-calls-call.result.asked (omega (arith, back.back, position)) within in (
+      c.index-calls-call.result,
+      there,
+      record {
+        read = plain_read _ back.version _ back.read c.in-Version.is;
+        back = back.back;
+        saw = c.live_at.ensures;
+        below = omega (arith, low, live, version);
+        by = subst (λ l. CameTo c.index-calls-call.result.asked (take c.args.call l) c.in-Some.earlier) calls c.in-Some.ensures;
+      },
+    )

@@ -23,9 +23,12 @@ returns c =
     let low = subst (λ (call : Call). IsNotAbove register call.asked call.answer) same stands.2 in
     let here = subst (λ (a : CallAnswer). IsNotAbove register c.index-calls_of-call.result.asked a) c.in-Answered.is low in
     let most = here.2 in
-    let is = ap (λ (r : Record). r.version) c.live_at.ensures.is in
-    (c.index-calls_of-call.result, stands.1 ∙ ap Some same, record {
-      asked = (c.in-Answered.issued, c.in-Answered.is, refl);
-      saw = c.live_at.ensures;
-      low = omega (arith, most, is);
-    })
+    let is = ap (λ (r : Record). r.version) c.live_at.ensures.is in (
+      c.index-calls_of-call.result,
+      stands.1 ∙ ap Some same,
+      record {
+        asked = (c.in-Answered.issued, c.in-Answered.is, refl);
+        saw = c.live_at.ensures;
+        low = omega (arith, most, is);
+      },
+    )

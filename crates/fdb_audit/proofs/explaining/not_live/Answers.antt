@@ -36,13 +36,16 @@ returns-in-Version c =
     let live = live_is worked _ c.requires.worked_out.1.0 c.index-calls_of-call.result.position c.live_at-live.result.version (position-within worked c.args.client c.args.call _ there) c.live_at-live.ensures.is in
     elim (subst (Differs worked) same (how_wrong worked c.args.client c.args.call stands.0 stands.1 wrong)) [
       | inl read ↦
-          let version : read.0 ≡ c.in-Version.rec.version = ap (λ (a : CallAnswer). (rec_of a).version) (sym read.1 ∙ c.in-Version.is) in
-          (c.index-calls_of-call.result, there, record {
-            read = plain_read _ read.0 _ read.1 c.in-Version.is;
-            at = refl;
-            is = c.live_at-live.ensures;
-            differs = λ e. read.2 (version ∙ e ∙ live);
-          })
+          let version : read.0 ≡ c.in-Version.rec.version = ap (λ (a : CallAnswer). (rec_of a).version) (sym read.1 ∙ c.in-Version.is) in (
+            c.index-calls_of-call.result,
+            there,
+            record {
+              read = plain_read _ read.0 _ read.1 c.in-Version.is;
+              at = refl;
+              is = c.live_at-live.ensures;
+              differs = λ e. read.2 (version ∙ e ∙ live);
+            },
+          )
       | inr report ↦ absurd (report_apart _ report.0 _ refl report.1 c.in-Version.is)
     ]
 
@@ -58,11 +61,14 @@ returns-in-Acked c =
       | inl read ↦ absurd (read_apart _ read.0 _ _ _ read.1 c.in-Acked.is)
       | inr report ↦
           let version : report.0 ≡ c.in-Acked.rec.version = ap (λ (a : CallAnswer). (rec_of a).version) (sym report.1 ∙ c.in-Acked.is) in
-          let below = report.2 in
-          (c.index-calls_of-call.result, there, record {
-            reported = plain_report _ report.0 _ report.1 c.in-Acked.is;
-            at = refl;
-            is = c.live_at-live.ensures;
-            below = omega (arith, below, version, live);
-          })
+          let below = report.2 in (
+            c.index-calls_of-call.result,
+            there,
+            record {
+              reported = plain_report _ report.0 _ report.1 c.in-Acked.is;
+              at = refl;
+              is = c.live_at-live.ensures;
+              below = omega (arith, below, version, live);
+            },
+          )
     ]
