@@ -1,21 +1,21 @@
 -- Which calls of worked-out logs are out of order or wrongly answered.
-use Rattle.std.proofs.Common.{◌≡◌, ◌≢◌, ℕ, zero, suc, ◌+◌, ◌-◌, ◌<◌, ◌≤◌, ◌==◌, ◌&&◌, ◌⊎◌, max, nat_lt, not, Bool, true, false, Contains, List, [], length, take, Some, slice_get, refl, ap, sym, subst, ◌∙◌, inl, inr, arith}
+use Rattle.std.proofs.Common.{◌≡◌, ◌≢◌, ℕ, ◌-◌, ◌<◌, ◌≤◌, ◌⊎◌, nat_lt, not, Bool, true, false, Contains, List, [], Some, slice_get, refl, ap, sym, subst, ◌∙◌, inl, inr, arith}
 use Rattle.std.proofs.lemmas.Bool.{and_parts, eq-eqb, false≢true, lt-ltb, ltb-true, ne_eqb, not-true}
-use Rattle.fdb_history.specs.Faults.{IsMisanswered, IsOutOfOrder, IsWrongAnswer, IsWrongBy, register_at}
+use Rattle.fdb_history.specs.Faults.{IsMisanswered, IsWrongAnswer, IsWrongBy, register_at}
 use Rattle.fdb_history.specs.Log.{calls_of}
 use Rattle.fdb_history.specs.declared.chain.Issued.{Issued}
 use Rattle.fdb_history.specs.declared.log.Call.{Call}
-use Rattle.fdb_history.specs.declared.log.CallAnswer.TheVariants.{Version, Answered, Acked, Told}
+use Rattle.fdb_history.specs.declared.log.CallAnswer.TheVariants.{Version, Acked}
 use Rattle.fdb_history.specs.declared.log.ClientLog.{ClientLog}
 use Rattle.fdb_history.specs.declared.register.Record.{Record}
 use Rattle.fdb_audit.specs.Trace.{Given}
-use Rattle.fdb_audit.specs.WorkedOut.{IsStep, IsWorkedOut, mark_at, plain, position_of, shown}
-use Rattle.fdb_audit.specs.private.Reasons.{is_back, is_unlike}
+use Rattle.fdb_audit.specs.WorkedOut.{IsStep, IsWorkedOut, mark_at, plain, position_of}
+use Rattle.fdb_audit.specs.private.Reasons.{is_unlike}
 use Rattle.fdb_audit.specs.declared.trace.Step.{Step}
 use Rattle.fdb_audit.specs.declared.trace.Step.TheVariants.{Read, Ask, Report, Learn}
-use Rattle.fdb_audit.proofs.registers.Positions.{mark_at-position, mark_at-rises, place_of, position_of-most}
+use Rattle.fdb_audit.proofs.registers.Positions.{mark_at-rises, place_of, position_of-most}
 use Rattle.fdb_audit.proofs.registers.Registers.{marks-above, register_at-worked_out}
-use Rattle.fdb_audit.proofs.reasons.Steps.{GoesBack, before, made, marked, out_of_order, step_of}
+use Rattle.fdb_audit.proofs.reasons.Steps.{before, made, marked, step_of}
 
 module _ {given : Given} {seen : ℕ → ℕ → ℕ} {marks : List ℕ} {chain : List Issued} {logs : List ClientLog} (worked : IsWorkedOut given seen marks chain logs) where
   -- the live committed version at a position

@@ -1,9 +1,9 @@
 -- Who reported the live committed versions of worked-out logs.
-use Rattle.std.proofs.Common.{◌≡◌, ℕ, zero, suc, ◌+◌, ◌<◌, ◌≤◌, nat_lt, true, false, IsTrue, All, Contains, List, [], ◌∷◌, length, get_or, None, Some, slice_get, Option, refl, ap, sym, subst, ◌∙◌, inl, inr, arith}
+use Rattle.std.proofs.Common.{◌≡◌, ℕ, zero, suc, ◌+◌, ◌<◌, ◌≤◌, true, List, [], ◌∷◌, length, get_or, None, Some, slice_get, Option, ap, sym, subst, ◌∙◌, inl, inr, arith}
 use Rattle.std.proofs.lemmas.Bool.{cases_lt, false≢true, ltb-true, lt-ltb}
 use Rattle.std.proofs.lemmas.List.Elements.{All-contains, Contains-get_or}
 use Rattle.std.proofs.lemmas.Option.{none-some, same_Some}
-use Rattle.fdb_history.specs.Faults.{ComesBefore, IsFirst, Nowhere, StandsAt, register_at}
+use Rattle.fdb_history.specs.Faults.{IsFirst, Nowhere, StandsAt, register_at}
 use Rattle.fdb_history.specs.Log.{answer_changes, calls_of}
 use Rattle.fdb_history.specs.declared.chain.Issued.{Issued}
 use Rattle.fdb_history.specs.declared.log.Call.{Call}

@@ -1,5 +1,5 @@
 -- The calls of worked-out logs: each is that of a step, and only reads go back.
-use Rattle.std.proofs.Common.{◌≡◌, ℕ, zero, suc, ◌+◌, ◌<◌, ◌≤◌, ◌⊎◌, max, nat_lt, Bool, true, false, IsTrue, Contains, List, [], ◌∷◌, length, take, get_or, Some, slice_get, refl, ap, sym, subst, ◌∙◌, inl, inr, arith}
+use Rattle.std.proofs.Common.{◌≡◌, ℕ, zero, suc, ◌+◌, ◌<◌, ◌≤◌, ◌⊎◌, max, false, IsTrue, Contains, List, [], ◌∷◌, length, take, get_or, Some, slice_get, refl, ap, sym, subst, ◌∙◌, inl, inr, arith}
 use Rattle.std.proofs.lemmas.Bool.{cases_lt, false≢true, ltb-true}
 use Rattle.std.proofs.lemmas.List.{get_or-take, get_or_default, length-take}
 use Rattle.std.proofs.lemmas.Option.{none-some, same_Some, slice_get-get_or, slice_get_within}
@@ -11,7 +11,7 @@ use Rattle.fdb_history.specs.declared.log.CallAnswer.TheVariants.{Version}
 use Rattle.fdb_history.specs.declared.log.ClientLog.{ClientLog}
 use Rattle.fdb_history.proofs.faults.FirstCalls.{position-last}
 use Rattle.fdb_audit.specs.Trace.{Given, steps_of}
-use Rattle.fdb_audit.specs.WorkedOut.{IsStep, IsWorkedOut, answered_at, call_of, calls_from, logs_from, plain, position_of, raised_in, seen_before, shown}
+use Rattle.fdb_audit.specs.WorkedOut.{IsStep, IsWorkedOut, answered_at, call_of, calls_from, logs_from, plain, position_of, seen_before, shown}
 use Rattle.fdb_audit.specs.declared.trace.Step.{Step}
 use Rattle.fdb_audit.specs.declared.trace.Step.TheVariants.{Read, Ask, Report, Learn}
 use Rattle.fdb_audit.proofs.registers.Positions.{position_of-in_order, position_of-rises, position_of-start}

@@ -1,11 +1,10 @@
 -- How the parts of a reason are found. (this product's own)
-use Rattle.std.specs.Prelude.{◌≡◌, ◌≢◌, ℕ, ◌<◌, ◌==◌, ◌&&◌, nat_lt, not, Bool, true, false, IsTrue, List, length, Option, None, Some, slice_get}
-use Rattle.fdb_history.specs.Faults.{IsFirst, Nowhere, StandsAt}
+use Rattle.std.specs.Prelude.{◌≡◌, ◌≢◌, ℕ, ◌==◌, ◌&&◌, nat_lt, not, Bool, false, IsTrue, List, length, Option, None, Some, slice_get}
+use Rattle.fdb_history.specs.Faults.{IsFirst, Nowhere}
 use Rattle.fdb_history.specs.Log.{answer_changes}
 use Rattle.fdb_history.specs.declared.log.Call.{Call}
 use Rattle.fdb_history.specs.declared.log.CallAnswer.{CallAnswer}
 use Rattle.fdb_history.specs.declared.log.CallAnswer.TheVariants.{Version, Answered, Acked, Told, Refused}
-use Rattle.fdb_history.specs.declared.log.ClientLog.{ClientLog}
 use Rattle.fdb_audit.specs.Reasons.{CameTo}
 use Rattle.fdb_audit.specs.declared.reason.CallPlace.{CallPlace}
 

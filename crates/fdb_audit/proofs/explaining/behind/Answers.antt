@@ -1,10 +1,8 @@
-use Rattle.std.proofs.Common.{◌≡◌, ℕ, ◌<◌, ◌≤◌, length, take, Some, slice_get, refl, ap, sym, subst, ◌∙◌, inr, arith}
-use Rattle.std.proofs.lemmas.Option.{slice_get_within}
+use Rattle.std.proofs.Common.{◌≡◌, ◌≤◌, take, Some, slice_get, refl, ap, sym, subst, ◌∙◌, inr, arith}
 use Rattle.fdb_history.specs.Log.{calls_of}
 use Rattle.fdb_history.specs.declared.log.Call.{Call}
 use Rattle.fdb_history.specs.declared.log.CallAnswer.{CallAnswer}
 use Rattle.fdb_audit.specs.Reasons.{CameTo}
-use Rattle.fdb_audit.specs.WorkedOut.{position_of}
 use Rattle.fdb_audit.proofs.reasons.Found.{before-length, plain_read, rec_of, slice_get-take, the_call}
 use Rattle.fdb_audit.proofs.reasons.Reporters.{asked-within, below_live, live_is}
 use Rattle.fdb_audit.proofs.reasons.Steps.{GoesBack, came_to, out_of_order}

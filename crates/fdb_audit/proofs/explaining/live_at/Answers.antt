@@ -1,4 +1,4 @@
-use Rattle.std.proofs.Common.{◌≡◌, ap, sym, subst, ◌∙◌, arith}
+use Rattle.std.proofs.Common.{ap, sym, subst, ◌∙◌, arith}
 use Rattle.fdb_history.specs.Faults.{StandsAt}
 use Rattle.fdb_history.specs.declared.register.Record.{Record}
 use Rattle.fdb_audit.specs.Reasons.{IsBy}

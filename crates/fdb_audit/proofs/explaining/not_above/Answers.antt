@@ -1,4 +1,4 @@
-use Rattle.std.proofs.Common.{◌≡◌, ℕ, ◌≤◌, Some, refl, ap, sym, subst, ◌∙◌, arith}
+use Rattle.std.proofs.Common.{Some, refl, ap, subst, ◌∙◌, arith}
 use Rattle.fdb_history.specs.Audit.{IsNotAbove}
 use Rattle.fdb_history.specs.Faults.{register_at}
 use Rattle.fdb_history.specs.Log.{calls_of}

@@ -1,7 +1,6 @@
-use Rattle.std.proofs.Common.{◌≡◌, ◌≢◌, ℕ, ◌<◌, Some, refl, ap, sym, subst, ◌∙◌, inl, inr, arith}
+use Rattle.std.proofs.Common.{◌≡◌, Some, refl, ap, sym, subst, ◌∙◌, inl, inr, arith}
 use Rattle.fdb_history.specs.Faults.{IsWrongAnswer}
 use Rattle.fdb_history.specs.Log.{calls_of}
-use Rattle.fdb_history.specs.declared.log.Call.{Call}
 use Rattle.fdb_history.specs.declared.log.CallAnswer.{CallAnswer}
 use Rattle.fdb_history.specs.declared.register.Record.{Record}
 use Rattle.fdb_audit.proofs.reasons.Found.{plain_read, plain_report, read_apart, rec_of, report_apart, the_call}

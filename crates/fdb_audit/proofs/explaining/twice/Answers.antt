@@ -1,4 +1,4 @@
-use Rattle.std.proofs.Common.{◌≡◌, ap, sym, subst, ◌∙◌, None, Some}
+use Rattle.std.proofs.Common.{ap, sym, subst, ◌∙◌, None, Some}
 use Rattle.fdb_history.specs.Faults.{IsFirst, Nowhere, StandsAt}
 use Rattle.fdb_history.specs.declared.register.Record.{Record}
 use Rattle.fdb_audit.specs.Reasons.{Changed, IsReporter}

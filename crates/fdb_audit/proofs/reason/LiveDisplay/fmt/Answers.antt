@@ -1,4 +1,4 @@
-use Rattle.std.proofs.Common.{◌≡◌, ℕ, List, ◌++◌, codes, decimal, append_assoc, ap, sym}
+use Rattle.std.proofs.Common.{◌++◌, codes, decimal, ap}
 use Rattle.std.proofs.Output.{has_written_of_eq}
 use Rattle.fdb_audit.proofs.reasons.Texts.{four}
 use Rattle.fdb_audit.proofs.reason.LiveDisplay.fmt.Goals as goal

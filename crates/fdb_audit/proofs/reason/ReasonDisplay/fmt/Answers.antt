@@ -1,6 +1,5 @@
-use Rattle.std.proofs.Common.{◌≡◌, ℕ, List, ◌++◌, codes, decimal, append_assoc, ap, sym}
+use Rattle.std.proofs.Common.{◌++◌, codes, decimal, append_assoc, sym}
 use Rattle.std.proofs.Output.{has_written_of_eq}
-use Rattle.std.proofs.Common.{refl}
 use Rattle.fdb_audit.specs.Text.{live_text, place_text}
 use Rattle.fdb_audit.proofs.reasons.Texts.{four, six}
 use Rattle.fdb_audit.proofs.reason.ReasonDisplay.fmt.Goals as goal
