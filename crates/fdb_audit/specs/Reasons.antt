@@ -24,7 +24,8 @@ use Rattle.fdb_audit.specs.declared.reason.Reason.TheVariants.{Behind, Twice, No
 -- where a call changed the register at a position, by a report of this version
 abbrev pub Changed : List ClientLog → ℕ → ℕ → ℕ → ℕ → Type 0
 Changed logs position version =
-    StandsAt (λ before call. (call.position ≡ position) × (call.answer ≡ Acked (plain version) true true)) logs
+    StandsAt (λ before call. (call.position ≡ position)
+    × (call.answer ≡ Acked (plain version) true true)) logs
 
 -- the first call that did
 abbrev pub IsReporter : List ClientLog → ℕ → ℕ → CallPlace → Type 0
@@ -36,7 +37,8 @@ IsBy logs position version None = position ≡ 0
 IsBy logs position version (Some by) = (1 ≤ position) × IsReporter logs position version by
 
 -- what the register had at a position, and by whose report
-pub record IsLive (start : Record) (logs : List ClientLog) (position : ℕ) (live : Live) : Type 0 where
+pub record IsLive (start : Record) (logs : List ClientLog) (position : ℕ)
+    (live : Live) : Type 0 where
   pub is : register_at start logs position ≡ plain live.version
   pub by : IsBy logs position live.version live.by
 
@@ -47,10 +49,12 @@ pub record CameTo (position : ℕ) (calls : List Call) (place : ℕ) : Type 0 wh
   pub call : Call
   pub here : slice_get calls place ≡ Some call
   pub is : call.position ≡ position
-  pub none_before : (p : ℕ) (other : Call) → p < place → slice_get calls p ≡ Some other → other.position ≢ position
+  pub none_before : (p : ℕ) (other : Call) → p < place → slice_get calls p ≡ Some other
+      → other.position ≢ position
 
 -- A read got a version below the one that its client had seen, which an earlier call had shown it.
-pub record IsBehind (start : Record) (logs : List ClientLog) (before : List Call) (call : Call) (version : ℕ) (seen : Live) (earlier : ℕ) : Type 0 where
+pub record IsBehind (start : Record) (logs : List ClientLog) (before : List Call) (call : Call)
+    (version : ℕ) (seen : Live) (earlier : ℕ) : Type 0 where
   pub read : call.answer ≡ Version (plain version) [] false
   pub back : call.position < call.asked
   pub saw : IsLive start logs call.asked seen
@@ -58,20 +62,23 @@ pub record IsBehind (start : Record) (logs : List ClientLog) (before : List Call
   pub by : CameTo call.asked before earlier
 
 -- two calls changed the register at one position, by a report of one version
-pub record IsTwice (logs : List ClientLog) (position version : ℕ) (first second : CallPlace) : Type 0 where
+pub record IsTwice (logs : List ClientLog) (position version : ℕ)
+    (first second : CallPlace) : Type 0 where
   pub one : IsReporter logs position version first
   pub other : Changed logs position version second.client second.call
   pub later : ComesBefore first.client first.call second.client second.call
 
 -- a read got a version that is not what the register had at its position
-pub record IsNotLive (start : Record) (logs : List ClientLog) (call : Call) (version position : ℕ) (live : Live) : Type 0 where
+pub record IsNotLive (start : Record) (logs : List ClientLog) (call : Call)
+    (version position : ℕ) (live : Live) : Type 0 where
   pub read : call.answer ≡ Version (plain version) [] false
   pub at : call.position ≡ position
   pub is : IsLive start logs position live
   pub differs : version ≢ live.version
 
 -- a report of a version raised nothing, and what the register had at its position is below that
-pub record IsNotRaised (start : Record) (logs : List ClientLog) (call : Call) (version position : ℕ) (live : Live) : Type 0 where
+pub record IsNotRaised (start : Record) (logs : List ClientLog) (call : Call)
+    (version position : ℕ) (live : Live) : Type 0 where
   pub reported : call.answer ≡ Acked (plain version) false false
   pub at : call.position ≡ position
   pub is : IsLive start logs position live
@@ -81,7 +88,8 @@ pub record IsNotRaised (start : Record) (logs : List ClientLog) (call : Call) (v
 
 -- a call was answered this commit version
 abbrev pub IsAnswered : Call → ℕ → Type 0
-IsAnswered call version = (issued : Issued) × (call.answer ≡ Answered issued) × (issued.version ≡ version)
+IsAnswered call version =
+    (issued : Issued) × (call.answer ≡ Answered issued) × (issued.version ≡ version)
 
 -- a version was never issued
 abbrev pub IsNoEntry : List Issued → ℕ → Type 0
@@ -91,19 +99,23 @@ IsNoEntry chain version =
 -- a version was issued to a client, at a place of the chain
 abbrev pub IsEntry : List Issued → ℕ → ℕ → ℕ → Type 0
 IsEntry chain client version place =
-    (entry : Issued) × (slice_get chain place ≡ Some entry) × (entry.proxy ≡ client) × (entry.version ≡ version)
+    (entry : Issued) × (slice_get chain place ≡ Some entry) × (entry.proxy ≡ client)
+    × (entry.version ≡ version)
 
 -- a client's version under a number
 abbrev pub version_under : List Issued → ℕ → ℕ → Option ℕ
 version_under chain client num =
-    option_map (λ entry. entry.version) (find (λ entry. entry.proxy == client && (entry.num == num)) chain)
+    option_map (λ entry. entry.version)
+    (find (λ entry. entry.proxy == client && (entry.num == num)) chain)
 
 -- a client's next version, after some calls
 abbrev pub next_version : List Issued → ℕ → List Call → Option ℕ
-next_version chain client before = version_under chain client (latest client (fresh_answers before) + 1)
+next_version chain client before =
+    version_under chain client (latest client (fresh_answers before) + 1)
 
 -- a call was answered a version of its client, but not the next one
-pub record IsOutOfTurn (chain : List Issued) (client : ℕ) (before : List Call) (call : Call) (version : ℕ) (due : Option ℕ) : Type 0 where
+pub record IsOutOfTurn (chain : List Issued) (client : ℕ) (before : List Call) (call : Call)
+    (version : ℕ) (due : Option ℕ) : Type 0 where
   pub asked : IsAnswered call version
   pub own : (place : ℕ) × IsEntry chain client version place
   pub is : due ≡ next_version chain client before
@@ -121,7 +133,8 @@ IsNotLogged chain logs client version =
     × (entry.version ≡ version) × (is_drawn (calls_of logs client) place entry ≡ false)
 
 -- a call was answered a version that is not above what its client had seen
-pub record IsLow (start : Record) (logs : List ClientLog) (call : Call) (version : ℕ) (seen : Live) : Type 0 where
+pub record IsLow (start : Record) (logs : List ClientLog) (call : Call) (version : ℕ)
+    (seen : Live) : Type 0 where
   pub asked : IsAnswered call version
   pub saw : IsLive start logs call.asked seen
   pub low : version ≤ seen.version
@@ -153,7 +166,8 @@ IsReason start chain logs (fault.NotAbove client call) (NotAbove version seen) =
     StandsAt (λ before ask. IsLow start logs ask version seen) logs client call
 IsReason _ _ _ _ _ = ⊥
 
--- Worked-out logs have no gap, memory may run out at any time, and of a stray answer no reason is told yet.
+-- Worked-out logs have no gap, memory may run out at any time, and of a stray answer no reason is
+-- told yet.
 abbrev pub HasNoReason : AuditFault → Type 0
 HasNoReason (fault.Gap position) = Unit {0}
 HasNoReason fault.Memory = Unit {0}
