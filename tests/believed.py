@@ -1,4 +1,4 @@
-"""How much a reader has to believe: the definitions that a promise rests on, found by the names that they use.
+"""How much a reader has to believe: the definitions that a promise rests on, found by name.
 
     python3 tests/believed.py [DEFINITION..]      (without any, what the headline rests on)
 """
@@ -9,7 +9,11 @@ from typing import NamedTuple
 
 ROOT = os.path.dirname(os.path.dirname(os.path.abspath(__file__)))
 # What the clauses of `replay` cite: of what it writes, of a refusal, and of a writer that failed.
-HEADLINE = (("fdb_replay", "Replay", "Replays"), ("fdb_replay", "Replay", "Refuses"), ("fdb_replay", "Replay", "IsCut"))
+HEADLINE = (
+    ("fdb_replay", "Replay", "Replays"),
+    ("fdb_replay", "Replay", "Refuses"),
+    ("fdb_replay", "Replay", "IsCut"),
+)
 # The parts of it that documents count, each with all that it rests on.
 PARTS = (HEADLINE[0], ("fdb_history", "Linear", "IsLinear"), ("fdb_replay", "Outcome", "IsRunOf"))
 BEGIN = re.compile(r"^(?:abbrev )?pub (?:record |data )?(?!(?:use|mod)\b)([^\s:({]+)")
@@ -26,7 +30,7 @@ class Definition(NamedTuple):
 
 
 def read(crate, file):
-    """Returns the definitions of a file of specs/ by name, and the names that it takes from elsewhere, with whence."""
+    """Returns a file's definitions by name, and the names that it takes from elsewhere."""
     with open(f"{ROOT}/crates/{crate}/specs/{file}.antt", encoding="utf-8") as it:
         lines = [line.split("--")[0].rstrip() for line in it]
     found, taken, name = {}, {}, None
@@ -34,7 +38,10 @@ def read(crate, file):
         use, begin = USE.match(line), BEGIN.match(line.strip())
         if use:
             whence = (use[1], use[2].replace(".", "/"))
-            taken |= {word.strip().split(" as ")[-1]: (*whence, word.strip().split(" as ")[0]) for word in (use[3] or "").split(",")}
+            taken |= {
+                word.strip().split(" as ")[-1]: (*whence, word.strip().split(" as ")[0])
+                for word in (use[3] or "").split(",")
+            }
             name = None
         elif begin and not line.startswith("  pub"):
             name = begin[1]
@@ -47,7 +54,7 @@ def read(crate, file):
 
 
 def rests_on(roots):
-    """Returns the definitions that some of them rest on, themselves included, and the types that these speak of."""
+    """Returns all definitions that some rest on, these included, and the types they speak of."""
     files, todo, found, types = {}, list(roots), {}, set()
     while todo:
         at = crate, file, name = todo.pop()
@@ -61,7 +68,9 @@ def rests_on(roots):
             if word in own:
                 todo.append((crate, file, word))
             elif word in taken and "declared" in taken[word][1]:
-                types.add(taken[word][1].split("/")[-2 if taken[word][1].endswith("TheVariants") else -1])
+                types.add(
+                    taken[word][1].split("/")[-2 if taken[word][1].endswith("TheVariants") else -1]
+                )
             elif word in taken:
                 todo.append(taken[word])
     return list(found.values()), types
@@ -72,9 +81,12 @@ def lines_of(definitions):
 
 
 def counts():
-    """Returns, by name, how many definitions the headline rests on and how many lines: all, of each part, and in each file."""
+    """Returns how many definitions and lines the headline rests on: all, and by part and file."""
     found, _types = rests_on(HEADLINE)
-    by_file = {f"{it.file}.antt": lines_of(other for other in found if other.file == it.file) for it in found}
+    by_file = {
+        f"{it.file}.antt": lines_of(other for other in found if other.file == it.file)
+        for it in found
+    }
     parts = {root[-1]: lines_of(rests_on([root])[0]) for root in PARTS}
     return {"definitions": len(found), "headline": lines_of(found), **parts, **by_file}
 
@@ -82,16 +94,32 @@ def counts():
 def main(names):
     roots = HEADLINE
     if names:
-        everywhere = [(crate, file[:-5]) for crate in sorted(os.listdir(f"{ROOT}/crates")) if os.path.isdir(f"{ROOT}/crates/{crate}/specs")
-                      for file in sorted(os.listdir(f"{ROOT}/crates/{crate}/specs")) if file.endswith(".antt") and file != "Lib.antt"]
-        roots = [(crate, file, name) for crate, file in everywhere for name in names if name in read(crate, file)[0]]
+        everywhere = [
+            (crate, file[:-5])
+            for crate in sorted(os.listdir(f"{ROOT}/crates"))
+            if os.path.isdir(f"{ROOT}/crates/{crate}/specs")
+            for file in sorted(os.listdir(f"{ROOT}/crates/{crate}/specs"))
+            if file.endswith(".antt") and file != "Lib.antt"
+        ]
+        roots = [
+            (crate, file, name)
+            for crate, file in everywhere
+            for name in names
+            if name in read(crate, file)[0]
+        ]
     found, types = rests_on(roots)
     by_file = {}
     for it in found:
         by_file.setdefault((it.crate, it.file), []).append(it)
     for (crate, file), them in sorted(by_file.items()):
-        print(f"{lines_of(them):4} lines  crates/{crate}/specs/{file}.antt: {', '.join(it.name for it in them)}")
-    print(f"{lines_of(found)} lines, {len(found)} definitions, over the types {', '.join(sorted(types))}")
+        print(
+            f"{lines_of(them):4} lines  crates/{crate}/specs/{file}.antt: "
+            f"{', '.join(it.name for it in them)}"
+        )
+    print(
+        f"{lines_of(found)} lines, {len(found)} definitions, "
+        f"over the types {', '.join(sorted(types))}"
+    )
 
 
 if __name__ == "__main__":

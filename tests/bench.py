@@ -33,7 +33,7 @@ REFUSALS = [
 
 
 def refusal_fault(arguments, why):
-    """Returns how a run on arguments that are to be refused differs from what is wanted, or None."""
+    """Returns how a run on arguments to be refused differs from what is wanted, or None."""
     ran = run([PROGRAM, *arguments])
     said = ran.err.decode()
     if ran.status != REFUSED or ran.out or why not in said:
@@ -42,19 +42,24 @@ def refusal_fault(arguments, why):
 
 
 def timed_fault(name, clock):
-    """Returns what is wrong with two runs of a benchmark, or None. What it printed is the same in every schedule."""
+    """Returns what is wrong with two runs of a benchmark, or None.
+
+    What it printed is the same in every schedule.
+    """
     first, again = (run([PROGRAM, name, "64"]) for _ in range(2))
     if (first.status, again.status) != (DONE, DONE):
         return f"status {first.status} and {again.status}"
     if not re.fullmatch(rf"{name} 64 \d+\n", first.out.decode()) or first.out != again.out:
         return f"it printed {first.out!r} and then {again.out!r}"
-    if not re.fullmatch(rf"{name} 64: \d+ operations, \d+ ns of {clock} time, .*\n", first.err.decode()):
+    if not re.fullmatch(
+        rf"{name} 64: \d+ operations, \d+ ns of {clock} time, .*\n", first.err.decode()
+    ):
         return f"it said {first.err!r}"
     return None
 
 
 def arguments(_program):
-    """Each run says what it computed; other arguments are refused, with nothing on standard output."""
+    """Each run says what it computed; other arguments are refused, and nothing is printed."""
     if not os.access(PROGRAM, os.X_OK):
         yield "the program", f"{PROGRAM} is not there: rt ci builds it"
         return

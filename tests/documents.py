@@ -1,16 +1,22 @@
-"""What documents say: each definition is named, each planted wrong body applies, and what is shown of the program is so."""
+"""What documents say: definitions, planted wrong bodies, and what is shown of the program."""
+import glob
 import os
 import re
 
+import traces
 from believed import counts
 from edits import BESIDE, TRIED, crates, edits_in, fault_of_edit
 from harness import EXAMPLES, ROOT, done, fault_of, run
 from readmes import blocks
 
-DEFINED = re.compile(r"^(?:abbrev )?pub (?:record |data )?(?!(?:use|mod)\b)([^\s:({]+)", re.MULTILINE)
-# What is in this folder of a crate's specs/ is private to the crate, and what this section of docs/DEFINITIONS.md names so.
+DEFINED = re.compile(
+    r"^(?:abbrev )?pub (?:record |data )?(?!(?:use|mod)\b)([^\s:({]+)", re.MULTILINE
+)
+# What is in this folder of a crate's specs/ is private to the crate, and what this section of
+# docs/DEFINITIONS.md names so.
 PRIVATE_FOLDER, PRIVATE = "private/", "Private to a crate"
-# A file in `code`, with its crate where that is another than the last one; behind 'of', only a name of the file is meant.
+# A file in `code`, with its crate where that is another than the last one; behind 'of', only a name
+# of the file is meant.
 FILE = re.compile(r"(` of )?`(?:(\w+)/specs/)?([\w/]+\.antt)`")
 # A citation of what a crate proves for itself. Other crates go by its contracts and definitions.
 PROOFS_OF = re.compile(r"\bRattle\.(fdb_\w+)\.proofs\b")
@@ -55,7 +61,9 @@ def sections():
 def words_for(crate):
     """The words in `code` of the sections that name a file of the crate's specs/."""
     said = [f"{title}\n{text}" for title, text in sections().items()]
-    return {word for it in said if f"`{crate}/specs/" in it for word in re.findall(r"`([^`\n]+)`", it)}
+    return {
+        word for it in said if f"`{crate}/specs/" in it for word in re.findall(r"`([^`\n]+)`", it)
+    }
 
 
 def specs_of(crate):
@@ -65,7 +73,7 @@ def specs_of(crate):
 
 
 def named_private():
-    """The files that docs/DEFINITIONS.md calls private as a whole: a crate, and a file of its specs/."""
+    """The files that docs/DEFINITIONS.md calls private: a crate, and a file of its specs/."""
     crate, found = "", []
     for of, named, file in FILE.findall(sections().get(PRIVATE, "")):
         crate = named or crate
@@ -74,21 +82,33 @@ def named_private():
 
 
 def private_files():
-    """The files of definitions that are private to their crate: by their folder, or as docs/DEFINITIONS.md says."""
-    by_folder = [(crate, file) for crate in crates() for file in specs_of(crate) if file.startswith(PRIVATE_FOLDER)]
+    """The files that are private to their crate, by folder or as docs/DEFINITIONS.md says."""
+    by_folder = [
+        (crate, file)
+        for crate in crates()
+        for file in specs_of(crate)
+        if file.startswith(PRIVATE_FOLDER)
+    ]
     return list(dict.fromkeys(by_folder + named_private()))
 
 
 def definitions(_program):
-    """Each definition is named in a section about its crate, unless its file is private: no other crate and no public file uses
-    that. Nor does a crate use what stands in another's proofs."""
+    """Each definition is named in a section about its crate, unless its file is private.
+
+    No other crate and no public file uses a private file, and none what is in another's proofs.
+    """
     private = private_files()
     for crate in crates():
         words, specs = words_for(crate), f"crates/{crate}/specs"
         for file in specs_of(crate):
             if (crate, file) not in private:
-                missing = [name for name in DEFINED.findall(text_of(f"{ROOT}/{specs}/{file}")) if name not in words]
-                yield f"{specs}/{file}", f"docs/DEFINITIONS.md leaves out {', '.join(missing)}" if missing else None
+                missing = [
+                    name
+                    for name in DEFINED.findall(text_of(f"{ROOT}/{specs}/{file}"))
+                    if name not in words
+                ]
+                fault = f"docs/DEFINITIONS.md leaves out {', '.join(missing)}"
+                yield f"{specs}/{file}", fault if missing else None
     for crate, file in private:
         yield f"crates/{crate}/specs/{file} is private", users_of(crate, file, private)
     for crate in crates():
@@ -100,21 +120,41 @@ def users_of(crate, file, private):
     if file not in specs_of(crate):
         return "there is no such file"
     module = f"Rattle.{crate}.specs.{file.removesuffix('.antt').replace('/', '.')}."
-    used = [it for it in crates() if it != crate and any(module in text_of(path) for path in sources_of(it))]
+    used = [
+        it
+        for it in crates()
+        if it != crate and any(module in text_of(path) for path in sources_of(it))
+    ]
     if file.startswith(PRIVATE_FOLDER):
         public = [it for it in specs_of(crate) if (crate, it) not in private]
-        used += [f"specs/{it}" for it in public if module in text_of(f"{ROOT}/crates/{crate}/specs/{it}")]
+        used += [
+            f"specs/{it}" for it in public if module in text_of(f"{ROOT}/crates/{crate}/specs/{it}")
+        ]
     return f"it is used by {', '.join(used)}" if used else None
 
 
 def sources_of(crate):
-    return (path for part in ("src", "specs", "proofs") for path in files_below(f"crates/{crate}/{part}", (".rt", ".antt")))
+    return (
+        path
+        for part in ("src", "specs", "proofs")
+        for path in files_below(f"crates/{crate}/{part}", (".rt", ".antt"))
+    )
 
 
 def proofs_cited_by(crate):
     """Returns which files of a crate cite proofs of other crates, and of which, or None."""
-    cited = {os.path.relpath(path, ROOT): set(PROOFS_OF.findall(text_of(path))) - {crate} for path in sources_of(crate)}
-    return "; ".join(f"{path} cites proofs of {', '.join(sorted(them))}" for path, them in cited.items() if them) or None
+    cited = {
+        os.path.relpath(path, ROOT): set(PROOFS_OF.findall(text_of(path))) - {crate}
+        for path in sources_of(crate)
+    }
+    return (
+        "; ".join(
+            f"{path} cites proofs of {', '.join(sorted(them))}"
+            for path, them in cited.items()
+            if them
+        )
+        or None
+    )
 
 
 def edits(_program):
@@ -122,11 +162,13 @@ def edits(_program):
     for crate in crates():
         for folder in (TRIED, BESIDE):
             found, others = edits_in(crate, folder)
-            yield f"crates/{crate}/{folder}", f"{', '.join(others)}: no edit and no .md" if others else None
+            fault = f"{', '.join(others)}: no edit and no .md" if others else None
+            yield f"crates/{crate}/{folder}", fault
             for name, file in found.items():
                 yield f"crates/{crate}/{folder}/{name}.edit", fault_of_edit(crate, file)
         tried = len(edits_in(crate, TRIED)[0])
-        yield f"crates/{crate}/{TRIED}", f"it has {tried} edits, and {MOST_TRIED} are the most" if tried > MOST_TRIED else None
+        fault = f"it has {tried} edits, and {MOST_TRIED} are the most"
+        yield f"crates/{crate}/{TRIED}", fault if tried > MOST_TRIED else None
 
 
 def believed(_program):
@@ -134,28 +176,44 @@ def believed(_program):
     found = counts()
     for document, form in COUNTED:
         said = form % found
-        yield f"{document}: {said}", None if said in text_of(f"{ROOT}/{document}") else "it does not say so"
+        does_say = said in text_of(f"{ROOT}/{document}")
+        yield f"{document}: {said}", None if does_say else "it does not say so"
 
 
 def settling(_program):
-    """A run settles its logs before it audits them, and audits nowhere else: no contract can force that call."""
+    """A run settles its logs before it audits them, and audits nowhere else.
+
+    No contract can force that call.
+    """
     settled = "settle(rt, live, first, tokens, logs);\n    audit(alloc, start, chain, logs)\n"
     running = text_of(f"{ROOT}/crates/fdb_replay/src/running.rt")
     yield "what settles logs audits them", None if settled in running else "it does not"
-    yield "a run settles", None if running.count("let history = settled(") == 1 else "it does not, or not once"
-    audits = [path for path in files_below("crates/fdb_replay/src", ".rt") for _ in re.findall(r"\baudit\(", text_of(path))]
+    settles = running.count("let history = settled(") == 1
+    yield "a run settles", None if settles else "it does not, or not once"
+    audits = [
+        path
+        for path in files_below("crates/fdb_replay/src", ".rt")
+        for _ in re.findall(r"\baudit\(", text_of(path))
+    ]
     yield "audits of a run", None if len(audits) == 1 else f"{len(audits)} calls in place of one"
 
 
 def shown(program):
-    """A block that shows a run of the program shows what it prints, and one that is a script is one of the examples."""
-    scripts = [text_of(f"{EXAMPLES}/{name}").strip() for name in os.listdir(EXAMPLES) if name.endswith(".json")]
+    """A block of a run shows what the program prints, and one of a script is an example."""
+    scripts = [text_of(it).strip() for it in glob.glob(f"{EXAMPLES}/**/*.json", recursive=True)]
     for document, language, block in blocks():
         if language:
             continue
         first, _, rest = block.partition("\n")
         if first.startswith("$ ./fdb_replay "):
             arguments = first.split()[2:]
-            yield f"{document}: {first}", fault_of(run([program, *arguments], cwd=ROOT), done(rest.encode()))
+            yield f"{document}: {first}", fault_of(
+                run([program, *arguments], cwd=ROOT), done(rest.encode())
+            )
+        elif first.startswith("$ ./fdb_audit "):
+            ran = run([traces.PROGRAM, *first.split()[2:]], cwd=ROOT)
+            fault = None if ran.out == rest.encode() else f"it prints {ran.out[:100]!r}"
+            yield f"{document}: {first}", fault
         elif first.startswith("{"):
-            yield f"{document}: {first}", None if block.strip() in scripts else "it is no script of examples/"
+            fault = None if block.strip() in scripts else "it is no script of examples/"
+            yield f"{document}: {first}", fault

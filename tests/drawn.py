@@ -1,4 +1,4 @@
-"""Random scripts, the same from the same dice: lawful ones, in which calls meet refusals, overwritten ones, and spoilt ones."""
+"""Random scripts, the same from the same dice: lawful, overwritten and spoilt ones."""
 import json
 import re
 
@@ -8,20 +8,33 @@ TAGS = ["t", "u", "!~", '"\\/', "sixteen-bytes-ab"]
 PRIORITIES = ["default", "default", "batch", "system"]
 MOMENTS = [0, 1, 4999, 5000, 10**6, HIGHEST - 1, HIGHEST]
 STEPS = [0, 1, 7, 1000, 4_999_999, 5_000_000, 5_000_001, 10**9, -3, -(10**7)]
-RECOVERIES = [1, 100, 100, 100, 10**9, 10**9, LAST_VERSION - 20_000_000, LAST_VERSION - 6, LAST_VERSION]
+RECOVERIES = [
+    1, 100, 100, 100, 10**9, 10**9, LAST_VERSION - 20_000_000, LAST_VERSION - 6, LAST_VERSION
+]
 ACTS = ["grv", "ask", "ask", "reask", "report", "report", "tell"]
 COUNTS = [0, 1, 100_001, HIGHEST]
 # What may be said of the queue; no read that is let in waits for long, since its count is 1.
-QUEUE = {"normal": [1, 100_000], "batch": [0, 100_000], "room": [1, 100_000], "elapsed": [1, 10_000_000]}
-# Minimum known committed versions that reports tell, some of them above the version that is reported.
-MINIMA = [0, 0, 1, 2, 99, 100, 101, 102, 1107, 10**9, LAST_VERSION - 20_000_000, LAST_VERSION - 6, LAST_VERSION, HIGHEST]
-# Metadata versions: none, the least, the greatest, two that differ in their last byte, and one in capitals.
-METADATA = [None, None, "0" * 20, "f" * 20, "0102030405060708090a", "0102030405060708090b", "0A1B2C3D4E5F60718293"]
+QUEUE = {
+    "normal": [1, 100_000], "batch": [0, 100_000], "room": [1, 100_000], "elapsed": [1, 10_000_000]
+}
+# Minimum known committed versions of reports, some of them above the version reported.
+MINIMA = [
+    0, 0, 1, 2, 99, 100, 101, 102, 1107, 10**9, LAST_VERSION - 20_000_000, LAST_VERSION - 6,
+    LAST_VERSION, HIGHEST,
+]
+# Metadata versions: none, least, greatest, two that differ in their last byte, one in capitals.
+METADATA = [
+    None, None, "0" * 20, "f" * 20, "0102030405060708090a", "0102030405060708090b",
+    "0A1B2C3D4E5F60718293",
+]
 IGNORED = {"note": {"client": [None, 1e-3]}, "to ": "é😀\n", "Do": -1, "": [[], {}]}
 
 
 class Drawing:
-    """Draws the commands of some clients, and counts what each has asked for, so that numbers are old, new or too high."""
+    """Draws the commands of some clients.
+
+    It counts what each has asked for, so that numbers are old, new or too high.
+    """
 
     def __init__(self, dice, clients, acts=ACTS, counts=COUNTS):
         self.dice, self.clients, self.acts, self.counts = dice, clients, acts, counts
@@ -34,16 +47,25 @@ class Drawing:
     def num(self, client):
         asks = self.asks[client]
         lately = [asks, asks, asks - 1, asks + 1, self.dice.randrange(asks + 2)]
-        return max(0, self.dice.choice(lately)) if self.dice.random() < 0.95 else self.dice.choice([0, asks + 2, HIGHEST])
+        return (
+            max(0, self.dice.choice(lately))
+            if self.dice.random() < 0.95
+            else self.dice.choice([0, asks + 2, HIGHEST])
+        )
 
     def processed(self, client):
         return self.dice.choice([0, 0, 0, max(0, self.asks[client] - 2), self.num(client)])
 
     def grv(self, _):
         tags = [self.dice.choice(TAGS) for _ in range(self.dice.choice([0, 1, 2, 5]))]
-        count, priority, at = self.dice.choice(self.counts), self.dice.choice(PRIORITIES), self.dice.choice(MOMENTS)
+        count, priority, at = (
+            self.dice.choice(self.counts), self.dice.choice(PRIORITIES), self.dice.choice(MOMENTS)
+        )
         lock_aware, use_min = self.dice.choice([True, False]), self.dice.choice([True, False])
-        return {}, {"at": at, "priority": priority, "count": count, "tags": tags, "lock_aware": lock_aware, "use_min": use_min}
+        return {}, {
+            "at": at, "priority": priority, "count": count, "tags": tags, "lock_aware": lock_aware,
+            "use_min": use_min,
+        }
 
     def ask(self, client):
         self.asks[client] += 1
@@ -57,7 +79,9 @@ class Drawing:
     def report(self, client):
         metadata = self.dice.choice(METADATA)
         locked, min_known = self.dice.random() < 0.4, self.dice.choice(MINIMA)
-        return {"num": self.num(client)}, {"locked": locked, "metadata": metadata, "min_known": min_known}
+        return {"num": self.num(client)}, {
+            "locked": locked, "metadata": metadata, "min_known": min_known
+        }
 
     def tell(self, client):
         return {"to": self.dice.choice([it for it in range(self.clients) if it != client])}, {}
@@ -88,7 +112,10 @@ def in_rounds(dice, commands):
 
 
 def throttles(dice, count):
-    draw = lambda: {"priority": dice.choice(PRIORITIES), "tag": dice.choice(TAGS), "rate": dice.choice([0, 5, HIGHEST]), "expires": dice.choice(MOMENTS)}
+    draw = lambda: {
+        "priority": dice.choice(PRIORITIES), "tag": dice.choice(TAGS),
+        "rate": dice.choice([0, 5, HIGHEST]), "expires": dice.choice(MOMENTS),
+    }
     return [shuffled(dice, draw()) for _ in range(count)]
 
 
@@ -97,58 +124,107 @@ def lawful(dice):
     recovery = dice.choice(RECOVERIES)
     drawing = Drawing(dice, dice.choice([1, 2, 3, 4]))
     rounds = in_rounds(dice, [drawing.command() for _ in range(dice.randrange(1, 41))])
-    required = {"epoch_end": dice.choice([0, recovery // 2, recovery - 1]), "recovery": recovery, "clients": drawing.clients, "rounds": rounds}
+    required = {
+        "epoch_end": dice.choice([0, recovery // 2, recovery - 1]), "recovery": recovery,
+        "clients": drawing.clients, "rounds": rounds,
+    }
     queue = {name: dice.choice(edges) for name, edges in QUEUE.items()}
     optional = {**queue, "throttles": throttles(dice, dice.choice([0, 1, 6, 12])), **IGNORED}
     members = shuffled(dice, {**required, **some(dice, optional, 0.7)})
-    return json.dumps(members, ensure_ascii=dice.choice([True, False]), indent=dice.choice([None, 0, "\t"]))
+    return json.dumps(
+        members, ensure_ascii=dice.choice([True, False]), indent=dice.choice([None, 0, "\t"])
+    )
 
 
 def racing(dice):
-    """Draws the values of a script in which 2 to 64 clients share rounds, most of them with little room and low limits.
+    """Draws the values of a script of 2 to 64 clients, mostly with little room and low limits.
 
     Counts are as large as a read can have that starts within a few hundred windows.
     """
     clients, normal = dice.choice([2, 2, 3, 4, 8, 16, 64]), dice.choice([1, 2, 10, 1000])
-    acts = dice.choice([ACTS, ["grv"], ["grv"] * 12 + ACTS, ["ask", "report", "grv"], ["ask", "ask", "report", "report", "grv", "tell"]])
-    drawing = Drawing(dice, clients, acts, dice.choice([[1], [1, 1, 2, normal + 10], [0, 1, 1, 30, normal + 11, 100_001]]))
+    acts = dice.choice(
+        [
+            ACTS, ["grv"], ["grv"] * 12 + ACTS, ["ask", "report", "grv"],
+            ["ask", "ask", "report", "report", "grv", "tell"],
+        ]
+    )
+    drawing = Drawing(
+        dice, clients, acts,
+        dice.choice([[1], [1, 1, 2, normal + 10], [0, 1, 1, 30, normal + 11, 100_001]]),
+    )
     recovery = dice.choice(RECOVERIES)
-    rounds = in_rounds(dice, [drawing.command() for _ in range(dice.choice([10, 40, 40, 40 + 3 * clients]))])
-    queue = {"normal": normal, "batch": dice.choice([0, 1, 3, 500]), "room": dice.choice([1, 1, 2, 3, 7, clients, 1000]), "elapsed": 10**6}
-    return {"epoch_end": recovery // 2, "recovery": recovery, "clients": clients, **queue, "throttles": throttles(dice, 6), "rounds": rounds}
+    rounds = in_rounds(
+        dice, [drawing.command() for _ in range(dice.choice([10, 40, 40, 40 + 3 * clients]))]
+    )
+    queue = {
+        "normal": normal, "batch": dice.choice([0, 1, 3, 500]),
+        "room": dice.choice([1, 1, 2, 3, 7, clients, 1000]), "elapsed": 10**6,
+    }
+    return {
+        "epoch_end": recovery // 2, "recovery": recovery, "clients": clients, **queue,
+        "throttles": throttles(dice, 6), "rounds": rounds,
+    }
 
 
 def fitting(dice, proxies):
-    """Draws the values of a script in which clients share rounds of reads, with just so much room that none finds its queue full."""
+    """Draws the values of a script of shared rounds of reads, with just room enough for all."""
     drawing = Drawing(dice, dice.choice([2, 3, 5, 16]), ["grv"], [1, 30])
-    rounds = [[drawing.command() for _ in range(dice.randrange(1, 2 * drawing.clients))] for _ in range(dice.choice([1, 3]))]
+    rounds = [
+        [drawing.command() for _ in range(dice.randrange(1, 2 * drawing.clients))]
+        for _ in range(dice.choice([1, 3]))
+    ]
     reads, crowds = [0] * drawing.clients, {}
     for number, it in ((number, it) for number, commands in enumerate(rounds) for it in commands):
         client = it["client"]
         crowds.setdefault((number, (client + reads[client]) % proxies), set()).add(client)
         reads[client] += 1
-    queue = {"normal": dice.choice([1, 20]), "batch": dice.choice([1, 20]), "room": max(map(len, crowds.values())), "elapsed": 10**6}
+    queue = {
+        "normal": dice.choice([1, 20]), "batch": dice.choice([1, 20]),
+        "room": max(map(len, crowds.values())), "elapsed": 10**6,
+    }
     return {"epoch_end": 0, "recovery": 100, "clients": drawing.clients, **queue, "rounds": rounds}
 
 
 TOKEN = re.compile(r'"[^"\\]*(?:\\.[^"\\]*)*"|[-+.\w]+|[][{},:]')
 MARKS = list("[]{},:")
-NUMBERS = ["0", "1", "2", "63", "64", "65", "-0", "-1", "1.0", "1e3", "18446744073709551615", "18446744073709551616", "1e309", "01"]
-LISTS = ["[]", "{}", "[[]]", '["t"]', '["t","t","t","t","t","t"]', "[{}]", "5", "null", "true", "false"]
-TEXTS = ['""', '" "', '"t"', '"\\u0074"', '"\\ud800"', '"seventeen-bytes-ab"', '"\u00e9"', '"grv"', '"ask"', '"reask"', '"tell"', '"batch"']
-TEXTS += [f'"{it}"' for it in ("00000000000000000000", "fFfFfFfFfFfFfFfFfFfF", "0102030405060708090", "0102030405060708090ab", "01020304050607080 0a", "01020304050607080é0a")]
-NAMES = ['"do"', '"client"', '"clients"', '"at"', '"num"', '"to"', '"rounds"', '"throttles"', '"tags"', '"tag"', '"locked"', '"metadata"', '"min_known"', '"use_min"', '"priority"', '"x"']
+NUMBERS = [
+    "0", "1", "2", "63", "64", "65", "-0", "-1", "1.0", "1e3", "18446744073709551615",
+    "18446744073709551616", "1e309", "01",
+]
+LISTS = [
+    "[]", "{}", "[[]]", '["t"]', '["t","t","t","t","t","t"]', "[{}]", "5", "null", "true", "false"
+]
+TEXTS = [
+    '""', '" "', '"t"', '"\\u0074"', '"\\ud800"', '"seventeen-bytes-ab"', '"\u00e9"', '"grv"',
+    '"ask"', '"reask"', '"tell"', '"batch"',
+]
+TEXTS += [
+    f'"{it}"'
+    for it in (
+        "00000000000000000000", "fFfFfFfFfFfFfFfFfFfF", "0102030405060708090",
+        "0102030405060708090ab", "01020304050607080 0a", "01020304050607080é0a",
+    )
+]
+NAMES = [
+    '"do"', '"client"', '"clients"', '"at"', '"num"', '"to"', '"rounds"', '"throttles"', '"tags"',
+    '"tag"', '"locked"', '"metadata"', '"min_known"', '"use_min"', '"priority"', '"x"',
+]
 
 
 def spoilt(dice, text):
-    """Changes one or two words or marks of a text. Most such texts are refused, and some mean something else."""
+    """Changes one or two words or marks of a text.
+
+    Most such texts are refused, and some mean something else.
+    """
     tokens = TOKEN.findall(text)
     for _ in range(dice.choice([1, 1, 2])):
         is_name = lambda at: tokens[at + 1 : at + 2] == [":"]
         words = [at for at, token in enumerate(tokens) if token not in MARKS]
         word, anywhere, change = dice.choice(words), dice.randrange(len(tokens)), dice.random()
         if change < 0.8:
-            tokens[word] = dice.choice(NAMES if is_name(word) else dice.choice([NUMBERS, LISTS, TEXTS]))
+            tokens[word] = dice.choice(
+                NAMES if is_name(word) else dice.choice([NUMBERS, LISTS, TEXTS])
+            )
         elif change < 0.9:
             tokens[word] = tokens[dice.choice([at for at in words if is_name(at) == is_name(word)])]
         elif change < 0.95:
@@ -159,7 +235,7 @@ def spoilt(dice, text):
 
 
 def overwritten(dice, text):
-    """Writes a script that means the same, with members that later ones of their names overwrite, and names by their codes."""
+    """Writes a script that means the same, with overwritten members, and names by their codes."""
     return rewritten(dice, json.loads(text))
 
 
@@ -175,7 +251,14 @@ def rewritten(dice, value):
 
 
 def spelt(dice, name):
-    return json.dumps(name) if dice.random() < 0.9 else '"' + "".join(f"\\u{ord(it):04x}" for it in name) + '"'
+    return (
+        json.dumps(name)
+        if dice.random() < 0.9
+        else '"' + "".join(f"\\u{ord(it):04x}" for it in name) + '"'
+    )
+
+
+SCRIPT_NAMES = ["rounds", "throttles", "tags", "client", "do", "at", "note"]
 
 
 def anything(dice, deep=0):
@@ -184,5 +267,5 @@ def anything(dice, deep=0):
     if kind == 0:
         return dice.choice(["0", "-1", "1.5e3", "null", "true", '"ask"', "[]", "{}"])
     inner = [anything(dice, deep + 1) for _ in range(dice.randrange(4))]
-    named = lambda text: f"{spelt(dice, dice.choice(['rounds', 'throttles', 'tags', 'client', 'do', 'at', 'note']))}:{text}"
+    named = lambda text: f"{spelt(dice, dice.choice(SCRIPT_NAMES))}:{text}"
     return "[" + ",".join(inner) + "]" if kind == 1 else "{" + ",".join(map(named, inner)) + "}"

@@ -1,7 +1,7 @@
-"""Edits, which plant a wrong body: crates/NAME/must-fail/*.edit and crates/NAME/wrong-bodies/*.edit.
+"""Edits, which plant a wrong body, in crates/NAME/must-fail/ and crates/NAME/wrong-bodies/.
 
-An edit has a line 'file: PATH', with a path in the crate, and then pairs of lines 'old: TEXT' and 'new: TEXT'. Each old
-text stands exactly once in what the pairs before it left of the file.
+An edit has a line 'file: PATH', with a path in the crate, and then pairs of lines 'old: TEXT' and
+'new: TEXT'. Each old text stands exactly once in what the pairs before it left of the file.
 """
 import os
 
@@ -12,11 +12,13 @@ TRIED, BESIDE = "must-fail", "wrong-bodies"
 
 def crates():
     """Names the crates of the repository."""
-    return sorted(name for name in os.listdir(f"{ROOT}/crates") if os.path.isdir(f"{ROOT}/crates/{name}/src"))
+    return sorted(
+        name for name in os.listdir(f"{ROOT}/crates") if os.path.isdir(f"{ROOT}/crates/{name}/src")
+    )
 
 
 def edits_in(crate, folder):
-    """Returns the edits of a folder of a crate, by name without the ending, and what else is there."""
+    """Returns the edits of a crate's folder, by name without the ending, and what else is there."""
     at = f"{ROOT}/crates/{crate}/{folder}"
     files = sorted(os.listdir(at)) if os.path.isdir(at) else []
     edits = {name[: -len(".edit")]: f"{at}/{name}" for name in files if name.endswith(".edit")}
@@ -55,4 +57,8 @@ def fault_of_edit(crate, edit):
             return f"this stands in {file} {count} times, and not once: {old!r}"
         left[file] = left[file].replace(old, new)
     begun = [line[:4] for line in text.split("\n")]
-    return None if pairs and begun.count("old:") == begun.count("new:") == len(pairs) else "its lines are no pairs of 'old:' and 'new:'"
+    return (
+        None
+        if pairs and begun.count("old:") == begun.count("new:") == len(pairs)
+        else "its lines are no pairs of 'old:' and 'new:'"
+    )

@@ -56,12 +56,17 @@ def under(redirections, program, given=b"", arguments=(), **how):
 
 
 def fault_of(ran, wanted):
-    """Returns how a run differs from what is wanted, or None. A stream whose wanted bytes are None is not looked at."""
+    """Returns how a run differs from what is wanted, or None.
+
+    A stream whose wanted bytes are None is not looked at.
+    """
     if ran.status == NOT_ENDED and wanted.status != NOT_ENDED:
         return "it had not ended in time"
     if ran.status != wanted.status:
         return f"status {ran.status} in place of {wanted.status}; it said {ran.err[-200:]!r}"
-    for name, got, bytes_wanted in (("error", ran.err, wanted.err), ("output", ran.out, wanted.out)):
+    for name, got, bytes_wanted in (
+        ("error", ran.err, wanted.err), ("output", ran.out, wanted.out)
+    ):
         if bytes_wanted is not None and got != bytes_wanted:
             return f"standard {name} differs: {difference(got, bytes_wanted)}"
     return None
@@ -70,7 +75,9 @@ def fault_of(ran, wanted):
 def difference(got, wanted):
     """Names the first line that differs, counted from 1."""
     got, wanted = got.split(b"\n"), wanted.split(b"\n")
-    at = next((i for i, (a, b) in enumerate(zip(got, wanted)) if a != b), min(len(got), len(wanted)))
+    at = next(
+        (i for i, (a, b) in enumerate(zip(got, wanted)) if a != b), min(len(got), len(wanted))
+    )
     line = lambda lines: repr(lines[at][:120]) if at < len(lines) else "nothing"
     return f"line {at + 1} is {line(got)} in place of {line(wanted)}"
 
@@ -94,8 +101,10 @@ ARGUMENTS_REFUSED = faulted(OTHER_ARGUMENTS, "words refused")
 
 
 def members(**texts):
-    """Writes an object from the JSON text of each member; a member whose text is None is left out."""
-    return "{" + ",".join(f'"{name}":{text}' for name, text in texts.items() if text is not None) + "}"
+    """Writes an object from the JSON text of each member; one whose text is None is left out."""
+    return (
+        "{" + ",".join(f'"{name}":{text}' for name, text in texts.items() if text is not None) + "}"
+    )
 
 
 def script(rounds="[]", **changed):
@@ -105,8 +114,10 @@ def script(rounds="[]", **changed):
 
 
 def written(rounds, **changed):
-    """Writes a script from its values: rounds of commands that are dicts, and members of the top level."""
-    return json.dumps({"epoch_end": 0, "recovery": 100, "clients": 1, **changed, "rounds": rounds}).encode()
+    """Writes a script from its values: rounds of dicts, and members of the top level."""
+    return json.dumps(
+        {"epoch_end": 0, "recovery": 100, "clients": 1, **changed, "rounds": rounds}
+    ).encode()
 
 
 def command(do, **changed):

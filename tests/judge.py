@@ -1,16 +1,19 @@
-"""Whether a text is lawful: whether there is a schedule of a script's clients and GRV proxies that gives it.
+"""Whether a text is lawful: whether a schedule of a script's clients and GRV proxies gives it.
 
-The clients of a round race, so that most scripts have many lawful texts. A text says where its calls stood: a commit version by
-its ordinal, a call that the register answered by its position. So a judge looks for an order of the calls, each client's in
-its own order and round after round, in which the plainest run answers each call as the text says. It takes the calls one by one:
-each that changes nothing for others as soon as the run is where its line says; a report that changes the record once no other call
-of the round is to be answered at the position that it leaves; and a fresh commit version where nothing else can go on. None of these
-steps shuts out an order that the one before allowed, so where they stop short there is none.
+The clients of a round race, so that most scripts have many lawful texts. A text says where its
+calls stood: a commit version by its ordinal, a call that the register answered by its position. So
+a judge looks for an order of the calls, each client's in its own order and round after round, in
+which the plainest run answers each call as the text says. It takes the calls one by one: each that
+changes nothing for others as soon as the run is where its line says; a report that changes the
+record once no other call of the round is to be answered at the position that it leaves; and a fresh
+commit version where nothing else can go on. None of these steps shuts out an order that the one
+before allowed, so where they stop short there is none.
 
-The one reply that such an order does not explain is a read that found its queue full. `crowd_fault` asks what has to be so where
-there is one: enough reads of other clients, of its priority or above, that can have waited for the same proxy meanwhile and did not
-find it full in their turn. It refuses nothing that a schedule gives, but may accept a text in which several reads found their queues
-full and each could have, though not all in one schedule.
+The one reply that such an order does not explain is a read that found its queue full. `crowd_fault`
+asks what has to be so where there is one: enough reads of other clients, of its priority or above,
+that can have waited for the same proxy meanwhile and did not find it full in their turn. It refuses
+nothing that a schedule gives, but may accept a text in which several reads found their queues full
+and each could have, though not all in one schedule.
 """
 import re
 from bisect import bisect_left
@@ -22,7 +25,9 @@ from model import FULL, LAST_VERSION, Run, in_order, line_of, printed
 from reader import Refused, script_of
 
 RECORD = r"\d+ (?:un)?locked \w+(?: min \d+)?(?: used \d+)?"
-POSITION = re.compile(rf"(?:\d+ (not |min )?raised|refused Locked \d+|{RECORD}) pos (\d{{1,20}})(?= |$)")
+POSITION = re.compile(
+    rf"(?:\d+ (not |min )?raised|refused Locked \d+|{RECORD}) pos (\d{{1,20}})(?= |$)"
+)
 ORDINAL = re.compile(r"prev \d+ version \d+ ordinal (\d{1,20}) fresh$")
 RANKS = {"batch": 0, "default": 1, "system": 2}
 
@@ -32,7 +37,10 @@ class Unlawful(Exception):
 
 
 class Call(NamedTuple):
-    """A command with its line. `when` says where the line lets it stand, and `at` the number that goes with that."""
+    """A command with its line.
+
+    `when` says where the line lets it stand, and `at` the number that goes with that.
+    """
 
     it: object
     place: int
@@ -96,7 +104,9 @@ class Judge:
             self.make(calls.popleft())
             while calls and self.goes_on(calls[0]):
                 self.make(calls.popleft())
-            waiting = waiting if calls else {client: left for client, left in waiting.items() if left}
+            waiting = (
+                waiting if calls else {client: left for client, left in waiting.items() if left}
+            )
         self.run.learned(self.told)
         if any(call.when == "full" for call in self.order):
             self.look_round()
@@ -108,7 +118,9 @@ class Judge:
             for calls in waiting.values():
                 if may_go(calls[0]):
                     return calls
-        first = min((calls[0] for calls in waiting.values()), key=lambda call: (call.it.client, call.place))
+        first = min(
+            (calls[0] for calls in waiting.values()), key=lambda call: (call.it.client, call.place)
+        )
         raise Unlawful(f"no order of round {self.number} gives {first.line!r}")
 
     def goes_on(self, call):
@@ -121,7 +133,11 @@ class Judge:
 
     def changes(self, call):
         """Whether a report can change the record now, since nobody is left at this position."""
-        return call.when == "changes" and call.at == self.run.position + 1 and self.held[self.run.position] == 0
+        return (
+            call.when == "changes"
+            and call.at == self.run.position + 1
+            and self.held[self.run.position] == 0
+        )
 
     def draws(self, call):
         return call.when == "draws" and call.at == len(self.run.chain)
@@ -130,7 +146,9 @@ class Judge:
         """Makes a call, whose answer has to be what its line says."""
         it, run = call.it, self.run
         may_be_full = call.when == "full" and run.turned_away(it) is None
-        due = line_of(self.number, call.place, it, run.found_full(it) if may_be_full else run.called(it))
+        due = line_of(
+            self.number, call.place, it, run.found_full(it) if may_be_full else run.called(it)
+        )
         if call.line != due:
             raise Unlawful(f"{call.line!r} in place of {due!r}")
         self.order.append(call)
@@ -155,7 +173,7 @@ class Judge:
 
 
 class Read(NamedTuple):
-    """A read that its queue did not refuse for itself: its place among its client's calls of the round, and its proxy."""
+    """A read that was not refused for itself: its place in its client's round, and its proxy."""
 
     call: Call
     client: int
@@ -169,10 +187,11 @@ class Read(NamedTuple):
 
 
 def befores(order):
-    """Returns, for each client and each of its calls, how many calls of each client were through before it began.
+    """Returns, for each call by client, how many calls of each client ended before it began.
 
-    The commit versions are drawn one after the other, and so are changes made, with what is answered at a position
-    between two of these. With the order of each client's calls this says what came before what, in any schedule.
+    The commit versions are drawn one after the other, and so are changes made, with what is
+    answered at a position between two of these. With the order of each client's calls this says
+    what came before what, in any schedule.
     """
     own, found = defaultdict(Counter), defaultdict(list)
     drawn, changed, answered = Counter(), Counter(), Counter()
@@ -197,22 +216,25 @@ def befores(order):
 def crowd_fault(script, reads, before):
     """Returns why some of a round's reads cannot have found their queues full, or None.
 
-    A queue is full where `room` reads wait in it, of as many clients. A read that is refused then is of no higher priority than
-    any of them. One that is pushed out is of no higher one than the read that does it and the others that wait.
+    A queue is full where `room` reads wait in it, of as many clients. A read that is refused then
+    is of no higher priority than any of them. One that is pushed out is of no higher one than the
+    read that does it and the others that wait.
     """
     for proxy in sorted({read.proxy for read in reads if read.is_full}):
         here = [read for read in reads if read.proxy == proxy]
         full = [read for read in here if read.is_full]
         fault = too_often(script, here, full)
         for rank in sorted({read.rank for read in full}):
-            fault = fault or too_few(script.room, [it for it in here if it.rank >= rank], rank, before)
+            fault = fault or too_few(
+                script.room, [it for it in here if it.rank >= rank], rank, before
+            )
         if fault:
             return f"{fault} at proxy {proxy}"
     return None
 
 
 def too_few(room, reads, rank, before):
-    """Returns whether too few of these reads, all of this rank or above, can have waited when one was refused or pushed out.
+    """Returns whether too few of these reads, of this rank or above, can have waited for it.
 
     When the last of them went, those that waited then stayed until they started.
     """
@@ -221,7 +243,8 @@ def too_few(room, reads, rank, before):
     for read in (it for it in full if it.rank == rank):
         others = beside(read, waited, before)
         if others < room:
-            return f"{others} reads can have waited beside that of {read.call.line!r}, and there is room for {room}"
+            said = f"{others} reads can have waited beside that of {read.call.line!r}"
+            return f"{said}, and there is room for {room}"
     if all(beside(read, stayed, before) < room for read in full):
         return f"too few reads found room for {len(full)} to find none"
     return None
@@ -236,19 +259,24 @@ def places_of(reads):
 
 
 def beside(read, places, before):
-    """Returns how many other clients have a read there that can have waited when this one was refused or pushed out."""
+    """Returns how many other clients' reads can have waited when this one found no room."""
     begun, count = before[read.client][read.index], 0
     for client, indexes in places.items():
         at = bisect_left(indexes, begun[client])
-        count += client != read.client and at < len(indexes) and before[client][indexes[at]][read.client] <= read.index
+        count += (
+            client != read.client
+            and at < len(indexes)
+            and before[client][indexes[at]][read.client] <= read.index
+        )
     return count
 
 
 def too_often(script, here, full):
     """Returns whether a client found the queue full too often.
 
-    In the window of such a turn the first that waits starts if its count fits, and it is of no lower priority than the read that
-    was refused or pushed out. A client has one read in a turn, and so each such turn starts another read of another client.
+    In the window of such a turn the first that waits starts if its count fits, and it is of no
+    lower priority than the read that was refused or pushed out. A client has one read in a turn,
+    and so each such turn starts another read of another client.
     """
     fits = {"system": 100_000, "default": script.normal, "batch": min(script.normal, script.batch)}
     if any(it.call.it.count > fits[it.call.it.priority] for it in here):
@@ -279,8 +307,8 @@ def fault_of_text(script, proxies, out, history=True):
 def is_determined(script, proxies):
     """Whether each schedule gives the same text, since nobody races for what a reply says.
 
-    So it is where in each round one client at most asks for commit versions, one at most calls the register if anyone reports,
-    and each queue has room for a read of each client that comes to it.
+    So it is where in each round one client at most asks for commit versions, one at most calls the
+    register if anyone reports, and each queue has room for a read of each client that comes to it.
     """
     reads = Counter()
     for commands in script.rounds:
@@ -291,7 +319,11 @@ def is_determined(script, proxies):
         for it in (it for it in commands if it.do == "grv"):
             crowds[(it.client + reads[it.client]) % proxies].add(it.client)
             reads[it.client] += 1
-        if len(askers) > 1 or (reporters and len(callers) > 1) or any(len(who) > script.room for who in crowds.values()):
+        if (
+            len(askers) > 1
+            or (reporters and len(callers) > 1)
+            or any(len(who) > script.room for who in crowds.values())
+        ):
             return False
     return True
 
@@ -315,4 +347,6 @@ class Lawful:
             return fault_of(ran, self.refusal)
         wanted = self.text if history or self.text is None else without_history(self.text)
         fault = fault_of(ran, Ran(DONE, wanted, b""))
-        return fault or (None if self.is_alone else fault_of_text(self.script, self.proxies, ran.out, history))
+        return fault or (
+            None if self.is_alone else fault_of_text(self.script, self.proxies, ran.out, history)
+        )

@@ -1,20 +1,18 @@
-"""Whether the judge judges: it accepts what schedules give, and refuses what wrong services and changed texts say."""
+"""Whether the judge judges: it accepts what schedules give, and refuses what none gives."""
 import json
 import random
-from collections import Counter, defaultdict
 from functools import lru_cache
 
 import drawn
 import small_races
-from changes import CROWDS, LINES, REPLIES, Text, crowd_changed, lines_changed, replies_changed
+import wrong_texts as wrong
 from harness import written
 from judge import fault_of_text, is_determined
-from model import Run, in_order, line_of, printed, text_of
+from model import in_order, line_of, printed, text_of
 from reader import script_of
 from schedules import Schedule
-from wrong_services import ALONE, ALWAYS, SCHEDULES
 
-DRAWN, WRONG, CHANGED = 300, 6, 60
+DRAWN = 300
 
 
 def proxies_of(seed):
@@ -23,22 +21,21 @@ def proxies_of(seed):
 
 @lru_cache(maxsize=None)
 def drawn_script(seed):
-    """Draws a script: one in which nearly all goes, clients that race, or reads for which there is just room enough."""
+    """Draws a script: nearly all goes in it, clients race, or there is just room for all reads."""
     dice = random.Random(f"judged {seed}")
     if seed % 3 == 0:
         return script_of(drawn.lawful(dice).encode())
-    return script_of(json.dumps(drawn.racing(dice) if seed % 3 == 1 else drawn.fitting(dice, proxies_of(seed))).encode())
+    return script_of(
+        json.dumps(
+            drawn.racing(dice) if seed % 3 == 1 else drawn.fitting(dice, proxies_of(seed))
+        ).encode()
+    )
 
 
-def schedule_text(seed, service=Run, schedule=Schedule):
-    """Returns what a schedule of these dice gives where calls come to this service."""
-    script = drawn_script(seed)
-    return schedule(script, proxies_of(seed), random.Random(f"schedule {seed}"), service(script)).text()
-
-
-@lru_cache(maxsize=None)
 def right_text(seed):
-    return schedule_text(seed)
+    """Returns what a schedule of these dice gives."""
+    dice = random.Random(f"schedule {seed}")
+    return Schedule(drawn_script(seed), proxies_of(seed), dice).text()
 
 
 def judged(seed, text):
@@ -46,7 +43,7 @@ def judged(seed, text):
 
 
 def lawful_texts(_program):
-    """What the plainest run says is lawful, and so is what each drawn schedule gives, which is the same where nobody races."""
+    """What the plainest run and drawn schedules give is lawful, and without races the same."""
     for seed in range(DRAWN):
         serial, text = printed(drawn_script(seed), True), right_text(seed)
         yield f"the plainest run of seed {seed}", judged(seed, serial)
@@ -60,36 +57,23 @@ def worked_texts(_program):
     for name, (rounds, top), proxies, counts, is_lawful, ends in small_races.RACES:
         script = script_of(written(rounds, clients=3, **top))
         audit = "audit ok events {} raised {} versions {}".format(*counts.split())
-        calls = [(number, place, it) for number, commands in enumerate(script.rounds) for place, it in in_order(commands)]
+        calls = [
+            (number, place, it)
+            for number, commands in enumerate(script.rounds)
+            for place, it in in_order(commands)
+        ]
         lines = [line_of(number, place, it, end) for (number, place, it), end in zip(calls, ends)]
         fault = fault_of_text(script, proxies, text_of([*lines, audit]), history=False)
         yield name, None if (fault is None) == is_lawful else fault or "it was accepted"
 
 
-def wrong_services(_program):
-    """What a wrong service says is refused, where it is anything else than the right one says in the same schedule."""
-    services, ways = [(it, it, Schedule) for it in ALWAYS + ALONE], [(it, Run, it) for it in SCHEDULES]
-    for named, service, schedule in services + ways:
-        met, accepted = 0, []
-        for seed in range(DRAWN):
-            if named in ALWAYS or is_determined(drawn_script(seed), proxies_of(seed)):
-                text = schedule_text(seed, service, schedule)
-                met += text != right_text(seed)
-                accepted += [seed] * (text != right_text(seed) and judged(seed, text) is None)
-            if met == WRONG:
-                break
-        yield named.__name__, f"accepted for the seeds {accepted[:5]}" if accepted else None if met else "it never was wrong"
-
-
-def changed_texts(_program):
-    """A lawful text is refused after each change of which no schedule can come."""
-    met, accepted = Counter(), defaultdict(list)
-    for seed in range(CHANGED):
-        dice, text = random.Random(f"change {seed}"), Text(drawn_script(seed), proxies_of(seed), right_text(seed))
-        for changes, changed_by in ((REPLIES, replies_changed), (CROWDS, crowd_changed), (LINES, lines_changed)):
-            for name in changes:
-                lines = changed_by(text, name, dice)
-                met[name] += lines is not None
-                accepted[name] += [seed] * (lines is not None and judged(seed, text_of(lines)) is None)
-    for name, times in met.items():
-        yield name, f"accepted for the seeds {accepted[name][:5]}" if accepted[name] else None if times else "it was never possible"
+def wrong_texts(_program):
+    """A right text is accepted, and with a change in it refused for just that."""
+    for script, text in wrong.RIGHTS:
+        read = script_of(script)
+        yield "a right text", fault_of_text(read, 1, text.encode())
+        is_due = is_determined(read, 1) and text.encode() == printed(read, True)
+        yield "the only right text", None if is_due else "the plainest run says another"
+    for name, script, text, said in wrong.wrong_texts():
+        fault = fault_of_text(script_of(script), 1, text)
+        yield name, None if fault == said else f"the judge says {fault!r} in place of {said!r}"

@@ -1,4 +1,4 @@
-"""The launcher, in a folder of its own with a stand-in for rt and for the program."""
+"""The launchers, in a folder of its own with a stand-in for rt and for the programs."""
 import os
 import pty
 import re
@@ -9,17 +9,30 @@ import time
 
 from harness import ROOT, Ran, fault_of, run
 
-TOOLS = "bash sh cat cp mv mkdir sleep find date readlink flock touch sed".split()
+TOOLS = "bash sh cat cp mv mkdir mktemp rm sleep timeout find date readlink flock touch sed".split()
 NOT_BUILT = 70
 QUICK = 0.1
 
-CRATES = "# lowest first: NAME: lower ones\nlow: thiserror\nother: low\nkept: low\nmiddle: low\nfdb_replay_cli: kept middle\nbench: low\n"
-# Locks the crate's folder, as rt does, and makes the program in its crate. It fails in the crate that the file `fails` names.
+CRATES = """# lowest first: NAME: lower ones
+low: thiserror
+other: low
+kept: low
+middle: low
+fdb_replay_cli: kept middle
+fdb_audit: kept other
+fdb_audit_cli: fdb_audit
+bench: low
+"""
+# Locks the crate's folder, as rt does, and makes the program in its crate. It fails in the crate
+# that the file `fails` names.
 RT = """#!/bin/sh
 exec 9< .
 flock 9
 name=${PWD##*/}
-echo "$name $1" >> "$ROOM/calls"
+case $PWD in
+"$ROOM/top/"*) echo "$name $1" >> "$ROOM/calls" ;;
+*) echo "$name $1" >> "$ROOM/aside"; exit ;;
+esac
 cat > "$ROOM/given"
 if [ "$name" != kept ]; then echo "rt: proving $name"; fi
 if [ -e "$ROOM/fails" ] && [ "$(cat "$ROOM/fails")" = "$name" ]; then exit 1; fi
@@ -32,13 +45,17 @@ case "$name $1" in
     echo "tions checked"
     sleep ${SLOW-0}
     ;;
-"fdb_replay_cli run")
-    echo "rt: running out/fdb_replay_cli" >&2
+"fdb_audit lib")
+    while [ "$(cat "$ROOM/aside")" != "$(printf 'low lib\nkept lib\nother lib')" ]
+    do sleep 0.1; done
+    ;;
+*"_cli run")
+    echo "rt: running out/$name" >&2
     sleep 0.2
     echo built >> "$ROOM/builds"
     mkdir -p out
     cp "$ROOM/stand_in" out/new
-    mv out/new out/fdb_replay_cli
+    mv out/new "out/$name"
     ;;
 esac
 """
@@ -50,7 +67,7 @@ echo "fdb_replay: said" >&2
 exit ${STATUS-0}
 """
 SAID = b"fdb_replay: said\n"
-# What a build says where standard error is no terminal: a line for each crate that the program needs.
+# What a build says where standard error is no terminal: a line for each crate that is needed.
 TOLD = rb"""fdb_replay: proving and building the program first, .*
 fdb_replay: \[1/4\] low: 75 functions, \d s
 fdb_replay: \[2/4\] kept: kept
@@ -60,8 +77,17 @@ fdb_replay: built after \d seconds
 fdb_replay: said
 """
 # What a terminal is shown of the first crate, in turn, and how the next line begins.
-SHOWN = [rb"\d s so far", *[rb"0 of 75 functions, \d s so far"] * 2, rb"54 of 75 functions, \d s so far", rb"75 functions, \d s\r\n"]
-RENEWED = b"(?s)" + b".*".join(rb"\r\x1b\[Kfdb_replay: \[1/4\] low: " + it for it in SHOWN) + rb"\r\x1b\[Kfdb_replay: \[2/4\] kept: \d s so far"
+SHOWN = [
+    rb"\d s so far",
+    *[rb"0 of 75 functions, \d s so far"] * 2,
+    rb"54 of 75 functions, \d s so far",
+    rb"75 functions, \d s\r\n",
+]
+RENEWED = (
+    b"(?s)"
+    + b".*".join(rb"\r\x1b\[Kfdb_replay: \[1/4\] low: " + it for it in SHOWN)
+    + rb"\r\x1b\[Kfdb_replay: \[2/4\] kept: \d s so far"
+)
 LOGGED = b"""rt: proving low
 so far: 0 of 75 functions checked; the verdict comes last
 so far: 54 of 75 functions checked
@@ -71,22 +97,30 @@ rt: running out/fdb_replay_cli
 
 
 class Room:
-    """A repository with the launcher, one source, and a PATH that has the stand-in for rt."""
+    """A repository with a launcher, one source, and a PATH that has the stand-in for rt."""
 
-    def __init__(self, folder):
+    def __init__(self, folder, name="fdb_replay"):
         self.top, self.bin, self.away = f"{folder}/top", f"{folder}/bin", f"{folder}/away"
-        self.folder, self.crate = folder, f"{self.top}/crates/fdb_replay_cli"
-        for it in (f"{self.crate}/src", *(f"{self.top}/crates/{it}" for it in ("low", "kept", "middle")), self.bin, self.away):
+        self.folder, self.name, self.crate = folder, name, f"{self.top}/crates/{name}_cli"
+        for it in (
+            f"{self.crate}/src",
+            *(f"{self.top}/crates/{it}" for it in ("low", "other", "kept", "middle", "fdb_audit")),
+            self.bin,
+            self.away,
+            f"{folder}/tmp",
+        ):
             os.makedirs(it)
-        shutil.copy(f"{ROOT}/fdb_replay", f"{self.top}/fdb_replay")
+        os.mkdir(f"{self.top}/tools")
+        for file in (name, "tools/launcher"):
+            shutil.copy(f"{ROOT}/{file}", f"{self.top}/{file}")
         self.write(f"{self.top}/crates.txt", CRATES)
-        for file in ("HANDLES", "crates/fdb_replay_cli/stdin", "crates/fdb_replay_cli/src/main.rt"):
+        for file in ("HANDLES", f"crates/{name}_cli/stdin", f"crates/{name}_cli/src/main.rt"):
             self.write(f"{self.top}/{file}", f"{file}\n")
         self.write(f"{self.bin}/rt", RT)
         self.write(f"{folder}/stand_in", PROGRAM)
         for tool in TOOLS:
             os.symlink(shutil.which(tool), f"{self.bin}/{tool}")
-        os.symlink(f"{self.top}/fdb_replay", f"{folder}/link")
+        os.symlink(f"{self.top}/{name}", f"{folder}/link")
 
     @staticmethod
     def write(file, text):
@@ -95,11 +129,16 @@ class Room:
         os.chmod(file, 0o755)
 
     def launch(self, *arguments, given=b"bytes\n", by=None, status=0):
-        env = {"PATH": self.bin, "ROOM": self.folder, "STATUS": str(status)}
-        return run([by or f"{self.top}/fdb_replay", *arguments], given, cwd=self.away, env=env)
+        env = {
+            "PATH": self.bin,
+            "ROOM": self.folder,
+            "TMPDIR": f"{self.folder}/tmp",
+            "STATUS": str(status),
+        }
+        return run([by or f"{self.top}/{self.name}", *arguments], given, cwd=self.away, env=env)
 
     def launch_on_terminal(self, slow):
-        """Launches with a terminal as standard error, and returns how that ended and what the terminal was written."""
+        """Launches with a terminal as standard error: how that ended, and what it was written."""
         ours, theirs = pty.openpty()
         env = {"PATH": self.bin, "ROOM": self.folder, "TERM": "xterm", "SLOW": slow}
         ran = run([f"{self.top}/fdb_replay"], b"", cwd=self.away, env=env, stderr=theirs)
@@ -116,7 +155,9 @@ class Room:
     def fault(self, ran, wanted, builds):
         """Returns what is wrong with a launch, after which there were this many builds."""
         found = self.builds()
-        return fault_of(ran, wanted) or (f"{found} builds in place of {builds}" if found != builds else None)
+        return fault_of(ran, wanted) or (
+            f"{found} builds in place of {builds}" if found != builds else None
+        )
 
     def wanted(self, *arguments, given=b"bytes\n", status=0, err=SAID):
         lines = [self.away, *(f"argument {it}" for it in arguments)]
@@ -134,7 +175,7 @@ def read_terminal(file):
 
 
 def launches(_program):
-    """The launcher builds where it must, passes all on where it need not, and says so on standard error alone."""
+    """The launcher builds where it must, passes all on, and says so on standard error alone."""
     with tempfile.TemporaryDirectory(prefix="launch-") as folder:
         room = Room(os.path.realpath(folder))
         yield from first_launches(room)
@@ -144,6 +185,8 @@ def launches(_program):
         yield from without_a_build(room)
     with tempfile.TemporaryDirectory(prefix="launch-") as folder:
         yield from told_launches(Room(os.path.realpath(folder)))
+    with tempfile.TemporaryDirectory(prefix="launch-") as folder:
+        yield from of_the_audit(Room(os.path.realpath(folder), "fdb_audit"))
 
 
 def first_launches(room):
@@ -164,8 +207,12 @@ def later_launches(room):
     yield "arguments are passed on", room.fault(room.launch(*arguments), room.wanted(*arguments), 1)
     yield "the status is passed on", room.fault(room.launch(status=5), room.wanted(status=5), 1)
     yield "an empty input", room.fault(room.launch(given=b""), room.wanted(given=b""), 1)
-    yield "through a link", room.fault(room.launch("x", by=f"{room.folder}/link"), room.wanted("x"), 1)
-    yield "by a path from elsewhere", room.fault(room.launch("x", by="../top/fdb_replay"), room.wanted("x"), 1)
+    yield "through a link", room.fault(
+        room.launch("x", by=f"{room.folder}/link"), room.wanted("x"), 1
+    )
+    yield "by a path from elsewhere", room.fault(
+        room.launch("x", by="../top/fdb_replay"), room.wanted("x"), 1
+    )
     os.symlink("../link", f"{room.away}/link")
     yield "through two links", room.fault(room.launch("x", by="./link"), room.wanted("x"), 1)
     begun = []
@@ -173,20 +220,45 @@ def later_launches(room):
         at = time.monotonic()
         room.launch()
         begun.append(time.monotonic() - at)
-    yield "a launch without a build is quick", None if min(begun) < QUICK else f"{min(begun):.3f} s at best"
+    yield "a launch without a build is quick", None if min(
+        begun
+    ) < QUICK else f"{min(begun):.3f} s at best"
 
 
 def after_edits(room):
     builds = 1
-    for file in ("crates/fdb_replay_cli/src/main.rt", "crates/fdb_replay_cli/specs/Lib.antt", "crates/other/src/lib.rt", "crates.txt", "HANDLES"):
+    edits = [
+        (f"crates/{it}", "edited\n")
+        for it in ("fdb_replay_cli/src/main.rt", "fdb_replay_cli/specs/Lib.antt", "low/src/lib.rt")
+    ]
+    other = CRATES.replace("kept: low", "kept: low hex")
+    for file, text in (*edits, ("crates.txt", other), ("HANDLES", "edited\n")):
         os.makedirs(os.path.dirname(f"{room.top}/{file}"), exist_ok=True)
-        room.write(f"{room.top}/{file}", "edited\n")
+        room.write(f"{room.top}/{file}", text)
         builds += 1
-        yield f"an edit of {file} builds again", room.fault(room.launch(), room.wanted(err=None), builds)
+        yield f"an edit of {file} builds again", room.fault(
+            room.launch(), room.wanted(err=None), builds
+        )
         yield f"once after {file}", room.fault(room.launch(), room.wanted(), builds)
-    room.write(f"{room.crate}/out/kept.rt", "made\n")
-    room.write(f"{room.top}/README.md", "edited\n")
-    yield "other files build nothing", room.fault(room.launch(), room.wanted(), builds)
+    os.mkdir(f"{room.top}/crates/other/src")
+    for file, text in (
+        ("crates/fdb_replay_cli/out/kept.rt", "made\n"),
+        ("README.md", "edited\n"),
+        ("crates/other/src/lib.rt", "edited\n"),
+        ("crates.txt", other.replace("other: low", "other: low hex") + "more: other\n"),
+    ):
+        room.write(f"{room.top}/{file}", text)
+        yield f"an edit of {file} builds nothing where the program does not need it", room.fault(
+            room.launch(), room.wanted(), builds
+        )
+    # The lines that were noted are not those of a program that rt built since.
+    room.write(f"{room.top}/crates.txt", CRATES)
+    shutil.copy(f"{room.folder}/stand_in", f"{room.crate}/out/fdb_replay_cli")
+    yield "a program that rt built", room.fault(room.launch(), room.wanted(), builds)
+    room.write(f"{room.top}/crates.txt", other)
+    yield "and other lines than its own", room.fault(
+        room.launch(), room.wanted(err=None), builds + 1
+    )
 
 
 def two_at_once(room):
@@ -194,13 +266,18 @@ def two_at_once(room):
     before = room.builds()
     env = {"PATH": room.bin, "ROOM": room.folder}
     pipes = {"stdin": subprocess.DEVNULL, "stdout": subprocess.PIPE, "stderr": subprocess.DEVNULL}
-    both = [subprocess.Popen([f"{room.top}/fdb_replay"], env=env, cwd=room.away, **pipes) for _ in range(4)]
+    both = [
+        subprocess.Popen([f"{room.top}/fdb_replay"], env=env, cwd=room.away, **pipes)
+        for _ in range(4)
+    ]
     for started in both:
         out, _ = started.communicate(timeout=20)
         fault = fault_of(Ran(started.returncode, out, b""), room.wanted(given=b"", err=b""))
         if fault:
             return fault
-    return None if room.builds() == before + 1 else f"{room.builds() - before} builds in place of one"
+    return (
+        None if room.builds() == before + 1 else f"{room.builds() - before} builds in place of one"
+    )
 
 
 def without_a_build(room):
@@ -208,15 +285,41 @@ def without_a_build(room):
     builds = room.builds()
     yield "a built program needs no rt", room.fault(room.launch(), room.wanted(), builds)
     room.write(f"{room.top}/crates.txt", "edited again\n")
-    yield "an old program is not run where there is no rt", room.fault(room.launch(), Ran(NOT_BUILT, b"", None), builds)
+    yield "an old program is not run where there is no rt", room.fault(
+        room.launch(), Ran(NOT_BUILT, b"", None), builds
+    )
+
+
+def of_the_audit(room):
+    """The other program has its own crates, of which the launcher of the first knows nothing."""
+    ran = room.launch("x")
+    yield "the audit's first launch builds", room.fault(ran, room.wanted("x", err=None), 1)
+    begun = b"fdb_audit: proving and building the program first"
+    yield "the audit's own name", None if ran.err.startswith(begun) else repr(ran.err)
+    yield "the audit's crates are proved in turn", other_text(
+        f"{room.folder}/calls", b"low lib\nother lib\nkept lib\nfdb_audit lib\nfdb_audit_cli run\n"
+    )
+    yield "others meanwhile, in a copy", other_text(
+        f"{room.folder}/aside", b"low lib\nkept lib\nother lib\n"
+    )
+    room.write(f"{room.top}/crates/middle/lib.rt", "edited\n")
+    yield "the audit through a link", room.fault(
+        room.launch(by=f"{room.folder}/link"), room.wanted(), 1
+    )
+    os.remove(f"{room.crate}/out/fdb_audit_cli")
+    room.write(f"{room.folder}/fails", "other")
+    yield "an audit that fails", room.fault(room.launch(), Ran(NOT_BUILT, b"", None), 1)
+    yield "the copies are gone", ", ".join(os.listdir(f"{room.folder}/tmp")) or None
 
 
 def told_launches(room):
-    """A terminal has a line for each crate, which is renewed in place; what rt says goes to a log, which a failure names."""
+    """A terminal has a line for each crate, renewed in place; a failure names the log."""
     ran, shown = room.launch_on_terminal(slow="1.6")
     yield "a launch on a terminal", room.fault(ran, room.wanted(given=b"", err=b""), 1)
     yield "what a terminal shows", None if re.search(RENEWED, shown) else repr(shown)
-    yield "the crates are proved in turn", other_text(f"{room.folder}/calls", b"low lib\nkept lib\nmiddle lib\nfdb_replay_cli run\n")
+    yield "the crates are proved in turn", other_text(
+        f"{room.folder}/calls", b"low lib\nkept lib\nmiddle lib\nfdb_replay_cli run\n"
+    )
     yield "the log has what rt said", other_text(f"{room.crate}/out/build.log", LOGGED)
     os.remove(f"{room.crate}/out/fdb_replay_cli")
     room.write(f"{room.folder}/fails", "middle")

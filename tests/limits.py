@@ -28,7 +28,6 @@ SAID = (
     (FORMATS, "at least 1 and at most {MAX_STEP:,}"),
     (FORMATS, "more than {MAX_COUNT:,}, or at batch priority for more than the normal limit plus"
               " {IDLE_BURST} |"),
-    (FORMATS, "**A log for each client**, at most {MAX_CLIENTS}"),
     (DEFINITIONS, "at least 1, at most {MAX_STEP:,};"),
     (DEFINITIONS, "less than {MAX_STEP:,} below the greatest"),
     (DEFINITIONS, "1 to {MAX_PROXIES} commit proxies"),
@@ -46,14 +45,13 @@ SAID = (
     (README, "and {MAX_THROTTLES:,} throttles; 1 to {MAX_CLIENTS} clients"),
     (README, "1 to {MAX_COUNT:,} transactions; in a script at most {MAX_TAGS} tags"),
     (README, "tags, of at most {MAX_TAG} bytes"),
-    (README, "at most {MAX_CLIENTS} logs"),
+    (README, "`fdb_audit` reads at most {MAX_TRACE_BYTES:,} bytes"),
+    (FORMATS, "The text has at most {MAX_TRACE_BYTES:,} bytes, and at most {MAX_TRACE_CLIENTS:,} c"),
     (README, "0 to {MAX_VERSION:,} |"),
     (README, "1 to {MAX_PROXIES} commit proxies, 1 to {MAX_REPORTERS} reporters"),
     (README, "room for 1 to {MAX_ROOM:,} requests; a normal limit of 1 to {MAX_RATE:,}"),
     (README, "a batch limit of 0 to {MAX_RATE:,} transactions"),
     (README, "1 to {MAX_ELAPSED:,} microseconds after the last one; at most {MAX_STARTED:,} req"),
-    ("docs/STARTING.md", "at most {MAX_CLIENTS} logs"),
-    ("crates/fdb_history/README.md", "at most {MAX_CLIENTS} logs"),
 )
 
 

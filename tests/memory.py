@@ -1,4 +1,4 @@
-"""Memory and threads that are refused: each allocation and each start of a thread in turn, and then that one with all that follow."""
+"""Memory and threads refused: each allocation and start in turn, alone and with all after it."""
 import os
 import re
 import shutil
@@ -7,26 +7,59 @@ import tempfile
 from typing import NamedTuple
 
 from answers import do
-from harness import ARGUMENTS_REFUSED, EXAMPLES, NOT_ENDED, OUT_OF_MEMORY, READING_FAILED, ROOT, Ran, done, fault_of, first_output, first_script, read, refused as refused_script, run, written
+from harness import ARGUMENTS_REFUSED, EXAMPLES, NOT_ENDED, OUT_OF_MEMORY, READING_FAILED, ROOT, Ran
+from harness import done, fault_of, first_output, first_script, read, run, written
+from harness import refused as refused_script
 from judge import Lawful
 from model import expected
 from races import commit
 
 SOURCE = f"{ROOT}/tests/refuse.c"
-LARGE = [[do("ask", at=9 * it) for it in range(500)], [do("report", num=it + 1) for it in range(500)], [do("grv")] * 500]
+LARGE = [
+    [do("ask", at=9 * it) for it in range(500)],
+    [do("report", num=it + 1) for it in range(500)],
+    [do("grv")] * 500,
+]
 # Two clients with throttles, tags and tells, of whose calls some are refused.
-THROTTLES = [{"priority": "default", "tag": tag, "rate": 5, "expires": 5000} for tag in ("t", "sixteen-bytes-ab", "t")]
+THROTTLES = [
+    {"priority": "default", "tag": tag, "rate": 5, "expires": 5000}
+    for tag in ("t", "sixteen-bytes-ab", "t")
+]
 TWO = [
-    [do("ask", at=1000), do("ask", at=3000), do("report", num=2, locked=True, metadata="0102030405060708090A", min_known=5), do("tell", to=1), do("reask", num=2, at=1)],
-    [do("grv", 1, tags=["t", "u", "sixteen-bytes-ab", "t"], lock_aware=True, use_min=True), do("grv", 1), do("ask", 1, at=5), do("tell", 1, to=0)],
-    [do("report", num=3), do("report", num=1, min_known=7), do("report", num=1, min_known=101), do("reask", num=9, at=1), do("grv", priority="batch", tags=["t"]), do("tell", to=1), do("tell", to=1)],
+    [
+        do("ask", at=1000),
+        do("ask", at=3000),
+        do("report", num=2, locked=True, metadata="0102030405060708090A", min_known=5),
+        do("tell", to=1),
+        do("reask", num=2, at=1),
+    ],
+    [
+        do("grv", 1, tags=["t", "u", "sixteen-bytes-ab", "t"], lock_aware=True, use_min=True),
+        do("grv", 1), do("ask", 1, at=5), do("tell", 1, to=0),
+    ],
+    [
+        do("report", num=3), do("report", num=1, min_known=7), do("report", num=1, min_known=101),
+        do("reask", num=9, at=1), do("grv", priority="batch", tags=["t"]), do("tell", to=1),
+        do("tell", to=1),
+    ],
 ]
 # Three clients that share rounds, in which each commits, reads and tells.
-CROWD = [[it for who in range(3) for it in (*commit(who, num), do("grv", who, tags=["t"]), do("tell", who, to=(who + 1) % 3))] for num in (1, 2)]
-# The most runs of a sweep, how many end without the allocation before it is over, and the seconds after which a run hangs.
+CROWD = [
+    [
+        it
+        for who in range(3)
+        for it in (*commit(who, num), do("grv", who, tags=["t"]), do("tell", who, to=(who + 1) % 3))
+    ]
+    for num in (1, 2)
+]
+# The most runs of a sweep, how many end without the allocation before it is over, and the seconds
+# after which a run hangs.
 MOST_RUNS, MISSED, HANGS = 2_000, 3, 10
 # The tests that pass whichever single allocation is refused: of each crate those whose names match.
-BEARING = {crate: r"^refused_memory::" for crate in ("fdb_tests", "fdb_service_tests", "fdb_client_tests", "fdb_replay_tests")}
+BEARING = {
+    crate: r"^refused_memory::"
+    for crate in ("fdb_tests", "fdb_service_tests", "fdb_client_tests", "fdb_replay_tests")
+}
 # Those of them that pass also where all are refused from any one on.
 WITHOUT = r"::without_memory$"
 PASSED = done(b"\ntest result: ok\n")
@@ -60,9 +93,12 @@ def built(folder, source=SOURCE):
 
 
 def run_refused(words, preloaded, number, goes_on, given):
-    """Runs a program with one thing refused, and returns how it ended and what it was, which is nothing if it never got so far."""
+    """Runs a program with one thing refused; returns how it ended and what that was, if any."""
     tells, told = os.pipe()
-    env = {"LD_PRELOAD": preloaded, "REFUSE": str(number), "REFUSE_TELLS": str(told), "REFUSE_ON": str(int(goes_on))}
+    env = {
+        "LD_PRELOAD": preloaded, "REFUSE": str(number), "REFUSE_TELLS": str(told),
+        "REFUSE_ON": str(int(goes_on)),
+    }
     ran = run(words, given, HANGS, env=env, pass_fds=[told])
     os.close(told)
     with os.fdopen(tells, "rb") as it:
@@ -70,18 +106,20 @@ def run_refused(words, preloaded, number, goes_on, given):
 
 
 def swept(words, preloaded, given, without, fault_of_ran, goes_on, step):
-    """Refuses allocations and starts of threads until runs end without one; `step` gives the next number.
+    """Refuses allocations and starts of threads, by `step`, until runs end without one.
 
-    A run is to end as `without` where a thread was refused, and else as `fault_of_ran` asks, or as `without` where it could
-    not do without the memory, as a sort can do without its buffer. Threads do not allocate in the same order in each run, so
-    that a run may end before an allocation that another one comes to. Where a run does not end in time there are no further
-    ones.
+    A run is to end as `without` where a thread was refused, and else as `fault_of_ran` asks, or as
+    `without` where it could not do without the memory, as a sort can do without its buffer. Threads
+    do not allocate in the same order in each run, so that a run may end before an allocation that
+    another one comes to. Where a run does not end in time there are no further ones.
     """
     number, missed = 1, 0
     for _ in range(MOST_RUNS):
         ran, what = run_refused(words, preloaded, number, goes_on, given)
         fault = fault_of_ran(ran)
-        yield Refused(number, what, fault_of(ran, without) if what == THREAD or fault and what else fault)
+        yield Refused(
+            number, what, fault_of(ran, without) if what == THREAD or fault and what else fault
+        )
         missed = 0 if what else missed + 1
         if missed == MISSED or ran.status == NOT_ENDED:
             return
@@ -94,15 +132,18 @@ def exactly(wanted):
 
 
 def refused(program):
-    """A run that is refused a thread or memory ends with status 3 and its line, or as ever where it can do without the memory."""
+    """A run that is refused what it needs ends with status 3 and its line, and else as ever."""
     each, further = lambda at: at + 1, lambda at: at + 1 + at // 12
     first, two, large = first_script(), written(TWO, clients=2, throttles=THROTTLES), written(LARGE)
     crowd = written(CROWD, clients=3, throttles=THROTTLES, room=1)
     by_arguments = ["--history", "--proxies=2", f"{EXAMPLES}/first.json"]
-    of_crowd = lambda proxies: (["--proxies", str(proxies), "--history"], crowd, Lawful(crowd, proxies).fault_of, each)
+    of_crowd = lambda proxies: (
+        ["--proxies", str(proxies), "--history"], crowd, Lawful(crowd, proxies).fault_of, each
+    )
     sweeps = [
         ("the first script", [], first, exactly(done(first_output())), each),
-        ("a script that is refused", [], first.replace(b'"num":2', b'"num":-2'), exactly(refused_script("BadField 0 4")), each),
+        ("a script that is refused", [], first.replace(b'"num":2', b'"num":-2'),
+         exactly(refused_script("BadField 0 4")), each),
         ("two clients", ["--proxies", "2", "--history"], two, exactly(expected(two, True)), each),
         (ONE_PROXY, *of_crowd(1)),
         ("three clients that race for two proxies", *of_crowd(2)),
@@ -110,7 +151,8 @@ def refused(program):
         ("a large script", ["--history"], large, exactly(expected(large, True)), further),
         ("a file that arguments name", by_arguments, b"", exactly(expected(first, True)), each),
         ("a file that is not there", ["/none.json"], b"", exactly(READING_FAILED), each),
-        ("arguments that are refused", ["--proxies", "17"], first, exactly(ARGUMENTS_REFUSED), each),
+        ("arguments that are refused", ["--proxies", "17"], first, exactly(ARGUMENTS_REFUSED),
+         each),
         ("help", ["--help"], b"", exactly(done(run([program, "--help"]).out)), each),
     ]
     with tempfile.TemporaryDirectory(prefix="refuse-") as folder:
@@ -118,16 +160,21 @@ def refused(program):
         for name, arguments, given, fault_of_ran, step in sweeps:
             for goes_on in (False, True):
                 begun, threads = f"{name}, {'from ' if goes_on else ''}allocation or thread", 0
-                for it in swept([program, *arguments], preloaded, given, OUT_OF_MEMORY, fault_of_ran, goes_on, step):
+                for it in swept(
+                    [program, *arguments], preloaded, given, OUT_OF_MEMORY, fault_of_ran, goes_on,
+                    step,
+                ):
                     threads += it.what == THREAD
                     yield f"{begun} {it.number}", it.fault
                 most_threads = max(most_threads, threads if name == ONE_PROXY else 0)
-    # The one proxy of this sweep is started before anything races, so that the others were threads of clients.
-    yield "starts of clients' threads", None if most_threads > 1 else f"{most_threads} threads were refused in a sweep of one proxy"
+    # The one proxy of this sweep is started before anything races, so that the others were threads
+    # of clients.
+    few = f"{most_threads} threads were refused in a sweep of one proxy"
+    yield "starts of clients' threads", None if most_threads > 1 else few
 
 
 def used(_program):
-    """The library in use ends with an error where a thread or memory that it needs is refused, and as ever where it can do without."""
+    """The library in use ends with an error where it is refused what it needs, and else as ever."""
     each, printed = lambda at: at + 1, read(f"{ROOT}/crates/fdb_uses/stdout")
     # The last audit prints its fault, whichever that is.
     starved = printed.replace(b"fault: Wrong 1 1\n", b"fault: want of memory\n")
@@ -142,7 +189,7 @@ def used(_program):
 
 
 def threads(program):
-    """A run has a thread for each GRV proxy, and in each round one for each client that acts, but for the last of them."""
+    """A run has a thread for each proxy, and in a round one for each acting client but one."""
     reads = lambda clients: [do("grv", who) for who in range(clients) for _ in range(2)]
     rounds = {0: [], 1: [reads(1)], 3: [reads(3)], 133: [reads(64), reads(5), reads(64)]}
     with tempfile.TemporaryDirectory(prefix="refuse-") as folder:
@@ -150,20 +197,29 @@ def threads(program):
         for proxies in range(1, 17):
             for of_clients, commands in rounds.items():
                 given, wanted = written(commands, clients=64), proxies + of_clients - len(commands)
-                ran, started = run_refused([program, "--proxies", str(proxies)], preloaded, 0, False, given)
-                fault = f"{len(started)} threads in place of {wanted}" if started != b"s" * wanted else None
-                yield f"{proxies} proxies, and {of_clients} clients in {len(commands)} rounds", f"status {ran.status}" if ran.status else fault
+                ran, started = run_refused(
+                    [program, "--proxies", str(proxies)], preloaded, 0, False, given
+                )
+                fault = (
+                    f"{len(started)} threads in place of {wanted}"
+                    if started != b"s" * wanted
+                    else None
+                )
+                name = f"{proxies} proxies, and {of_clients} clients in {len(commands)} rounds"
+                yield name, f"status {ran.status}" if ran.status else fault
 
 
 def bearing_tests(tests, pattern):
     """Names the tests of a built test program whose names match."""
     listed = run([tests, "--list"]).out.decode().splitlines()
-    names = [name for name, colon, what in (line.rpartition(": ") for line in listed) if what == "test"]
+    names = [
+        name for name, colon, what in (line.rpartition(": ") for line in listed) if what == "test"
+    ]
     return [name for name in names if re.search(pattern, name)]
 
 
 def borne(_program):
-    """Each of the tests that rt left built passes while allocations are refused, and without that too."""
+    """Each of the tests that rt left built passes with and without refused allocations."""
     each = lambda at: at + 1
     with tempfile.TemporaryDirectory(prefix="refuse-") as folder:
         preloaded = built(folder)

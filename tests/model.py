@@ -1,7 +1,7 @@
-"""What the program is to say of a script: the plainest run that follows the definitions, one call after the other.
+"""What the program is to say of a script: the plainest run, one call after the other.
 
-It is written from the definitions and not from the program: the live record is folded over the reports, and the answers
-to requests for commit versions are one list that is searched from its end.
+It is written from the definitions and not from the program: the live record is folded over the
+reports, and the answers to requests for commit versions are one list that is searched from its end.
 """
 from typing import NamedTuple, Optional
 
@@ -21,11 +21,16 @@ class Record(NamedTuple):
     min_known: int = 0
 
     def __str__(self):
-        lock, metadata = "locked" if self.locked else "unlocked", "none" if self.metadata is None else self.metadata.hex()
-        return f"{self.version} {lock} {metadata}{f' min {self.min_known}' if self.min_known else ''}"
+        lock, metadata = (
+            "locked" if self.locked else "unlocked",
+            "none" if self.metadata is None else self.metadata.hex(),
+        )
+        return (
+            f"{self.version} {lock} {metadata}{f' min {self.min_known}' if self.min_known else ''}"
+        )
 
     def after(self, reported):
-        """Returns the record after a report: that of the greater version, with the greater minimum of the two."""
+        """Returns the record after a report: of the greater version, with the greater minimum."""
         newest = reported if reported.version > self.version else self
         return newest._replace(min_known=max(self.min_known, reported.min_known))
 
@@ -52,7 +57,10 @@ class Answer(NamedTuple):
 
 
 class Event(NamedTuple):
-    """A call that the register answered, with the position then. `change` is what a report did, and None for a read."""
+    """A call that the register answered, with the position then.
+
+    `change` is what a report did, and None for a read.
+    """
 
     client: int
     call: int
@@ -65,12 +73,14 @@ class Event(NamedTuple):
         return self.change not in (None, UNCHANGED)
 
     def __str__(self):
-        what = f"read {self.record}" if self.change is None else f"report {self.record} {self.change}"
+        what = (
+            f"read {self.record}" if self.change is None else f"report {self.record} {self.change}"
+        )
         return f"client {self.client} call {self.call} {what}"
 
 
 class Log:
-    """How many calls a client has made, the position it has come to, and the version that it got under each number."""
+    """A client's number of calls, the position it has come to, and its versions by number."""
 
     def __init__(self):
         self.calls, self.position, self.versions = 0, 0, {}
@@ -80,7 +90,9 @@ class Run:
     """A run of a script. Each kind of command has a method, which returns the end of its line."""
 
     def __init__(self, script):
-        self.epoch_end, self.recovery, self.rounds = script.epoch_end, script.recovery, script.rounds
+        self.epoch_end, self.recovery, self.rounds = (
+            script.epoch_end, script.recovery, script.rounds
+        )
         self.normal, self.batch = script.normal, script.batch
         self.throttles = {(it["priority"], it["tag"]): it for it in script.throttles}
         self.chain, self.events = [], []
@@ -88,7 +100,7 @@ class Run:
         self.logs = [Log() for _ in range(script.clients)]
 
     def answered(self, client, record, change):
-        """Notes that the register answered this client's call, which has then come to the register's position."""
+        """Notes that the register answered a client's call, which then stands at its position."""
         log = self.logs[client]
         log.position = self.position
         self.events.append(Event(client, log.calls, self.position, record, change))
@@ -109,7 +121,11 @@ class Run:
         if self.record.locked and not it.lock_aware:
             return f"refused Locked {self.record.version} pos {self.position}"
         held = [self.throttles.get((it.priority, tag)) for tag in it.tags]
-        limits = [f" limit {one['tag']} {one['rate']} {one['expires']}" for one in held if one and one["expires"] > it.at]
+        limits = [
+            f" limit {one['tag']} {one['rate']} {one['expires']}"
+            for one in held
+            if one and one["expires"] > it.at
+        ]
         used = f" used {self.record.min_known}" if it.use_min else ""
         return f"{self.record}{used} pos {self.position}{''.join(limits)}"
 
@@ -124,7 +140,7 @@ class Run:
         return next((answer.num for answer in reversed(self.chain) if answer.proxy == proxy), 0)
 
     def kept(self, proxy, num):
-        """Returns the answer under this number, unless a later one of the same proxy says that it is not needed."""
+        """Returns the answer under this number, unless its proxy has said since that it is done."""
         for answer in reversed(self.chain):
             if answer.proxy == proxy and answer.num == num:
                 return answer
@@ -150,7 +166,7 @@ class Run:
         return f"{self.chain[-1]} fresh"
 
     def next_version(self, at):
-        """Returns the last version that was drawn, and the one that a fresh request of this moment would get."""
+        """Returns the last version, and the one that a fresh request of this moment would get."""
         if not self.chain:
             return self.epoch_end, self.recovery
         last = self.chain[-1]
@@ -165,9 +181,13 @@ class Run:
         return self.reported(it.client, Record(version, it.locked, it.metadata, it.min_known))
 
     def reported(self, client, record):
-        """Takes a client's report of a record. A position is the number of reports that changed the record."""
+        """Takes a client's report of a record.
+
+        A position is the number of reports that changed the record.
+        """
         change = self.record.change(record)
-        self.record, self.position = self.record.after(record), self.position + (change != UNCHANGED)
+        self.record = self.record.after(record)
+        self.position += change != UNCHANGED
         self.answered(client, record, change)
         return f"{record.version} {change} pos {self.position}"
 
@@ -181,18 +201,18 @@ class Run:
         return said
 
     def found_full(self, it):
-        """Notes a read for which there was no room in its queue, which no run says where one call is made after the other."""
+        """Notes a read that found its queue full, as none does that comes alone."""
         self.logs[it.client].calls += 1
         return FULL
 
     def learned(self, told):
-        """Notes what a round's tells came to, the receiver and the position of each, once all its calls are made."""
+        """Notes what a round's tells came to, the receiver and position of each, at its end."""
         for to, position in told:
             log = self.logs[to]
             log.calls, log.position = log.calls + 1, max(log.position, position)
 
     def played(self):
-        """Plays the rounds, and in each the clients by number and a client's commands in order; returns their lines."""
+        """Plays the rounds, in each one client after the other; returns the replies."""
         lines = []
         for number, commands in enumerate(self.rounds):
             told = []
@@ -208,8 +228,10 @@ class Run:
         return f"audit ok events {len(self.events)} raised {raised} versions {len(self.chain)}"
 
     def history(self):
-        """Returns the events by position, at each position first the change and then the others, by client and by call."""
-        ordered = sorted(self.events, key=lambda it: (it.position, not it.is_change, it.client, it.call))
+        """Returns the events by position: first the change, then others by client and call."""
+        ordered = sorted(
+            self.events, key=lambda it: (it.position, not it.is_change, it.client, it.call)
+        )
         return [f"history {number} {event}" for number, event in enumerate(ordered)]
 
 

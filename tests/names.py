@@ -1,7 +1,8 @@
 """Tokens of one service's name do not compile beside a live record of another's.
 
-No proof says so, and an edit that must fail has to compile. So the check of types is asked, on a scratch copy of fdb_live
-and the crate below it, with a small program above them. It needs no proof, and stops before anything is built.
+No proof says so, and an edit that must fail has to compile. So the check of types is asked, on a
+scratch copy of fdb_live and the crate below it, with a small program above them. It needs no proof,
+and stops before anything is built.
 """
 import os
 import re
@@ -25,7 +26,11 @@ fn main() {}
 # Each function gives a record of the name `J` a token of the name that stands for NAME.
 CALLS = {
     "read": """
-pub fn read_ITS<J: Live, K: Live, R: Wait>(rt: &R, live: &LiveRecord<J>, token: &mut Seen<NAME>) -> Fetched {
+pub fn read_ITS<J: Live, K: Live, R: Wait>(
+    rt: &R,
+    live: &LiveRecord<J>,
+    token: &mut Seen<NAME>,
+) -> Fetched {
     live.read(rt, token)
 }
 """,
@@ -45,12 +50,22 @@ pub fn split_ITS<J: Live, K: Live>(live: &LiveRecord<J>, token: &mut Seen<NAME>)
 }
 """,
     "learn": """
-pub fn learn_ITS<J: Live, K: Live, R: Wait>(rt: &R, live: &LiveRecord<J>, own: &mut Seen<J>, token: Seen<NAME>) {
+pub fn learn_ITS<J: Live, K: Live, R: Wait>(
+    rt: &R,
+    live: &LiveRecord<J>,
+    own: &mut Seen<J>,
+    token: Seen<NAME>,
+) {
     live.learn(rt, own, token);
 }
 """,
     "meet": """
-pub fn meet_ITS<J: Live, K: Live, R: Wait>(rt: &R, live: &LiveRecord<J>, own: &mut Seen<J>, token: &mut Seen<NAME>) {
+pub fn meet_ITS<J: Live, K: Live, R: Wait>(
+    rt: &R,
+    live: &LiveRecord<J>,
+    own: &mut Seen<J>,
+    token: &mut Seen<NAME>,
+) {
     live.meet(rt, own, token);
 }
 """,
@@ -61,7 +76,10 @@ MISMATCH = re.compile(r"\[mismatched-types\]: expected `(&mut )?Seen<J>`, found 
 
 
 def text_of_calls():
-    """Returns the program, and for each of its lines the call and whose token it is given. The two forms of a call differ in a name."""
+    """Returns the program, and for each of its lines the call and whose token it is given.
+
+    The two forms of a call differ in a name.
+    """
     text, places = HEAD, [None] * HEAD.count("\n")
     for call, form in CALLS.items():
         for its, name in NAMES.items():
@@ -88,7 +106,7 @@ def types_checked(text):
 
 
 def names(_program):
-    """Each call takes a token of the record's own name, and the same text with another name is refused."""
+    """Each call takes a token of the record's own name, and is refused with another's."""
     text, places = text_of_calls()
     said, errors = types_checked(text), {}
     for line, error in ERROR.findall(said):
@@ -98,5 +116,6 @@ def names(_program):
         yield f"{call}: a token of the same name", f"refused: {fault}" if fault else None
         found = errors.pop((call, "other"), [])
         is_so = len(found) == 1 and MISMATCH.fullmatch(found[0])
-        yield f"{call}: a token of another name", None if is_so else f"the errors are {found}; rt said {said[-200:]!r}"
+        fault = f"the errors are {found}; rt said {said[-200:]!r}"
+        yield f"{call}: a token of another name", None if is_so else fault
     yield "nothing else is refused", f"{errors}" if errors else None

@@ -1,4 +1,4 @@
-"""The pages of tools/picture: what is in the picture of a text, which texts are refused, and what a large one takes."""
+"""The pages of tools/picture: what is in them, which texts are refused, what a large one takes."""
 import os
 import re
 import resource
@@ -25,7 +25,10 @@ STALE = """0 0 0 ask prev 0 version 100 ordinal 0 fresh
 1 1 0 grv 100 unlocked none pos 1
 """
 AUDITED = "audit ok events 2 raised 1 versions 2\n"
-HISTORY = "history 0 client 0 call 2 report 200 unlocked none raised\nhistory 1 client 1 call 1 read 100 unlocked none\n"
+HISTORY = (
+    "history 0 client 0 call 2 report 200 unlocked none raised\n"
+    "history 1 client 1 call 1 read 100 unlocked none\n"
+)
 # A fault that a line names, and the calls that stand out: client and place in its log.
 FAULTS = {
     "fdb_replay: audit fault: Wrong 1 1": ["1-1"],
@@ -36,7 +39,8 @@ FAULTS = {
     "Stray 0 4": [],
     "NotAbove 0 1: the version <i>200 & more": ["0-1"],
 }
-# Lines in the place of those of STALE with its audit and history, by number, and the refusal with the number of its line.
+# Lines in the place of those of STALE with its audit and history, by number, and the refusal with
+# the number of its line.
 REFUSED_TEXTS = {
     "a word that is no command": ({5: "1 1 0 get 100 unlocked none pos 1"}, "BadLine 5"),
     "a misspelt reply": ({3: "0 0 2 report 200 rised pos 1"}, "BadLine 3"),
@@ -49,19 +53,33 @@ REFUSED_TEXTS = {
     "two spaces": ({1: "0 0 0  ask prev 0 version 100 ordinal 0 fresh"}, "BadLine 1"),
     "an empty line": ({2: ""}, "BadLine 2"),
     "a line of another program": ({6: "fdb_replay: want of memory"}, "BadLine 6"),
-    "a round behind a later one": ({1: "1 0 0 ask prev 0 version 100 ordinal 0 fresh"}, "BadOrder 2"),
+    "a round behind a later one": (
+        {1: "1 0 0 ask prev 0 version 100 ordinal 0 fresh"}, "BadOrder 2"
+    ),
     "a reply twice": ({2: "0 0 0 ask prev 0 version 100 ordinal 0 fresh"}, "BadOrder 2"),
     "a reply behind the audit": ({7: "1 1 1 grv 200 unlocked none pos 1"}, "BadOrder 7"),
     "two audits": ({7: AUDITED.strip()}, "BadOrder 7"),
     "too many events": ({6: "audit ok events 3 raised 1 versions 2"}, "BadAudit 6"),
     "too few that raised": ({6: "audit ok events 2 raised 0 versions 2"}, "BadAudit 6"),
     "too few versions": ({6: "audit ok events 2 raised 1 versions 1"}, "BadAudit 6"),
-    "a history in place of the audit": ({6: "history 0 client 0 call 2 report 200 unlocked none raised"}, "BadHistory 6"),
-    "an event out of order": ({7: "history 1 client 1 call 1 read 100 unlocked none"}, "BadHistory 7"),
-    "an event of another call": ({8: "history 1 client 1 call 0 read 100 unlocked none"}, "BadHistory 8"),
-    "an event of another version": ({8: "history 1 client 1 call 1 read 200 unlocked none"}, "BadHistory 8"),
-    "a record that its reply has not": ({8: "history 1 client 1 call 1 read 100 locked none"}, "BadHistory 8"),
-    "a report that did something else": ({7: "history 0 client 0 call 2 report 200 unlocked none not raised"}, "BadHistory 7"),
+    "a history in place of the audit": (
+        {6: "history 0 client 0 call 2 report 200 unlocked none raised"}, "BadHistory 6"
+    ),
+    "an event out of order": (
+        {7: "history 1 client 1 call 1 read 100 unlocked none"}, "BadHistory 7"
+    ),
+    "an event of another call": (
+        {8: "history 1 client 1 call 0 read 100 unlocked none"}, "BadHistory 8"
+    ),
+    "an event of another version": (
+        {8: "history 1 client 1 call 1 read 200 unlocked none"}, "BadHistory 8"
+    ),
+    "a record that its reply has not": (
+        {8: "history 1 client 1 call 1 read 100 locked none"}, "BadHistory 8"
+    ),
+    "a report that did something else": (
+        {7: "history 0 client 0 call 2 report 200 unlocked none not raised"}, "BadHistory 7"
+    ),
     "a history that is cut": ({8: None}, "Cut 7"),
     "a text that is cut": ({6: None, 7: None, 8: None}, "Cut 5"),
     "no text": (dict.fromkeys(range(1, 9)), "BadLine 1"),
@@ -74,7 +92,10 @@ REFUSED_TEXTS = {
 
 
 class Page(HTMLParser):
-    """A page's elements, each with its row, counted from 1, and its attributes. `fault` says what is not closed."""
+    """A page's elements, each with its row, counted from 1, and its attributes.
+
+    `fault` says what is not closed.
+    """
 
     def __init__(self, page):
         super().__init__()
@@ -84,7 +105,9 @@ class Page(HTMLParser):
             self.fault = f"{self.open[-1]['tag']} is not closed"
 
     def handle_startendtag(self, tag, attributes):
-        self.found.append({"tag": tag, "row": self.row, "text": "", "class": "", **dict(attributes)})
+        self.found.append(
+            {"tag": tag, "row": self.row, "text": "", "class": "", **dict(attributes)}
+        )
 
     def handle_starttag(self, tag, attributes):
         self.row += tag == "figure"
@@ -101,7 +124,11 @@ class Page(HTMLParser):
 
     def all(self, tag, look=""):
         """The elements of the rows that have this tag, and this word in their class."""
-        return [it for it in self.found if it["row"] and it["tag"] == tag and look in ["", *it["class"].split()]]
+        return [
+            it
+            for it in self.found
+            if it["row"] and it["tag"] == tag and look in ["", *it["class"].split()]
+        ]
 
 
 def pictured(text, *arguments):
@@ -120,7 +147,7 @@ def texts():
 
 
 def pages(_program):
-    """The page of a text is whole, asks for nothing from outside, and has each thing of the text once."""
+    """The page of a text is whole, has each thing of it once, and needs nothing from outside."""
     for name, text in texts():
         ran = pictured(text)
         yield name, fault_of(ran, Ran(DONE, None, b"")) or page_fault(text.decode(), ran.out)
@@ -129,7 +156,9 @@ def pages(_program):
 def page_fault(text, written):
     """Returns what is wrong with the page of a text, or None."""
     page = Page(written)
-    wrong = [f"it asks for {it}" for it in OUTSIDE.findall(written.decode())] + [page.fault] * bool(page.fault)
+    wrong = [f"it asks for {it}" for it in OUTSIDE.findall(written.decode())] + [page.fault] * bool(
+        page.fault
+    )
     for what, wanted in wanted_of(text).items():
         found = FOUND[what](page)
         wrong += [f"{what}: {found} in place of {wanted}"] * (found != wanted)
@@ -156,10 +185,17 @@ def wanted_of(text):
 
 
 FOUND = {
-    "lanes": lambda page: len({it["text"] for it in page.all("text", "name") if it["text"].startswith("client ")}),
+    "lanes": lambda page: len(
+        {it["text"] for it in page.all("text", "name") if it["text"].startswith("client ")}
+    ),
     "calls": lambda page: len({it["id"] for it in page.all("use")}),
-    "titles": lambda page: sum(one["tag"] == "use" and two["tag"] == "title" for one, two in zip(page.found, page.found[1:])),
-    "events": lambda page: sorted(int(it["data-event"]) for it in page.all("use") if "data-event" in it),
+    "titles": lambda page: sum(
+        one["tag"] == "use" and two["tag"] == "title"
+        for one, two in zip(page.found, page.found[1:])
+    ),
+    "events": lambda page: sorted(
+        int(it["data-event"]) for it in page.all("use") if "data-event" in it
+    ),
     "raises": lambda page: len(page.all("path", "raise")),
     "minima": lambda page: len(page.all("path", "minimum")),
     "tells": lambda page: len(page.all("path", "tell")),
@@ -170,8 +206,12 @@ FOUND = {
 
 
 def order_fault(page):
-    """Says what does not go from left to right: an arrow, the calls of a client, or the versions that were raised."""
-    ways = [re.findall(r"[\d.]+", it["d"]) for look in ("tell", "learn") for it in page.all("path", look)]
+    """Says what does not go from left to right: an arrow, a client's calls, or raised versions."""
+    ways = [
+        re.findall(r"[\d.]+", it["d"])
+        for look in ("tell", "learn")
+        for it in page.all("path", look)
+    ]
     if any(float(it[0]) >= float(it[2]) for it in ways):
         return "an arrow goes back"
     numbers = {}
@@ -182,7 +222,13 @@ def order_fault(page):
     versions = [int(it["text"]) for it in sorted(page.all("text", "raised"), key=column)]
     columns = Counter(map(column, page.all("use")))
     shared = max(columns.values(), default=1) > 1
-    return "versions fall" if versions != sorted(versions) else "calls share a column" if shared else None
+    return (
+        "versions fall"
+        if versions != sorted(versions)
+        else "calls share a column"
+        if shared
+        else None
+    )
 
 
 def column(it):
@@ -190,7 +236,7 @@ def column(it):
 
 
 def label_fault(page):
-    """Names two labels that stand so near to each other that they may overlap, if each letter takes its widest."""
+    """Names two labels that overlap where each letter takes its widest."""
     lines = {}
     for it in page.all("text"):
         if "name" not in it["class"]:
@@ -204,35 +250,49 @@ def label_fault(page):
 
 
 def faults(_program):
-    """The calls of a fault stand out, and the fault is named, whether it is given in the text or beside it."""
+    """The calls of a fault stand out, and it is named, be it given in the text or beside it."""
     for line, wanted in FAULTS.items():
-        in_text, beside = pictured(f"{STALE}{line}\n".encode()), pictured(STALE.encode(), "--fault", line)
-        yield f"{line} in a text", fault_of(in_text, Ran(DONE, None, b"")) or fault_fault(in_text.out, line, wanted)
+        in_text, beside = pictured(f"{STALE}{line}\n".encode()), pictured(
+            STALE.encode(), "--fault", line
+        )
+        yield f"{line} in a text", fault_of(in_text, Ran(DONE, None, b"")) or fault_fault(
+            in_text.out, line, wanted
+        )
         yield f"{line} beside it", fault_of(beside, done(in_text.out))
 
 
 def fault_fault(written, line, wanted):
     page = Page(written)
     rings = {(it["cx"], it["cy"]) for it in page.all("circle", "fault")}
-    found = [it["id"].removeprefix("call-") for it in page.all("use") if (it["x"], it["y"]) in rings]
+    found = [
+        it["id"].removeprefix("call-") for it in page.all("use") if (it["x"], it["y"]) in rings
+    ]
     linked = [it["href"].removeprefix("#call-") for it in page.found if it["tag"] == "a"]
     is_named = any(it["tag"] == "b" and it["text"] == line for it in page.found)
-    return page.fault or (None if found == linked == wanted and is_named else f"{found} and {linked} stand out, named: {is_named}")
+    return page.fault or (
+        None
+        if found == linked == wanted and is_named
+        else f"{found} and {linked} stand out, named: {is_named}"
+    )
 
 
 def refused_texts(_program):
-    """A text that is not one is refused with the name and the line of what is wrong, and nothing is written."""
+    """Another text is refused with the name and line of what is wrong, and nothing is written."""
     for name, (changes, refusal) in REFUSED_TEXTS.items():
         lines = dict(enumerate((STALE + AUDITED + HISTORY).splitlines(), 1))
         given = "".join(f"{it}\n" for it in {**lines, **changes}.values() if it is not None)
         yield name, refusal_fault(pictured(given.encode()), refusal)
     yield "bytes that are no text", refusal_fault(pictured(STALE.encode() + b"\xff\n"), "NotText 6")
     ran = run([PICTURE, f"{ROOT}/examples/none.out"])
-    yield "a file that is not there", None if (ran.status, ran.out) == (NO_STREAM, b"") and b"failed" in ran.err else str(ran)
+    is_told = (ran.status, ran.out) == (NO_STREAM, b"") and b"failed" in ran.err
+    yield "a file that is not there", None if is_told else str(ran)
 
 
 def refusal_fault(ran, refusal):
-    is_said = ran.err.startswith(f"picture: text refused: {refusal}: ".encode()) and ran.err.count(b"\n") == 1
+    is_said = (
+        ran.err.startswith(f"picture: text refused: {refusal}: ".encode())
+        and ran.err.count(b"\n") == 1
+    )
     return fault_of(ran, Ran(REFUSED, b"", None)) or (None if is_said else f"it said {ran.err!r}")
 
 
@@ -241,7 +301,9 @@ def large(_program):
     replies = []
     for at in range(5_000):
         who, version = at % 7, 100 + at
-        replies.append(f"{at} {who} 0 ask prev {version - 1 if at else 0} version {version} ordinal {at} fresh")
+        replies.append(
+            f"{at} {who} 0 ask prev {version - 1 if at else 0} version {version} ordinal {at} fresh"
+        )
         replies.append(f"{at} {who} 1 report {version} {'raised' if at else 'not raised'} pos {at}")
         replies.append(f"{at} 7 2 grv {version} unlocked none pos {at}")
     text = "\n".join([*replies, "audit ok events 10000 raised 4999 versions 5000", ""])

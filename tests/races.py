@@ -1,4 +1,4 @@
-"""Scripts whose clients race, run by the program with 1 to 16 proxies: each text has to be lawful, whatever the schedule was."""
+"""Scripts whose clients race, with 1 to 16 proxies: each text that is printed is lawful."""
 import json
 import random
 import re
@@ -10,20 +10,24 @@ from judge import Lawful
 from model import expected
 
 RANDOM, AGAIN = 400, 25
-# How long a script at its limits may take, in seconds, on a machine that is busy with other things too.
+# The seconds that a script at its limits may take, on a machine that is busy besides.
 LIMIT_SECONDS = 20
 
 
 def judged(program, given, proxies):
     """Runs a script with its history, and returns how that is not lawful."""
-    return Lawful(given, proxies).fault_of(run([program, "--history", "--proxies", str(proxies)], given, LIMIT_SECONDS))
+    return Lawful(given, proxies).fault_of(
+        run([program, "--history", "--proxies", str(proxies)], given, LIMIT_SECONDS)
+    )
 
 
 def random_races(program):
     """Random scripts of 2 to 64 clients that share rounds, with little room and low limits."""
     for seed in range(RANDOM):
         dice = random.Random(f"race {seed}")
-        given, proxies = json.dumps(drawn.racing(dice)).encode(), dice.choice([1, 2, 4, 16, dice.randrange(1, 17)])
+        given, proxies = json.dumps(drawn.racing(dice)).encode(), dice.choice(
+            [1, 2, 4, 16, dice.randrange(1, 17)]
+        )
         yield f"seed {seed} with {proxies} proxies", judged(program, given, proxies)
 
 
@@ -38,27 +42,68 @@ def both(*commands):
 
 
 def turns(clients, times, what):
-    """As many calls of each of these clients, by a function of the client and the number of the call."""
+    """As many calls of each client, by a function of the client and the number of the call."""
     return [what(who, at) for who in range(clients) for at in range(times)]
 
 
-TOLD = [[*both(*commit(0, 1)), do("tell", 0, to=1), do("tell", 1, to=0)], both(do("grv"), do("tell", to=2))]
-LOCKS = [[do("ask", at=5), *commit(0, 2, locked=True), *turns(1, 3, lambda _, at: do("grv", 1, lock_aware=at == 1)), *[do("grv", 2)] * 3]]
-RANKED = [turns(9, 10, lambda who, at: do("grv", who, priority=["system", "default", "batch"][(who + at) % 3]))]
-MINIMA = [[it for who in range(3) for it in (*commit(who, 1, min_known=who), do("report", who, num=1, min_known=30 * who), do("grv", who, use_min=True))]]
-REPEATED = [[it for who in range(4) for it in (do("ask", who, at=9), do("reask", who, num=1, at=99), *commit(who, 2))]]
+TOLD = [
+    [*both(*commit(0, 1)), do("tell", 0, to=1), do("tell", 1, to=0)],
+    both(do("grv"), do("tell", to=2)),
+]
+LOCKS = [
+    [
+        do("ask", at=5), *commit(0, 2, locked=True),
+        *turns(1, 3, lambda _, at: do("grv", 1, lock_aware=at == 1)), *[do("grv", 2)] * 3,
+    ]
+]
+RANKED = [
+    turns(
+        9,
+        10,
+        lambda who, at: do("grv", who, priority=["system", "default", "batch"][(who + at) % 3]),
+    )
+]
+MINIMA = [
+    [
+        it
+        for who in range(3)
+        for it in (
+            *commit(who, 1, min_known=who),
+            do("report", who, num=1, min_known=30 * who),
+            do("grv", who, use_min=True),
+        )
+    ]
+]
+REPEATED = [
+    [
+        it
+        for who in range(4)
+        for it in (do("ask", who, at=9), do("reask", who, num=1, at=99), *commit(who, 2))
+    ]
+]
 # Worked scripts of clients that race, and the further members of their top level.
 WORKED = {
     "two clients ask, report and read": ([both(*commit(0, 1), do("grv"))], {"clients": 2}),
     "each tells the other and reads": (TOLD, {"clients": 3}),
-    "one reports and one reads": ([[*commit(0, 1), *commit(0, 2), *[do("grv", 1)] * 6]], {"clients": 2}),
+    "one reports and one reads": (
+        [[*commit(0, 1), *commit(0, 2), *[do("grv", 1)] * 6]], {"clients": 2}
+    ),
     "a report that locks": (LOCKS, {"clients": 3}),
-    "two rounds of three": ([[it for who in range(3) for it in (*commit(who, num), do("grv", who))] for num in (1, 2)], {"clients": 3}),
-    "reads through a room of one": ([turns(8, 10, lambda who, _: do("grv", who))], {"clients": 8, "room": 1, "normal": 1}),
-    "priorities through a room of two": (RANKED, {"clients": 9, "room": 2, "normal": 2, "batch": 1}),
+    "two rounds of three": (
+        [[it for who in range(3) for it in (*commit(who, num), do("grv", who))] for num in (1, 2)],
+        {"clients": 3},
+    ),
+    "reads through a room of one": (
+        [turns(8, 10, lambda who, _: do("grv", who))], {"clients": 8, "room": 1, "normal": 1}
+    ),
+    "priorities through a room of two": (
+        RANKED, {"clients": 9, "room": 2, "normal": 2, "batch": 1}
+    ),
     "repeats beside commits": (REPEATED, {"clients": 4}),
     "minima that rise alone": (MINIMA, {"clients": 3}),
-    "the last versions": ([turns(4, 3, lambda who, at: do("ask", who, at=at))], {"clients": 4, "recovery": 2**63 - 6}),
+    "the last versions": (
+        [turns(4, 3, lambda who, at: do("ask", who, at=at))], {"clients": 4, "recovery": 2**63 - 6}
+    ),
 }
 
 
@@ -80,44 +125,59 @@ def worked_races(program):
                 yield f"{name}, {proxies} proxies, run {time}", judged(program, given, proxies)
     for proxies in (1, 2, 16):
         for time in range(AGAIN):
-            yield f"each read sees its client's report, {proxies} proxies, run {time}", seen_fault(program, proxies)
+            yield f"each read sees its client's report, {proxies} proxies, run {time}", seen_fault(
+                program, proxies
+            )
 
 
 def seen_fault(program, proxies):
-    """Returns what is wrong with a run of two clients that each ask, report and read, said without the judge."""
+    """Returns what is wrong with two clients that ask, report and read, without the judge."""
     rounds, top = WORKED["two clients ask, report and read"]
     ran = run([program, "--proxies", str(proxies)], written(rounds, **top))
     numbers = re.fullmatch(TWO_COMMITS, ran.out.decode())
     if ran.status or ran.err or not numbers:
         return f"status {ran.status} and {ran.out!r}"
     reported, read, other_reported, other_read = map(int, numbers.groups())
-    return None if read >= reported and other_read >= other_reported else f"a read is below its client's report in {ran.out!r}"
+    return (
+        None
+        if read >= reported and other_read >= other_reported
+        else f"a read is below its client's report in {ran.out!r}"
+    )
 
 
 # Client 0 reads, and then in each round it and client 2.
 AHEAD = [[do("grv", count=50)], *[[do("grv", count=50), do("grv", 2, count=50)]] * 20]
-# Scripts that have one text in each schedule, though threads run. The first read of a client goes to the proxy of its number,
-# and each further one to the next proxy.
+# Scripts that have one text in each schedule, though threads run. The first read of a client goes
+# to the proxy of its number, and each further one to the next proxy.
 TIGHT = {"room": 1, "normal": 1, "elapsed": 1000}
 SURE = [
-    ("a read ahead, then each round one of each to two proxies with room for one", 2, AHEAD, {"clients": 3, **TIGHT}),
-    ("two clients and two proxies with room for one", 2, [both(do("grv", count=50))], {"clients": 2, **TIGHT}),
-    ("16 clients and proxies with room for one", 16, [turns(16, 1, lambda who, _: do("grv", who, count=9))], {"clients": 16, "room": 1, "normal": 3}),
-    ("64 clients and a proxy with room for them", 1, [turns(64, 3, lambda who, _: do("grv", who))], {"clients": 64, "room": 64, "normal": 1}),
+    ("a read ahead, then each round one of each to two proxies with room for one", 2, AHEAD,
+     {"clients": 3, **TIGHT}),
+    ("two clients and two proxies with room for one", 2, [both(do("grv", count=50))],
+     {"clients": 2, **TIGHT}),
+    ("16 clients and proxies with room for one", 16,
+     [turns(16, 1, lambda who, _: do("grv", who, count=9))],
+     {"clients": 16, "room": 1, "normal": 3}),
+    ("64 clients and a proxy with room for them", 1, [turns(64, 3, lambda who, _: do("grv", who))],
+     {"clients": 64, "room": 64, "normal": 1}),
 ]
 
 
 def sure_texts(program):
-    """Clients that share rounds without a race: where each read finds room, and where a read comes after all reports."""
+    """Clients share rounds without a race: each read finds room, or comes after all reports."""
     for name, proxies, rounds, top in SURE:
         given = written(rounds, **top)
         wanted = expected(given, True)
         for time in range(AGAIN):
-            yield f"{name}, run {time}", fault_of(run([program, "--history", "--proxies", str(proxies)], given), wanted)
+            yield f"{name}, run {time}", fault_of(
+                run([program, "--history", "--proxies", str(proxies)], given), wanted
+            )
     untold = Example("untold")
     for proxies in (1, 4):
         for time in range(AGAIN):
-            yield f"untold, {proxies} proxies, run {time}", fault_of(run([program, *untold.arguments_for(proxies)], untold.given), untold.wanted)
+            yield f"untold, {proxies} proxies, run {time}", fault_of(
+                run([program, *untold.arguments_for(proxies)], untold.given), untold.wanted
+            )
 
 
 # So many rounds in which each desk has one read.
@@ -125,30 +185,61 @@ TURNS = 400
 
 
 def each_desk(program):
-    """As many clients read in each round as there are proxies with room for one: two reads at one desk could find its queue full."""
+    """As many clients read in each round as there are proxies with room for one.
+
+    Two reads at one desk could find its queue full.
+    """
     for proxies in range(2, 17):
-        given = written([[do("grv", who, count=9) for who in range(proxies)]] * TURNS, clients=proxies, room=1, normal=3)
-        yield f"{proxies} clients and proxies", fault_of(run([program, "--history", "--proxies", str(proxies)], given), expected(given, True))
+        given = written(
+            [[do("grv", who, count=9) for who in range(proxies)]] * TURNS, clients=proxies, room=1,
+            normal=3,
+        )
+        yield f"{proxies} clients and proxies", fault_of(
+            run([program, "--history", "--proxies", str(proxies)], given), expected(given, True)
+        )
 
 
 def limits():
-    """Names scripts at their limits, with the number of proxies, the rounds and the further members of the top level."""
-    third = lambda who, at: (do("ask", who, at=9 * at), do("report", who, num=at // 3 + 1), do("grv", who))[at % 3]
-    reads = lambda clients: [[do("grv", who) for _ in range(MOST_COMMANDS // clients) for who in range(clients)]]
+    """Names scripts at their limits, with the number of proxies, the rounds and further members."""
+    third = lambda who, at: (
+        do("ask", who, at=9 * at), do("report", who, num=at // 3 + 1), do("grv", who)
+    )[at % 3]
+    reads = lambda clients: [
+        [do("grv", who) for _ in range(MOST_COMMANDS // clients) for who in range(clients)]
+    ]
     yield "10,000 rounds of one command", 4, [[third(0, at)] for at in range(MOST_COMMANDS)], {}
-    yield "10,000 rounds of one command, of 64 clients in turn", 16, [[third(at % 64, at // 64)] for at in range(MOST_COMMANDS)], {"clients": 64}
-    yield "64 clients in each of 150 rounds", 4, [[third(who, at) for who in range(64)] for at in range(150)], {"clients": 64}
+    yield "10,000 rounds of one command, of 64 clients in turn", 16, [
+        [third(at % 64, at // 64)] for at in range(MOST_COMMANDS)
+    ], {"clients": 64}
+    yield "64 clients in each of 150 rounds", 4, [
+        [third(who, at) for who in range(64)] for at in range(150)
+    ], {"clients": 64}
     yield "10,000 reads of one client through one proxy of room 1", 1, reads(1), {"room": 1}
-    yield "10,000 reads of 64 clients through one proxy of room 1", 1, reads(64), {"clients": 64, "room": 1, "normal": 1}
-    yield "10,000 reads of 64 clients through 16 proxies of room 1", 16, reads(64), {"clients": 64, "room": 1, "normal": 1}
-    yield "commits and reads of 64 clients in one round", 16, [[third(who, at) for at in range(150) for who in range(64)]], {"clients": 64}
-    # Reads that wait for very many windows: each adds `elapsed` times `normal` millionths of two transactions to a budget.
-    slow, many = {"normal": 1, "elapsed": 1}, lambda count: [[do("grv", count=count)] * MOST_COMMANDS]
-    yield "a read of 100,000 transactions for which windows of a microsecond save", 1, [[do("grv", count=100_000)]], slow
-    yield "a batch read of 11 for which windows of a microsecond save", 1, [[do("grv", priority="batch", count=11)]], {**slow, "batch": 1}
+    yield "10,000 reads of 64 clients through one proxy of room 1", 1, reads(64), {
+        "clients": 64, "room": 1, "normal": 1
+    }
+    yield "10,000 reads of 64 clients through 16 proxies of room 1", 16, reads(64), {
+        "clients": 64, "room": 1, "normal": 1
+    }
+    yield "commits and reads of 64 clients in one round", 16, [
+        [third(who, at) for at in range(150) for who in range(64)]
+    ], {"clients": 64}
+    # Reads that wait for very many windows: each adds `elapsed` times `normal` millionths of two
+    # transactions to a budget.
+    slow, many = {"normal": 1, "elapsed": 1}, lambda count: [
+        [do("grv", count=count)] * MOST_COMMANDS
+    ]
+    yield "a read of 100,000 transactions for which windows of a microsecond save", 1, [
+        [do("grv", count=100_000)]
+    ], slow
+    yield "a batch read of 11 for which windows of a microsecond save", 1, [
+        [do("grv", priority="batch", count=11)]
+    ], {**slow, "batch": 1}
     yield "10,000 reads of one transaction at a limit of one", 1, many(1), {"normal": 1}
     yield "10,000 reads of 1,000 transactions at a limit of one", 1, many(1000), {"normal": 1}
-    yield "10,000 reads of 100,000 transactions for which windows of a microsecond save", 1, many(100_000), slow
+    yield "10,000 reads of 100,000 transactions for which windows of a microsecond save", 1, many(
+        100_000
+    ), slow
 
 
 def at_limits(program):
@@ -162,11 +253,22 @@ def refused(cause):
 
 
 READ = b"0 0 0 grv 100 unlocked none pos 0\naudit ok events 1 raised 0 versions 0\n"
-BAD_COUNT, THROTTLED, QUOTA = refused("BadCount"), refused("BatchThrottled"), {"normal": "7", "batch": "3", "elapsed": "10000000"}
+BAD_COUNT, THROTTLED, QUOTA = (
+    refused("BadCount"),
+    refused("BatchThrottled"),
+    {"normal": "7", "batch": "3", "elapsed": "10000000"},
+)
 # A read of this priority and count, further members of the top level, and what is printed.
 COUNTS = [
-    *[(priority, count, {}, BAD_COUNT) for priority in ("system", "default", "batch") for count in (0, 100_001, 2**64 - 1)],
-    *[(priority, 100_000, {"normal": "1", "elapsed": "10000000"}, READ) for priority in ("system", "default")],
+    *[
+        (priority, count, {}, BAD_COUNT)
+        for priority in ("system", "default", "batch")
+        for count in (0, 100_001, 2**64 - 1)
+    ],
+    *[
+        (priority, 100_000, {"normal": "1", "elapsed": "10000000"}, READ)
+        for priority in ("system", "default")
+    ],
     ("batch", 17, QUOTA, READ),
     ("batch", 18, QUOTA, BAD_COUNT),
     ("batch", 11, {"normal": "1", "batch": "1"}, READ),
@@ -184,7 +286,9 @@ COUNTS = [
 def queue_refusals(program):
     """What a read is refused for, whoever else waits."""
     for priority, count, top, wanted in COUNTS:
-        given = script(f"[[{command('grv', priority=json.dumps(priority), count=str(count))}]]", **top).encode()
+        given = script(
+            f"[[{command('grv', priority=json.dumps(priority), count=str(count))}]]", **top
+        ).encode()
         name = f"a {priority} read for {count} transactions with {top}"
         yield f"{name}, by the model", fault_of(expected(given), done(wanted))
         yield name, fault_of(run([program], given), done(wanted))

@@ -1,4 +1,4 @@
-"""What a script's bytes stand for, by the rules of the format alone, or why the script is refused."""
+"""What a script's bytes stand for, by the rules of the format alone, or why it is refused."""
 import json
 import math
 import re
@@ -21,11 +21,17 @@ class Refused(Exception):
 
 
 def value_of(given):
-    """Reads JSON as the format asks, which is stricter than Python. A whole number is an int, any other one a float."""
+    """Reads JSON as the format asks, which is stricter than Python.
+
+    A whole number is an int, any other one a float.
+    """
     try:
         text = given.decode()
-        value = json.loads(text, parse_int=number_of, parse_float=double_of, parse_constant=no_number)
-        # Python reads half a pair of surrogates, here into a member that may be overwritten; such a text cannot be encoded.
+        value = json.loads(
+            text, parse_int=number_of, parse_float=double_of, parse_constant=no_number
+        )
+        # Python reads half a pair of surrogates, here into a member that may be overwritten; such a
+        # text cannot be encoded.
         for escaped in (it for it in STRING.findall(text) if "\\u" in it):
             json.loads(escaped).encode()
     except (ValueError, RecursionError):
@@ -89,11 +95,17 @@ def throttle(it):
 
 
 def rounds(it):
-    return list_of(MOST_ROUNDS, lambda commands: type(commands) is list)(it) and sum(map(len, it)) <= MOST_COMMANDS
+    return (
+        list_of(MOST_ROUNDS, lambda commands: type(commands) is list)(it)
+        and sum(map(len, it)) <= MOST_COMMANDS
+    )
 
 
 # Of each member: what its value has to be, and what stands for one that is not there.
-THROTTLE = {"priority": (priority, REQUIRED), "tag": (tag, REQUIRED), "rate": (whole(), REQUIRED), "expires": (whole(), REQUIRED)}
+THROTTLE = {
+    "priority": (priority, REQUIRED), "tag": (tag, REQUIRED), "rate": (whole(), REQUIRED),
+    "expires": (whole(), REQUIRED),
+}
 TOP = {
     "epoch_end": (whole(), REQUIRED),
     "recovery": (whole(0, LAST_VERSION), REQUIRED),
@@ -107,36 +119,45 @@ TOP = {
 }
 COMMANDS = {
     "grv": {
-        "at": (whole(), 0),
-        "priority": (priority, "default"),
-        "count": (whole(), 1),
-        "tags": (list_of(5, tag), []),
-        "lock_aware": (flag, False),
-        "use_min": (flag, False),
+        "at": (whole(), 0), "priority": (priority, "default"), "count": (whole(), 1),
+        "tags": (list_of(5, tag), []), "lock_aware": (flag, False), "use_min": (flag, False),
     },
     "ask": {"at": (whole(), REQUIRED), "processed": (whole(), 0)},
     "reask": {"num": (whole(), REQUIRED), "at": (whole(), REQUIRED), "processed": (whole(), 0)},
-    "report": {"num": (whole(), REQUIRED), "locked": (flag, False), "metadata": (metadata, None), "min_known": (whole(), 0)},
+    "report": {
+        "num": (whole(), REQUIRED), "locked": (flag, False), "metadata": (metadata, None),
+        "min_known": (whole(), 0),
+    },
     "tell": {"to": (whole(), REQUIRED)},
 }
 
 
 def members_of(it, wanted):
-    """Returns the wanted members of an object, or None where it is no object or one of them is not as it has to be."""
+    """Returns the wanted members of an object, or None where one is not as it has to be."""
     if type(it) is not dict:
         return None
     found = {name: it.get(name, otherwise) for name, (_, otherwise) in wanted.items()}
-    if any(found[name] is REQUIRED or not is_right(found[name]) for name, (is_right, _) in wanted.items()):
+    if any(
+        found[name] is REQUIRED or not is_right(found[name])
+        for name, (is_right, _) in wanted.items()
+    ):
         return None
     return found
 
 
 def command_of(it, clients):
     """Returns the command that an object stands for, or None."""
-    head = {"do": (lambda do: type(do) is str and do in COMMANDS, REQUIRED), "client": (whole(0, clients - 1), REQUIRED)}
+    head = {
+        "do": (lambda do: type(do) is str and do in COMMANDS, REQUIRED),
+        "client": (whole(0, clients - 1), REQUIRED),
+    }
     who = members_of(it, head)
     what = members_of(it, COMMANDS[who["do"]]) if who else None
-    if what is None or who["do"] == "tell" and (what["to"] == who["client"] or what["to"] >= clients):
+    if (
+        what is None
+        or who["do"] == "tell"
+        and (what["to"] == who["client"] or what["to"] >= clients)
+    ):
         return None
     if what.get("metadata") is not None:
         what["metadata"] = bytes.fromhex(what["metadata"])

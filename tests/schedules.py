@@ -1,7 +1,8 @@
-"""Draws a schedule of a script and says what is then printed: clients and GRV proxies take turns at random, a step at a time.
+"""What is printed in a schedule: clients and GRV proxies take turns at random, a step at a time.
 
-It follows a call on its way: a request lies at a proxy's desk, waits in its queue, starts in a window, is served with what
-started beside it, and is answered. What a call comes to at the register and in the chain is the plainest run's.
+It follows a call on its way: a request lies at a proxy's desk, waits in its queue, starts in a
+window, is served with what started beside it, and is answered. What a call comes to at the register
+and in the chain is the plainest run's.
 """
 from collections import Counter
 
@@ -41,13 +42,17 @@ class Proxy:
             self.turn = None
 
     def offer(self, request):
-        """Lets a request wait; returns the one that does not wait then, that or another, or None."""
+        """Lets a request wait; returns the one that does not wait then, or None."""
         why = self.run.turned_away(request.it)
         if why is not None:
             return request
         own = request.it.priority
         if len(self.row()) == self.script.room:
-            lower = [self.queues[name] for name in reversed(ORDER[ORDER.index(own) + 1 :]) if self.queues[name]]
+            lower = [
+                self.queues[name]
+                for name in reversed(ORDER[ORDER.index(own) + 1 :])
+                if self.queues[name]
+            ]
             if not lower:
                 return request
             self.queues[own].append(request)
@@ -60,7 +65,9 @@ class Proxy:
         started, sums = [], Counter()
         for request in self.row()[:MOST_STARTED]:
             total, priority, count = sum(sums.values()), request.it.priority, request.it.count
-            fits = lambda limit, budget: (total + count) * RATE_WINDOW <= min(limit * RATE_WINDOW + budget, HIGHEST_BUDGET)
+            fits = lambda limit, budget: (total + count) * RATE_WINDOW <= min(
+                limit * RATE_WINDOW + budget, HIGHEST_BUDGET
+            )
             may_start = priority == "system" or fits(self.script.normal, self.normal)
             if not may_start or priority == "batch" and not fits(self.script.batch, self.batch):
                 break
@@ -68,9 +75,17 @@ class Proxy:
             sums[priority] += count
         for request in started:
             self.queues[request.it.priority].remove(request)
-        self.normal = max(0, self.normal + self.script.elapsed * (self.script.normal - sums["system"] - sums["default"]))
-        self.batch = max(0, self.batch + self.script.elapsed * (self.script.batch - sum(sums.values())))
-        self.normal = min(self.normal, HIGHEST_BUDGET if self.queues["system"] or self.queues["default"] else IDLE)
+        self.normal = max(
+            0,
+            self.normal
+            + self.script.elapsed * (self.script.normal - sums["system"] - sums["default"]),
+        )
+        self.batch = max(
+            0, self.batch + self.script.elapsed * (self.script.batch - sum(sums.values()))
+        )
+        self.normal = min(
+            self.normal, HIGHEST_BUDGET if self.queues["system"] or self.queues["default"] else IDLE
+        )
         self.batch = min(self.batch, HIGHEST_BUDGET if self.row() else IDLE)
         return started
 
@@ -82,7 +97,9 @@ class Proxy:
         started = self.window()
         for request in away:
             is_refused = self.run.turned_away(request.it) is not None
-            request.said = self.run.called(request.it) if is_refused else self.run.found_full(request.it)
+            request.said = (
+                self.run.called(request.it) if is_refused else self.run.found_full(request.it)
+            )
             yield
         # One read of the live record serves all that start.
         replies = [(request, self.run.called(request.it)) for request in started]
@@ -121,9 +138,9 @@ class Client:
 class Schedule:
     """A run of a script in which these dice say who takes the next step."""
 
-    def __init__(self, script, proxies, dice, run=None):
+    def __init__(self, script, proxies, dice):
         self.script, self.dice = script, dice
-        self.run = run or Run(script)
+        self.run = Run(script)
         self.proxies = [Proxy(script, self.run) for _ in range(proxies)]
         self.reads, self.lines = Counter(), {}
 
@@ -138,17 +155,25 @@ class Schedule:
             self.told.append((it.to, self.run.logs[it.client].position))
 
     def play(self, number, commands):
-        """Plays a round. Its mood says how often it is a client's turn, and how often whoever took a step takes the next one."""
+        """Plays a round.
+
+        Its mood says how often it is a client's turn, and how often whoever took a step takes the
+        next one.
+        """
         self.number, self.told = number, []
         placed = in_order(commands)
         names = sorted({it.client for it in commands})
         clients = [Client(self, [one for one in placed if one[1].client == who]) for who in names]
-        eager, lasting, last = self.dice.choice([0.05, 0.5, 0.9, 1]), self.dice.choice([0, 0, 0.5, 0.9]), None
+        eager, lasting, last = (
+            self.dice.choice([0.05, 0.5, 0.9, 1]), self.dice.choice([0, 0, 0.5, 0.9]), None
+        )
         while not all(client.is_done for client in clients):
             able = [client for client in clients if client.can_go_on()]
             busy = [proxy for proxy in self.proxies if proxy.can_go_on()]
             if last not in able + busy or self.dice.random() >= lasting:
-                last = self.dice.choice(able if able and (not busy or self.dice.random() < eager) else busy)
+                last = self.dice.choice(
+                    able if able and (not busy or self.dice.random() < eager) else busy
+                )
             last.step()
         self.run.learned(self.told)
 

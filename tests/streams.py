@@ -15,9 +15,11 @@ PIPE_BYTES = 65_536
 NO_REPLIES = b"audit ok events 0 raised 0 versions 0\n"
 # A value of 248 bytes, of which each is a token.
 DEEP = "[" * 124 + "]" * 124
-# How much processor time a script may take, in seconds: some three times what the slowest of them does on a slow machine.
+# How much processor time a script may take, in seconds: some three times what the slowest of them
+# does on a slow machine.
 WORK_SECONDS = 10
-# With so much memory to be had, in KiB, a script of as many bytes as may be is taken in, but not the values that it is made of.
+# With so much memory to be had, in KiB, a script of as many bytes as may be is taken in, but not
+# the values that it is made of.
 FEW_KIBIBYTES = 96 * 1024
 
 
@@ -29,7 +31,8 @@ def sizes(program):
         ("a script and spaces, as large as may be", padded(MOST_BYTES), wanted),
         ("a script and spaces, one byte less", padded(MOST_BYTES - 1), wanted),
         ("a script and spaces, one byte more", padded(MOST_BYTES + 1), READING_FAILED),
-        ("spaces and a script, as large as may be", b"\n" * (MOST_BYTES - len(first)) + first, wanted),
+        ("spaces and a script, as large as may be", b"\n" * (MOST_BYTES - len(first)) + first,
+         wanted),
         ("an ignored text, as large as may be", with_note(MOST_BYTES), done(NO_REPLIES)),
         ("an ignored text, one byte more", with_note(MOST_BYTES + 1), READING_FAILED),
         ("no JSON, as large as may be", b"x" * MOST_BYTES, refused("NotJson")),
@@ -41,11 +44,13 @@ def sizes(program):
     yield "input that never ends", fault_of(under("< /dev/zero", program), READING_FAILED)
     yield "what is taken of input that never ends", endless(program)
     full = crowd_at_all_limits(MOST_BYTES)
-    yield "a script at all its limits", fault_of(run([program, "--proxies", "16", "--history"], full), expected(full, True))
+    yield "a script at all its limits", fault_of(
+        run([program, "--proxies", "16", "--history"], full), expected(full, True)
+    )
 
 
 def endless(program):
-    """Gives the program input until it takes no more, and says if that was more than one byte beyond the most."""
+    """Gives the program input until it takes no more, and says if it took more than it may."""
     given, piece = 0, b" " * PIPE_BYTES
     streams = {"stdin": subprocess.PIPE, "stdout": subprocess.DEVNULL, "stderr": subprocess.DEVNULL}
     with subprocess.Popen([program], bufsize=0, **streams) as started:
@@ -64,20 +69,20 @@ def with_note(size):
 
 
 def with_values(size, value, member="note"):
-    """Writes a script of about this many bytes, nearly all of them in a list of one value that is ignored or overwritten."""
+    """Writes a script of about this many bytes, nearly all in a list that is of no use."""
     empty = script()
     times = (size - len(empty) - len(f'"{member}":[],') + 1) // (len(value) + 1)
     return f'{{"{member}":[{",".join([value] * times)}],{empty[1:]}'.encode()
 
 
 def with_members(size, member, end):
-    """Writes an object of about this many bytes that begins with one member over and over, and ends so."""
+    """Writes an object of about this many bytes: one member over and over, and an end."""
     times = (size - len(end) - 1) // (len(member) + 1)
     return f'{{{",".join([member] * times)},{end}'
 
 
 def longest():
-    """Names scripts about as long as may be, nearly all of which is ignored, overwritten or too much, and how they end."""
+    """Names scripts about as long as may be, nearly all of it of no use, and how they end."""
     nothing = done(NO_REPLIES)
     yield "bytes, in one text", with_note(MOST_BYTES), nothing
     for value in ("0", '""', "[]", "[0]", "{}", '{"a":0}', '"aaaaaaaa"', "0.5", "[[0]]"):
@@ -86,10 +91,14 @@ def longest():
     yield "bytes, in rounds that are overwritten", with_values(MOST_BYTES, "[0]", "rounds"), nothing
     for many in (1, MOST_ROUNDS):
         rounds = f'"rounds":[{",".join(["[0]"] * many)}]'
-        yield f"bytes, in {many} rounds that are overwritten again and again", with_members(MOST_BYTES, rounds, script()[1:]).encode(), nothing
+        yield f"bytes, in {many} rounds that are overwritten again and again", with_members(
+            MOST_BYTES, rounds, script()[1:]
+        ).encode(), nothing
     read = '"tags":[],"do":"grv","client":0}'
     tagged = with_members(MOST_BYTES - 100, '"tags":[0]', read)
-    yield "bytes, in tags that are overwritten again and again", script(f"[[{tagged}]]").encode(), expected(script(f"[[{{{read}]]").encode())
+    yield "bytes, in tags that are overwritten again and again", script(
+        f"[[{tagged}]]"
+    ).encode(), expected(script(f"[[{{{read}]]").encode())
     for item in ("0", '{"do":0}', '{"tags":[0]}'):
         commands = f'[{",".join([item] * 8_000)}]'
         overwritten = with_values(MOST_BYTES, commands, "rounds")
@@ -99,18 +108,20 @@ def longest():
 
 
 def largest():
-    """Names scripts that are as large as may be in one way or another, with the arguments to run them with, and how they end."""
+    """Names scripts that are as large as may be in some way, with arguments, and how they end."""
     whole, lawful = ["--history", "--proxies", "16"], Ran(DONE, None, b"")
     yield "all its limits", crowd_at_all_limits(MOST_BYTES), whole, lawful
     for name, given, ends in longest():
         yield name, given, [], ends
     crowds = [[do("grv", who) for who in range(64)]] * (MOST_COMMANDS // 64)
-    for name, rounds, top in [*large(), ("reads of 64 clients in each round", crowds, {"clients": 64})]:
+    for name, rounds, top in [
+        *large(), ("reads of 64 clients in each round", crowds, {"clients": 64})
+    ]:
         yield f"commands: {name}", written(rounds, **top), whole, lawful
 
 
 def work(program):
-    """The largest scripts take a bounded time of the processor, the starts of their threads included."""
+    """The largest scripts take a bounded time of the processor, with the starts of threads."""
     for name, given, arguments, ends in largest():
         before = resource.getrusage(resource.RUSAGE_CHILDREN)
         ran = run([program, *arguments], given)
@@ -121,15 +132,18 @@ def work(program):
 
 
 def starved(program):
-    """A script that takes more memory than can be had is refused for that, whatever takes it: nothing is written."""
+    """A script that takes more memory than can be had ends for that, and nothing is written."""
     for member in ("note", "rounds"):
         for value in ("0", "[0]", '{"a":0}'):
-            ran = run(["sh", "-c", f'ulimit -v {FEW_KIBIBYTES}; exec "$0"', program], with_values(MOST_BYTES, value, member))
+            ran = run(
+                ["sh", "-c", f'ulimit -v {FEW_KIBIBYTES}; exec "$0"', program],
+                with_values(MOST_BYTES, value, member),
+            )
             yield f"bytes, in values {value} of {member}", fault_of(ran, OUT_OF_MEMORY)
 
 
 def broken(program):
-    """A stream that fails ends the run with status 5 and a line; a standard error that fails changes no status."""
+    """A stream that fails ends the run with status 5 and a line; standard error changes none."""
     first = first_script()
     large = written([[{"do": "ask", "client": 0, "at": it} for it in range(MOST_COMMANDS)]])
     reads = written([[{"do": "grv", "client": 1}] * MOST_COMMANDS], clients=2)
@@ -139,7 +153,8 @@ def broken(program):
         ("standard output full", "> /dev/full", first, WRITING_FAILED),
         ("standard output full, much to write", "> /dev/full", large, WRITING_FAILED),
         ("standard output closed, no JSON", ">&-", b"", refused("NotJson")),
-        ("standard output full, a fault of the top level", "> /dev/full", b"{}", refused("BadLimit")),
+        ("standard output full, a fault of the top level", "> /dev/full", b"{}",
+         refused("BadLimit")),
         ("standard input closed", "<&-", b"", READING_FAILED),
         ("standard input a folder", "< /", b"", READING_FAILED),
         ("standard input and output closed", "<&- >&-", b"", READING_FAILED),
@@ -155,11 +170,19 @@ def broken(program):
     for name, given in (("two clients", reads), ("the first script", first)):
         ran = under("> /dev/full", program, given, ["--history", "--proxies", "2"])
         yield f"standard output full, the history of {name}", fault_of(ran, WRITING_FAILED)
-    yield "standard output with no reader", fault_of(unread(program, first), Ran(NO_STREAM, None, WRITING_FAILED.err))
+    yield "standard output with no reader", fault_of(
+        unread(program, first), Ran(NO_STREAM, None, WRITING_FAILED.err)
+    )
     half_written = Ran(NO_STREAM, None, WRITING_FAILED.err)
-    yield "standard output that is closed half way", fault_of(half_read(program, large), half_written)
-    yield "standard output that is closed half way, with the history", fault_of(half_read(program, reads, "--history"), half_written)
-    yield "a script that comes byte by byte", fault_of(byte_by_byte(program, first), Ran(DONE, first_output(), b""))
+    yield "standard output that is closed half way", fault_of(
+        half_read(program, large), half_written
+    )
+    yield "standard output that is closed half way, with the history", fault_of(
+        half_read(program, reads, "--history"), half_written
+    )
+    yield "a script that comes byte by byte", fault_of(
+        byte_by_byte(program, first), Ran(DONE, first_output(), b"")
+    )
 
 
 def unread(program, given):
@@ -174,7 +197,10 @@ def unread(program, given):
 
 def half_read(program, given, *arguments):
     """Runs the program on a large script with a reader that goes away after one byte."""
-    return run(["bash", "-c", 'set -o pipefail; "$0" "$@" | head -c 1 > /dev/null', program, *arguments], given)
+    return run(
+        ["bash", "-c", 'set -o pipefail; "$0" "$@" | head -c 1 > /dev/null', program, *arguments],
+        given,
+    )
 
 
 def byte_by_byte(program, given):

@@ -1,3 +1,4 @@
+pub mod ChangesAt
 pub mod Positions
 pub mod Raised
 pub mod Registers

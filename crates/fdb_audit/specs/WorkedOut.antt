@@ -13,6 +13,7 @@ use Rattle.fdb_history.specs.declared.log.ClientLog.{ClientLog}
 use Rattle.fdb_history.specs.declared.log.Input.{Input}
 use Rattle.fdb_history.specs.declared.log.Input.TheVariants as input
 use Rattle.fdb_history.specs.declared.register.Record.{Record}
+use Rattle.fdb_audit.specs.Circular.{IsCircular}
 use Rattle.fdb_audit.specs.Trace.{Given, steps_of}
 use Rattle.fdb_audit.specs.declared.trace.Drawn.{Drawn}
 use Rattle.fdb_audit.specs.declared.trace.Step.{Step}
@@ -200,6 +201,8 @@ logs_from chain marks start seen client (steps ∷ others) =
 -- The logs and the chain are those of what is given, with all else worked out.
 pub record IsWorkedOut (given : Given) (seen : ℕ → ℕ → ℕ) (marks : List ℕ)
     (chain : List Issued) (logs : List ClientLog) : Type 0 where
+  -- no call waits for one that waits for it, as a learn waits for the call that it learns from
+  pub ordered : (client call : ℕ) → IsCircular given.clients client call → ⊥
   pub saw : IsSeen given.start given.clients seen
   pub raised : AreMarks (raised_in given.start seen 0 given.clients) marks
   pub issued : chain ≡ chain_of given.versions

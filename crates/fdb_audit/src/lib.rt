@@ -6,16 +6,25 @@
 //! `specs/WorkedOut.antt` says, and [`fdb_history::audit`] judges the logs that come of it.
 #![tactic(auto)]
 
+mod arguments;
 mod chain;
+mod driving;
 mod error;
 mod explaining;
 mod reason;
+mod judging;
+pub mod laws;
+mod reading;
 mod seen;
 mod trace;
 mod worked_out;
 
+pub use driving::{Fault, drive};
 pub use error::TraceError;
 pub use explaining::explain;
 pub use reason::{CallPlace, Live, Reason};
+pub use fdb_command::command_line;
+pub use judging::{Judgement, judge};
+pub use reading::read_trace;
 pub use trace::{Drawn, MAX_TRACE_BYTES, MAX_TRACE_CLIENTS, Step, Trace};
 pub use worked_out::{WorkedOut, work_out};

@@ -39,6 +39,7 @@ pub struct WorkedOut {
 ///
 /// It takes time in proportion to the calls and the versions, times the logarithm of these.
 pub fn work_out(alloc: Global, trace: &Trace) -> Result<WorkedOut, TraceError>
+    ensures few { IfOk result (λ worked. length worked.logs.items ≤ MAX_TRACE_CLIENTS) }
     ensures ok { IfOk result (λ worked. IsWorkedOutOf trace.now worked) }
     ensures err { IfErr result (λ error. (error ≡ TraceError.Memory)
         ⊎ ((client call : ℕ) × (error ≡ TraceError.Circular client call)
@@ -278,7 +279,8 @@ fn logs_of(places: Places<'_>, clients: &[Sequence<Step>]) -> Result<Vec<ClientL
     requires few { length clients.now ≤ MAX_TRACE_CLIENTS }
     requires rising { IsStrictlyIncreasing (map (λ entry. entry.version) places.chain.now) }
     requires marked { IsStrictlyIncreasing places.marks.now }
-    ensures { IfOk result (λ logs. logs.items ≡ logs_from places.entry.chain.now places.entry.marks.now
+    ensures count { IfOk result (λ logs. length logs.items ≡ length clients.now) }
+    ensures logs { IfOk result (λ logs. logs.items ≡ logs_from places.entry.chain.now places.entry.marks.now
         places.entry.start (seen_at places.entry.table.now) 0 clients.now) }
 {
     let mut logs = Vec::with_capacity(places.alloc, clients.len())?;

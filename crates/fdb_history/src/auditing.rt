@@ -31,7 +31,7 @@ use std::alloc::{AllocError, Global};
 
 /// The history of the logs of a run, in the fixed order, or the first fault
 /// that stands in them or in the chain of commit versions that was issued to
-/// them. There are at most 64 logs, and the one at a place is that of the
+/// them. There are at most 2^32 logs, and the one at a place is that of the
 /// client of this number. `start` is the record that the register began with.
 ///
 /// The faults are looked for in the order of [`AuditFault`], each kind in all logs

@@ -2,7 +2,6 @@ pub mod Acts
 pub mod Finished
 pub mod Given
 pub mod Grown
-pub mod Pieces
 pub mod Learnt
 pub mod Parts
 pub mod Performed

@@ -5,7 +5,8 @@ use Rattle.std.specs.Io.KnownBytes.{Appends, Keeps}
 use Rattle.std.proofs.KnownBytes.{Appends-kept}
 use Rattle.clap.specs.Words.{Text}
 use Rattle.fdb_replay.specs.Replay.{IsCut, Refuses, Replays}
-use Rattle.fdb_replay.specs.Arguments.{IsCutShort, MayBeRead, Replayed}
+use Rattle.fdb_replay.specs.Arguments.{IsCutShort, Replayed}
+use Rattle.fdb_command.specs.Input.{MayBeRead}
 use Rattle.fdb_script.specs.declared.script.TheConstants.{MAX_SCRIPT_BYTES}
 use Rattle.fdb_replay.specs.declared.replaying.ReplayFault.{ReplayFault}
 use Rattle.fdb_replay.specs.declared.replaying.ReplayFault.TheVariants.{Write}

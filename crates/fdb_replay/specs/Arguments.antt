@@ -11,9 +11,11 @@ use Rattle.clap.specs.Words.{App, IsAmong, Kinds, Rule, Text, fault_of, first_of
 use Rattle.clap.specs.declared.builder.action.ArgAction.TheVariants.{SetTrue}
 use Rattle.clap.specs.declared.builder.value_parser.ValueParser.TheVariants as parser
 use Rattle.clap.specs.declared.error.kind.ErrorKind.TheVariants.{DisplayHelp}
+use Rattle.fdb_command.specs.Input.{MayBeRead}
 use Rattle.fdb_history.specs.declared.fault.AuditFault.{AuditFault}
 use Rattle.fdb_replay.specs.Outcome.{IsFaulty}
-use Rattle.fdb_replay.specs.Replay.{IsRefused, Replays, TakesSome}
+use Rattle.fdb_command.specs.Output.{TakesSome}
+use Rattle.fdb_replay.specs.Replay.{IsRefused, Replays}
 use Rattle.fdb_script.specs.declared.script.TheConstants.{MAX_SCRIPT_BYTES}
 use Rattle.fdb_script.specs.Plan.{Plan}
 use Rattle.fdb_script.specs.Reading.{ReadsAs}
@@ -71,12 +73,6 @@ AreTaken arguments = (faults arguments ≡ []) ⊎ AsksHelp arguments
 -- standard input is to be read
 abbrev pub ReadsInput : List Text → Type 0
 ReadsInput arguments = (faults arguments ≡ []) × (script_named arguments ≡ None)
-
--- these may be the bytes that were read: all that the input has, where no file is
--- named and they are known; else any, since no clause can know the bytes of a file
-abbrev pub MayBeRead : Option Text → Option (List ℕ) → List ℕ → Type 0
-MayBeRead (Some path) remaining bytes = ⊤
-MayBeRead None remaining bytes = IfSome remaining (λ all. all ≡ bytes)
 
 -- what may have been read stands for no script
 abbrev pub MayBeNoScript : Option Text → Option (List ℕ) → Type 0
@@ -138,8 +134,3 @@ MayAskInVain arguments remaining =
 abbrev pub MayAskFaulty : List Text → Option (List ℕ) → Type 0
 MayAskFaulty arguments remaining =
     (faults arguments ≡ []) × MayBeFaulty (script_named arguments) remaining
-
--- at most so many of the input's bytes are gone, where they are known
-abbrev pub TakesAtMost : ℕ → Option (List ℕ) → Option (List ℕ) → Type 0
-TakesAtMost most before after =
-    (taken : List ℕ) × (length taken ≤ most) × Consumes before after taken

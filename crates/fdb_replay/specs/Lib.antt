@@ -1,6 +1,8 @@
 pub mod Arguments
 pub mod Outcome
 pub mod Replay
+pub use Rattle.fdb_command.specs.Input
+pub use Rattle.fdb_command.specs.Output
 pub use Rattle.fdb_script.specs.Answering
 pub use Rattle.fdb_script.specs.Plan
 pub use Rattle.fdb_script.specs.Reading

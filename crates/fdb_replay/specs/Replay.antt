@@ -1,6 +1,6 @@
 -- What a replay of some bytes writes, and what a refused one says. (this product's own)
-use Rattle.std.specs.Prelude.{◌≡◌, ◌≢◌, ◌<◌, ◌++◌, Bool, List, ℕ, Ok, Err, Option, length}
-use Rattle.std.specs.Io.KnownBytes.{Appends}
+use Rattle.std.specs.Prelude.{◌≡◌, ◌≢◌, Bool, List, ℕ, Ok, Err, Option}
+use Rattle.fdb_command.specs.Output.{TakesSome}
 use Rattle.fdb_replay.specs.Outcome.{IsRunOf, Fails}
 use Rattle.fdb_script.specs.Plan.{Plan}
 use Rattle.fdb_script.specs.Reading.{ReadsAs}
@@ -29,14 +29,6 @@ Refuses bytes Write = (plan : Plan) × ReadsAs bytes (Ok plan)
 -- These bytes stand for no script. (that memory was refused says nothing of them)
 abbrev pub IsRefused : List ℕ → Type 0
 IsRefused bytes = (error : ScriptError) × (error ≢ Memory) × ReadsAs bytes (Err error)
-
--- A writer took some of these bytes, from the first one on, and not all of them.
-pub record TakesSome (bytes : List ℕ) (before after : Option (List ℕ)) : Type 0 where
-  pub taken : List ℕ
-  pub left : List ℕ
-  pub split : bytes ≡ taken ++ left
-  pub some_left : 0 < length left
-  pub appended : Appends before after taken
 
 -- A writer took some of the text of a run of the script that
 -- these bytes stand for, and not all of it.

@@ -1,5 +1,4 @@
 pub mod Asked
-pub mod Failing
 pub mod Rounds
 pub mod Routing
 pub mod Configured

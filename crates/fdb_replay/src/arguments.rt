@@ -9,11 +9,9 @@ ghost use Rattle.fdb_replay.specs.Arguments.{AreWrong, command as command_read, 
 ghost use Rattle.fdb_replay.specs.Arguments.{history_argument, proxies_argument, script_argument};
 ghost use Rattle.fdb_replay.specs.private.Asked.{Ask, AskReplay};
 
-use clap::error::ErrorKind;
 use clap::{Arg, ArgAction, ArgMatches, Command, Error, value_parser};
+use fdb_command::{ArgumentsFault, help_of};
 use std::alloc::{AllocError, Global};
-use std::env::Env;
-use std::{env, io};
 
 /// The end of the help.
 const AFTER_HELP: &str = "Exit status:
@@ -46,21 +44,6 @@ pub(crate) struct Arguments<'a> {
     pub(crate) history: bool,
 }
 
-/// Why arguments ask for nothing.
-#[derive(Clone, Copy)]
-pub(crate) enum ArgumentsFault {
-    /// They are refused.
-    Refused,
-    /// There was no memory to read them.
-    Memory,
-}
-
-/// The arguments of the command line behind the program's own name. Arguments
-/// that are not UTF-8 are an error, and so is memory that runs out.
-pub fn command_line<R: Env + Alloc<A = Global>>(rt: &R) -> io::Result<Vec<String>> {
-    Ok(env::args(rt)?.skip(1).collect(rt.alloc())?)
-}
-
 /// What the arguments ask for, the program's own name left out.
 pub(crate) fn parse<'a>(
     alloc: Global,
@@ -75,24 +58,10 @@ pub(crate) fn parse<'a>(
     };
     match command.try_get_matches_from(arguments) {
         Ok(matches) => Ok(Invocation::Replay(arguments_of(&matches))),
-        Err(error) => of_error(error),
-    }
-}
-
-/// What an error of clap's means: that help is asked for, that
-/// memory was refused, or else that the arguments are refused.
-fn of_error<'a>(error: Error) -> Result<Invocation<'a>, ArgumentsFault>
-    ensures help { kind_of error ≡ ErrorKind.DisplayHelp → result ≡ Ok (Invocation.Help error) }
-    ensures memory { kind_of error ≡ ErrorKind.OutOfMemory → result ≡ Err ArgumentsFault.Memory }
-    ensures refused { kind_of error ≢ ErrorKind.DisplayHelp → kind_of error ≢ ErrorKind.OutOfMemory
-        → result ≡ Err ArgumentsFault.Refused }
-    ensures wrong { IfErr result (λ fault. fault ≡ ArgumentsFault.Refused
-        → (kind_of error ≢ ErrorKind.DisplayHelp) × (kind_of error ≢ ErrorKind.OutOfMemory)) }
-{
-    match error.kind() {
-        ErrorKind::DisplayHelp => Ok(Invocation::Help(error)),
-        ErrorKind::OutOfMemory => Err(ArgumentsFault::Memory),
-        _ => Err(ArgumentsFault::Refused),
+        Err(error) => match help_of(error) {
+            Ok(help) => Ok(Invocation::Help(help)),
+            Err(fault) => Err(fault),
+        },
     }
 }
 

@@ -7,16 +7,16 @@ ghost use Rattle.std.specs.Io.KnownBytes.{Consumes, IsAtEnd};
 ghost use Rattle.std.specs.IoError.{error_kind};
 ghost use Rattle.fdb_replay.specs.Arguments.{AreTaken, AreWrong, IsBegun, IsCutShort, IsDone};
 ghost use Rattle.fdb_replay.specs.Arguments.{MayAskFaulty, MayAskInVain, MayBeFaulty};
-ghost use Rattle.fdb_replay.specs.Arguments.{MayBeNoScript, MayBeRead, ReadsInput, Replayed};
-ghost use Rattle.fdb_replay.specs.Arguments.{TakesAtMost};
+ghost use Rattle.fdb_replay.specs.Arguments.{MayBeNoScript, ReadsInput, Replayed};
+ghost use Rattle.fdb_command.specs.Input.{MayBeRead, TakesAtMost};
 ghost use Rattle.fdb_history.specs.declared.fault.AuditFault.{AuditFault};
 ghost use Rattle.fdb_script.specs.declared.error.ScriptError.{ScriptError};
 ghost use Rattle.fdb_script.specs.declared.script.TheConstants.{MAX_SCRIPT_BYTES};
 
-use crate::arguments::{Arguments, ArgumentsFault, Invocation, parse};
+use crate::arguments::{Arguments, Invocation, parse};
 use crate::fault::RunFault;
-use crate::input::{InputFault, script_bytes};
 use crate::replaying::{ReplayFault, replay};
+use fdb_command::{ArgumentsFault, InputFault, input_bytes, show};
 use fdb_history::{AuditFault, OpenGate};
 use fdb_script::{MAX_SCRIPT_BYTES, ScriptError};
 use std::alloc::Global;
@@ -52,17 +52,6 @@ pub enum Fault {
 }
 
 impl Fault {
-    /// Why the arguments could not be had.
-    fn of_arguments(error: &io::Error) -> Fault
-        ensures memory { error_kind error.now ≡ ErrorKind.OutOfMemory → result ≡ Fault.Memory }
-        ensures other { error_kind error.now ≢ ErrorKind.OutOfMemory → result ≡ Fault.Arguments }
-    {
-        match error.kind() {
-            ErrorKind::OutOfMemory => Fault::Memory,
-            _ => Fault::Arguments,
-        }
-    }
-
     /// The status that the program ends with.
     pub fn status(self) -> u8
         ensures range { (0 < result) × (result ≤ 5) }
@@ -91,7 +80,7 @@ impl From<ArgumentsFault> for Fault {
     ghost use Rattle.std.specs.Prelude.{◌≢◌};
     ghost use Rattle.fdb_replay.specs.declared.driving.Fault.TheVariants.{Arguments, Memory};
     ghost use Rattle.fdb_replay.specs.declared.driving.Fault.TheVariants.{Writing};
-    ghost use Rattle.fdb_replay.specs.declared.arguments.ArgumentsFault.TheVariants as cause;
+    ghost use Rattle.fdb_command.specs.declared.arguments.ArgumentsFault.TheVariants as cause;
 
     ghost from_gives = { λ fault made. (fault ≡ cause.Refused → made ≡ Arguments)
         × (fault ≡ cause.Memory → made ≡ Memory) × (made ≢ Writing) };
@@ -107,7 +96,7 @@ impl From<ArgumentsFault> for Fault {
 impl From<InputFault> for Fault {
     ghost use Rattle.std.specs.Prelude.{◌≡◌};
     ghost use Rattle.fdb_replay.specs.declared.driving.Fault.TheVariants as made;
-    ghost use Rattle.fdb_replay.specs.declared.input.InputFault.TheVariants as input;
+    ghost use Rattle.fdb_command.specs.declared.input.InputFault.TheVariants as input;
 
     ghost from_gives = { λ cause fault. (cause ≡ input.Reading → fault ≡ made.Reading)
         × (cause ≡ input.Memory → fault ≡ made.Memory) };
@@ -246,21 +235,11 @@ fn carry_out<R: Threads + Wait + Sync + Files, I: Read, O: Write>(
 {
     let arguments = match arguments {
         Ok(arguments) => arguments,
-        Err(error) => return Err(Fault::of_arguments(&error)),
+        Err(error) => return Err(Fault::from(ArgumentsFault::from(error))),
     };
     match parse(alloc, &arguments)? {
-        Invocation::Help(help) => show(&help, out),
+        Invocation::Help(help) => show(&help, out).map_err(|_| Fault::Writing),
         Invocation::Replay(arguments) => replay_arguments(rt, alloc, arguments, input, out),
-    }
-}
-
-/// Writes the help, and flushes it.
-fn show<O: Write>(help: &clap::Error, out: &mut O) -> Result<(), Fault>
-    ensures { IfErr result (λ fault. fault ≡ Fault.Writing) }
-{
-    match write!(out, "{help}").and_then(|()| out.flush()) {
-        Ok(()) => Ok(()),
-        Err(_) => Err(Fault::Writing),
     }
 }
 
@@ -294,7 +273,7 @@ fn replay_arguments<R: Threads + Wait + Sync + Files, I: Read, O: Write>(
     ensures few { TakesAtMost (MAX_SCRIPT_BYTES + 1)
         (I.remaining input.old) (I.remaining input.new) }
 {
-    let bytes = script_bytes(rt, alloc, arguments.script, input)?;
+    let bytes = input_bytes(rt, alloc, arguments.script, input, MAX_SCRIPT_BYTES)?;
     replay(
         rt,
         alloc,

@@ -6,7 +6,6 @@ mod arguments;
 mod clients;
 mod driving;
 mod fault;
-mod input;
 mod player;
 mod replaying;
 mod rounds;
@@ -15,9 +14,9 @@ mod serving;
 mod tell;
 mod world;
 
-pub use arguments::command_line;
 pub use driving::{Fault, drive};
 pub use fault::RunFault;
+pub use fdb_command::command_line;
 pub use fdb_script::MAX_SCRIPT_BYTES;
 pub use replaying::{ReplayFault, replay};
 pub use running::run;

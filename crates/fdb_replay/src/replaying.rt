@@ -1,19 +1,17 @@
 //! From the bytes of a script to the printed lines.
 
-ghost use Rattle.std.specs.Prelude.{◌≡◌, ◌≢◌, ℕ, ◌<◌, ◌≤◌, List, OnOk, OnErr, IfOk, IfErr, Ok, Err};
-ghost use Rattle.std.specs.Prelude.{length, take};
-ghost use Rattle.std.specs.Io.KnownBytes.{Appends, Keeps};
-ghost use Rattle.std.specs.IoError.{error_kind};
-ghost use Rattle.fdb_replay.specs.Replay.{IsCut, Replays, Refuses, TakesSome};
+ghost use Rattle.std.specs.Prelude.{◌≡◌, ◌≢◌, ℕ, ◌<◌, ◌≤◌, List, OnOk, IfOk, IfErr, Ok};
+ghost use Rattle.std.specs.Io.KnownBytes.{Appends};
+ghost use Rattle.fdb_replay.specs.Replay.{IsCut, Replays, Refuses};
 ghost use Rattle.fdb_script.specs.Reading.{ReadsAs};
 
 use crate::fault::RunFault;
 use crate::running::run;
+use fdb_command::{OutputFault, write_whole};
 use fdb_history::Gate;
 use fdb_script::{Script, ScriptError, read_script, text};
 use std::alloc::Global;
-use std::io;
-use std::io::{ErrorKind, Write};
+use std::io::Write;
 use std::sync::Wait;
 use std::thread::Threads;
 use thiserror::Error;
@@ -58,58 +56,9 @@ pub fn replay<R: Threads + Wait + Sync, G: Gate, W: Write>(
         → IsCut bytes.now with_history (W.contents writer.old) (W.contents writer.new)) }
 {
     let lines = replayed_text(rt, alloc, bytes, proxies, with_history, gate)?;
-    write_whole(writer, &lines)
-}
-
-/// Writes all of these bytes. A writer that fails is not called again.
-fn write_whole<W: Write>(writer: &mut W, lines: &[u8]) -> Result<(), ReplayFault>
-    ensures ok { OnOk result (Appends (W.contents writer.old) (W.contents writer.new) lines.now) }
-    ensures cut { OnErr result
-        (TakesSome lines.now (W.contents writer.old) (W.contents writer.new)) }
-    ensures err { IfErr result (λ fault. fault ≡ ReplayFault.Write) }
-{
-    if lines.is_empty() {
-        return Ok(());
-    }
-    let mut rest = lines;
-    // A writer may be interrupted as often as it likes, but a loop has an end.
-    for _ in 0..u64::MAX {
-        let count = write_once(writer, rest)?;
-        if count == rest.len() {
-            return Ok(());
-        }
-        rest = &rest[count..];
-    }
-    Err(ReplayFault::Write)
-}
-
-/// Writes once, and answers how many of the bytes the writer
-/// took, which is none where it was interrupted.
-fn write_once<W: Write>(writer: &mut W, bytes: &[u8]) -> Result<usize, ReplayFault>
-    ensures bound { IfOk result (λ count. count ≤ length bytes.now) }
-    ensures ok { IfOk result
-        (λ count. Appends (W.contents writer.old) (W.contents writer.new) (take count bytes.now)) }
-    ensures kept { OnErr result (Keeps (W.contents writer.old) (W.contents writer.new)) }
-    ensures err { IfErr result (λ fault. fault ≡ ReplayFault.Write) }
-{
-    count_written(writer.write(bytes))
-}
-
-/// How many bytes a write took, which is none where it was interrupted, and is
-/// to be tried again. A writer that takes nothing without an error has failed.
-fn count_written(written: io::Result<usize>) -> Result<usize, ReplayFault>
-    ensures some { IfOk written (λ count. 0 < count → result ≡ Ok count) }
-    ensures none { IfOk written (λ count. count ≡ 0 → result ≡ Err ReplayFault.Write) }
-    ensures interrupted { IfErr written (λ error. error_kind error ≡ ErrorKind.Interrupted
-        → result ≡ Ok 0) }
-    ensures failed { IfErr written (λ error. error_kind error ≢ ErrorKind.Interrupted
-        → result ≡ Err ReplayFault.Write) }
-{
-    match written {
-        Ok(0) => Err(ReplayFault::Write),
-        Ok(count) => Ok(count),
-        Err(error) if error.kind() == ErrorKind::Interrupted => Ok(0),
-        Err(_) => Err(ReplayFault::Write),
+    match write_whole(writer, &lines) {
+        Ok(()) => Ok(()),
+        Err(OutputFault::Writing) => Err(ReplayFault::Write),
     }
 }
 

@@ -1,5 +1,5 @@
 //! The tests of the crates that run no thread of their own: `fdb_history`,
-//! `fdb_chain`, `fdb_queue` and `fdb_script`. Like those in the crates of
+//! `fdb_chain`, `fdb_queue`, `fdb_script` and `fdb_audit`. Like those in the crates of
 //! tests above, they are of what no clause says, by values from outside.
 //!
 //! Tests stand in crates of their own, so that no library is proved twice. Most are texts, one case
@@ -25,3 +25,5 @@ mod same;
 mod script;
 #[cfg(test)]
 mod sequencer;
+#[cfg(test)]
+mod traces;

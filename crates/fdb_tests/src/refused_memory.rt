@@ -9,3 +9,4 @@ mod records;
 mod scripts;
 mod sequencers;
 mod throttles;
+mod traces;

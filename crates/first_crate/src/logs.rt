@@ -27,8 +27,8 @@ pub(crate) fn explain(
     chain: &[Issued],
     logs: &[ClientLog],
 ) -> Result<()> {
-    if logs.len() > 64 {
-        return Err(anyhow!("more than 64 logs"));
+    if logs.len() > u32::MAX as usize {
+        return Err(anyhow!("more logs than clients have numbers"));
     }
     match audit(alloc, START, chain, logs) {
         Ok(history) => println!(rt; "explained by {} events", history.events.len())?,

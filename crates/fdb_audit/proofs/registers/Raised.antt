@@ -21,7 +21,7 @@ by_each P before (Report version) each =
     (λ below. All-nil P)
 
 -- the same of a log
-from_each : (P : ℕ → Type 0) (start : ℕ) (seen : ℕ → ℕ → ℕ) (client first : ℕ) (steps : List Step)
+pub from_each : (P : ℕ → Type 0) (start : ℕ) (seen : ℕ → ℕ → ℕ) (client first : ℕ) (steps : List Step)
     → ((k place version : ℕ) → place ≡ first + k → slice_get steps k ≡ Some (Report version) → seen_before start seen client place < version → P version)
     → All P (raised_from start seen client first steps)
 from_each P start seen client first [] each = All-nil P

@@ -10,8 +10,8 @@ use Rattle.fdb_history.specs.declared.auditing.changes.PlacedChange.{PlacedChang
 use Rattle.fdb_history.specs.declared.chain.Issued.{Issued}
 use Rattle.fdb_history.specs.declared.log.ClientLog.{ClientLog}
 use Rattle.fdb_history.specs.declared.register.Record.{Record}
-use Rattle.fdb_history.proofs.faultless.Blocks.{kept, left_out}
-use Rattle.fdb_history.proofs.faults.ChangesAt.{at-some}
+use Rattle.fdb_audit.proofs.registers.ChangesAt.{kept, left_out}
+use Rattle.fdb_audit.proofs.registers.ChangesAt.{at-some}
 use Rattle.fdb_audit.specs.Trace.{Given, steps_of}
 use Rattle.fdb_audit.specs.WorkedOut.{seen_before, shown, raised_by, raised_from, raised_in, position_of, mark_at, plain, call_of, calls_from, logs_from, IsWorkedOut}
 use Rattle.fdb_audit.specs.declared.trace.Step.{Step}

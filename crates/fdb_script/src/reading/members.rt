@@ -1,6 +1,6 @@
 //! Values of a kind, and the members of an object that are such values.
 
-ghost use Rattle.std.specs.Prelude.{◌≡◌, ◌≤◌, false, codes, map, IfSome};
+ghost use Rattle.std.specs.Prelude.{◌≡◌, ◌<◌, ◌≤◌, false, codes, map, IfSome};
 ghost use Rattle.std.specs.Option.{option_map};
 ghost use Rattle.serde_json.specs.Find.{as_bool, as_str};
 ghost use Rattle.serde_json.specs.View.{view};
@@ -29,12 +29,24 @@ pub fn items_within(value: &Value, most: usize) -> Option<&[Value]>
 }
 
 /// A whole number from one number to another.
-fn whole_within(value: &Value, low: u64, high: u64) -> Option<u64>
+pub fn whole_within(value: &Value, low: u64, high: u64) -> Option<u64>
     ensures value { result ≡ whole_within low high (view value.now) }
     ensures within { IfSome result (λ number. (low ≤ number) × (number ≤ high)) }
 {
     let number = value.as_u64()?;
     if number < low || high < number {
+        return None;
+    }
+    Some(number)
+}
+
+/// A whole number below a limit.
+pub fn whole_below(value: &Value, limit: u64) -> Option<u64>
+    ensures value { result ≡ whole_below limit (view value.now) }
+    ensures below { IfSome result (λ number. number < limit) }
+{
+    let number = value.as_u64()?;
+    if number >= limit {
         return None;
     }
     Some(number)
@@ -58,7 +70,7 @@ pub(crate) fn whole_or(value: &Value, name: &str, absent: u64) -> Option<u64>
 }
 
 /// A member that is a whole number from one number to another.
-pub(crate) fn member_within(value: &Value, name: &str, low: u64, high: u64) -> Option<u64>
+pub fn member_within(value: &Value, name: &str, low: u64, high: u64) -> Option<u64>
     ensures value { result ≡ member (whole_within low high) name.now (view value.now) }
     ensures within { IfSome result (λ number. (low ≤ number) × (number ≤ high)) }
 {
@@ -83,10 +95,7 @@ pub(crate) fn within_or(value: &Value, name: &str, absent: u64, low: u64, high: 
 pub(crate) fn client_member(value: &Value, name: &str, clients: u32) -> Option<u32>
     ensures { result ≡ member (whole_below clients) name.now (view value.now) }
 {
-    let client = whole_member(value, name)?;
-    if client >= u64::from(clients) {
-        return None;
-    }
+    let client = whole_below(value.get(name)?, u64::from(clients))?;
     Some(client as u32)
 }
 

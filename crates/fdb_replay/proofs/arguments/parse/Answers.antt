@@ -1,5 +1,4 @@
 use Rattle.std.proofs.Common.{◌≡◌, ◌∙◌, ap, inl, inr, sym, subst, map, string_bytes, []}
-use Rattle.std.proofs.lemmas.Result.{IfErr-weaker}
 use Rattle.clap.specs.Faults.{is_simple_and_free}
 use Rattle.clap.specs.Kinds.{HasKind}
 use Rattle.clap.specs.Words.{App, app_of, fault_of, found_of, is_simple, kind_of, matches_of, rows_of}
@@ -17,15 +16,13 @@ returns-in-Ok-try_get_matches_from-clause-ok c =
     c.arguments_of.ensures old arguments parse.parsed is rows taken
 
 -- what clap refuses for another reason than memory is among the faults of the arguments
-pub returns-in-Err-clause-err : goal.returns-in-Err-clause-err
-returns-in-Err-clause-err c =
+pub returns-in-Err-help_of-clause-err : goal.returns-in-Err-help_of-clause-err
+returns-in-Err-help_of-clause-err c =
     let error = c.in-Err.error in
     let arguments = map string_bytes c.args.arguments.now in
     let is : app_of c.in-Ok.command ≡ command_read = c.in-Ok.ensures in
     let has : HasKind (faults arguments) error = subst (λ (a : App). HasKind (fault_of a arguments) error) is (c.in-Err.ensures.kinds (ap is_simple_and_free is)) in
-    IfErr-weaker c.of_error.result _ _
-    (λ fault wrong refused. elim has [
-      | inl memory ↦ absurd ((wrong refused).1 memory)
-      | inr found ↦ (kind_of error, (wrong refused).0, found)
-    ])
-    c.of_error.ensures.wrong
+    λ refused. elim has [
+      | inl memory ↦ absurd ((c.in-Err-help_of.ensures.wrong refused).1 memory)
+      | inr found ↦ (kind_of error, (c.in-Err-help_of.ensures.wrong refused).0, found)
+    ]

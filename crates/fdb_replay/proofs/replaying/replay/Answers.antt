@@ -1,7 +1,7 @@
 use Rattle.std.proofs.Common.{subst}
 use Rattle.std.specs.Io.KnownBytes.{Appends}
 use Rattle.std.proofs.lemmas.Result.{on_err_weaker, on_ok_weaker}
-use Rattle.fdb_replay.specs.Replay.{TakesSome}
+use Rattle.fdb_command.specs.Output.{TakesSome}
 use Rattle.fdb_replay.proofs.Written.{where_write_fails, write_refused}
 use Rattle.fdb_replay.proofs.replaying.replay.Goals as goal
 

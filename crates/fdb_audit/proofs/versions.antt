@@ -1,0 +1,4 @@
+pub mod Changes
+pub mod Courses
+pub mod Fitting
+pub mod Seen

@@ -1,0 +1,11 @@
+-- What a writer that failed has taken. (this product's own)
+use Rattle.std.specs.Prelude.{◌≡◌, ℕ, ◌<◌, ◌++◌, List, Option, length}
+use Rattle.std.specs.Io.KnownBytes.{Appends}
+
+-- A writer took some of these bytes, from the first one on, and not all of them.
+pub record TakesSome (bytes : List ℕ) (before after : Option (List ℕ)) : Type 0 where
+  pub taken : List ℕ
+  pub left : List ℕ
+  pub split : bytes ≡ taken ++ left
+  pub some_left : 0 < length left
+  pub appended : Appends before after taken

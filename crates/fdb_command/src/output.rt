@@ -1,0 +1,67 @@
+//! All of some bytes, to a writer that may take them in parts.
+
+ghost use Rattle.std.specs.Prelude.{◌≡◌, ◌≢◌, ◌<◌, ◌≤◌, OnOk, OnErr, IfOk, IfErr, Ok, Err};
+ghost use Rattle.std.specs.Prelude.{length, take};
+ghost use Rattle.std.specs.Io.KnownBytes.{Appends, Keeps};
+ghost use Rattle.std.specs.IoError.{error_kind};
+ghost use Rattle.fdb_command.specs.Output.{TakesSome};
+
+use std::io;
+use std::io::{ErrorKind, Write};
+
+/// Why bytes were not written.
+#[derive(Clone, Copy, Debug, PartialEq, Eq)]
+pub enum OutputFault {
+    /// The writer failed.
+    Writing,
+}
+
+/// Writes all of these bytes. A writer that fails is not called again.
+pub fn write_whole<W: Write>(writer: &mut W, lines: &[u8]) -> Result<(), OutputFault>
+    ensures ok { OnOk result (Appends (W.contents writer.old) (W.contents writer.new) lines.now) }
+    ensures cut { OnErr result
+        (TakesSome lines.now (W.contents writer.old) (W.contents writer.new)) }
+{
+    if lines.is_empty() {
+        return Ok(());
+    }
+    let mut rest = lines;
+    // A writer may be interrupted as often as it likes, but a loop has an end.
+    for _ in 0..u64::MAX {
+        let count = write_once(writer, rest)?;
+        if count == rest.len() {
+            return Ok(());
+        }
+        rest = &rest[count..];
+    }
+    Err(OutputFault::Writing)
+}
+
+/// Writes once, and answers how many of the bytes the writer
+/// took, which is none where it was interrupted.
+fn write_once<W: Write>(writer: &mut W, bytes: &[u8]) -> Result<usize, OutputFault>
+    ensures bound { IfOk result (λ count. count ≤ length bytes.now) }
+    ensures ok { IfOk result
+        (λ count. Appends (W.contents writer.old) (W.contents writer.new) (take count bytes.now)) }
+    ensures kept { OnErr result (Keeps (W.contents writer.old) (W.contents writer.new)) }
+{
+    count_written(writer.write(bytes))
+}
+
+/// How many bytes a write took, which is none where it was interrupted, and is
+/// to be tried again. A writer that takes nothing without an error has failed.
+fn count_written(written: io::Result<usize>) -> Result<usize, OutputFault>
+    ensures some { IfOk written (λ count. 0 < count → result ≡ Ok count) }
+    ensures none { IfOk written (λ count. count ≡ 0 → result ≡ Err OutputFault.Writing) }
+    ensures interrupted { IfErr written (λ error. error_kind error ≡ ErrorKind.Interrupted
+        → result ≡ Ok 0) }
+    ensures failed { IfErr written (λ error. error_kind error ≢ ErrorKind.Interrupted
+        → result ≡ Err OutputFault.Writing) }
+{
+    match written {
+        Ok(0) => Err(OutputFault::Writing),
+        Ok(count) => Ok(count),
+        Err(error) if error.kind() == ErrorKind::Interrupted => Ok(0),
+        Err(_) => Err(OutputFault::Writing),
+    }
+}
