@@ -4,3 +4,4 @@ pub mod Reporters
 pub mod Found
 pub mod Clashes
 pub mod Texts
+pub mod FirstCalls

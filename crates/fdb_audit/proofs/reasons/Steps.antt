@@ -9,7 +9,7 @@ use Rattle.fdb_history.specs.declared.chain.Issued.{Issued}
 use Rattle.fdb_history.specs.declared.log.Call.{Call}
 use Rattle.fdb_history.specs.declared.log.CallAnswer.TheVariants.{Version}
 use Rattle.fdb_history.specs.declared.log.ClientLog.{ClientLog}
-use Rattle.fdb_history.proofs.faults.FirstCalls.{position-last}
+use Rattle.fdb_audit.proofs.reasons.FirstCalls.{position-last}
 use Rattle.fdb_audit.specs.Trace.{Given, steps_of}
 use Rattle.fdb_audit.specs.WorkedOut.{IsStep, IsWorkedOut, answered_at, call_of, calls_from, logs_from, plain, position_of, seen_before, shown}
 use Rattle.fdb_audit.specs.declared.trace.Step.{Step}

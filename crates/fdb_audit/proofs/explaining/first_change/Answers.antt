@@ -1,5 +1,5 @@
 use Rattle.std.proofs.Common.{◌∙◌, sym}
-use Rattle.fdb_history.proofs.faults.FirstCalls.{calls-at, first, none_more, nowhere}
+use Rattle.fdb_audit.proofs.reasons.FirstCalls.{calls-at, first, none_more, nowhere}
 use Rattle.fdb_audit.specs.private.Reasons.{ChangesAt}
 use Rattle.fdb_audit.proofs.explaining.first_change.Goals as goal
 

@@ -1,7 +1,7 @@
 use Rattle.std.proofs.Common.{refl, arith}
 use Rattle.std.proofs.lemmas.Bool.{both_ways}
 use Rattle.std.proofs.lemmas.Option.{slice_get_read, slice_get_within}
-use Rattle.fdb_history.proofs.faults.FirstCalls.{call_more}
+use Rattle.fdb_audit.proofs.reasons.FirstCalls.{call_more}
 use Rattle.fdb_audit.specs.private.Reasons.{ChangesAt}
 use Rattle.fdb_audit.proofs.explaining.first_change_of.Goals as goal
 
