@@ -3,7 +3,9 @@ pub mod Reading
 pub mod Circular
 pub mod WorkedOut
 pub mod Laws
+pub mod Reasons
+pub mod Text
+pub use Rattle.fdb_history.specs.Audit
 pub mod Judged
 pub mod Arguments
 pub mod private
-pub use Rattle.fdb_history.specs.Audit

@@ -1,4 +1,5 @@
 pub mod Seen
 pub mod Worked
+pub mod Reasons
 pub mod Asked
 pub mod Faulty

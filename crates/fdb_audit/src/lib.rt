@@ -10,6 +10,8 @@ mod arguments;
 mod chain;
 mod driving;
 mod error;
+mod explaining;
+mod reason;
 mod judging;
 pub mod laws;
 mod reading;
@@ -19,6 +21,8 @@ mod worked_out;
 
 pub use driving::{Fault, drive};
 pub use error::TraceError;
+pub use explaining::explain;
+pub use reason::{CallPlace, Live, Reason};
 pub use fdb_command::command_line;
 pub use judging::{Judgement, judge};
 pub use reading::read_trace;

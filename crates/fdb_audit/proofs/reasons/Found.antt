@@ -1,0 +1,70 @@
+-- What is read of a call that a fault names.
+use Rattle.std.proofs.Common.{◌≡◌, ℕ, zero, suc, ◌<◌, Bool, true, false, List, [], ◌∷◌, length, take, get_or, Some, slice_get, refl, ap, sym, subst, ◌∙◌, arith}
+use Rattle.std.proofs.lemmas.Bool.{false≢true}
+use Rattle.std.proofs.lemmas.List.{length-take}
+use Rattle.std.proofs.lemmas.Option.{same_Some, slice_get_read, slice_get_within}
+use Rattle.fdb_history.specs.declared.log.Call.{Call}
+use Rattle.fdb_history.specs.declared.log.CallAnswer.{CallAnswer}
+use Rattle.fdb_history.specs.declared.log.CallAnswer.TheVariants.{Version, Answered, Acked, Told, Refused}
+use Rattle.fdb_history.specs.declared.register.Record.{Record}
+use Rattle.fdb_audit.specs.WorkedOut.{plain}
+
+-- the call at a place is the one that is read there
+pub the_call : (calls all : List Call) (place : ℕ) (call other : Call) → calls ≡ all → slice_get all place ≡ Some other → call ≡ get_or calls place call → other ≡ call
+the_call calls all place call other same there is =
+    let read = slice_get_read all _ place call refl (slice_get_within all place other there) (subst (λ l. call ≡ get_or l place call) same is) in
+    same_Some other call (sym there ∙ read)
+
+-- the calls before it
+pub before-length : (calls all : List Call) (place : ℕ) (other : Call) → calls ≡ all → slice_get all place ≡ Some other → place ≡ length (take place calls)
+before-length calls all place other same there =
+    let within = slice_get_within all place other there in
+    let long = ap length same in
+    omega (arith, length-take place calls)
+
+-- the record of a register's answer
+abbrev pub rec_of : CallAnswer → Record
+rec_of (Version rec limits locked_out) = rec
+rec_of (Acked rec raised changed) = rec
+rec_of (Answered issued) = plain 0
+rec_of Told = plain 0
+rec_of (Refused cause) = plain 0
+
+abbrev version_of : CallAnswer → ℕ
+version_of answer = (rec_of answer).version
+
+-- the version of a read that is a plain one
+pub plain_read : (answer : CallAnswer) (version : ℕ) (answered : CallAnswer) → answer ≡ Version (plain version) [] false → answer ≡ answered → answer ≡ Version (plain (rec_of answered).version) [] false
+plain_read answer version answered is other =
+    let same : version ≡ (rec_of answered).version = ap version_of (sym is ∙ other) in
+    is ∙ ap (λ v. Version (plain v) [] false) same
+
+-- a call before a place is among those before it
+pub slice_get-take : (calls : List Call) (count place : ℕ) → place < count → slice_get (take count calls) place ≡ slice_get calls place
+slice_get-take [] zero place below = absurd (omega arith)
+slice_get-take [] (suc count) place below = refl
+slice_get-take (call ∷ calls) zero place below = absurd (omega arith)
+slice_get-take (call ∷ calls) (suc count) zero below = refl
+slice_get-take (call ∷ calls) (suc count) (suc place) below = slice_get-take calls count place (omega arith)
+
+-- whether an answer is a read, and whether it is a report
+abbrev is_read : CallAnswer → Bool
+is_read (Version rec limits locked_out) = true
+is_read (Acked rec raised changed) = false
+is_read (Answered issued) = false
+is_read Told = false
+is_read (Refused cause) = false
+
+-- a read is no report
+pub read_apart : (answer : CallAnswer) (version : ℕ) (rec : Record) (raised changed : Bool) → answer ≡ Version (plain version) [] false → answer ≡ Acked rec raised changed → ⊥
+read_apart answer version rec raised changed is other = false≢true (ap is_read (sym other ∙ is))
+
+-- and a report is no read
+pub report_apart : (answer : CallAnswer) (version : ℕ) (read : CallAnswer) → is_read read ≡ true → answer ≡ Acked (plain version) false false → answer ≡ read → ⊥
+report_apart answer version read reads is other = false≢true (ap is_read (sym is ∙ other) ∙ reads)
+
+-- the version of a report that is a plain one
+pub plain_report : (answer : CallAnswer) (version : ℕ) (answered : CallAnswer) → answer ≡ Acked (plain version) false false → answer ≡ answered → answer ≡ Acked (plain (rec_of answered).version) false false
+plain_report answer version answered is other =
+    let same : version ≡ (rec_of answered).version = ap version_of (sym is ∙ other) in
+    is ∙ ap (λ v. Acked (plain v) false false) same
