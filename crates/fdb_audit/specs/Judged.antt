@@ -10,9 +10,12 @@ use Rattle.fdb_history.specs.declared.register.Record.{Record}
 use Rattle.fdb_script.specs.Text.{line, verdict_text}
 use Rattle.fdb_audit.specs.Circular.{IsCircular}
 use Rattle.fdb_audit.specs.Reading.{ReadsAs}
+use Rattle.fdb_audit.specs.Reasons.{IsExplained}
+use Rattle.fdb_audit.specs.Text.{why_text}
 use Rattle.fdb_audit.specs.Trace.{Given}
 use Rattle.fdb_audit.specs.WorkedOut.{IsWorkedOut, plain}
 use Rattle.fdb_audit.specs.declared.error.TraceError.{TraceError}
+use Rattle.fdb_audit.specs.declared.reason.Reason.{Reason}
 use Rattle.fdb_audit.specs.declared.error.TraceError.TheVariants as error
 
 -- a fault, by its name and the call or the position that it names
@@ -25,7 +28,8 @@ fault_text (Stray client call) = codes "Stray " ++ decimal client ++ codes " " +
 fault_text (NotAbove client call) = codes "NotAbove " ++ decimal client ++ codes " " ++ decimal call
 fault_text Memory = codes "want of memory"
 
--- The text of what an audit finds: the verdict of logs without a fault, or the first fault.
+-- The text of what an audit finds: the verdict of logs without a fault, or the first fault and why
+-- it stands.
 abbrev pub IsText : Record → List Issued → List ClientLog → Bool → Option AuditFault → List ℕ
     → Type 0
 IsText start chain logs with_history None text =
@@ -33,7 +37,8 @@ IsText start chain logs with_history None text =
     × (text ≡ verdict_text history.events (length chain) with_history)
 IsText start chain logs with_history (Some fault) text =
     IsAudited start chain logs (Err fault) × (fault ≢ Memory)
-    × (text ≡ line (codes "audit fault: " ++ fault_text fault))
+    × ((reason : Option Reason) × IsExplained start chain logs fault reason
+    × (text ≡ line (codes "audit fault: " ++ fault_text fault ++ why_text reason)))
 
 -- These bytes stand for a trace, and this is found in the logs that are worked out of it.
 pub record IsJudgement (bytes : List ℕ) (with_history : Bool) (fault : Option AuditFault)

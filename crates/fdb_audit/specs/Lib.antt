@@ -5,7 +5,7 @@ pub mod WorkedOut
 pub mod Laws
 pub mod Reasons
 pub mod Text
-pub use Rattle.fdb_history.specs.Audit
 pub mod Judged
 pub mod Arguments
 pub mod private
+pub use Rattle.fdb_history.specs.Audit

@@ -1,11 +1,6 @@
 -- Why a fault of worked-out logs stands. (all of this is this product's own)
-use Rattle.std.specs.Prelude.{◌≡◌, ◌≢◌, ℕ, ◌+◌, ◌<◌, ◌≤◌, ◌==◌, ◌&&◌, Bool, true, false, List, [], length, Option, None, Some, slice_get}
-use Rattle.std.specs.List.{Contains, find}
-use Rattle.std.specs.Option.{option_map}
-use Rattle.fdb_history.specs.Chain.{latest}
+use Rattle.std.specs.Prelude.{◌≡◌, ◌≢◌, ℕ, ◌<◌, ◌≤◌, true, false, List, [], Option, None, Some, slice_get}
 use Rattle.fdb_history.specs.Faults.{ComesBefore, IsFirst, StandsAt, register_at}
-use Rattle.fdb_history.specs.Log.{answers_in, calls_of, fresh_answers}
-use Rattle.fdb_history.specs.Strays.{is_drawn}
 use Rattle.fdb_history.specs.declared.chain.Issued.{Issued}
 use Rattle.fdb_history.specs.declared.fault.AuditFault.{AuditFault}
 use Rattle.fdb_history.specs.declared.fault.AuditFault.TheVariants as fault
@@ -17,7 +12,7 @@ use Rattle.fdb_audit.specs.WorkedOut.{plain}
 use Rattle.fdb_audit.specs.declared.reason.CallPlace.{CallPlace}
 use Rattle.fdb_audit.specs.declared.reason.Live.{Live}
 use Rattle.fdb_audit.specs.declared.reason.Reason.{Reason}
-use Rattle.fdb_audit.specs.declared.reason.Reason.TheVariants.{Behind, Twice, NotLive, NotRaised, NeverIssued, IssuedTo, OutOfTurn, NotGot, NotLogged, NotAbove}
+use Rattle.fdb_audit.specs.declared.reason.Reason.TheVariants.{Behind, Twice, NotLive, NotRaised, NotAbove}
 
 -- ---- who reported what
 
@@ -91,47 +86,6 @@ abbrev pub IsAnswered : Call → ℕ → Type 0
 IsAnswered call version =
     (issued : Issued) × (call.answer ≡ Answered issued) × (issued.version ≡ version)
 
--- a version was never issued
-abbrev pub IsNoEntry : List Issued → ℕ → Type 0
-IsNoEntry chain version =
-    (place : ℕ) (entry : Issued) → slice_get chain place ≡ Some entry → entry.version ≢ version
-
--- a version was issued to a client, at a place of the chain
-abbrev pub IsEntry : List Issued → ℕ → ℕ → ℕ → Type 0
-IsEntry chain client version place =
-    (entry : Issued) × (slice_get chain place ≡ Some entry) × (entry.proxy ≡ client)
-    × (entry.version ≡ version)
-
--- a client's version under a number
-abbrev pub version_under : List Issued → ℕ → ℕ → Option ℕ
-version_under chain client num =
-    option_map (λ entry. entry.version)
-    (find (λ entry. entry.proxy == client && (entry.num == num)) chain)
-
--- a client's next version, after some calls
-abbrev pub next_version : List Issued → ℕ → List Call → Option ℕ
-next_version chain client before =
-    version_under chain client (latest client (fresh_answers before) + 1)
-
--- a call was answered a version of its client, but not the next one
-pub record IsOutOfTurn (chain : List Issued) (client : ℕ) (before : List Call) (call : Call)
-    (version : ℕ) (due : Option ℕ) : Type 0 where
-  pub asked : IsAnswered call version
-  pub own : (place : ℕ) × IsEntry chain client version place
-  pub is : due ≡ next_version chain client before
-  pub other : due ≢ Some version
-
--- a call reported a version that none of the calls before it had got
-pub record IsNotGot (before : List Call) (call : Call) (version : ℕ) : Type 0 where
-  pub reported : (flag : Bool) × (call.answer ≡ Acked (plain version) flag flag)
-  pub never : (issued : Issued) → Contains (answers_in before) issued → issued.version ≢ version
-
--- a version was issued to a client, and none of its calls drew it
-abbrev pub IsNotLogged : List Issued → List ClientLog → ℕ → ℕ → Type 0
-IsNotLogged chain logs client version =
-    (place : ℕ) × (entry : Issued) × (slice_get chain place ≡ Some entry) × (entry.proxy ≡ client)
-    × (entry.version ≡ version) × (is_drawn (calls_of logs client) place entry ≡ false)
-
 -- a call was answered a version that is not above what its client had seen
 pub record IsLow (start : Record) (logs : List ClientLog) (call : Call) (version : ℕ)
     (seen : Live) : Type 0 where
@@ -151,17 +105,6 @@ IsReason start chain logs (fault.Wrong client call) (NotLive version position li
     StandsAt (λ before read. IsNotLive start logs read version position live) logs client call
 IsReason start chain logs (fault.Wrong client call) (NotRaised version position live) =
     StandsAt (λ before report. IsNotRaised start logs report version position live) logs client call
-IsReason start chain logs (fault.Stray client call) (NeverIssued version) =
-    StandsAt (λ before ask. IsAnswered ask version) logs client call × IsNoEntry chain version
-IsReason start chain logs (fault.Stray client call) (IssuedTo version owner) =
-    StandsAt (λ before ask. IsAnswered ask version) logs client call × (owner ≢ client)
-    × ((place : ℕ) × IsEntry chain owner version place)
-IsReason start chain logs (fault.Stray client call) (OutOfTurn version due) =
-    StandsAt (λ before ask. IsOutOfTurn chain client before ask version due) logs client call
-IsReason start chain logs (fault.Stray client call) (NotGot version) =
-    StandsAt (λ before report. IsNotGot before report version) logs client call
-IsReason start chain logs (fault.Stray client call) (NotLogged version) =
-    (call ≡ length (calls_of logs client)) × IsNotLogged chain logs client version
 IsReason start chain logs (fault.NotAbove client call) (NotAbove version seen) =
     StandsAt (λ before ask. IsLow start logs ask version seen) logs client call
 IsReason _ _ _ _ _ = ⊥

@@ -1,9 +1,9 @@
 -- How the reason of a fault is printed. (this product's own)
-use Rattle.std.specs.Prelude.{ℕ, List, ◌++◌, Option, None, Some, codes, decimal}
+use Rattle.std.specs.Prelude.{ℕ, List, [], ◌++◌, Option, None, Some, codes, decimal}
 use Rattle.fdb_audit.specs.declared.reason.CallPlace.{CallPlace}
 use Rattle.fdb_audit.specs.declared.reason.Live.{Live}
 use Rattle.fdb_audit.specs.declared.reason.Reason.{Reason}
-use Rattle.fdb_audit.specs.declared.reason.Reason.TheVariants.{Behind, Twice, NotLive, NotRaised, NeverIssued, IssuedTo, OutOfTurn, NotGot, NotLogged, NotAbove}
+use Rattle.fdb_audit.specs.declared.reason.Reason.TheVariants.{Behind, Twice, NotLive, NotRaised, NotAbove}
 
 -- a call: its client, and its place in the client's log
 abbrev pub place_text : CallPlace → List ℕ
@@ -20,11 +20,6 @@ by_text (Some by) =
 -- a live committed version
 abbrev pub live_text : Live → List ℕ
 live_text live = decimal live.version ++ by_text live.by
-
--- a client's next version, none where it has got all
-abbrev pub due_text : Option ℕ → List ℕ
-due_text None = codes ", but its client had got all its versions"
-due_text (Some due) = codes ", but its client's next version is " ++ decimal due
 
 -- the live committed version at a position
 abbrev pub position_text : ℕ → Live → List ℕ
@@ -46,14 +41,10 @@ reason_text (NotRaised version position live) =
     codes "it reported " ++ decimal version
     ++ codes " as seen, but the live committed version at position " ++ decimal position
     ++ codes " was " ++ live_text live
-reason_text (NeverIssued version) =
-    codes "it got " ++ decimal version ++ codes ", which was never issued"
-reason_text (IssuedTo version client) =
-    codes "it got " ++ decimal version ++ codes ", which was issued to client " ++ decimal client
-reason_text (OutOfTurn version due) = codes "it got " ++ decimal version ++ due_text due
-reason_text (NotGot version) =
-    codes "it reported " ++ decimal version ++ codes ", which its client had not got"
-reason_text (NotLogged version) =
-    decimal version ++ codes " was issued to the client, and none of its calls got it"
 reason_text (NotAbove version seen) =
     codes "it got " ++ decimal version ++ codes ", but its client had seen " ++ live_text seen
+
+-- a reason behind a fault, where one is told
+abbrev pub why_text : Option Reason → List ℕ
+why_text None = []
+why_text (Some reason) = codes ": " ++ reason_text reason

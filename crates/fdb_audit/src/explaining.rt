@@ -2,13 +2,12 @@
 
 ghost use Rattle.std.specs.Prelude.{◌≡◌, ◌≤◌, ◌^◌, ◌↔◌, IsTrue, Some, length};
 ghost use Rattle.fdb_history.specs.Audit.{IsFirstFault, Low};
-ghost use Rattle.fdb_history.specs.private.Auditing.{IsFirstOf};
 ghost use Rattle.fdb_history.specs.Faults.{IsClash, IsFirst, OutOfOrder, StandsAt, WronglyAnswered};
 ghost use Rattle.fdb_history.specs.Log.{answer_changes, calls_of};
 ghost use Rattle.fdb_audit.specs.Reasons.{IsExplained, IsLive, IsReason};
 ghost use Rattle.fdb_audit.specs.Trace.{Given};
 ghost use Rattle.fdb_audit.specs.WorkedOut.{mark_at};
-ghost use Rattle.fdb_audit.specs.private.Reasons.{ChangesAt, IsFirstAt, IsFirstPlace};
+ghost use Rattle.fdb_audit.specs.private.Reasons.{ChangesAt, IsFirstAt, IsFirstOf, IsFirstPlace};
 ghost use Rattle.fdb_audit.specs.private.Worked.{IsWorkedOutOf};
 
 use crate::reason::{CallPlace, Live, Reason};

@@ -4,10 +4,15 @@ ghost use Rattle.std.specs.Prelude.{◌≡◌, ◌≤◌, ◌++◌, ℕ, List, I
 ghost use Rattle.fdb_script.specs.Text.{line, verdict_text};
 ghost use Rattle.fdb_audit.specs.Judged.{IsJudgement, IsText, Refuses, fault_text};
 ghost use Rattle.fdb_audit.specs.Reading.{ReadsAs};
+ghost use Rattle.fdb_audit.specs.Text.{why_text};
+ghost use Rattle.fdb_audit.specs.Trace.{Given};
+ghost use Rattle.fdb_audit.specs.private.Worked.{IsWorkedOutOf};
 ghost use Rattle.fdb_audit.specs.declared.trace.TheConstants.{MAX_TRACE_CLIENTS};
 
 use crate::error::TraceError;
+use crate::explaining::explain;
 use crate::reading::read_trace;
+use crate::reason::Reason;
 use crate::trace::Trace;
 use crate::worked_out::{WorkedOut, work_out};
 use fdb_history::{AuditFault, History, audit};
@@ -59,7 +64,8 @@ fn judge_logs(
     worked: &WorkedOut,
     with_history: bool,
 ) -> Result<Judgement, TraceError>
-    requires { length worked.now.logs.items ≤ MAX_TRACE_CLIENTS }
+    requires few { length worked.now.logs.items ≤ MAX_TRACE_CLIENTS }
+    requires worked_out { (given : Given) × IsWorkedOutOf given worked.now }
     ensures ok { IfOk result (λ found. IsText worked.now.start worked.now.chain.items
         worked.now.logs.items with_history found.fault found.text.items) }
     ensures err { IfErr result (λ error. error ≡ TraceError.Memory) }
@@ -71,7 +77,7 @@ fn judge_logs(
         }
         Err(AuditFault::Memory) => Err(TraceError::Memory),
         Err(fault) => {
-            let text = faulted(alloc, fault)?;
+            let text = faulted(alloc, fault, explain(worked, fault))?;
             Ok(Judgement {
                 fault: Some(fault),
                 text,
@@ -95,15 +101,34 @@ fn passed(
     Ok(printed.into_bytes())
 }
 
-/// The text of a fault.
-fn faulted(alloc: Global, fault: AuditFault) -> Result<Vec<u8>, AllocError>
-    ensures { IfOk result
-        (λ text. text.items ≡ line (codes "audit fault: " ++ fault_text fault)) }
+/// The text of a fault, with why it stands where that is told.
+fn faulted(alloc: Global, fault: AuditFault, reason: Option<Reason>) -> Result<Vec<u8>, AllocError>
+    ensures { IfOk result (λ text. text.items
+        ≡ line (codes "audit fault: " ++ fault_text fault ++ why_text reason)) }
 {
     let mut printed = String::new(alloc);
     let line = FaultLine(fault);
-    writeln!(printed, "audit fault: {line}")?;
+    let why = Why(reason);
+    writeln!(printed, "audit fault: {line}{why}")?;
     Ok(printed.into_bytes())
+}
+
+/// A reason behind a fault, where one is told.
+#[derive(Clone, Copy)]
+struct Why(Option<Reason>);
+
+impl fmt::Display for Why {
+    ghost use Rattle.std.specs.Prelude.{Some};
+    ghost use Rattle.fdb_audit.specs.Text.{why_text};
+
+    ghost output = { λ why. Some (why_text why.0) };
+
+    fn fmt<W: fmt::Write>(&self, f: &mut fmt::Formatter<W>) -> fmt::Result {
+        match self.0 {
+            Some(reason) => write!(f, ": {reason}"),
+            None => Ok(()),
+        }
+    }
 }
 
 /// A fault, by its name and the call or the position that it names.

@@ -60,35 +60,6 @@ pub enum Reason {
         /// The live committed version there.
         live: Live,
     },
-    /// The call was answered a commit version that was never issued.
-    NeverIssued {
-        /// The version.
-        version: u64,
-    },
-    /// The call was answered a commit version that was issued to another client.
-    IssuedTo {
-        /// The version.
-        version: u64,
-        /// The client that it was issued to.
-        client: u32,
-    },
-    /// The call was answered a commit version of its client, but not its client's next one.
-    OutOfTurn {
-        /// The version.
-        version: u64,
-        /// The client's next version, none where it has got all.
-        due: Option<u64>,
-    },
-    /// The call reported a version that no call before it had got for its client.
-    NotGot {
-        /// The version.
-        version: u64,
-    },
-    /// A commit version was issued to the client, and none of its calls got it.
-    NotLogged {
-        /// The version.
-        version: u64,
-    },
     /// The call was answered a commit version that is not above what its client had seen.
     NotAbove {
         /// The version.
@@ -172,30 +143,8 @@ impl fmt::Display for Reason {
                 live,
             } => write!(
                 f,
-                "it reported {version} as seen, but the live committed version at position {position} was {live}"
-            ),
-            Reason::NeverIssued { version } => {
-                write!(f, "it got {version}, which was never issued")
-            }
-            Reason::IssuedTo { version, client } => {
-                write!(f, "it got {version}, which was issued to client {client}")
-            }
-            Reason::OutOfTurn { version, due } => match due {
-                Some(due) => write!(
-                    f,
-                    "it got {version}, but its client's next version is {due}"
-                ),
-                None => write!(
-                    f,
-                    "it got {version}, but its client had got all its versions"
-                ),
-            },
-            Reason::NotGot { version } => {
-                write!(f, "it reported {version}, which its client had not got")
-            }
-            Reason::NotLogged { version } => write!(
-                f,
-                "{version} was issued to the client, and none of its calls got it"
+                "it reported {version} as seen, but the live committed version at position \
+                 {position} was {live}"
             ),
             Reason::NotAbove { version, seen } => {
                 write!(f, "it got {version}, but its client had seen {seen}")

@@ -2,7 +2,7 @@
 use Rattle.std.proofs.Common.{◌≡◌, ℕ, zero, suc, ◌+◌, ◌<◌, ◌≤◌, List, [], ◌∷◌, length, take, None, Some, slice_get, get_or, refl, ap, sym, subst, ◌∙◌, inl, inr, arith}
 use Rattle.std.proofs.lemmas.Bool.{cases_eq, cases_lt}
 use Rattle.std.proofs.lemmas.Option.{none-some, same_Some}
-use Rattle.fdb_history.specs.private.Auditing.{IsFirstOf, NoneBefore}
+use Rattle.fdb_audit.specs.private.Reasons.{IsFirstOf, NoneBefore}
 use Rattle.fdb_history.specs.Faults.{StandsAt, IsFirst, ComesBefore}
 use Rattle.fdb_history.specs.Log.{calls_of, position_after_calls}
 use Rattle.fdb_history.specs.declared.log.Call.{Call}

@@ -1,5 +1,5 @@
 -- How the parts of a reason are found. (this product's own)
-use Rattle.std.specs.Prelude.{◌≡◌, ◌≢◌, ℕ, ◌==◌, ◌&&◌, nat_lt, not, Bool, false, IsTrue, List, length, Option, None, Some, slice_get}
+use Rattle.std.specs.Prelude.{◌≡◌, ◌≢◌, ℕ, ◌<◌, ◌==◌, ◌&&◌, nat_lt, not, Bool, false, IsTrue, List, length, take, Option, None, Some, slice_get}
 use Rattle.fdb_history.specs.Faults.{IsFirst, Nowhere}
 use Rattle.fdb_history.specs.Log.{answer_changes}
 use Rattle.fdb_history.specs.declared.log.Call.{Call}
@@ -24,6 +24,20 @@ is_unlike live (Answered issued) = false
 is_unlike live (Acked rec raised changed) = not changed && nat_lt live rec.version
 is_unlike live Told = false
 is_unlike live (Refused cause) = false
+
+-- the calls of a log before a place have no such fault
+abbrev pub NoneBefore : (List Call → Call → Type 0) → List Call → ℕ → Type 0
+NoneBefore Fault calls place =
+    (p : ℕ) (call : Call) → p < place → slice_get calls p ≡ Some call → Fault (take p calls) call
+    → ⊥
+
+-- the first of a log's calls that has a fault, if one has
+abbrev pub IsFirstOf : (List Call → Call → Type 0) → List Call → Option ℕ → Type 0
+IsFirstOf Fault calls None =
+    (p : ℕ) (call : Call) → slice_get calls p ≡ Some call → Fault (take p calls) call → ⊥
+IsFirstOf Fault calls (Some place) =
+    ((call : Call) × (slice_get calls place ≡ Some call) × Fault (take place calls) call)
+    × NoneBefore Fault calls place
 
 -- the first of some calls that came to a position, if one did
 abbrev pub IsFirstAt : ℕ → List Call → Option ℕ → Type 0

@@ -1,4 +1,4 @@
-use Rattle.fdb_history.specs.private.Auditing.{NoneBefore}
+use Rattle.fdb_audit.specs.private.Reasons.{NoneBefore}
 use Rattle.fdb_audit.specs.private.Reasons.{ChangesAt}
 use Rattle.fdb_audit.proofs.explaining.first_change_of.Given as goal
 

@@ -1,4 +1,4 @@
-use Rattle.std.proofs.Common.{◌++◌, codes, decimal, append_assoc, sym}
+use Rattle.std.proofs.Common.{codes, decimal}
 use Rattle.std.proofs.Output.{has_written_of_eq}
 use Rattle.fdb_audit.specs.Text.{live_text, place_text}
 use Rattle.fdb_audit.proofs.reasons.Texts.{four, six}
@@ -15,18 +15,6 @@ returns-in-Twice-clause-writes g c = λ plain ok.
 pub returns-in-NotRaised-clause-writes : goal.returns-in-NotRaised-clause-writes
 returns-in-NotRaised-clause-writes g c = λ plain ok.
     has_written_of_eq _ _ _ _ _ (rw c.in-NotRaised.is (six (codes "it reported ") (decimal c.in-NotRaised.version) (codes " as seen, but the live committed version at position ") (decimal c.in-NotRaised.position) (codes " was ") (live_text c.in-NotRaised.live))) (c.write-in-NotRaised.ensures.writes plain ok)
-
-pub returns-in-IssuedTo-clause-writes : goal.returns-in-IssuedTo-clause-writes
-returns-in-IssuedTo-clause-writes g c = λ plain ok.
-    has_written_of_eq _ _ _ _ _ (rw c.in-IssuedTo.is (four (codes "it got ") (decimal c.in-IssuedTo.version) (codes ", which was issued to client ") (decimal c.in-IssuedTo.client))) (c.write-in-IssuedTo.ensures.writes plain ok)
-
-pub returns-in-Some-clause-writes : goal.returns-in-Some-clause-writes
-returns-in-Some-clause-writes g c = λ plain ok.
-    has_written_of_eq _ _ _ _ _ (rw (c.in-OutOfTurn.is, c.in-Some.is) (sym (append_assoc (codes "it got ") (decimal c.in-OutOfTurn.version) (codes ", but its client's next version is " ++ decimal c.in-Some.due)))) (c.write-in-Some.ensures.writes plain ok)
-
-pub returns-in-NotLogged-clause-writes : goal.returns-in-NotLogged-clause-writes
-returns-in-NotLogged-clause-writes g c = λ plain ok.
-    has_written_of_eq _ _ _ _ _ (rw c.in-NotLogged.is) (c.write-in-NotLogged.ensures.writes plain ok)
 
 pub returns-in-NotAbove-clause-writes : goal.returns-in-NotAbove-clause-writes
 returns-in-NotAbove-clause-writes g c = λ plain ok.
