@@ -46,8 +46,11 @@ case "$name $1" in
     sleep ${SLOW-0}
     ;;
 "fdb_audit lib")
-    while [ "$(cat "$ROOM/aside")" != "$(printf 'low lib\nkept lib\nother lib')" ]
-    do sleep 0.1; done
+    # (for ten seconds at most)
+    for _ in 0 1 2 3 4 5 6 7 8 9; do
+        if [ "$(cat "$ROOM/aside")" = "$(printf 'low lib\nkept lib\nother lib')" ]; then break; fi
+        sleep 1
+    done
     ;;
 *"_cli run")
     echo "rt: running out/$name" >&2
