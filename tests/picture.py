@@ -316,3 +316,37 @@ def large(_program):
     yield "its time", None if took < SECONDS else f"{took:.1f} seconds"
     yield "its size", None if len(ran.out) < BYTES else f"{len(ran.out)} bytes"
     yield "its labels", None if labels == 0 else f"there are {labels}"
+
+
+LOGS = f"{EXAMPLES}/logs"
+TOLD = (
+    b"audit ok events 2 raised 1 versions 2\n"
+    b"history 0 client 0 call 2 report 2100 unlocked none raised\n"
+    b"history 1 client 1 call 1 read 2100 unlocked none\n"
+)
+BEHIND = (
+    b"audit fault: Order 1 1: it got 100, but by its call 0 its client had seen 200, "
+    b"which client 0 reported by its call 1\n"
+)
+
+
+def logs(_program):
+    """The pages of logs that fdb_audit judges have each call once, the learns, and the fault."""
+    for name, text, calls, concerned in (
+        ("told", TOLD, ["0-0", "0-1", "0-2", "1-0", "1-1"], []),
+        ("stale", BEHIND, ["0-0", "0-1", "1-0", "1-1"], ["1-1"]),
+    ):
+        ran = pictured(text, "--logs", f"{LOGS}/{name}.json")
+        written = ran.out.decode()
+        found = sorted(re.findall(r'id="call-([0-9-]+)"', written))
+        yield f"{name}: its calls", None if found == calls else f"{found}; it said {ran.err!r}"
+        arrows = written.count('marker-end="url(#tip)"')
+        yield f"{name}: its learn", None if arrows == 1 else f"{arrows} arrows"
+        links = re.findall(r'href="#call-([0-9-]+)"', written)
+        yield f"{name}: its fault", None if links == concerned else f"it names {links}"
+    ran = pictured(BEHIND, "--logs", f"{LOGS}/told.json")
+    yield "the fault of other logs", None if ran.status == DONE else f"it said {ran.err!r}"
+    ran = pictured(TOLD, "--logs", f"{LOGS}/stale.json")
+    yield "the audit of other logs", refusal_fault(ran, "BadAudit 1")
+    ran = pictured(TOLD, "--logs", f"{EXAMPLES}/first.json")
+    yield "a script for logs", refusal_fault(ran, "BadLogs 0")

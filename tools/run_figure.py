@@ -98,7 +98,8 @@ def words(call):
     for name, form in FURTHER.items():
         text += form.format(said[name]) if said.get(name) else ""
     place = f"command {call.place}" if "place" in said else "once it is over"
-    text += f".\nRound {call.round}, {place}; call {call.number} of the client's log"
+    place = "C" if call.round is None else f"Round {call.round}, {place}; c"
+    text += f".\n{place}all {call.number} of the client's log"
     text += f"; event {call.event}." if "event" in said else "."
     return text[0].upper() + text[1:]
 
@@ -236,16 +237,18 @@ class Figure:
         """An arrow from each tell to where it is learnt, or the part of it that is in this row."""
         found = []
         left, right = LEFT, round(LEFT + self.columns * self.pitch, 1)
-        for call in (it for it in calls if it.kind in ("tell", "learn")):
-            tell, learn = (call, call.learn) if call.kind == "tell" else (call.tell, call)
+        ends = [(call, learn, learn) for call in calls for learn in call.learns]
+        ends += [(call.tell, call, call.tell) for call in calls if call.kind == "learn"]
+        for tell, learn, other in ends:
             is_whole = learn.column // self.columns == tell.column // self.columns
-            if call.kind == "learn" and is_whole:
+            if other is tell and is_whole:
                 continue
             start, end = (self.x(tell), self.y(tell.client)), (self.x(learn), self.y(learn.client))
             middle = (start[1] + end[1]) / 2
             if not is_whole:
-                start, end = (start, (right, middle)) if call is tell else ((left, middle), end)
-            look = call.kind if tell.is_news else f"{call.kind} known"
+                start, end = (start, (right, middle)) if other is learn else ((left, middle), end)
+            kind = "tell" if other is learn else "learn"
+            look = kind if learn.is_news else f"{kind} known"
             way = "M{} {}L{} {}".format(*start, *end)
             head = {} if end[0] == right else {"marker_end": "url(#tip)"}
             found.append(element("path", class_=look, d=way, **head))

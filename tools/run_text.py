@@ -79,6 +79,7 @@ class Text:
     def __init__(self, lines):
         self.lanes, self.told, self.last = {}, [], (0, -1, -1)
         self.events, self.listed, self.audited, self.fault = None, 0, False, None
+        self.begin()
         for self.number, self.line in enumerate(lines, 1):
             self.take()
         if not self.audited and not self.fault:
@@ -87,6 +88,9 @@ class Text:
         if 0 < self.listed < len(self.events):
             self.refuse("Cut", f"the history ends after {self.listed} of {len(self.events)} events")
         self.concerned = self.calls_of_fault() if self.fault else []
+
+    def begin(self):
+        """Before its lines a text has no call."""
 
     def refuse(self, name, what):
         raise Refused(f"{name} {self.number}: {what}: {self.line[:80]!r}")
@@ -119,18 +123,23 @@ class Text:
         log = self.lanes.setdefault(client, [])
         call = Call(kind=kind, client=client, number=len(log), needs=log[-1:], **said)
         call.seen = max(said.get("position", 0), log[-1].seen if log else 0)
-        call.column = None
+        call.column, call.learns = None, []
         log.append(call)
         return call
 
     def end_round(self):
         """What clients were told in a round they learn when it is over, by a call for each tell."""
         for tell in self.told:
-            before = [it.seen for it in self.lanes.get(tell.to, [])[-1:]]
-            learn = self.call("learn", tell.to, round=tell.round, position=tell.position, tell=tell)
-            learn.needs, tell.learn = [*learn.needs, tell], learn
-            tell.is_news = tell.position > max(before, default=0)
+            self.learn(tell.to, tell, round=tell.round, position=tell.position)
         self.told = []
+
+    def learn(self, client, tell, **said):
+        """Adds a call by which a client learns what was seen at this one."""
+        before = [it.seen for it in self.lanes.get(client, [])[-1:]]
+        is_news = said["position"] > max(before, default=0)
+        learn = self.call("learn", client, tell=tell, is_news=is_news, **said)
+        learn.needs.append(tell)
+        tell.learns.append(learn)
 
     def end_replies(self):
         """Puts the events in the order of the history, which the replies determine."""
@@ -147,7 +156,7 @@ class Text:
     def calls(self, *kinds):
         """The calls of these kinds, or all, round after round."""
         found = [it for log in self.lanes.values() for it in log if not kinds or it.kind in kinds]
-        return sorted(found, key=lambda it: (it.round, it.client, it.number))
+        return sorted(found, key=lambda it: (it.round or 0, it.client, it.number))
 
     def audit(self, **counts):
         if self.audited:
@@ -190,6 +199,77 @@ class Text:
         if not found and not (name == "Stray" and number == len(log)):
             self.refuse("BadFault", "the text has no such call")
         return found
+
+
+class Logs(Text):
+    """Logs that fdb_audit reads, at the positions that it works out, with what it prints."""
+
+    def __init__(self, logs, lines):
+        self.logs, self.versions = logs["clients"], [it for it, _ in logs["versions"]]
+        self.start, self.known = logs["start"], [[] for _ in logs["clients"]]
+        super().__init__(lines)
+
+    def begin(self):
+        if len(self.logs) > MOST_CLIENTS:
+            raise Refused(f"BadLogs 0: there are more than {MOST_CLIENTS} clients")
+        moved = True
+        while moved:
+            moved = any([self.see(client) for client in range(len(self.logs))])
+        if any(len(it) < len(steps) for it, steps in zip(self.known, self.logs)):
+            raise Refused("BadLogs 0: calls wait for one another")
+        self.marks = sorted({it for client in range(len(self.logs)) for it in self.raised(client)})
+        self.place()
+        key = lambda it: (it.position, it.kind not in CHANGES, it.client, it.number)
+        self.events = sorted(self.calls("read", "not raised", "raised"), key=key)
+        for number, event in enumerate(self.events):
+            event.event = number
+
+    def see(self, client):
+        """Works out what a client had seen after its next calls, as far as that is known."""
+        known, steps, count = self.known[client], self.logs[client], len(self.known[client])
+        for kind, value, *call in steps[count:]:
+            if kind == "learn" and len(self.known[value]) <= call[0]:
+                break
+            shown = self.known[value][call[0]] if kind == "learn" else value * (kind != "ask")
+            known.append(max(shown, known[-1] if known else self.start))
+        return len(known) > count
+
+    def before(self, client, number):
+        return self.known[client][number - 1] if number else self.start
+
+    def raised(self, client):
+        reports = [(at, it[1]) for at, it in enumerate(self.logs[client]) if it[0] == "report"]
+        return [version for at, version in reports if version > self.before(client, at)]
+
+    def place(self):
+        """Adds all calls, each at its position, a learn once what it learns from is there."""
+        left = [list(enumerate(steps)) for steps in self.logs]
+        while any(left):
+            for client, steps in enumerate(left):
+                while steps and self.is_ready(steps[0][1]):
+                    self.step(client, *steps.pop(0))
+
+    def is_ready(self, step):
+        return step[0] != "learn" or len(self.lanes.get(step[1], [])) > step[2]
+
+    def step(self, client, number, step):
+        kind, value = step[:2]
+        seen = value if kind == "read" else self.known[client][number]
+        said = {"round": None, "position": sum(mark <= seen for mark in self.marks)}
+        if kind == "learn":
+            self.learn(client, self.lanes[value][step[2]], **said)
+        elif kind == "read":
+            self.call("read", client, version=value, lock="unlocked", metadata="none", **said)
+        elif kind == "report":
+            change = "raised" if value > self.before(client, number) else "not raised"
+            self.call(change, client, version=value, **said)
+        else:
+            at = self.versions.index(value) if value in self.versions else len(self.versions)
+            prev = self.versions[at - 1] if at else 0
+            self.call("fresh", client, version=value, prev=prev, ordinal=at, **said)
+
+    def reply(self, do, rest, **where):
+        self.refuse("BadLine", "logs have no replies")
 
 
 FORMS = (
