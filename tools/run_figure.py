@@ -159,7 +159,7 @@ class Figure:
     def note_states(self):
         """Notes for each call the position and the live committed version then."""
         first = (it.version for it in self.order if it.kind in ("fresh", "read", "locked"))
-        at, live = 0, next(first, "unknown")
+        at, live = 0, next(first, "unknown") if self.text.start is None else self.text.start
         for call in self.order:
             if call.kind in CHANGES:
                 at, live = call.position, call.version if call.kind == "raised" else live

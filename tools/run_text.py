@@ -76,6 +76,9 @@ def parts_of(found):
 class Text:
     """What a text says: the calls of each client, the order of the events, and maybe a fault."""
 
+    # The live committed version before the first call, which logs say.
+    start = None
+
     def __init__(self, lines):
         self.lanes, self.told, self.last = {}, [], (0, -1, -1)
         self.events, self.listed, self.audited, self.fault = None, 0, False, None
