@@ -106,6 +106,12 @@ class Model:
         kinds = (self.order, self.clash, self.wrong, self.stray, self.not_above)
         return next((it for kind in kinds for it in kind()), None)
 
+    def all_found(self):
+        """All faults of the register, or the first of another kind."""
+        faults = [it for kind in (self.order, self.clash, self.wrong) for it in kind()]
+        first = self.found()
+        return faults or ([] if first is None else [first])
+
     def order(self):
         for client, place, (kind, value, *_) in self.steps():
             before = self.before(client, place)
@@ -165,6 +171,21 @@ def fault_of_logs(logs):
         line = ran.err.removeprefix(b"fdb_audit: ").rstrip(b"\n")
         fault = None if ran.out.startswith(line) else f"standard output says {ran.out[:100]!r}"
     return fault
+
+
+def fault_of_list(logs):
+    """What is wrong with the list of all faults of some logs, or None."""
+    ran, alone = judged(logs, "--all"), judged(logs)
+    fault = fault_of(ran, wanted(logs))
+    faults = Model(logs).all_found()
+    if fault or not faults:
+        return fault or fault_of(ran, alone)
+    lines = ran.out.decode().splitlines(keepends=True)
+    if [line.removeprefix("audit fault: ").split(":")[0] for line in lines] != faults:
+        return f"it lists {lines}, not {faults}"
+    if alone.out.decode() != lines[0]:
+        return f"the first is {lines[0]!r}, and alone {alone.out!r}"
+    return None
 
 
 # ---- a search over all positions and flags
@@ -271,6 +292,7 @@ def random_traces(_program):
     for number in range(150):
         logs = random_logs(rng, rng.randint(1, 6), rng.randint(0, 30))
         yield f"logs {number}: {json.dumps(logs)}", fault_of_logs(logs)
+        yield f"all faults of logs {number}: {json.dumps(logs)}", fault_of_list(logs)
 
 
 def searched(_program):
@@ -323,6 +345,18 @@ def refused(_program):
         yield name, fault_of(run([PROGRAM], text), Ran(1, b"", line))
 
 
+# Client 1 has seen 200 and reads 100, which was live before, and 150, which never was.
+THREE_FAULTS = b"""{"start":100,"versions":[[200,0]],"clients":[[["ask",200],["report",200]],
+[["learn",0,1],["read",100],["read",150]]]}"""
+SEEN = b"but by its call 0 its client had seen 200, which client 0 reported by its call 1"
+THREE_LINES = (
+    b"audit fault: Order 1 1: it got 100, " + SEEN + b"\n",
+    b"audit fault: Order 1 2: it got 150, " + SEEN + b"\n",
+    b"audit fault: Wrong 1 2: it got 150, but the live committed version at position 0 was 100, "
+    b"the start\n",
+)
+
+
 def command_line(_program):
     """Arguments, files and the history, and each status."""
     told, stale = f"{EXAMPLES}/logs/told.json", f"{EXAMPLES}/logs/stale.json"
@@ -336,6 +370,16 @@ def command_line(_program):
     yield "of the input", fault_of(run([PROGRAM], read(told)), Ran(0, ok, b""))
     line = b"fdb_audit: audit fault: Order 1 1\n"
     yield "a stale read", fault_of(run([PROGRAM, stale]), Ran(FAULTY, None, line))
+    all_three = Ran(FAULTY, b"".join(THREE_LINES), line)
+    yield "three faults", fault_of(run([PROGRAM, "--all"], THREE_FAULTS), all_three)
+    yield "three faults, with no history", fault_of(
+        run([PROGRAM, "--history", "--all"], THREE_FAULTS), all_three
+    )
+    yield "the first of three", fault_of(
+        run([PROGRAM], THREE_FAULTS), Ran(FAULTY, THREE_LINES[0], line)
+    )
+    both = run([PROGRAM, told, "--all", "--history"])
+    yield "all faults of none", fault_of(both, Ran(0, ok + history, b""))
     words = Ran(2, b"", b"fdb_audit: words refused\n")
     yield "two files", fault_of(run([PROGRAM, told, stale]), words)
     yield "an option", fault_of(run([PROGRAM, "--proxies", "2"]), words)

@@ -5,3 +5,5 @@ pub mod Found
 pub mod Clashes
 pub mod Texts
 pub mod FirstCalls
+pub mod Changers
+pub mod Findings

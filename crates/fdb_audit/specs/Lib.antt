@@ -4,6 +4,7 @@ pub mod Circular
 pub mod WorkedOut
 pub mod Laws
 pub mod Reasons
+pub mod Findings
 pub mod Text
 pub mod Judged
 pub mod Arguments

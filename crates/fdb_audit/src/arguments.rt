@@ -6,9 +6,10 @@ ghost use Rattle.clap.specs.Words.{IsParsedFrom, Text, app_of, found_of, kind_of
 ghost use Rattle.clap.specs.Words.{rows_of, rule_of};
 ghost use Rattle.clap.specs.declared.builder.command.Command.{Command};
 ghost use Rattle.fdb_audit.specs.Arguments.{AreWrong, command as command_read, faults};
-ghost use Rattle.fdb_audit.specs.Arguments.{history_argument, logs_argument, logs_named};
+ghost use Rattle.fdb_audit.specs.Arguments.{flag_argument, logs_argument, logs_named};
 ghost use Rattle.fdb_audit.specs.private.Asked.{Ask, AskAudit};
 
+use crate::judging::Wanted;
 use clap::{Arg, ArgAction, ArgMatches, Command, Error, value_parser};
 use fdb_command::{ArgumentsFault, help_of};
 use std::alloc::{AllocError, Global};
@@ -38,8 +39,8 @@ pub(crate) enum Invocation<'a> {
 pub(crate) struct Arguments<'a> {
     /// The file that has the logs; where there is none, standard input has them.
     pub(crate) logs: Option<&'a str>,
-    /// Whether the history is written too.
-    pub(crate) history: bool,
+    /// What is written besides the verdict.
+    pub(crate) wanted: Wanted,
 }
 
 /// What the arguments ask for, the program's own name left out.
@@ -72,7 +73,10 @@ fn arguments_of<'a>(matches: &ArgMatches<'a>) -> Arguments<'a>
 {
     Arguments {
         logs: matches.get_str("logs"),
-        history: matches.get_flag("history"),
+        wanted: Wanted {
+            history: matches.get_flag("history"),
+            all: matches.get_flag("all"),
+        },
     }
 }
 
@@ -85,7 +89,12 @@ fn command<'a>(alloc: Global) -> Result<Command<'a>, AllocError>
         .after_help(AFTER_HELP)
         .no_binary_name(true)
         .arg(logs_argument(alloc))?
-        .arg(history_argument(alloc))
+        .arg(flag_argument(alloc, "history", "Write the history too"))?
+        .arg(flag_argument(
+            alloc,
+            "all",
+            "Write all faults of the register, and not the first alone",
+        ))
 }
 
 /// The argument LOGS.
@@ -98,14 +107,14 @@ fn logs_argument<'a>(alloc: Global) -> Arg<'a>
         .help("The file that has the logs; standard input, if left out")
 }
 
-/// The flag --history. Its parser is written out, so that the contract knows its values.
-fn history_argument<'a>(alloc: Global) -> Arg<'a>
-    ensures rule { rule_of result ≡ history_argument }
+/// A flag, by its name. Its parser is written out, so that the contract knows its values.
+fn flag_argument<'a>(alloc: Global, name: &'a str, help: &'a str) -> Arg<'a>
+    ensures rule { rule_of result ≡ flag_argument name.now }
     ensures own { result.global ≡ false }
 {
-    Arg::new(alloc, "history")
-        .long("history")
+    Arg::new(alloc, name)
+        .long(name)
         .action(ArgAction::SetTrue)
         .value_parser(value_parser!(bool))
-        .help("Write the history too")
+        .help(help)
 }

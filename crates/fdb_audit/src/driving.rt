@@ -229,10 +229,10 @@ fn audit_arguments<R: Files, I: Read, O: Write>(
     out: &mut O,
 ) -> Result<(), Fault>
     ensures ok { OnOk result (Audited (option_map (λ path. path.now) arguments.entry.logs)
-        (I.remaining input.old) None (O.contents out.old) (O.contents out.new)) }
+        arguments.entry.wanted (I.remaining input.old) None (O.contents out.old) (O.contents out.new)) }
     ensures faulty { IfErr result (λ fault. (found : AuditFault) → fault ≡ Fault.Audit found
         → Audited (option_map (λ path. path.now) arguments.entry.logs)
-        (I.remaining input.old) (Some found) (O.contents out.old) (O.contents out.new)) }
+        arguments.entry.wanted (I.remaining input.old) (Some found) (O.contents out.old) (O.contents out.new)) }
     ensures refused { IfErr result (λ fault. (error : TraceError) → fault ≡ Fault.Logs error
         → (bytes : List _)
         × MayBeRead (option_map (λ path. path.now) arguments.entry.logs) (I.remaining input.old)
@@ -245,7 +245,7 @@ fn audit_arguments<R: Files, I: Read, O: Write>(
         (I.remaining input.old) (I.remaining input.new) }
 {
     let bytes = input_bytes(rt, alloc, arguments.logs, input, MAX_TRACE_BYTES)?;
-    let found = judge(alloc, &bytes, arguments.history)?;
+    let found = judge(alloc, &bytes, arguments.wanted)?;
     write_whole(out, &found.text)?;
     if out.flush().is_err() {
         return Err(Fault::Writing);

@@ -1,42 +1,53 @@
-//! Why a fault of worked-out logs stands.
+//! Why faults of worked-out logs stand.
 
-ghost use Rattle.std.specs.Prelude.{◌≡◌, ◌≤◌, ◌^◌, ◌↔◌, IsTrue, Some, length};
+ghost use Rattle.std.specs.Prelude.{◌≡◌, ◌+◌, ◌<◌, ◌≤◌, ◌++◌, ◌∷◌, ◌^◌, [], IfOk, List, length, take};
 ghost use Rattle.fdb_history.specs.Audit.{IsFirstFault, Low};
-ghost use Rattle.fdb_history.specs.Faults.{IsClash, IsFirst, OutOfOrder, StandsAt, WronglyAnswered};
-ghost use Rattle.fdb_history.specs.Log.{answer_changes, calls_of};
+ghost use Rattle.fdb_history.specs.Log.{calls_of};
+ghost use Rattle.fdb_history.specs.declared.log.Call.{Call};
 ghost use Rattle.fdb_audit.specs.Reasons.{IsExplained, IsLive, IsReason};
 ghost use Rattle.fdb_audit.specs.Trace.{Given};
 ghost use Rattle.fdb_audit.specs.WorkedOut.{mark_at};
-ghost use Rattle.fdb_audit.specs.private.Reasons.{ChangesAt, IsFirstAt, IsFirstOf, IsFirstPlace};
+ghost use Rattle.fdb_audit.specs.private.Findings.{AreChangers, IsReached, IsReasonFor};
 ghost use Rattle.fdb_audit.specs.private.Worked.{IsWorkedOutOf};
 
-use crate::reason::{CallPlace, Live, Reason};
+use crate::changers::{Changers, changers_of};
+use crate::reason::{Live, Reason};
 use crate::worked_out::WorkedOut;
 use fdb_history::{AuditFault, Call, CallAnswer, ClientLog};
+use std::alloc::{AllocError, Global};
 
 /// Why a fault of worked-out logs stands, where it is the first one. There is no reason of a gap,
 /// which no such logs have, nor of memory that runs out, and none is told yet of a stray answer.
 ///
-/// It takes time in proportion to the calls, and no memory.
-pub fn explain(worked: &WorkedOut, fault: AuditFault) -> Option<Reason>
+/// It takes time in proportion to the calls, and memory for two calls for each position.
+pub fn explain(
+    alloc: Global,
+    worked: &WorkedOut,
+    fault: AuditFault,
+) -> Result<Option<Reason>, AllocError>
     requires few { length worked.now.logs.items ≤ 2 ^ 32 }
     requires worked_out { (given : Given) × IsWorkedOutOf given worked.now }
     requires stands { IsFirstFault worked.now.start worked.now.chain.items
         worked.now.logs.items fault }
-    ensures { IsExplained worked.now.start worked.now.chain.items worked.now.logs.items
-        fault result }
+    ensures { IfOk result (IsExplained worked.now.start worked.now.chain.items
+        worked.now.logs.items fault) }
 {
-    match fault {
-        AuditFault::Order { client, call } => Some(behind(worked, client, call)),
-        AuditFault::Clash { position } => Some(twice(worked, position)),
-        AuditFault::Wrong { client, call } => Some(not_live(worked, client, call)),
-        AuditFault::NotAbove { client, call } => Some(not_above(worked, client, call)),
+    let changers = changers_of(alloc, &worked.logs, worked.marks.len())?;
+    let reason = match fault {
+        AuditFault::Order { client, call } => {
+            let reached = reached_by(calls_before(&worked.logs, client, call));
+            behind(worked, &changers, reached, client, call)
+        }
+        AuditFault::Clash { position } => twice(worked, &changers, position),
+        AuditFault::Wrong { client, call } => not_live(worked, &changers, client, call),
+        AuditFault::NotAbove { client, call } => Some(not_above(worked, &changers, client, call)),
         AuditFault::Stray { .. } | AuditFault::Gap { .. } | AuditFault::Memory => None,
-    }
+    };
+    Ok(reason)
 }
 
 /// The calls of a client.
-fn calls_of(logs: &[ClientLog], client: u32) -> &[Call]
+pub(crate) fn calls_of(logs: &[ClientLog], client: u32) -> &[Call]
     ensures { result.now ≡ calls_of logs.now client }
 {
     match logs.get(client as usize) {
@@ -45,83 +56,44 @@ fn calls_of(logs: &[ClientLog], client: u32) -> &[Call]
     }
 }
 
-/// Whether an answer says that its call changed the register.
-fn answer_changes(answer: &CallAnswer) -> bool
-    ensures { result ≡ answer_changes answer.now }
+/// A client's calls before one of them.
+fn calls_before(logs: &[ClientLog], client: u32, call: u64) -> &[Call]
+    requires { call < length (calls_of logs.now client) }
+    ensures { result.now ≡ take call (calls_of logs.now client) }
 {
-    matches!(answer, CallAnswer::Acked { changed: true, .. })
+    &calls_of(logs, client)[..call as usize]
 }
 
-/// The first of some calls that came to a position.
-fn first_at(calls: &[Call], position: u64) -> Option<u64>
-    ensures { IsFirstAt position calls.now result }
-{
-    for (place, call) in calls.iter().enumerate() {
-        if call.position == position {
-            return Some(place as u64);
-        }
-    }
-    None
-}
-
-/// The first call that changed the register at a position, besides this one.
-fn first_change(logs: &[ClientLog], position: u64, besides: Option<CallPlace>) -> Option<CallPlace>
-    requires { length logs.now ≤ 2 ^ 32 }
-    ensures { IsFirstPlace (λ client call.
-        StandsAt (ChangesAt position besides client) logs.now client call) result }
-{
-    for (client, log) in logs.iter().enumerate() {
-        let calls = log.calls.as_slice();
-        if let Some(call) = first_change_of(client as u32, calls, position, besides) {
-            return Some(CallPlace {
-                client: client as u32,
-                call,
-            });
-        }
-    }
-    None
-}
-
-/// The first of a client's calls that did.
-fn first_change_of(
-    client: u32,
-    calls: &[Call],
+/// The greatest position that a client had come to, and the first call that came to it.
+#[derive(Clone, Copy)]
+pub(crate) struct Reached {
     position: u64,
-    besides: Option<CallPlace>,
-) -> Option<u64>
-    ensures { IsFirstOf (ChangesAt position besides client) calls.now result }
+    call: u64,
+}
+
+/// That after one call more, of those before it.
+pub(crate) fn reached_after(before: Option<Reached>, place: u64, call: &Call) -> Option<Reached>
+    ensures { (calls : List Call) → length calls ≡ place → IsReached calls before
+        → IsReached (calls ++ call.now ∷ []) result }
 {
+    match before {
+        Some(reached) if call.position <= reached.position => before,
+        _ => Some(Reached {
+            position: call.position,
+            call: place,
+        }),
+    }
+}
+
+/// That of some calls.
+fn reached_by(calls: &[Call]) -> Option<Reached>
+    ensures { IsReached calls.now result }
+{
+    let mut reached = None;
     for (place, call) in calls.iter().enumerate() {
-        if changes_at(client, &calls[..place], call, position, besides) {
-            return Some(place as u64);
-        }
+        reached = reached_after(reached, place as u64, call);
     }
-    None
-}
-
-/// Whether a call, after those before it, changed the register at a position, and is not this one.
-fn changes_at(
-    client: u32,
-    before: &[Call],
-    call: &Call,
-    position: u64,
-    besides: Option<CallPlace>,
-) -> bool
-    ensures { IsTrue result ↔ ChangesAt position besides client before.now call.now }
-{
-    call.position == position
-        && answer_changes(&call.answer)
-        && !is_at(besides, client, before.len() as u64)
-}
-
-/// Whether a place is that of a client's call.
-fn is_at(place: Option<CallPlace>, client: u32, call: u64) -> bool
-    ensures { IsTrue result ↔ place ≡ Some (record { client = client; call = call }) }
-{
-    match place {
-        Some(place) => place.client == client && place.call == call,
-        None => false,
-    }
+    reached
 }
 
 /// The live committed version at a position.
@@ -138,9 +110,10 @@ fn version_at(worked: &WorkedOut, position: u64) -> u64
 }
 
 /// The live committed version at a position, and who reported it.
-fn live_at(worked: &WorkedOut, position: u64) -> Live
-    requires few { length worked.now.logs.items ≤ 2 ^ 32 }
+fn live_at(worked: &WorkedOut, changers: &[Changers], position: u64) -> Live
     requires worked_out { (given : Given) × IsWorkedOutOf given worked.now }
+    requires count { length changers.now ≡ length worked.now.marks.items }
+    requires changers { AreChangers worked.now.logs.items changers.now }
     requires within { position ≤ length worked.now.marks.items }
     ensures { IsLive worked.now.start worked.now.logs.items position result }
 {
@@ -148,85 +121,102 @@ fn live_at(worked: &WorkedOut, position: u64) -> Live
     let by = if position == 0 {
         None
     } else {
-        first_change(&worked.logs, position, None)
+        changers[(position - 1) as usize].first
     };
     Live { version, by }
 }
 
-/// Why a call is the first that is out of order.
-fn behind(worked: &WorkedOut, client: u32, call: u64) -> Reason
-    requires few { length worked.now.logs.items ≤ 2 ^ 32 }
+/// Why a call is out of order, if it is. Its client had come so far before it.
+pub(crate) fn behind(
+    worked: &WorkedOut,
+    changers: &[Changers],
+    reached: Option<Reached>,
+    client: u32,
+    call: u64,
+) -> Option<Reason>
     requires worked_out { (given : Given) × IsWorkedOutOf given worked.now }
-    requires stands { IsFirst (OutOfOrder worked.now.logs.items) client call }
-    ensures { IsReason worked.now.start worked.now.chain.items worked.now.logs.items
+    requires count { length changers.now ≡ length worked.now.marks.items }
+    requires changers { AreChangers worked.now.logs.items changers.now }
+    requires within { call < length (calls_of worked.now.logs.items client) }
+    requires reached { IsReached (take call (calls_of worked.now.logs.items client)) reached }
+    ensures { IsReasonFor worked.now.start worked.now.chain.items worked.now.logs.items
         (AuditFault.Order client call) result }
 {
-    let calls = calls_of(&worked.logs, client);
-    let read = &calls[call as usize];
-    let CallAnswer::Version { rec, .. } = &read.answer else {
-        unreachable!();
-    };
-    let Some(earlier) = first_at(&calls[..call as usize], read.asked) else {
-        unreachable!();
-    };
-    Reason::Behind {
-        version: rec.version,
-        seen: live_at(worked, read.asked),
-        call: earlier,
+    let read = &calls_of(&worked.logs, client)[call as usize];
+    match &read.answer {
+        CallAnswer::Version { rec, .. } if read.position < read.asked => Some(Reason::Behind {
+            version: rec.version,
+            seen: live_at(worked, changers, read.asked),
+            call: reached?.call,
+        }),
+        _ => None,
     }
 }
 
-/// Why two changes have a position.
-fn twice(worked: &WorkedOut, position: u64) -> Reason
-    requires few { length worked.now.logs.items ≤ 2 ^ 32 }
+/// Why two changes have a position, if they do.
+pub(crate) fn twice(worked: &WorkedOut, changers: &[Changers], position: u64) -> Option<Reason>
     requires worked_out { (given : Given) × IsWorkedOutOf given worked.now }
-    requires stands { IsClash worked.now.logs.items position }
-    ensures { IsReason worked.now.start worked.now.chain.items worked.now.logs.items
+    requires count { length changers.now ≡ length worked.now.marks.items }
+    requires changers { AreChangers worked.now.logs.items changers.now }
+    ensures { IsReasonFor worked.now.start worked.now.chain.items worked.now.logs.items
         (AuditFault.Clash position) result }
 {
-    let Some(first) = first_change(&worked.logs, position, None) else {
-        unreachable!();
-    };
-    let Some(second) = first_change(&worked.logs, position, Some(first)) else {
-        unreachable!();
-    };
-    Reason::Twice {
-        version: version_at(worked, position),
-        first,
-        second,
+    if position == 0 {
+        return None;
     }
+    let place = (position - 1) as usize;
+    if place >= changers.len() {
+        return None;
+    }
+    let Changers { first, second } = changers[place];
+    Some(Reason::Twice {
+        version: version_at(worked, position),
+        first: first?,
+        second: second?,
+    })
 }
 
-/// Why a call is wrongly answered.
-fn not_live(worked: &WorkedOut, client: u32, call: u64) -> Reason
-    requires few { length worked.now.logs.items ≤ 2 ^ 32 }
+/// Why a call is wrongly answered, if it is.
+pub(crate) fn not_live(
+    worked: &WorkedOut,
+    changers: &[Changers],
+    client: u32,
+    call: u64,
+) -> Option<Reason>
     requires worked_out { (given : Given) × IsWorkedOutOf given worked.now }
-    requires stands { WronglyAnswered worked.now.start worked.now.logs.items client call }
-    ensures { IsReason worked.now.start worked.now.chain.items worked.now.logs.items
+    requires count { length changers.now ≡ length worked.now.marks.items }
+    requires changers { AreChangers worked.now.logs.items changers.now }
+    requires within { call < length (calls_of worked.now.logs.items client) }
+    ensures { IsReasonFor worked.now.start worked.now.chain.items worked.now.logs.items
         (AuditFault.Wrong client call) result }
 {
     let judged = &calls_of(&worked.logs, client)[call as usize];
     let position = judged.position;
-    let live = live_at(worked, position);
+    let live = live_at(worked, changers, position);
     match &judged.answer {
-        CallAnswer::Version { rec, .. } => Reason::NotLive {
+        CallAnswer::Version { rec, .. } if rec.version != live.version => Some(Reason::NotLive {
             version: rec.version,
             position,
             live,
-        },
-        CallAnswer::Acked { rec, .. } => Reason::NotRaised {
+        }),
+        CallAnswer::Acked {
+            rec,
+            changed: false,
+            ..
+        } if live.version < rec.version => Some(Reason::NotRaised {
             version: rec.version,
             position,
             live,
-        },
-        _ => unreachable!(),
+        }),
+        _ => None,
     }
 }
 
 /// Why a commit version is not above what its client had seen.
-fn not_above(worked: &WorkedOut, client: u32, call: u64) -> Reason
-    requires few { length worked.now.logs.items ≤ 2 ^ 32 }
+fn not_above(worked: &WorkedOut, changers: &[Changers], client: u32, call: u64) -> Reason
     requires worked_out { (given : Given) × IsWorkedOutOf given worked.now }
+    requires count { length changers.now ≡ length worked.now.marks.items }
+    requires changers { AreChangers worked.now.logs.items changers.now }
     requires stands { Low worked.now.start worked.now.logs.items client call }
     ensures { IsReason worked.now.start worked.now.chain.items worked.now.logs.items
         (AuditFault.NotAbove client call) result }
@@ -237,6 +227,6 @@ fn not_above(worked: &WorkedOut, client: u32, call: u64) -> Reason
     };
     Reason::NotAbove {
         version: issued.version,
-        seen: live_at(worked, ask.asked),
+        seen: live_at(worked, changers, ask.asked),
     }
 }

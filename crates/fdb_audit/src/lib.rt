@@ -8,11 +8,14 @@
 
 mod arguments;
 mod chain;
+mod changers;
 mod driving;
 mod error;
 mod explaining;
+mod finding;
 mod judging;
 pub mod laws;
+mod listing;
 mod reading;
 mod reason;
 mod seen;
@@ -23,7 +26,9 @@ pub use driving::{Fault, drive};
 pub use error::TraceError;
 pub use explaining::explain;
 pub use fdb_command::command_line;
-pub use judging::{Judgement, judge};
+pub use finding::Finding;
+pub use judging::{Judgement, Wanted, judge};
+pub use listing::register_faults;
 pub use reading::read_trace;
 pub use reason::{CallPlace, Live, Reason};
 pub use trace::{Drawn, MAX_TRACE_BYTES, MAX_TRACE_CLIENTS, Step, Trace};

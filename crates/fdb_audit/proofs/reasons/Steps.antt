@@ -160,16 +160,33 @@ module _ {given : Given} {seen : ℕ → ℕ → ℕ} {marks : List ℕ} {chain 
             ]
       ]
 
-  -- the call before one that is asked beyond the start came to that position, unless it went back
+  -- a client that went back had seen as much before
+  stays : (client place : ℕ) (step : Step) → IsStep given.clients client place step → (made client place step).position < (made client place step).asked → seen client place ≡ before client place
+  stays client place (Read version) there back =
+      let grows = worked.saw.greatest client place (Read version) there in
+      elim (cases_lt version (before client place)) [
+        | inl low ↦ omega arith
+        | inr high ↦ let most = position_of-in_order marks (before client place) version high in absurd (omega (arith, most, back))
+      ]
+  stays client place (Ask version) there back =
+      let low = position_of-in_order marks (before client place) (seen client place) (omega (arith, worked.saw.greatest client place (Ask version) there)) in
+      absurd (omega (arith, low, back))
+  stays client place (Report version) there back =
+      let low = position_of-in_order marks (before client place) (seen client place) (omega (arith, worked.saw.greatest client place (Report version) there)) in
+      absurd (omega (arith, low, back))
+  stays client place (Learn from call) there back =
+      let low = position_of-in_order marks (before client place) (seen client place) (omega (arith, worked.saw.greatest client place (Learn from call) there)) in
+      absurd (omega (arith, low, back))
+
+  -- A call before one that is asked beyond the start came to that position.
   pub came_to : (client place : ℕ) (call : Call) → slice_get (calls_of logs client) place ≡ Some call → 1 ≤ call.asked
-      → ((p : ℕ) → p < place → OutOfOrder logs client p → ⊥)
       → (earlier : ℕ) × (other : Call) × (earlier < place) × (slice_get (calls_of logs client) earlier ≡ Some other) × (other.position ≡ call.asked)
-  came_to client zero call there beyond order =
+  came_to client zero call there beyond =
       let own = step_of client zero call there in
       let asked : call.asked ≡ position_of marks given.start = ap (λ (c : Call). c.asked) own.2 in
       let none = position_of-start given.start marks (marks-above worked) in
       absurd (omega arith)
-  came_to client (suc place) call there beyond order =
+  came_to client (suc place) call there beyond =
       let calls = calls_of logs client in
       let within = slice_get_within calls (suc place) call there in
       let last = get_or calls place call in
@@ -177,6 +194,43 @@ module _ {given : Given} {seen : ℕ → ℕ → ℕ} {marks : List ℕ} {chain 
       let own = step_of client (suc place) call there in
       let its = step_of client place last last_there in
       let asked : call.asked ≡ position_of marks (seen client place) = ap (λ (c : Call). c.asked) own.2 in
-      let forth = comes_to client place its.0 its.1 (λ back. order place (omega arith) (last, last_there, inr (inl (subst (λ (c : Call). c.position < c.asked) (sym its.2) back)))) in
-      let at : last.position ≡ position_of marks (seen client place) = ap (λ (c : Call). c.position) its.2 ∙ forth in
-      (place, last, omega arith, last_there, omega arith)
+      let last_asked : last.asked ≡ position_of marks (before client place) = ap (λ (c : Call). c.asked) its.2 in
+      let P : Call → Type 0 = λ c. c.position < c.asked in
+      elim (cases_lt last.position last.asked) [
+        | inr forth ↦
+            let at : last.position ≡ position_of marks (seen client place) =
+            ap (λ (c : Call). c.position) its.2 ∙ comes_to client place its.0 its.1 (λ back. let low = subst P (sym its.2) back in omega (arith, low, forth)) in
+            (place, last, omega arith, last_there, omega (arith, at, asked))
+        | inl back ↦
+            let same = stays client place its.0 its.1 (subst P its.2 back) in
+            let at : position_of marks (seen client place) ≡ position_of marks (before client place) = ap (position_of marks) same in
+            let came = came_to client place last last_there (omega (arith, asked, last_asked, at, beyond)) in
+            (came.0, came.1, omega (arith, came.2), came.3, omega (arith, came.4, asked, last_asked, at))
+      ]
+
+  -- and none before it came further
+  pub earlier-below : (client place p : ℕ) (call other : Call) → slice_get (calls_of logs client) place ≡ Some call → slice_get (calls_of logs client) p ≡ Some other → p < place → other.position ≤ call.asked
+  earlier-below client zero p call other there here below = absurd (omega arith)
+  earlier-below client (suc place) p call other there here below =
+      let calls = calls_of logs client in
+      let within = slice_get_within calls (suc place) call there in
+      let last = get_or calls place call in
+      let last_there : slice_get calls place ≡ Some last = slice_get-get_or calls place call (omega arith) in
+      let own = step_of client (suc place) call there in
+      let its = step_of client place last last_there in
+      let asked : call.asked ≡ position_of marks (seen client place) = ap (λ (c : Call). c.asked) own.2 in
+      let grows = worked.saw.greatest client place its.0 its.1 in
+      elim (cases_lt p place) [
+        | inl earlier ↦
+            let low = earlier-below client place p last other last_there here earlier in
+            let last_asked : last.asked ≡ position_of marks (before client place) = ap (λ (c : Call). c.asked) its.2 in
+            let most = position_of-in_order marks (before client place) (seen client place) (omega (arith, grows)) in
+            omega (arith, low, last_asked, most, asked)
+        | inr high ↦
+            let at : p ≡ place = omega arith in
+            let this : other ≡ last = same_Some other last (sym here ∙ (ap (slice_get calls) at ∙ last_there)) in
+            let position : last.position ≡ position_of marks (answered_at (seen client place) its.0) = ap (λ (c : Call). c.position) its.2 in
+            let most = position_of-in_order marks (answered_at (seen client place) its.0) (seen client place) (answered-seen client place its.0 grows) in
+            let same = ap (λ (c : Call). c.position) this in
+            omega (arith, position, most, asked, same)
+      ]
