@@ -7,3 +7,5 @@ pub mod Texts
 pub mod FirstCalls
 pub mod Changers
 pub mod Findings
+pub mod Reached
+pub mod Calls

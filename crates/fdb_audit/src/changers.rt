@@ -1,9 +1,8 @@
 //! Who changed the register of worked-out logs.
 
-ghost use Rattle.std.specs.Prelude.{◌≡◌, ◌+◌, ◌-◌, ◌<◌, ◌≤◌, ◌^◌, IfOk, List, None, length};
-ghost use Rattle.std.specs.Prelude.{slice_get, slice_set};
+ghost use Rattle.std.specs.Prelude.{◌≡◌, ◌≤◌, ◌^◌, IfOk, List, length};
 ghost use Rattle.fdb_history.specs.Log.{answer_changes, calls_of};
-ghost use Rattle.fdb_audit.specs.private.Findings.{AreChangers, AreChangersBefore, added};
+ghost use Rattle.fdb_audit.specs.private.Findings.{AreChangers, AreChangersBefore, added, noted};
 ghost use Rattle.fdb_history.specs.declared.log.ClientLog.{ClientLog};
 
 use crate::reason::CallPlace;

@@ -143,14 +143,17 @@ pub(crate) fn behind(
         (AuditFault.Order client call) result }
 {
     let read = &calls_of(&worked.logs, client)[call as usize];
-    match &read.answer {
-        CallAnswer::Version { rec, .. } if read.position < read.asked => Some(Reason::Behind {
-            version: rec.version,
-            seen: live_at(worked, changers, read.asked),
-            call: reached?.call,
-        }),
-        _ => None,
+    let CallAnswer::Version { rec, .. } = &read.answer else {
+        return None;
+    };
+    if read.asked <= read.position {
+        return None;
     }
+    Some(Reason::Behind {
+        version: rec.version,
+        seen: live_at(worked, changers, read.asked),
+        call: reached?.call,
+    })
 }
 
 /// Why two changes have a position, if they do.
@@ -194,20 +197,28 @@ pub(crate) fn not_live(
     let position = judged.position;
     let live = live_at(worked, changers, position);
     match &judged.answer {
-        CallAnswer::Version { rec, .. } if rec.version != live.version => Some(Reason::NotLive {
-            version: rec.version,
-            position,
-            live,
-        }),
-        CallAnswer::Acked {
-            rec,
-            changed: false,
-            ..
-        } if live.version < rec.version => Some(Reason::NotRaised {
-            version: rec.version,
-            position,
-            live,
-        }),
+        CallAnswer::Version { rec, .. } => {
+            let version = rec.version;
+            if version == live.version {
+                return None;
+            }
+            Some(Reason::NotLive {
+                version,
+                position,
+                live,
+            })
+        }
+        CallAnswer::Acked { rec, changed, .. } => {
+            let version = rec.version;
+            if *changed || version <= live.version {
+                return None;
+            }
+            Some(Reason::NotRaised {
+                version,
+                position,
+                live,
+            })
+        }
         _ => None,
     }
 }

@@ -1,6 +1,7 @@
 -- Who changed the register, call by call.
-use Rattle.std.proofs.Common.{◌≡◌, ◌≢◌, ℕ, zero, suc, ◌<◌, ◌≤◌, ◌⊎◌, IsTrue, List, [], ◌∷◌, length, take, Option, None, Some, slice_get, slice_set, refl, ap, sym, subst, ◌∙◌, inl, inr, arith}
+use Rattle.std.proofs.Common.{◌≡◌, ◌≢◌, ℕ, zero, suc, ◌+◌, ◌<◌, ◌≤◌, ◌⊎◌, IsTrue, List, [], ◌∷◌, length, take, Option, None, Some, slice_get, slice_set, refl, ap, sym, subst, ◌∙◌, inl, inr, arith}
 use Rattle.std.proofs.lemmas.Bool.{cases_eq, cases_lt}
+use Rattle.std.proofs.lemmas.List.{length-set}
 use Rattle.std.proofs.lemmas.Option.{none-some, same_Some, slice_get_within}
 use Rattle.fdb_history.specs.Faults.{ComesBefore, IsFirst, Nowhere, StandsAt}
 use Rattle.fdb_history.specs.Log.{answer_changes, calls_of}
@@ -13,17 +14,26 @@ use Rattle.fdb_audit.specs.declared.reason.CallPlace.{CallPlace}
 use Rattle.fdb_audit.proofs.reasons.FirstCalls.{calls-past}
 use Rattle.fdb_audit.proofs.reasons.Found.{before-length}
 
+-- a table keeps its length
+pub noted-length : (table : List Changers) (position : ℕ) (by : CallPlace) → length (noted table position by) ≡ length table
+noted-length table zero by = refl
+noted-length table (suc place) by = at_place (slice_get table place) refl
+  where
+    at_place : (old : Option Changers) → slice_get table place ≡ old → length (noted table (suc place) by) ≡ length table
+    at_place None is = rw is refl
+    at_place (Some old) is = rw is (length-set table place (added old by))
+
 -- ---- places in order
 
 -- what comes before the place after this one comes before this one, or is this one
-pub one_later : (c p client place : ℕ) → ComesBefore c p client (suc place) → ComesBefore c p client place ⊎ ((c ≡ client) × (p ≡ place))
+pub one_later : (c p client place : ℕ) → ComesBefore c p client (place + 1) → ComesBefore c p client place ⊎ ((c ≡ client) × (p ≡ place))
 one_later c p client place (inl below) = inl (inl below)
 one_later c p client place (inr (same, before)) = elim (cases_lt p place) [
   | inl earlier ↦ inl (inr (same, earlier))
   | inr high ↦ inr (same, omega arith)
 ]
 
-pub further : (c p client place : ℕ) → ComesBefore c p client place → ComesBefore c p client (suc place)
+pub further : (c p client place : ℕ) → ComesBefore c p client place → ComesBefore c p client (place + 1)
 further c p client place (inl below) = inl below
 further c p client place (inr (same, before)) = inr (same, omega arith)
 
@@ -46,21 +56,21 @@ same_first P Q to from (Some x) first =
     record { stands = to x.client x.call first.stands; none_before = λ c p comes stands. first.none_before c p comes (from c p stands) }
 
 -- the first of more places is the first there was
-kept_first : (S : ℕ → ℕ → Type 0) (client place : ℕ) (x : CallPlace) → IsFirst (Before client place S) x.client x.call → IsFirst (Before client (suc place) S) x.client x.call
+kept_first : (S : ℕ → ℕ → Type 0) (client place : ℕ) (x : CallPlace) → IsFirst (Before client place S) x.client x.call → IsFirst (Before client (place + 1) S) x.client x.call
 kept_first S client place x first =
     record {
       stands = (further x.client x.call client place first.stands.0, first.stands.1);
       none_before = λ c p comes both. none c p comes both (one_later c p client place both.0);
     }
   where
-    none : (c p : ℕ) → ComesBefore c p x.client x.call → Before client (suc place) S c p → ComesBefore c p client place ⊎ ((c ≡ client) × (p ≡ place)) → ⊥
+    none : (c p : ℕ) → ComesBefore c p x.client x.call → Before client (place + 1) S c p → ComesBefore c p client place ⊎ ((c ≡ client) × (p ≡ place)) → ⊥
     none c p comes both (inl before) = first.none_before c p comes (before, both.1)
     none c p comes both (inr (same, also)) =
         not_both c p x.client x.call comes
         (subst (λ (n : ℕ). ComesBefore x.client x.call c n) (sym also) (subst (λ (n : ℕ). ComesBefore x.client x.call n place) (sym same) first.stands.0))
 
 -- the one that is found, where there was none
-found_first : (S : ℕ → ℕ → Type 0) (client place : ℕ) → Nowhere (Before client place S) → S client place → IsFirst (Before client (suc place) S) client place
+found_first : (S : ℕ → ℕ → Type 0) (client place : ℕ) → Nowhere (Before client place S) → S client place → IsFirst (Before client (place + 1) S) client place
 found_first S client place none stands =
     record { stands = (inr (refl, omega arith), stands); none_before = λ c p comes both. none c p (comes, both.1) }
 
@@ -114,9 +124,9 @@ module _ (logs : List ClientLog) where
 
   -- one that changed nothing there
   passed : (client place position : ℕ) (changers : Changers) → (ChangedBesides logs position None client place → ⊥)
-      → IsChangersBefore logs client place position changers → IsChangersBefore logs client (suc place) position changers
+      → IsChangersBefore logs client place position changers → IsChangersBefore logs client (place + 1) position changers
   passed client place position changers never was =
-      moved client place client (suc place) position changers (λ c p stands comes. further c p client place comes) (λ c p stands comes. back c p stands (one_later c p client place comes)) was
+      moved client place client (place + 1) position changers (λ c p stands comes. further c p client place comes) (λ c p stands comes. back c p stands (one_later c p client place comes)) was
     where
       back : (c p : ℕ) → ChangedBesides logs position None c p → ComesBefore c p client place ⊎ ((c ≡ client) × (p ≡ place)) → ComesBefore c p client place
       back c p stands (inl before) = before
@@ -126,7 +136,7 @@ module _ (logs : List ClientLog) where
   -- one that changed it
   joined : (client place position : ℕ) (first second : Option CallPlace) → ChangedBesides logs position None client place
       → IsChangersBefore logs client place position (record { first = first; second = second })
-      → IsChangersBefore logs client (suc place) position (added (record { first = first; second = second }) (record { client = client; call = place }))
+      → IsChangersBefore logs client (place + 1) position (added (record { first = first; second = second }) (record { client = client; call = place }))
   joined client place position None (Some other) stands was = absurd (none-some other (sym (was.alone refl)))
   joined client place position None None stands was =
       record {
@@ -135,7 +145,7 @@ module _ (logs : List ClientLog) where
         alone = λ is. absurd (none-some _ (sym is));
       }
     where
-      none : (one : CallPlace) → record { client = client; call = place } ≡ one → (c p : ℕ) → Before client (suc place) (ChangedBesides logs position (Some one)) c p
+      none : (one : CallPlace) → record { client = client; call = place } ≡ one → (c p : ℕ) → Before client (place + 1) (ChangedBesides logs position (Some one)) c p
           → ComesBefore c p client place ⊎ ((c ≡ client) × (p ≡ place)) → ⊥
       none one this c p both (inl before) = was.first c p (before, any_change position (Some one) c p both.1)
       none one this c p both (inr (same, also)) =
@@ -146,7 +156,7 @@ module _ (logs : List ClientLog) where
         first = kept_first (ChangedBesides logs position None) client place first was.first;
         second = λ one is.
             let this = same_Some first one is in
-            subst (λ (o : CallPlace). IsFirst (Before client (suc place) (ChangedBesides logs position (Some o))) client place) this
+            subst (λ (o : CallPlace). IsFirst (Before client (place + 1) (ChangedBesides logs position (Some o))) client place) this
                 (found_first (ChangedBesides logs position (Some first)) client place (was.second first refl) (besides_other position first client place was.first.stands.0 stands));
         alone = λ is. absurd (none-some _ (sym is));
       }
@@ -201,16 +211,19 @@ module _ (logs : List ClientLog) where
 
   -- a call that changed nothing
   pub unchanged : (client place : ℕ) (call : Call) (table : List Changers) → slice_get (calls_of logs client) place ≡ Some call → (IsTrue (answer_changes call.answer) → ⊥)
-      → AreChangersBefore logs client place table → AreChangersBefore logs client (suc place) table
+      → AreChangersBefore logs client place table → AreChangersBefore logs client (place + 1) table
   unchanged client place call table at never were k changers there =
       passed client place (suc k) changers (λ stands. never (subst (λ (o : Call). IsTrue (answer_changes o.answer)) (same_Some _ _ (sym stands.1 ∙ at)) stands.2.1)) (were k changers there)
 
   -- a call that changed it
   pub changed_by : (client place : ℕ) (call : Call) (table : List Changers) → slice_get (calls_of logs client) place ≡ Some call → IsTrue (answer_changes call.answer)
-      → AreChangersBefore logs client place table → AreChangersBefore logs client (suc place) (noted table call.position (record { client = client; call = place }))
+      → AreChangersBefore logs client place table → AreChangersBefore logs client (place + 1) (noted table call.position (record { client = client; call = place }))
   changed_by client place call table at changes were = by call.position refl
     where
-      elsewhere : (k : ℕ) (changers : Changers) → (call.position ≡ suc k → ⊥) → slice_get table k ≡ Some changers → IsChangersBefore logs client (suc place) (suc k) changers
+      at_change : (j : ℕ) → call.position ≡ suc j → ChangedBesides logs (suc j) None client place
+      at_change j is = (call, at, (is, changes, λ e. none-some _ e))
+
+      elsewhere : (k : ℕ) (changers : Changers) → (call.position ≡ suc k → ⊥) → slice_get table k ≡ Some changers → IsChangersBefore logs client (place + 1) (suc k) changers
       elsewhere k changers apart there =
           passed client place (suc k) changers (λ stands. apart (sym (ap (λ (o : Call). o.position) (same_Some _ _ (sym stands.1 ∙ at))) ∙ stands.2.0)) (were k changers there)
 
@@ -227,11 +240,11 @@ module _ (logs : List ClientLog) where
       set_there (x ∷ l) (suc j) zero new apart = refl
       set_there (x ∷ l) (suc j) (suc k) new apart = set_there l j k new (λ e. apart (ap suc e))
 
-      by : (position : ℕ) → call.position ≡ position → AreChangersBefore logs client (suc place) (noted table position (record { client = client; call = place }))
+      by : (position : ℕ) → call.position ≡ position → AreChangersBefore logs client (place + 1) (noted table position (record { client = client; call = place }))
       by zero is k changers there = elsewhere k changers (λ e. omega arith) there
-      by (suc j) is = at_place (slice_get table j) refl
+      by (suc j) is k changers there = at_place (slice_get table j) refl k changers there
         where
-          at_place : (old : Option Changers) → slice_get table j ≡ old → AreChangersBefore logs client (suc place) (noted table (suc j) (record { client = client; call = place }))
+          at_place : (old : Option Changers) → slice_get table j ≡ old → AreChangersBefore logs client (place + 1) (noted table (suc j) (record { client = client; call = place }))
           at_place None none k changers there =
               let same : slice_get table k ≡ Some changers = rw none at there in
               elsewhere k changers (λ e. let z : j ≡ k = omega arith in none-some changers (sym none ∙ ap (slice_get table) z ∙ same)) same
@@ -241,11 +254,8 @@ module _ (logs : List ClientLog) where
                 | inl same ↦
                     let here : slice_get (slice_set table j (added old (record { client = client; call = place }))) j ≡ Some changers = ap (slice_get (slice_set table j (added old (record { client = client; call = place })))) same ∙ set in
                     let new = set_here table j (added old (record { client = client; call = place })) old changers some here in
-                    subst (λ (n : ℕ). IsChangersBefore logs client (suc place) (suc n) changers) same
-                        (subst (IsChangersBefore logs client (suc place) (suc j)) new
+                    subst (λ (n : ℕ). IsChangersBefore logs client (place + 1) (suc n) changers) same
+                        (subst (IsChangersBefore logs client (place + 1) (suc j)) new
                         (joined client place (suc j) old.first old.second (at_change j is) (were j old some)))
                 | inr apart ↦ elsewhere k changers (λ e. apart (omega arith)) (sym (set_there table j k _ apart) ∙ set)
               ]
-
-          at_change : (j : ℕ) → call.position ≡ suc j → ChangedBesides logs (suc j) None client place
-          at_change j is = (call, at, (is, changes, λ e. none-some _ e))

@@ -92,7 +92,7 @@ module _ (start : Record) (chain : List Issued) (logs : List ClientLog) where
 
   -- ---- calls that are out of order
 
-  order_to : (client call : ℕ) (f : AuditFault) → Precedes f (Order client call) → Precedes f (Order client (suc call))
+  order_to : (client call : ℕ) (f : AuditFault) → Precedes f (Order client call) → Precedes f (Order client (call + 1))
   order_to client call (Order c p) comes = further c p client call comes
   order_to client call (Clash position) comes = absurd (omega arith)
   order_to client call (Gap position) comes = absurd (omega arith)
@@ -101,7 +101,7 @@ module _ (start : Record) (chain : List Issued) (logs : List ClientLog) where
   order_to client call (NotAbove c p) comes = absurd (omega arith)
   order_to client call Memory comes = absurd (omega arith)
 
-  order_from : (client call : ℕ) (f : AuditFault) → Precedes f (Order client (suc call)) → Precedes f (Order client call) ⊎ (f ≡ Order client call)
+  order_from : (client call : ℕ) (f : AuditFault) → Precedes f (Order client (call + 1)) → Precedes f (Order client call) ⊎ (f ≡ Order client call)
   order_from client call (Order c p) comes = elim (one_later c p client call comes) [
     | inl before ↦ inl before
     | inr same ↦ inr (ap (λ n. Order n p) same.0 ∙ ap (λ n. Order client n) same.1)
@@ -114,13 +114,13 @@ module _ (start : Record) (chain : List Issued) (logs : List ClientLog) where
   order_from client call Memory comes = absurd (omega arith)
 
   pub order_stands : (client call : ℕ) (found : List Finding) (one : Finding) → one.fault ≡ Order client call → IsReason start chain logs one.fault one.reason
-      → Found (Order client call) found → Found (Order client (suc call)) (found ++ one ∷ [])
+      → Found (Order client call) found → Found (Order client (call + 1)) (found ++ one ∷ [])
   order_stands client call found one is reason was =
-      one_more (Order client call) (Order client (suc call)) found one is reason (inr (refl, omega arith)) (order_to client call) (λ f stands. order_from client call f) was
+      one_more (Order client call) (Order client (call + 1)) found one is reason (inr (refl, omega arith)) (order_to client call) (λ f stands. order_from client call f) was
 
-  pub order_passes : (client call : ℕ) (found : List Finding) → (IsFault start logs (Order client call) → ⊥) → Found (Order client call) found → Found (Order client (suc call)) found
+  pub order_passes : (client call : ℕ) (found : List Finding) → (IsFault start logs (Order client call) → ⊥) → Found (Order client call) found → Found (Order client (call + 1)) found
   order_passes client call found never was =
-      none_between (Order client call) (Order client (suc call)) found (order_to client call) (λ f stands comes. only f stands (order_from client call f comes)) was
+      none_between (Order client call) (Order client (call + 1)) found (order_to client call) (λ f stands comes. only f stands (order_from client call f comes)) was
     where
       only : (f : AuditFault) → IsFault start logs f → Precedes f (Order client call) ⊎ (f ≡ Order client call) → Precedes f (Order client call)
       only f stands (inl before) = before
@@ -171,7 +171,7 @@ module _ (start : Record) (chain : List Issued) (logs : List ClientLog) where
       from (NotAbove c p) stands comes = absurd (omega arith)
       from Memory stands comes = absurd (omega arith)
 
-  clash_to : (position : ℕ) (f : AuditFault) → Precedes f (Clash position) → Precedes f (Clash (suc position))
+  clash_to : (position : ℕ) (f : AuditFault) → Precedes f (Clash position) → Precedes f (Clash (position + 1))
   clash_to position (Order c p) comes = omega arith
   clash_to position (Clash other) comes = omega arith
   clash_to position (Gap other) comes = absurd (omega arith)
@@ -180,7 +180,7 @@ module _ (start : Record) (chain : List Issued) (logs : List ClientLog) where
   clash_to position (NotAbove c p) comes = absurd (omega arith)
   clash_to position Memory comes = absurd (omega arith)
 
-  clash_from : (position : ℕ) (f : AuditFault) → Precedes f (Clash (suc position)) → Precedes f (Clash position) ⊎ (f ≡ Clash position)
+  clash_from : (position : ℕ) (f : AuditFault) → Precedes f (Clash (position + 1)) → Precedes f (Clash position) ⊎ (f ≡ Clash position)
   clash_from position (Order c p) comes = inl (omega arith)
   clash_from position (Clash other) comes = elim (cases_lt other position) [
     | inl below ↦ inl below
@@ -193,13 +193,13 @@ module _ (start : Record) (chain : List Issued) (logs : List ClientLog) where
   clash_from position Memory comes = absurd (omega arith)
 
   pub clash_stands : (position : ℕ) (found : List Finding) (one : Finding) → one.fault ≡ Clash position → IsReason start chain logs one.fault one.reason
-      → Found (Clash position) found → Found (Clash (suc position)) (found ++ one ∷ [])
+      → Found (Clash position) found → Found (Clash (position + 1)) (found ++ one ∷ [])
   clash_stands position found one is reason was =
-      one_more (Clash position) (Clash (suc position)) found one is reason (omega arith) (clash_to position) (λ f stands. clash_from position f) was
+      one_more (Clash position) (Clash (position + 1)) found one is reason (omega arith) (clash_to position) (λ f stands. clash_from position f) was
 
-  pub clash_passes : (position : ℕ) (found : List Finding) → (IsClash logs position → ⊥) → Found (Clash position) found → Found (Clash (suc position)) found
+  pub clash_passes : (position : ℕ) (found : List Finding) → (IsClash logs position → ⊥) → Found (Clash position) found → Found (Clash (position + 1)) found
   clash_passes position found never was =
-      none_between (Clash position) (Clash (suc position)) found (clash_to position) (λ f stands comes. only f stands (clash_from position f comes)) was
+      none_between (Clash position) (Clash (position + 1)) found (clash_to position) (λ f stands comes. only f stands (clash_from position f comes)) was
     where
       only : (f : AuditFault) → IsFault start logs f → Precedes f (Clash position) ⊎ (f ≡ Clash position) → Precedes f (Clash position)
       only f stands (inl before) = before
@@ -229,7 +229,7 @@ module _ (start : Record) (chain : List Issued) (logs : List ClientLog) where
       from (NotAbove c p) stands comes = absurd (omega arith)
       from Memory stands comes = absurd (omega arith)
 
-  wrong_to : (client call : ℕ) (f : AuditFault) → Precedes f (Wrong client call) → Precedes f (Wrong client (suc call))
+  wrong_to : (client call : ℕ) (f : AuditFault) → Precedes f (Wrong client call) → Precedes f (Wrong client (call + 1))
   wrong_to client call (Order c p) comes = omega arith
   wrong_to client call (Clash position) comes = omega arith
   wrong_to client call (Gap position) comes = omega arith
@@ -238,7 +238,7 @@ module _ (start : Record) (chain : List Issued) (logs : List ClientLog) where
   wrong_to client call (NotAbove c p) comes = absurd (omega arith)
   wrong_to client call Memory comes = absurd (omega arith)
 
-  wrong_from : (client call : ℕ) (f : AuditFault) → Precedes f (Wrong client (suc call)) → Precedes f (Wrong client call) ⊎ (f ≡ Wrong client call)
+  wrong_from : (client call : ℕ) (f : AuditFault) → Precedes f (Wrong client (call + 1)) → Precedes f (Wrong client call) ⊎ (f ≡ Wrong client call)
   wrong_from client call (Order c p) comes = inl (omega arith)
   wrong_from client call (Clash position) comes = inl (omega arith)
   wrong_from client call (Gap position) comes = inl (omega arith)
@@ -251,13 +251,13 @@ module _ (start : Record) (chain : List Issued) (logs : List ClientLog) where
   wrong_from client call Memory comes = absurd (omega arith)
 
   pub wrong_stands : (client call : ℕ) (found : List Finding) (one : Finding) → one.fault ≡ Wrong client call → IsReason start chain logs one.fault one.reason
-      → Found (Wrong client call) found → Found (Wrong client (suc call)) (found ++ one ∷ [])
+      → Found (Wrong client call) found → Found (Wrong client (call + 1)) (found ++ one ∷ [])
   wrong_stands client call found one is reason was =
-      one_more (Wrong client call) (Wrong client (suc call)) found one is reason (inr (refl, omega arith)) (wrong_to client call) (λ f stands. wrong_from client call f) was
+      one_more (Wrong client call) (Wrong client (call + 1)) found one is reason (inr (refl, omega arith)) (wrong_to client call) (λ f stands. wrong_from client call f) was
 
-  pub wrong_passes : (client call : ℕ) (found : List Finding) → (IsFault start logs (Wrong client call) → ⊥) → Found (Wrong client call) found → Found (Wrong client (suc call)) found
+  pub wrong_passes : (client call : ℕ) (found : List Finding) → (IsFault start logs (Wrong client call) → ⊥) → Found (Wrong client call) found → Found (Wrong client (call + 1)) found
   wrong_passes client call found never was =
-      none_between (Wrong client call) (Wrong client (suc call)) found (wrong_to client call) (λ f stands comes. only f stands (wrong_from client call f comes)) was
+      none_between (Wrong client call) (Wrong client (call + 1)) found (wrong_to client call) (λ f stands comes. only f stands (wrong_from client call f comes)) was
     where
       only : (f : AuditFault) → IsFault start logs f → Precedes f (Wrong client call) ⊎ (f ≡ Wrong client call) → Precedes f (Wrong client call)
       only f stands (inl before) = before

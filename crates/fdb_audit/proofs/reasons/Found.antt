@@ -15,6 +15,10 @@ the_call calls all place call other same there is =
     let read = slice_get_read all _ place call refl (slice_get_within all place other there) (subst (λ l. call ≡ get_or l place call) same is) in
     same_Some other call (sym there ∙ read)
 
+-- and it stands there
+pub call_at : (calls all : List Call) (place : ℕ) (call : Call) → calls ≡ all → place < length all → call ≡ get_or calls place call → slice_get all place ≡ Some call
+call_at calls all place call same within is = slice_get_read all _ place call refl within (subst (λ l. call ≡ get_or l place call) same is)
+
 -- the calls before it
 pub before-length : (calls all : List Call) (place : ℕ) (other : Call) → calls ≡ all → slice_get all place ≡ Some other → place ≡ length (take place calls)
 before-length calls all place other same there =
@@ -48,12 +52,19 @@ slice_get-take (call ∷ calls) (suc count) zero below = refl
 slice_get-take (call ∷ calls) (suc count) (suc place) below = slice_get-take calls count place (omega arith)
 
 -- whether an answer is a read, and whether it is a report
-abbrev is_read : CallAnswer → Bool
+abbrev pub is_read : CallAnswer → Bool
 is_read (Version rec limits locked_out) = true
 is_read (Acked rec raised changed) = false
 is_read (Answered issued) = false
 is_read Told = false
 is_read (Refused cause) = false
+
+abbrev pub is_report : CallAnswer → Bool
+is_report (Acked rec raised changed) = true
+is_report (Version rec limits locked_out) = false
+is_report (Answered issued) = false
+is_report Told = false
+is_report (Refused cause) = false
 
 -- a read is no report
 pub read_apart : (answer : CallAnswer) (version : ℕ) (rec : Record) (raised changed : Bool) → answer ≡ Version (plain version) [] false → answer ≡ Acked rec raised changed → ⊥

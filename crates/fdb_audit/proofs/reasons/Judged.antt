@@ -27,7 +27,7 @@ module _ {given : Given} {seen : ℕ → ℕ → ℕ} {marks : List ℕ} {chain 
   register_of version = register_at-worked_out worked (position_of marks version) (position_of-most marks version)
 
   -- a mark is above the live committed version of the position before its own
-  above_before : (version : ℕ) → Contains marks version → (1 ≤ position_of marks version) × (register_at (plain given.start) logs (position_of marks version - 1) ≡ plain (live (position_of marks version - 1))) × (live (position_of marks version - 1) < version)
+  pub above_before : (version : ℕ) → Contains marks version → (1 ≤ position_of marks version) × (register_at (plain given.start) logs (position_of marks version - 1) ≡ plain (live (position_of marks version - 1))) × (live (position_of marks version - 1) < version)
   above_before version found =
       let place = place_of marks worked.raised.rising version found in
       let at : position_of marks version - 1 ≡ place.0 = omega (arith, place.2) in
