@@ -99,8 +99,8 @@ fn add_clashes(
     ensures { OnOk result (AreFindingsBefore worked.now.start worked.now.chain.items
         worked.now.logs.items (AuditFault.Wrong 0 0) found.new.items) }
 {
-    for position in 0..=changers.len() {
-        let position = position as u64;
+    for place in 0..changers.len() {
+        let position = place as u64 + 1;
         let fault = AuditFault::Clash { position };
         if let Some(reason) = twice(worked, changers, position) {
             found.push(Finding { fault, reason })?;

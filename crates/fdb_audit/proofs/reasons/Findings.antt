@@ -1,8 +1,8 @@
 -- All faults of the register, one after another.
 use Rattle.std.proofs.Common.{◌≡◌, ℕ, zero, suc, ◌+◌, ◌<◌, ◌≤◌, ◌⊎◌, All, Contains, List, [], ◌∷◌, ◌++◌, length, get_or, map, Some, slice_get, refl, ap, sym, subst, ◌∙◌, inl, inr, arith}
 use Rattle.std.proofs.lemmas.Bool.{cases_lt}
-use Rattle.std.proofs.lemmas.Grind.{map-append}
-use Rattle.std.proofs.lemmas.List.Elements.{All-nil, All-push, All-weaker, Contains-append_left, Contains-append_right}
+use Rattle.std.proofs.lemmas.List.{map-append}
+use Rattle.std.proofs.lemmas.List.Elements.{All-nil, All-push, All-weaker, Contains-append_left, Contains-push}
 use Rattle.std.proofs.lemmas.List.Quantifiers.{all_pairs_push}
 use Rattle.std.proofs.lemmas.Option.{none-some, same_Some, slice_get_within}
 use Rattle.fdb_history.specs.Faults.{ComesBefore, IsClash, StandsAt}
@@ -80,15 +80,15 @@ module _ (start : Record) (chain : List Issued) (logs : List ClientLog) where
       → ((f : AuditFault) → Precedes f next → Precedes f later)
       → ((f : AuditFault) → IsFault start logs f → Precedes f later → Precedes f next ⊎ (f ≡ next)) → Found next found → Found later (found ++ one ∷ [])
   one_more next later found one is reason comes to from was = record {
-    explained = All-push _ found one was.explained reason;
-    before = All-push _ found one (All-weaker _ _ (λ finding. to finding.fault) found was.before) (subst (λ (f : AuditFault). Precedes f later) (sym is) comes);
+    explained = All-push (λ (f : Finding). IsReason start chain logs f.fault f.reason) found one was.explained reason;
+    before = All-push (λ (f : Finding). Precedes f.fault later) found one (All-weaker _ _ (λ finding. to finding.fault) found was.before) (subst (λ (f : AuditFault). Precedes f later) (sym is) comes);
     all = λ fault stands precedes. subst (λ (l : List AuditFault). Contains l fault) (sym (map-append (λ (f : Finding). f.fault) found (one ∷ []))) (has fault stands (from fault stands precedes));
-    in_order = all_pairs_push _ found one was.in_order (λ k d below. subst (λ (f : AuditFault). Precedes (get_or found k d).fault f) (sym is) (was.before k d below));
+    in_order = all_pairs_push (λ (x y : Finding). Precedes x.fault y.fault) found one was.in_order (λ k d below. subst (λ (f : AuditFault). Precedes (get_or found k d).fault f) (sym is) (was.before k d below));
   }
     where
       has : (fault : AuditFault) → IsFault start logs fault → Precedes fault next ⊎ (fault ≡ next) → Contains (map (λ (f : Finding). f.fault) found ++ map (λ (f : Finding). f.fault) (one ∷ [])) fault
       has fault stands (inl before) = Contains-append_left _ _ fault (was.all fault stands before)
-      has fault stands (inr same) = Contains-append_right _ _ fault (0, omega arith, is ∙ sym same)
+      has fault stands (inr same) = subst (Contains (map (λ (f : Finding). f.fault) found ++ one.fault ∷ [])) (is ∙ sym same) (Contains-push (map (λ (f : Finding). f.fault) found) one.fault)
 
   -- ---- calls that are out of order
 
