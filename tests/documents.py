@@ -180,24 +180,6 @@ def believed(_program):
         yield f"{document}: {said}", None if does_say else "it does not say so"
 
 
-def settling(_program):
-    """A run settles its logs before it audits them, and audits nowhere else.
-
-    No contract can force that call.
-    """
-    settled = "settle(rt, live, first, tokens, logs);\n    audit(alloc, start, chain, logs)\n"
-    running = text_of(f"{ROOT}/crates/fdb_replay/src/running.rt")
-    yield "what settles logs audits them", None if settled in running else "it does not"
-    settles = running.count("let history = settled(") == 1
-    yield "a run settles", None if settles else "it does not, or not once"
-    audits = [
-        path
-        for path in files_below("crates/fdb_replay/src", ".rt")
-        for _ in re.findall(r"\baudit\(", text_of(path))
-    ]
-    yield "audits of a run", None if len(audits) == 1 else f"{len(audits)} calls in place of one"
-
-
 def shown(program):
     """A block of a run shows what the program prints, and one of a script is an example."""
     scripts = [text_of(it).strip() for it in glob.glob(f"{EXAMPLES}/**/*.json", recursive=True)]
