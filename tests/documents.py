@@ -23,10 +23,7 @@ PROOFS_OF = re.compile(r"\bRattle\.(fdb_\w+)\.proofs\b")
 MOST_TRIED = 12
 # Where documents say how many lines of definitions there are, by the names of believed.counts.
 COUNTED = (
-    ("README.md", "rest on %(headline)d lines of them"),
-    ("README.md", "%(Reading.antt)d say how a script is read from JSON"),
-    ("README.md", "%(Text.antt)d what is printed"),
-    ("README.md", "%(IsLinear)d what a linear history is"),
+    ("README.md", "rest on %(headline)d lines of ours"),
     ("docs/DEFINITIONS.md", "rests on %(headline)d lines in %(definitions)d definitions"),
     ("docs/DEFINITIONS.md", "%(Replays)d of these lines say what is written"),
     ("docs/DEFINITIONS.md", "%(Register.antt)d lines of `Register.antt`"),
