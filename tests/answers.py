@@ -3,7 +3,7 @@ import os
 import random
 
 import drawn
-from harness import EXAMPLES, ROOT, Ran, done, fault_of, read, run, written
+from harness import EXAMPLES, ROOT, done, fault_of, read, run, written
 from judge import Lawful, is_determined
 from model import expected
 from reader import HIGHEST, MOST_COMMANDS, MOST_ROUNDS, MOST_THROTTLES, script_of
@@ -12,10 +12,7 @@ SMALL, SPOILT, LARGE_SECONDS = 300, 300, 5
 
 
 class Example:
-    """A script of examples/: NAME.json prints NAME.out.
-
-    The arguments are those of NAME.args, and the status is that of NAME.status.
-    """
+    """A script of examples/: NAME.json prints NAME.out, with the arguments of NAME.args."""
 
     def __init__(self, name):
         beside = lambda ending: f"{EXAMPLES}/{name}.{ending}"
@@ -23,8 +20,7 @@ class Example:
         self.arguments = (
             read(beside("args")).decode().split() if os.path.isfile(beside("args")) else []
         )
-        status = int(read(beside("status"))) if os.path.isfile(beside("status")) else 0
-        self.wanted = Ran(status, read(beside("out")), None if status else b"")
+        self.wanted = done(read(beside("out")))
 
     def arguments_for(self, proxies):
         """Returns the arguments with this number of proxies in place of their own."""

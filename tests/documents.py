@@ -23,10 +23,7 @@ PROOFS_OF = re.compile(r"\bRattle\.(fdb_\w+)\.proofs\b")
 MOST_TRIED = 12
 # Where documents say how many lines of definitions there are, by the names of believed.counts.
 COUNTED = (
-    ("README.md", "rest on %(headline)d lines of them"),
-    ("README.md", "%(Reading.antt)d say how a script is read from JSON"),
-    ("README.md", "%(Text.antt)d what is printed"),
-    ("README.md", "%(IsLinear)d what a linear history is"),
+    ("README.md", "rest on %(headline)d lines of ours"),
     ("docs/DEFINITIONS.md", "rests on %(headline)d lines in %(definitions)d definitions"),
     ("docs/DEFINITIONS.md", "%(Replays)d of these lines say what is written"),
     ("docs/DEFINITIONS.md", "%(Register.antt)d lines of `Register.antt`"),
@@ -178,24 +175,6 @@ def believed(_program):
         said = form % found
         does_say = said in text_of(f"{ROOT}/{document}")
         yield f"{document}: {said}", None if does_say else "it does not say so"
-
-
-def settling(_program):
-    """A run settles its logs before it audits them, and audits nowhere else.
-
-    No contract can force that call.
-    """
-    settled = "settle(rt, live, first, tokens, logs);\n    audit(alloc, start, chain, logs)\n"
-    running = text_of(f"{ROOT}/crates/fdb_replay/src/running.rt")
-    yield "what settles logs audits them", None if settled in running else "it does not"
-    settles = running.count("let history = settled(") == 1
-    yield "a run settles", None if settles else "it does not, or not once"
-    audits = [
-        path
-        for path in files_below("crates/fdb_replay/src", ".rt")
-        for _ in re.findall(r"\baudit\(", text_of(path))
-    ]
-    yield "audits of a run", None if len(audits) == 1 else f"{len(audits)} calls in place of one"
 
 
 def shown(program):

@@ -16,15 +16,12 @@ SAID = (
     (FORMATS, "a whole number from 1 to {MAX_CLIENTS} |"),
     (FORMATS, "at most {MAX_ROUNDS:,} rounds, each a list of commands; at most {MAX_COMMANDS:,}"
               " commands in all"),
-    (FORMATS, "at most {MAX_ROUNDS:,} rounds, {MAX_COMMANDS:,} commands and {MAX_THROTTLES:,} thr"),
     (FORMATS, "rates: 1 to {MAX_RATE:,}, and 0 to {MAX_RATE:,} |"),
     (FORMATS, "capacity of its queue: 1 to {MAX_ROOM:,} |"),
     (FORMATS, "its windows: 1 to {MAX_ELAPSED:,} |"),
     (FORMATS, "a list of at most {MAX_THROTTLES:,} throttles |"),
     (FORMATS, "A tag is a text of 1 to {MAX_TAG} characters"),
     (FORMATS, "`tags`: none, and at most {MAX_TAGS};"),
-    (FORMATS, "a `grv` at most {MAX_TAGS} tags, each of 1 to {MAX_TAG} characters"),
-    (FORMATS, "a tag of 1 to {MAX_TAG} characters"),
     (FORMATS, "at least 1 and at most {MAX_STEP:,}"),
     (FORMATS, "more than {MAX_COUNT:,}, or at batch priority for more than the normal limit plus"
               " {IDLE_BURST} |"),
@@ -39,7 +36,6 @@ SAID = (
     (DEFINITIONS, "1 to {MAX_TAG} visible characters"),
     (DEFINITIONS, "a read has at most {MAX_TAGS} tags"),
     ("docs/DECISIONS.md", "would be above {MAX_VERSION:,} is"),
-    ("docs/DECISIONS.md", "less than {MAX_STEP:,} below the greatest"),
     ("docs/COSTS.md", "at most {MAX_CLIENTS} clients, commit proxies and reporters"),
     (README, "at most {MAX_SCRIPT_BYTES:,} bytes, {MAX_ROUNDS:,} rounds, {MAX_COMMANDS:,} com"),
     (README, "and {MAX_THROTTLES:,} throttles; 1 to {MAX_CLIENTS} clients"),

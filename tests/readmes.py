@@ -10,6 +10,10 @@ PROMISES = "docs/PROMISES.md"
 PROMISED = "| Promise | Function: clause | Refused wrong bodies |"
 HEADLINES = ("| Promise | Part of `IsRunOf` |", "| Promise | Clause of `replay` |")
 TESTED = "| Wrong implementation | Why | The test |"
+# The table of docs/ARCHITECTURE.md that says which file has what, and where files stand by ending.
+ARCHITECTURE = "docs/ARCHITECTURE.md"
+PLACED = "| README.md | Code and definitions | Tests |"
+FOLDERS = {".rt": "crates/{}/src", ".antt": "crates/{}/specs", ".py": "tests"}
 CODE = re.compile(r"`([^`\n]+)`")
 INNER = re.compile(r"\(([^)]*)\)")
 FN = r"(?:pub(?:\(crate\))? )?fn"
@@ -109,6 +113,29 @@ def clauses(_program):
             missing = [it for it in names if it not in words and not exists(f"examples/{it}.json")]
             fault = f"there is no {', '.join(missing)}" if missing else None
             yield f"{PROMISES}: {row[0]}", fault
+
+
+def placed(_program):
+    """Each file of the table of files is there, and has what stands behind it."""
+    for what, *cells in rows_of(ARCHITECTURE, PLACED):
+        faults = [fault for cell in cells for fault in faults_of_files(cell)]
+        yield f"{ARCHITECTURE}: {what}", "; ".join(faults) or None
+
+
+def faults_of_files(cell):
+    """What is wrong with '`crate/file.rt` (`name`), `file.rt`'; a crate counts until the next."""
+    crate, file, faults = "", "", []
+    for word in CODE.findall(cell):
+        ending = os.path.splitext(word)[1]
+        if ending in FOLDERS or "/" in word:
+            rest = word
+            if word.startswith("fdb_"):
+                crate, _, rest = word.partition("/")
+            file = f"{FOLDERS[ending].format(crate)}/{rest}" if ending in FOLDERS else word
+            faults += [f"there is no {file}"] * (not exists(file))
+        elif not exists(file) or not re.search(rf"\b{word}\b", text_of(file)):
+            faults.append(f"{file} has no {word}")
+    return faults
 
 
 def faults_of_place(where, code, words):

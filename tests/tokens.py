@@ -105,7 +105,7 @@ def types_checked(text):
     return (ran.out + ran.err).decode(errors="replace")
 
 
-def names(_program):
+def tokens(_program):
     """Each call takes a token of the record's own name, and is refused with another's."""
     text, places = text_of_calls()
     said, errors = types_checked(text), {}
