@@ -1,61 +1,67 @@
 -- What arguments that ask for an audit leave to be read.
-use Rattle.std.proofs.Common.{◌≡◌, ◌∙◌, ◌<◌, ap, ℕ, zero, suc, true, List, [], ◌∷◌, get_or, length, Option, Some, None, refl, sym, arith, codes, slice_index}
+use Rattle.std.proofs.Common.{◌≡◌, ◌∙◌, ◌<◌, ap, ℕ, zero, suc, true, List, get_or, Option, Some, None, refl, sym, arith, codes, slice_index}
 use Rattle.std.specs.Borrow.{Bor}
 use Rattle.std.specs.Prelude.{is_some, option_map}
-use Rattle.clap.specs.Built.{IsParsedFrom}
-use Rattle.clap.specs.Matches.{found_of, one_text}
-use Rattle.clap.specs.Words.{App, Rule, Text, app_of}
-use Rattle.clap.specs.declared.builder.command.Command.{Command}
-use Rattle.clap.specs.declared.builder.value_parser.ValueParser.TheVariants as parser
-use Rattle.clap.specs.declared.parser.matches.ArgMatches.{ArgMatches}
-use Rattle.fdb_command.proofs.Values.{IsRead, text_is}
-use Rattle.fdb_audit.specs.Arguments.{ReadsInput, command, flag_argument, logs_argument}
+use Rattle.clap.specs.Words.{Rule, Text}
+use Rattle.fdb_command.specs.Arguments.{HasFlag}
+use Rattle.fdb_audit.specs.Arguments.{ReadsInput, command, flag_argument}
 use Rattle.fdb_audit.specs.private.Asked.{AskAudit}
 use Rattle.fdb_audit.specs.declared.arguments.Arguments.{Arguments}
 
--- ---- the texts of --history and --all
+-- ---- the flags --history and --all
 
 differ : (x y : Text) (i n k : ℕ) → slice_index x i ≡ n → slice_index y i ≡ k → (n ≡ k → ⊥) → x ≡ y → ⊥
 differ x y i n k one two apart e = apart (sym one ∙ ap (λ l. slice_index l i) e ∙ two)
 
-abbrev rules : List Rule
-rules = logs_argument ∷ flag_argument (codes "history") ∷ flag_argument (codes "all") ∷ []
-
-simple : (j : ℕ) (d : Rule) → j < 3 → (get_or rules j d).is_simple ≡ true
+simple : (j : ℕ) (d : Rule) → j < 3 → (get_or command.top.rules j d).is_simple ≡ true
 simple zero d lt = refl
 simple (suc zero) d lt = refl
 simple (suc (suc zero)) d lt = refl
 simple (suc (suc (suc j))) d lt = absurd (omega arith)
 
-second_alone : (j : ℕ) → j < 3 → (get_or rules j (flag_argument (codes "history"))).id ≡ codes "history" → j ≡ 1
+second_alone : (j : ℕ) → j < 3 → (get_or command.top.rules j (flag_argument (codes "history"))).id ≡ codes "history" → j ≡ 1
 second_alone zero lt same = absurd (differ _ _ 0 108 104 refl refl (λ e. omega arith) same)
 second_alone (suc zero) lt same = refl
 second_alone (suc (suc zero)) lt same = absurd (differ _ _ 0 97 104 refl refl (λ e. omega arith) same)
 second_alone (suc (suc (suc j))) lt same = absurd (omega arith)
 
-third_alone : (j : ℕ) → j < 3 → (get_or rules j (flag_argument (codes "all"))).id ≡ codes "all" → j ≡ 2
+third_alone : (j : ℕ) → j < 3 → (get_or command.top.rules j (flag_argument (codes "all"))).id ≡ codes "all" → j ≡ 2
 third_alone zero lt same = absurd (differ _ _ 0 108 97 refl refl (λ e. omega arith) same)
 third_alone (suc zero) lt same = absurd (differ _ _ 0 104 97 refl refl (λ e. omega arith) same)
 third_alone (suc (suc zero)) lt same = refl
 third_alone (suc (suc (suc j))) lt same = absurd (omega arith)
 
-pub texts_are : (old : Command) (m : ArgMatches) → IsParsedFrom old m → app_of old ≡ command
-    → ((t : List ℕ) → one_text (found_of m) (codes "history") ≡ Some t → IsRead parser.Bool t)
-    × ((t : List ℕ) → one_text (found_of m) (codes "all") ≡ Some t → IsRead parser.Bool t)
-texts_are old m p is = (
-  text_is old m p rules are plain simple 1 (flag_argument (codes "history")) (omega arith) refl second_alone
-  (λ e. differ _ _ 0 104 0 refl refl (λ e. omega arith) e) (λ e. differ _ _ 1 105 101 refl refl (λ e. omega arith) e) (λ e. differ _ _ 0 104 118 refl refl (λ e. omega arith) e)
-  parser.Bool refl refl,
-  text_is old m p rules are plain simple 2 (flag_argument (codes "all")) (omega arith) refl third_alone
-  (λ e. differ _ _ 0 97 0 refl refl (λ e. omega arith) e) (λ e. differ _ _ 0 97 104 refl refl (λ e. omega arith) e) (λ e. differ _ _ 0 97 118 refl refl (λ e. omega arith) e)
-  parser.Bool refl refl,
-)
-  where
-    are : (app_of old).top.rules ≡ rules
-    are = ap (λ (c : App). c.top.rules) is
+pub has_history : HasFlag command (codes "history")
+has_history = record {
+  plain = refl;
+  simple = simple;
+  place = 1;
+  flag = flag_argument (codes "history");
+  within = omega arith;
+  here = refl;
+  id = refl;
+  alone = second_alone;
+  parser = refl;
+  case = refl;
+  named = λ e. differ _ _ 0 104 0 refl refl (λ e. omega arith) e;
+  own = (λ e. differ _ _ 1 105 101 refl refl (λ e. omega arith) e, λ e. differ _ _ 0 104 118 refl refl (λ e. omega arith) e);
+}
 
-    plain : (app_of old).top.is_plain ≡ true
-    plain = ap (λ (c : App). c.top.is_plain) is
+pub has_all : HasFlag command (codes "all")
+has_all = record {
+  plain = refl;
+  simple = simple;
+  place = 2;
+  flag = flag_argument (codes "all");
+  within = omega arith;
+  here = refl;
+  id = refl;
+  alone = third_alone;
+  parser = refl;
+  case = refl;
+  named = λ e. differ _ _ 0 97 0 refl refl (λ e. omega arith) e;
+  own = (λ e. differ _ _ 0 97 104 refl refl (λ e. omega arith) e, λ e. differ _ _ 0 97 118 refl refl (λ e. omega arith) e);
+}
 
 -- ---- the file
 

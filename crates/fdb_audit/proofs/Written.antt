@@ -1,5 +1,5 @@
 -- What was written of an audit, and what its faults say.
-use Rattle.std.proofs.Common.{◌≡◌, ◌≢◌, ◌≤◌, ℕ, List, Bool, Option, length}
+use Rattle.std.proofs.Common.{◌≡◌, ◌≢◌, ◌≤◌, ℕ, List, Option, length}
 use Rattle.std.specs.Io.KnownBytes.{Appends, Keeps}
 use Rattle.std.proofs.KnownBytes.{Appends-kept}
 use Rattle.clap.specs.Words.{Text}
@@ -11,15 +11,16 @@ use Rattle.fdb_audit.specs.private.Faulty.{fault_of}
 use Rattle.fdb_audit.specs.declared.driving.Fault.TheVariants as made
 use Rattle.fdb_audit.specs.declared.error.TraceError.{TraceError}
 use Rattle.fdb_audit.specs.declared.error.TraceError.TheVariants.{NotJson, BadMember, BadVersion, BadClient, BadCall, Circular, Memory}
+use Rattle.fdb_audit.specs.declared.judging.Wanted.{Wanted}
 use Rattle.fdb_audit.specs.declared.trace.TheConstants.{MAX_TRACE_BYTES}
 
 -- a text that was written and flushed was written whole
-pub audited_whole : (logs : Option Text) (remaining : Option (List ℕ)) (fault : Option AuditFault) (before between after : Option (List ℕ)) (bytes text : List ℕ) (with_history : Bool)
-    → length bytes ≤ MAX_TRACE_BYTES → MayBeRead logs remaining bytes → IsJudgement bytes with_history fault text → Appends before between text → Keeps between after
-    → Audited logs remaining fault before after
-audited_whole logs remaining fault before between after bytes text with_history few read judged appended kept = record {
+pub audited_whole : (logs : Option Text) (wanted : Wanted) (remaining : Option (List ℕ)) (fault : Option AuditFault) (before between after : Option (List ℕ)) (bytes text : List ℕ)
+    → length bytes ≤ MAX_TRACE_BYTES → MayBeRead logs remaining bytes → IsJudgement bytes wanted fault text → Appends before between text → Keeps between after
+    → Audited logs wanted remaining fault before after
+audited_whole logs wanted remaining fault before between after bytes text few read judged appended kept = record {
   text = text;
-  printed = record { bytes = bytes; few = few; read = read; with_history = with_history; judged = judged };
+  printed = record { bytes = bytes; few = few; read = read; judged = judged };
   appended = Appends-kept before between after text appended kept;
 }
 

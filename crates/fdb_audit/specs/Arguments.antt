@@ -1,16 +1,14 @@
 -- What the arguments of the command line ask for. clap reads them, and its definitions say what it
 -- makes of them. (this product's own)
-use Rattle.std.specs.Prelude.{◌≡◌, ◌≢◌, ◌⊎◌, ◌≤◌, ℕ, Bool, true, false, List, [], Option, Some, None, length, codes}
+use Rattle.std.specs.Prelude.{◌≡◌, ◌≢◌, ◌⊎◌, ◌≤◌, ℕ, Bool, true, List, [], Option, Some, None, length, codes}
 use Rattle.std.specs.Io.KnownBytes.{Appends}
-use Rattle.std.specs.Option.{option_map_or}
-use Rattle.std.specs.Str.{bytes_eq}
 use Rattle.clap.specs.Simple.{on_top}
 use Rattle.clap.specs.Words.{App, IsAmong, Kinds, Rule, Text, fault_of, first_of, matches_of, new_app, new_rule, one_of, with_rule}
 use Rattle.clap.specs.declared.builder.action.ArgAction.TheVariants.{SetTrue}
 use Rattle.clap.specs.declared.builder.value_parser.ValueParser.TheVariants as parser
 use Rattle.clap.specs.declared.error.kind.ErrorKind.TheVariants.{DisplayHelp}
+use Rattle.fdb_command.specs.Arguments.{is_set}
 use Rattle.fdb_command.specs.Input.{MayBeRead}
-use Rattle.fdb_command.specs.Output.{TakesSome}
 use Rattle.fdb_history.specs.declared.fault.AuditFault.{AuditFault}
 use Rattle.fdb_audit.specs.Judged.{IsJudgement, Refuses}
 use Rattle.fdb_audit.specs.declared.error.TraceError.{TraceError}
@@ -57,9 +55,7 @@ logs_named arguments = first_of (codes "logs") (matches_of command arguments)
 
 -- a flag is given
 abbrev pub is_given : Text → List Text → Bool
-is_given name arguments =
-    option_map_or (λ value. bytes_eq value (codes "true"))
-    (one_of name (matches_of command arguments)) false
+is_given name arguments = is_set (one_of name (matches_of command arguments))
 
 -- what is printed besides the verdict
 abbrev pub wanted_by : List Text → Wanted
@@ -86,13 +82,6 @@ pub record Audited (logs : Option Text) (wanted : Wanted) (remaining : Option (L
   pub text : List ℕ
   pub printed : IsPrinted logs wanted remaining fault text
   pub appended : Appends before after text
-
--- such a text was written, whole or in part, from its start on
-abbrev pub IsBegun : Option Text → Wanted → Option (List ℕ) → Option (List ℕ) → Option (List ℕ)
-    → Type 0
-IsBegun logs wanted remaining before after =
-    (fault : Option AuditFault) × (text : List ℕ) × IsPrinted logs wanted remaining fault text
-    × (Appends before after text ⊎ TakesSome text before after)
 
 -- what the arguments ask for is done, and no fault was found
 abbrev pub IsDone : List Text → Option (List ℕ) → Option (List ℕ) → Option (List ℕ) → Type 0

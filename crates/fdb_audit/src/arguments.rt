@@ -11,7 +11,7 @@ ghost use Rattle.fdb_audit.specs.private.Asked.{Ask, AskAudit};
 
 use crate::judging::Wanted;
 use clap::{Arg, ArgAction, ArgMatches, Command, Error, value_parser};
-use fdb_command::{ArgumentsFault, help_of};
+use fdb_command::{ArgumentsFault, help_of, is_given};
 use std::alloc::{AllocError, Global};
 
 /// The end of the help.
@@ -74,8 +74,8 @@ fn arguments_of<'a>(matches: &ArgMatches<'a>) -> Arguments<'a>
     Arguments {
         logs: matches.get_str("logs"),
         wanted: Wanted {
-            history: matches.get_flag("history"),
-            all: matches.get_flag("all"),
+            history: is_given(matches, "history"),
+            all: is_given(matches, "all"),
         },
     }
 }

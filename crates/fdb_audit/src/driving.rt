@@ -4,7 +4,7 @@ ghost use Rattle.std.specs.Prelude.{◌≡◌, ◌≢◌, ◌⊎◌, ◌+◌, �
 ghost use Rattle.std.specs.Prelude.{IsOkAnd, MatchResult, None, Some, true, is_some, map};
 ghost use Rattle.std.specs.Prelude.{option_map, string_bytes};
 ghost use Rattle.std.specs.IoError.{error_kind};
-ghost use Rattle.fdb_audit.specs.Arguments.{AreTaken, AreWrong, Audited, IsBegun, IsDone, IsFaulty};
+ghost use Rattle.fdb_audit.specs.Arguments.{AreTaken, AreWrong, Audited, IsDone, IsFaulty};
 ghost use Rattle.fdb_audit.specs.Arguments.{MayAskInVain, ReadsInput, logs_named};
 ghost use Rattle.fdb_audit.specs.Judged.{Refuses};
 ghost use Rattle.fdb_command.specs.Input.{MayBeRead, TakesAtMost};
@@ -229,10 +229,12 @@ fn audit_arguments<R: Files, I: Read, O: Write>(
     out: &mut O,
 ) -> Result<(), Fault>
     ensures ok { OnOk result (Audited (option_map (λ path. path.now) arguments.entry.logs)
-        arguments.entry.wanted (I.remaining input.old) None (O.contents out.old) (O.contents out.new)) }
+        arguments.entry.wanted (I.remaining input.old) None
+        (O.contents out.old) (O.contents out.new)) }
     ensures faulty { IfErr result (λ fault. (found : AuditFault) → fault ≡ Fault.Audit found
         → Audited (option_map (λ path. path.now) arguments.entry.logs)
-        arguments.entry.wanted (I.remaining input.old) (Some found) (O.contents out.old) (O.contents out.new)) }
+        arguments.entry.wanted (I.remaining input.old) (Some found)
+        (O.contents out.old) (O.contents out.new)) }
     ensures refused { IfErr result (λ fault. (error : TraceError) → fault ≡ Fault.Logs error
         → (bytes : List _)
         × MayBeRead (option_map (λ path. path.now) arguments.entry.logs) (I.remaining input.old)

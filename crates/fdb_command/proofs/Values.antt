@@ -4,7 +4,6 @@ use Rattle.std.proofs.Common.{◌≡◌, ◌∙◌, ◌<◌, ◌≤◌, ◌&&◌
 use Rattle.std.specs.Borrow.{Bor}
 use Rattle.std.specs.List.{All, slice_index_or}
 use Rattle.std.specs.Prelude.{option_map, slice_get, not}
-use Rattle.std.specs.Option.{option_map_or}
 use Rattle.std.specs.Str.{bytes_eq}
 use Rattle.std.proofs.lemmas.Bool.{ne_eqb}
 use Rattle.std.proofs.lemmas.List.{get_or-map, get_or_default, length-map}
@@ -26,6 +25,7 @@ use Rattle.clap.specs.declared.builder.value_parser.ValueParser.TheVariants as p
 use Rattle.clap.specs.declared.parser.matches.ArgMatches.{ArgMatches}
 use Rattle.clap.specs.declared.parser.matches.Found.{Found}
 use Rattle.clap.specs.declared.parser.matches.MatchedArg.{MatchedArg}
+use Rattle.fdb_command.specs.Arguments.{HasFlag, is_set}
 use Rattle.clap.proofs.CallerLemmas.{entry_by_id, same_rules_by_id}
 
 -- the text t is a value that the parser takes, as a typed getter reads it
@@ -164,8 +164,8 @@ text_is old m p rules are plain simple k rule low here unique named no_help no_v
             q (ap (λ (r : Rule). r.parser) is ∙ parser) (ap (λ (r : Rule). r.ignore_case) is ∙ case) t (subst (λ (n : Text). one_text (found_of m) n ≡ Some t) (sym id) found)
 
 -- a flag whose text passed as a bool is set where that text is true
-pub flag_read : (o : Option (List ℕ)) (r : Bool) → ((t : List ℕ) → o ≡ Some t → IsRead parser.Bool t) → (o ≡ None → r ≡ false) → (o ≡ Some (codes "true") → r ≡ true)
-    → (o ≡ Some (codes "false") → r ≡ false) → r ≡ option_map_or (λ value. bytes_eq value (codes "true")) o false
+flag_read : (o : Option (List ℕ)) (r : Bool) → ((t : List ℕ) → o ≡ Some t → IsRead parser.Bool t) → (o ≡ None → r ≡ false) → (o ≡ Some (codes "true") → r ≡ true)
+    → (o ≡ Some (codes "false") → r ≡ false) → r ≡ is_set o
 flag_read None r read absent set unset = absent refl
 flag_read (Some t) r read absent set unset =
     let got = read t refl in
@@ -176,3 +176,13 @@ flag_read (Some t) r read absent set unset =
     go false e h =
         let other : bytes_eq t (codes "false") ≡ true = rw e at h in
         unset (ap Some ((bytes_eq-Decides t (codes "false")).0 other)) ∙ sym e
+
+-- So is the flag of a command that has it.
+pub flag_of : (old : Command) (m : ArgMatches) → IsParsedFrom old m → (name : Text) → HasFlag (app_of old) name → (r : Bool) → (one_text (found_of m) name ≡ None → r ≡ false)
+    → (one_text (found_of m) name ≡ Some (codes "true") → r ≡ true) → (one_text (found_of m) name ≡ Some (codes "false") → r ≡ false) → r ≡ is_set (one_text (found_of m) name)
+flag_of old m p name has r absent set unset =
+    let id = has.id in
+    flag_read (one_text (found_of m) name) r
+    (λ t found. text_is old m p (app_of old).top.rules refl has.plain has.simple has.place has.flag has.within has.here (λ j low same. has.alone j low (same ∙ id))
+    (λ e. has.named (sym id ∙ e)) (λ e. has.own.0 (sym id ∙ e)) (λ e. has.own.1 (sym id ∙ e)) parser.Bool has.parser has.case t (subst (λ (n : Text). one_text (found_of m) n ≡ Some t) (sym id) found))
+    absent set unset

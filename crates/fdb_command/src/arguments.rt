@@ -2,10 +2,12 @@
 
 ghost use Rattle.std.specs.Prelude.{◌≡◌, ◌≢◌, Ok, Err, OnOk, IfErr};
 ghost use Rattle.std.specs.IoError.{error_kind};
-ghost use Rattle.clap.specs.Words.{kind_of};
+ghost use Rattle.clap.specs.Words.{IsParsedFrom, app_of, found_of, kind_of, one_text};
+ghost use Rattle.clap.specs.declared.builder.command.Command.{Command};
+ghost use Rattle.fdb_command.specs.Arguments.{HasFlag, is_set};
 
-use clap::Error;
 use clap::error::ErrorKind;
+use clap::{ArgMatches, Error};
 use std::alloc::Global;
 use std::env::Env;
 use std::io::Write;
@@ -41,6 +43,15 @@ impl From<io::Error> for ArgumentsFault {
 /// that are not UTF-8 are an error, and so is memory that runs out.
 pub fn command_line<R: Env + Alloc<A = Global>>(rt: &R) -> io::Result<Vec<String>> {
     Ok(env::args(rt)?.skip(1).collect(rt.alloc())?)
+}
+
+/// Whether a flag is given, by the matches of a command that has it.
+pub fn is_given(matches: &ArgMatches, flag: &str) -> bool
+    ensures { (command : Command) → IsParsedFrom command matches.now
+        → HasFlag (app_of command) flag.now
+        → result ≡ is_set (one_text (found_of matches.now) flag.now) }
+{
+    matches.get_flag(flag)
 }
 
 /// The help, which is the text of an error of clap's where that was asked for; else

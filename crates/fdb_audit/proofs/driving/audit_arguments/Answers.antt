@@ -24,12 +24,12 @@ pub returns-clause-faulty : goal.returns-clause-faulty
 returns-clause-faulty g c = λ found says.
     let bytes = c.in_ok-bytes.bytes in
     let text = c.in_ok-found.found.text.items in
-    let history = c.args.arguments.history in
+    let wanted = c.args.arguments.wanted in
     let old = g.O.Write.contents c.args.out.now in
     let between = g.O.Write.contents c.write_whole.new.writer in
     let few : length bytes.items ≤ MAX_TRACE_BYTES = omega (arith, bytes.ok.0, c.in_ok-bytes.ensures.in_range) in
     let same : c.in-Some.fault ≡ found = cc in
-    let judged : IsJudgement bytes.items history (Some found) text =
-    subst (λ (fault : Option AuditFault). IsJudgement bytes.items history fault text) (c.in-Some.is ∙ ap Some same) (rw c.deref.ensures.value at c.in_ok-found.ensures.ok) in
+    let judged : IsJudgement bytes.items wanted (Some found) text =
+    subst (λ (fault : Option AuditFault). IsJudgement bytes.items wanted fault text) (c.in-Some.is ∙ ap Some same) (rw c.deref.ensures.value at c.in_ok-found.ensures.ok) in
     let appended : Appends old between text = rw c.deref-2.ensures.value at c.in_ok-write_whole.ensures.ok in
-    audited_whole _ _ (Some found) old between _ bytes.items text history few c.in_ok-bytes.ensures.all judged appended c.flush.ensures.bytes
+    audited_whole _ wanted _ (Some found) old between _ bytes.items text few c.in_ok-bytes.ensures.all judged appended c.flush.ensures.bytes

@@ -1,6 +1,7 @@
 use Rattle.std.proofs.Common.{ℕ, List, Option, Some, map, string_bytes, subst}
 use Rattle.std.proofs.lemmas.Result.{IfErr-weaker}
-use Rattle.fdb_audit.specs.Arguments.{Audited}
+use Rattle.fdb_audit.specs.Arguments.{Audited, logs_named}
+use Rattle.fdb_audit.specs.declared.judging.Wanted.{Wanted}
 use Rattle.fdb_audit.specs.private.Asked.{AskAudit}
 use Rattle.fdb_audit.proofs.Given.{file_named}
 use Rattle.fdb_audit.proofs.driving.carry_out.Goals as goal
@@ -19,5 +20,10 @@ returns-clause-faulty g c =
     let after = g.O.Write.contents c.audit_arguments.new.out in
     let asked : AskAudit arguments c.in-Audit.arguments = rw (c.in-Audit.is, c.deref.ensures.value) at c.in_ok-help.ensures.ok in
     rw c.in-Ok.is (IfErr-weaker c.audit_arguments.result _ _
-    (λ fault gives found is. (asked.taken, found, subst (λ (logs : Option (List ℕ)). Audited logs remaining (Some found) before after) asked.logs (gives found is)))
+    (λ fault gives found is. (
+        asked.taken,
+        found,
+        subst (λ (wanted : Wanted). Audited (logs_named arguments) wanted remaining (Some found) before after) asked.wanted
+        (subst (λ (logs : Option (List ℕ)). Audited logs c.in-Audit.arguments.wanted remaining (Some found) before after) asked.logs (gives found is)),
+    ))
     c.audit_arguments.ensures.faulty)

@@ -3,8 +3,7 @@ use Rattle.std.specs.Str.Parse.{ParsesUnsigned, ExplainsUnsignedError, HasUnsign
 use Rattle.clap.specs.Words.{first_of, found_of, matches_of, one_of, one_text}
 use Rattle.clap.proofs.WalkLemmas.{first_value-rows, one_text-rows}
 use Rattle.fdb_replay.specs.Arguments.{command as command_read}
-use Rattle.fdb_command.proofs.Values.{flag_read}
-use Rattle.fdb_replay.proofs.Given.{count_read, texts_are}
+use Rattle.fdb_replay.proofs.Given.{count_read, flag_read, texts_are}
 use Rattle.fdb_replay.proofs.arguments.arguments_of.Goals as goal
 
 pub returns : goal.returns
