@@ -5,3 +5,7 @@ pub mod Found
 pub mod Clashes
 pub mod Texts
 pub mod FirstCalls
+pub mod Numbers
+pub mod SameIssued
+pub mod Drawn
+pub mod Strays

@@ -10,14 +10,17 @@ ghost use Rattle.fdb_audit.specs.WorkedOut.{mark_at};
 ghost use Rattle.fdb_audit.specs.private.Reasons.{ChangesAt, IsFirstAt, IsFirstOf, IsFirstPlace};
 ghost use Rattle.fdb_audit.specs.private.Worked.{IsWorkedOutOf};
 
+mod strays;
+
 use crate::reason::{CallPlace, Live, Reason};
 use crate::worked_out::WorkedOut;
 use fdb_history::{AuditFault, Call, CallAnswer, ClientLog};
+use strays::stray;
 
 /// Why a fault of worked-out logs stands, where it is the first one. There is no reason of a gap,
-/// which no such logs have, nor of memory that runs out, and none is told yet of a stray answer.
+/// which no such logs have, nor of memory that runs out.
 ///
-/// It takes time in proportion to the calls, and no memory.
+/// It takes time in proportion to the calls and the commit versions, and no memory.
 pub fn explain(worked: &WorkedOut, fault: AuditFault) -> Option<Reason>
     requires few { length worked.now.logs.items ≤ 2 ^ 32 }
     requires worked_out { (given : Given) × IsWorkedOutOf given worked.now }
@@ -31,7 +34,8 @@ pub fn explain(worked: &WorkedOut, fault: AuditFault) -> Option<Reason>
         AuditFault::Clash { position } => Some(twice(worked, position)),
         AuditFault::Wrong { client, call } => Some(not_live(worked, client, call)),
         AuditFault::NotAbove { client, call } => Some(not_above(worked, client, call)),
-        AuditFault::Stray { .. } | AuditFault::Gap { .. } | AuditFault::Memory => None,
+        AuditFault::Stray { client, call } => Some(stray(worked, client, call)),
+        AuditFault::Gap { .. } | AuditFault::Memory => None,
     }
 }
 
