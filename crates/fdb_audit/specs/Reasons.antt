@@ -98,7 +98,7 @@ pub record IsLow (start : Record) (logs : List ClientLog) (call : Call) (version
 
 -- ---- stray answers
 
--- the versions of some commit versions, in order
+-- the commit versions of some answers, in order
 abbrev pub versions_in : List Issued → List ℕ
 versions_in answers = map (λ issued. issued.version) answers
 
@@ -128,8 +128,8 @@ pub record IsIssuedTo (chain : List Issued) (client : ℕ) (call : Call)
   pub issued : Contains (versions_to chain owner) version
   pub other : owner ≢ client
 
--- A call got a version that was issued to its client, but not the one that was due: its number among
--- the client's is another, and so it is another version, as versions rise.
+-- A call got a version that was issued to its client, but not as the one that was due: its number
+-- among the client's versions is another, and where versions rise, so is the version.
 pub record IsOutOfTurn (chain : List Issued) (client : ℕ) (before : List Call) (call : Call)
     (version : ℕ) (due : Option ℕ) : Type 0 where
   pub got : IsAnswered call version
@@ -145,8 +145,8 @@ pub record IsNotGot (before : List Call) (call : Call) (version : ℕ) : Type 0 
   pub reported : call.answer ≡ Acked (plain version) raised raised
   pub never : Contains (versions_got before) version → ⊥
 
--- Behind all of a client's calls a version is due to it still, and so none of them got it, as
--- versions rise.
+-- Behind all of a client's calls a version is still due to it, and where versions rise, none of them
+-- got it.
 pub record IsNotLogged (chain : List Issued) (client : ℕ) (calls : List Call)
     (version : ℕ) : Type 0 where
   pub is_due : due_after chain client calls ≡ Some version
