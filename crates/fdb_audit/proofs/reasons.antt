@@ -7,5 +7,6 @@ pub mod Texts
 pub mod FirstCalls
 pub mod Numbers
 pub mod SameIssued
+pub mod VersionsIn
 pub mod Drawn
 pub mod Strays

@@ -1,20 +1,17 @@
 -- What a client's calls got, where each is justified: the first of its versions, in order.
-use Rattle.std.proofs.Common.{◌≡◌, ◌+◌, ◌-◌, ◌<◌, ◌≤◌, ◌==◌, ◌&&◌, ◌⊎◌, nat_lt, nat_le, ℕ, zero, suc, Bool, true, false, List, [], ◌∷◌, ◌++◌, length, take, filter, cond, Option, None, Some, slice_get, get_or, refl, ap, sym, subst, ◌∙◌, inl, inr, arith}
+use Rattle.std.proofs.Common.{◌≡◌, ◌+◌, ◌<◌, ◌==◌, nat_lt, nat_le, ℕ, zero, suc, Bool, true, false, List, [], ◌∷◌, ◌++◌, length, filter, cond, Option, None, Some, slice_get, refl, ap, sym, subst, ◌∙◌, inl, inr, arith}
 use Rattle.std.specs.List.{count_by, find}
-use Rattle.std.specs.Option.{option_map_or}
-use Rattle.std.proofs.lemmas.Bool.{and_from, and_parts, cases_Bool, cases_eq, cases_lt, cond-false, cond-true, eq-eqb, eqb-true, false≢true, le-leb, le-ltb, lt-leb, lt-ltb}
+use Rattle.std.proofs.lemmas.Bool.{and_from, cases_lt, cond-false, cond-true, eq-eqb, false≢true, le-leb, le-ltb, lt-leb, lt-ltb}
 use Rattle.std.proofs.lemmas.List.Sums.{sum_by-cons}
-use Rattle.std.proofs.lemmas.Option.{none-some, same_Some, slice_get_within}
+use Rattle.std.proofs.lemmas.Option.{none-some, same_Some}
 use Rattle.fdb_history.specs.Chain.{latest}
-use Rattle.fdb_history.specs.Issuing.{by_number}
-use Rattle.fdb_history.specs.Log.{answer_in, answers_in, fresh_answers}
-use Rattle.fdb_history.specs.Strays.{is_again, is_due, is_fresh_answer, is_of_chain, is_same}
+use Rattle.fdb_history.specs.Strays.{is_again, is_due, is_fresh_answer}
 use Rattle.fdb_history.specs.declared.chain.Issued.{Issued}
 use Rattle.fdb_history.specs.declared.log.CallAnswer.TheVariants.{Answered}
 use Rattle.fdb_history.specs.declared.log.Input.TheVariants as input
 use Rattle.fdb_audit.specs.WorkedOut.{entry_of}
-use Rattle.fdb_audit.proofs.reasons.Numbers.{IsEntry, IsNumbered, at_last, at_own, entries_to}
-use Rattle.fdb_audit.proofs.reasons.SameIssued.{same_members, same_self}
+use Rattle.fdb_audit.proofs.reasons.Numbers.{IsNumbered, at_last, at_own, entries_to}
+use Rattle.fdb_audit.proofs.reasons.SameIssued.{same_members}
 
 -- ---- lists
 

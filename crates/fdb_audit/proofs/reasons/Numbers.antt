@@ -1,16 +1,13 @@
 -- The entries of a chain: each stands at its ordinal, and its number is its place among its client's.
-use Rattle.std.proofs.Common.{◌≡◌, ◌+◌, ◌<◌, ◌==◌, ◌⊎◌, ℕ, zero, suc, Bool, true, false, List, [], ◌∷◌, ◌++◌, length, map, take, cond, Option, None, Some, slice_get, refl, ap, sym, subst, ◌∙◌, inl, inr, arith}
+use Rattle.std.proofs.Common.{◌≡◌, ◌+◌, ◌==◌, ◌⊎◌, ℕ, zero, suc, Bool, true, List, [], ◌∷◌, ◌++◌, length, take, cond, Some, slice_get, refl, ap, sym, subst, ◌∙◌, inl, inr, arith}
 use Rattle.std.specs.List.{count_by, filter}
-use Rattle.std.specs.List.Sorted.{IsStrictlyIncreasing}
-use Rattle.std.specs.Option.{option_map}
 use Rattle.std.proofs.lemmas.Bool.{cases_Bool, cond-false, cond-true, eq-eqb, eqb-true}
 use Rattle.std.proofs.lemmas.List.{take-append-le}
 use Rattle.std.proofs.lemmas.List.Sums.{sum_by-cons}
-use Rattle.std.proofs.lemmas.Option.{none-some, same_Some, slice_get-map, slice_get_within}
+use Rattle.std.proofs.lemmas.Option.{none-some, same_Some, slice_get_within}
 use Rattle.std.proofs.Math.Seq.{take-append_seam}
 use Rattle.fdb_history.specs.Chain.{latest}
 use Rattle.fdb_history.specs.declared.chain.Issued.{Issued}
-use Rattle.fdb_audit.specs.Reasons.{versions_in, versions_to}
 use Rattle.fdb_audit.specs.WorkedOut.{chain_from, chain_of}
 use Rattle.fdb_audit.specs.declared.trace.Drawn.{Drawn}
 use Rattle.fdb_audit.proofs.Chains.{next_entry}

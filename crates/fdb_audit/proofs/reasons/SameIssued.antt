@@ -1,5 +1,5 @@
 -- Which commit versions are the same, member by member.
-use Rattle.std.proofs.Common.{◌≡◌, ◌==◌, ◌&&◌, true, false, refl, sym, ◌∙◌}
+use Rattle.std.proofs.Common.{◌≡◌, ◌==◌, ◌&&◌, true, false, refl}
 use Rattle.std.proofs.lemmas.Bool.{and_from, and_parts, eq-eqb, eqb-true, false≢true}
 use mathlib.Core.Bool.{Bool, beq}
 use Rattle.fdb_history.specs.Strays.{is_same}

@@ -1,19 +1,18 @@
 -- Why the first stray answer of worked-out logs is stray.
-use Rattle.std.proofs.Common.{◌≡◌, ◌≢◌, ◌+◌, ◌-◌, ◌<◌, ◌≤◌, ◌==◌, ◌&&◌, ◌⊎◌, nat_eq, nat_lt, ℕ, zero, suc, Bool, true, false, Contains, List, [], ◌∷◌, ◌++◌, length, map, take, append-nil, cond, Option, None, Some, slice_get, get_or, unwrap_or, refl, ap, sym, subst, ◌∙◌, inl, inr, arith}
-use Rattle.std.specs.List.{find, list_any}
-use Rattle.std.specs.List.Sorted.{IsStrictlyIncreasing}
+use Rattle.std.proofs.Common.{◌≡◌, ◌≢◌, ◌+◌, ◌<◌, ◌≤◌, ◌==◌, ◌&&◌, ◌⊎◌, nat_eq, nat_lt, ℕ, zero, suc, Bool, true, false, Contains, List, [], ◌∷◌, ◌++◌, length, take, append-nil, cond, Option, None, Some, slice_get, get_or, unwrap_or, refl, ap, sym, subst, ◌∙◌, inl, inr, arith}
+use Rattle.std.specs.List.{find}
 use Rattle.std.specs.Option.{option_eq, option_map, option_map_or}
-use Rattle.std.proofs.lemmas.Bool.{and_from, and_parts, cases_Bool, cases_lt, cases_order, cond-false, cond-true, cond_both, eq-eqb, eqb-false, eqb-true, false≢true, le-ltb, lt-ltb, ne_eqb, true_from_ne_false, true≢false}
+use Rattle.std.proofs.lemmas.Bool.{and_from, and_parts, cases_lt, cond-true, cond_both, eq-eqb, eqb-false, eqb-true, false≢true, le-ltb, lt-ltb, ne_eqb, true_from_ne_false, true≢false}
 use Rattle.std.proofs.lemmas.Grind.{flat_map-append}
 use Rattle.std.proofs.lemmas.List.{length-map}
 use Rattle.std.proofs.lemmas.List.Folds.{list_any_at}
-use Rattle.std.proofs.lemmas.Option.{get_or_from_slice_get, none-some, same_Some, slice_get-get_or, slice_get-map, slice_get_past, slice_get_within}
+use Rattle.std.proofs.lemmas.Option.{none-some, same_Some, slice_get-get_or, slice_get_past, slice_get_within}
 use Rattle.std.proofs.Math.Seq.{take-length, take-suc}
 use Rattle.fdb_history.specs.Chain.{latest}
-use Rattle.fdb_history.specs.Faults.{IsFirst, StandsAt}
+use Rattle.fdb_history.specs.Faults.{IsFirst}
 use Rattle.fdb_history.specs.Issuing.{kept}
 use Rattle.fdb_history.specs.Log.{answer_in, answers_in, calls_of, fresh_answers}
-use Rattle.fdb_history.specs.Strays.{HasUndrawn, IsStray, NotJustified, is_drawn, is_due, is_justified, is_of_chain, is_same, issued_under}
+use Rattle.fdb_history.specs.Strays.{HasUndrawn, IsStray, NotJustified, is_due, is_justified, is_of_chain, is_same, issued_under}
 use Rattle.fdb_history.specs.declared.chain.Issued.{Issued}
 use Rattle.fdb_history.specs.declared.fault.AuditFault.TheVariants as fault
 use Rattle.fdb_history.specs.declared.log.Call.{Call}
@@ -23,92 +22,18 @@ use Rattle.fdb_history.specs.declared.log.Input.TheVariants as input
 use Rattle.fdb_history.specs.declared.register.Record.{Record}
 use Rattle.fdb_audit.specs.Reasons.{IsNotLogged, IsReason, due_after, versions_got, versions_in, versions_to}
 use Rattle.fdb_audit.specs.Trace.{Given}
-use Rattle.fdb_audit.specs.WorkedOut.{IsStep, IsWorkedOut, entry_of, number_in, plain}
+use Rattle.fdb_audit.specs.WorkedOut.{IsWorkedOut, entry_of, number_in, plain}
 use Rattle.fdb_audit.specs.private.Strays.{why_not_due}
 use Rattle.fdb_audit.specs.declared.reason.Reason.{Reason}
 use Rattle.fdb_audit.specs.declared.reason.Reason.TheVariants.{NeverIssued, IssuedTo, OutOfTurn, NotGot, NotLogged}
 use Rattle.fdb_audit.specs.declared.trace.Step.{Step}
 use Rattle.fdb_audit.specs.declared.trace.Step.TheVariants.{Read, Ask, Report, Learn}
-use Rattle.fdb_audit.proofs.Searches.{version_below}
 use Rattle.fdb_audit.proofs.reasons.Drawn.{AreFirst, due_next, first_found, first_more, latest_first, next_due, of_first}
-use Rattle.fdb_audit.proofs.reasons.Numbers.{IsNumbered, at_own, entries_to, numbered, own_at}
+use Rattle.fdb_audit.proofs.reasons.Numbers.{IsNumbered, entries_to, numbered, own_at}
 use Rattle.fdb_audit.proofs.reasons.SameIssued.{same_self}
+use Rattle.fdb_audit.proofs.reasons.VersionsIn.{contained, entry_at, found_at, none_passes, one_place, place_in, version_at}
 use Rattle.fdb_audit.proofs.reasons.Steps.{made, step_of}
 use Rattle.fdb_audit.proofs.versions.Fitting.{no_call}
-
--- ---- versions of entries
-
--- a version stands where its entry does
-version_at : (entries : List Issued) (k : ℕ) (entry : Issued) → slice_get entries k ≡ Some entry → slice_get (versions_in entries) k ≡ Some entry.version
-version_at entries k entry there = slice_get-map (λ (e : Issued). e.version) entries k ∙ ap (option_map (λ (e : Issued). e.version)) there
-
--- and an entry where its version does
-entry_at : (entries : List Issued) (k version : ℕ) → slice_get (versions_in entries) k ≡ Some version → (entry : Issued) × (slice_get entries k ≡ Some entry) × (entry.version ≡ version)
-entry_at entries k version there = by (slice_get entries k) refl
-  where
-    by : (o : Option Issued) → slice_get entries k ≡ o → (entry : Issued) × (slice_get entries k ≡ Some entry) × (entry.version ≡ version)
-    by None is = absurd (none-some version (sym (slice_get-map (λ (e : Issued). e.version) entries k ∙ ap (option_map (λ (e : Issued). e.version)) is) ∙ there))
-    by (Some entry) is = (entry, is, same_Some entry.version version (sym (version_at entries k entry is) ∙ there))
-
--- what is at a place is contained
-contained : (versions : List ℕ) (k version : ℕ) → slice_get versions k ≡ Some version → Contains versions version
-contained versions k version there = (k, slice_get_within versions k version there, get_or_from_slice_get versions k version version there)
-
--- what is contained is at a place
-place_in : (versions : List ℕ) (version : ℕ) → Contains versions version → (k : ℕ) × (slice_get versions k ≡ Some version)
-place_in versions version has = (has.0, slice_get-get_or versions has.0 version has.1 ∙ ap Some has.2)
-
--- what is found is at a place, and passes
-found_at : {X : Type 0} (p : X → Bool) (xs : List X) (x : X) → find p xs ≡ Some x → (k : ℕ) × (slice_get xs k ≡ Some x) × (p x ≡ true)
-found_at p [] x is = absurd (none-some x is)
-found_at p (first ∷ xs) x is =
-    elim (cases_Bool (p first)) [
-      | inl passes ↦
-          let same = same_Some first x (sym (cond-true (p first) (Some first) (find p xs) passes) ∙ is) in
-          (0, ap Some same, ap p (sym same) ∙ passes)
-      | inr fails ↦
-          let rest = found_at p xs x (sym (cond-false (p first) (Some first) (find p xs) fails) ∙ is) in
-          (suc rest.0, rest.1, rest.2)
-    ]
-
--- where nothing is found, nothing passes
-none_passes : {X : Type 0} (p : X → Bool) (xs : List X) (k : ℕ) (x : X) → find p xs ≡ None → slice_get xs k ≡ Some x → p x ≡ true → ⊥
-none_passes p [] k x none there passes = none-some x there
-none_passes p (first ∷ xs) zero x none there passes =
-    none-some first (sym none ∙ cond-true (p first) (Some first) (find p xs) (ap p (same_Some first x there) ∙ passes))
-none_passes p (first ∷ xs) (suc k) x none there passes =
-    elim (cases_Bool (p first)) [
-      | inl found ↦ none-some first (sym none ∙ cond-true (p first) (Some first) (find p xs) found)
-      | inr fails ↦ none_passes p xs k x (sym (cond-false (p first) (Some first) (find p xs) fails) ∙ none) there passes
-    ]
-
--- where versions rise, each of a client's stands at one place
-one_place : (chain : List Issued) → IsNumbered chain → IsStrictlyIncreasing (versions_in chain) → (client one other version : ℕ)
-    → slice_get (versions_to chain client) one ≡ Some version → slice_get (versions_to chain client) other ≡ Some version → one ≡ other
-one_place chain is rising client one other version here there =
-    let first = entry_at (entries_to chain client) one version here in
-    let second = entry_at (entries_to chain client) other version there in
-    let at = at_own chain is client one first.0 first.1 in
-    let at' = at_own chain is client other second.0 second.1 in
-    let d = first.0 in
-    let entry = get_or_from_slice_get chain at.0 first.0 d at.1 in
-    let entry' = get_or_from_slice_get chain at'.0 second.0 d at'.1 in
-    let version_is = ap (λ (e : Issued). e.version) entry ∙ first.2 in
-    let version_is' = ap (λ (e : Issued). e.version) entry' ∙ second.2 in
-    elim (cases_order at.0 at'.0) [
-      | inl same ↦
-          let num = ap (λ (e : Issued). e.num) (same_Some first.0 second.0 (sym at.1 ∙ ap (slice_get chain) same ∙ at'.1)) in
-          omega (arith, num, at.3, at'.3)
-      | inr apart ↦
-          elim apart [
-            | inl less ↦
-                let low = version_below chain rising version at.0 at'.0 d less (slice_get_within chain at'.0 second.0 at'.1) in
-                absurd (omega (arith, low, version_is, version_is'))
-            | inr more ↦
-                let low = version_below chain rising version at'.0 at.0 d more (slice_get_within chain at.0 first.0 at.1) in
-                absurd (omega (arith, low, version_is, version_is'))
-          ]
-    ]
 
 -- ---- worked-out logs
 
