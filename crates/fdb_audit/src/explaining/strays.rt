@@ -29,7 +29,7 @@ pub(super) fn stray(worked: &WorkedOut, client: u32, call: u64) -> Reason
         return Reason::NotLogged { version };
     };
     match &judged.answer {
-        CallAnswer::Answered(issued) => not_due(&worked.chain, client, &calls[..place], *issued),
+        CallAnswer::Answered(issued) => not_due(&worked.chain, client, &calls[..place], issued),
         CallAnswer::Acked { rec, .. } => Reason::NotGot {
             version: rec.version,
         },
@@ -38,8 +38,8 @@ pub(super) fn stray(worked: &WorkedOut, client: u32, call: u64) -> Reason
 }
 
 /// Why a commit version that a client got, after some calls, is not the one that was due.
-fn not_due(chain: &[Issued], client: u32, before: &[Call], issued: Issued) -> Reason
-    ensures { result ≡ why_not_due chain.now client before.now issued }
+fn not_due(chain: &[Issued], client: u32, before: &[Call], issued: &Issued) -> Reason
+    ensures { result ≡ why_not_due chain.now client before.now issued.now }
 {
     let version = issued.version;
     if issued.ordinal >= chain.len() as u64 {
