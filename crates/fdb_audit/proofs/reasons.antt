@@ -9,3 +9,8 @@ pub mod Changers
 pub mod Findings
 pub mod Reached
 pub mod Calls
+pub mod Numbers
+pub mod SameIssued
+pub mod VersionsIn
+pub mod Drawn
+pub mod Strays

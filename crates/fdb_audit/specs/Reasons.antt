@@ -1,6 +1,9 @@
 -- Why a fault of worked-out logs stands. (all of this is this product's own)
-use Rattle.std.specs.Prelude.{◌≡◌, ◌≢◌, ℕ, ◌<◌, ◌≤◌, true, false, List, [], Option, None, Some, slice_get}
+use Rattle.std.specs.Prelude.{◌≡◌, ◌≢◌, ℕ, ◌<◌, ◌≤◌, ◌==◌, Bool, true, false, List, [], length, map, filter, Option, None, Some, slice_get}
+use Rattle.std.specs.List.{Contains}
+use Rattle.std.specs.List.Sorted.{IsStrictlyIncreasing}
 use Rattle.fdb_history.specs.Faults.{ComesBefore, IsFirst, StandsAt, register_at}
+use Rattle.fdb_history.specs.Log.{answers_in, calls_of}
 use Rattle.fdb_history.specs.declared.chain.Issued.{Issued}
 use Rattle.fdb_history.specs.declared.fault.AuditFault.{AuditFault}
 use Rattle.fdb_history.specs.declared.fault.AuditFault.TheVariants as fault
@@ -12,7 +15,7 @@ use Rattle.fdb_audit.specs.WorkedOut.{plain}
 use Rattle.fdb_audit.specs.declared.reason.CallPlace.{CallPlace}
 use Rattle.fdb_audit.specs.declared.reason.Live.{Live}
 use Rattle.fdb_audit.specs.declared.reason.Reason.{Reason}
-use Rattle.fdb_audit.specs.declared.reason.Reason.TheVariants.{Behind, Twice, NotLive, NotRaised, NotAbove}
+use Rattle.fdb_audit.specs.declared.reason.Reason.TheVariants.{Behind, Twice, NotLive, NotRaised, NotAbove, NeverIssued, IssuedTo, OutOfTurn, NotGot, NotLogged}
 
 -- ---- who reported what
 
@@ -93,6 +96,62 @@ pub record IsLow (start : Record) (logs : List ClientLog) (call : Call) (version
   pub saw : IsLive start logs call.asked seen
   pub low : version ≤ seen.version
 
+-- ---- stray answers
+
+-- the commit versions of some answers, in order
+abbrev pub versions_in : List Issued → List ℕ
+versions_in answers = map (λ issued. issued.version) answers
+
+-- those that were issued to a client
+abbrev pub versions_to : List Issued → ℕ → List ℕ
+versions_to chain client = versions_in (filter (λ issued. issued.proxy == client) chain)
+
+-- those that some calls got
+abbrev pub versions_got : List Call → List ℕ
+versions_got calls = versions_in (answers_in calls)
+
+-- The version that is due to a client after some of its calls: of those that were issued to it, the
+-- first behind as many as these calls got.
+abbrev pub due_after : List Issued → ℕ → List Call → Option ℕ
+due_after chain client calls =
+    slice_get (versions_to chain client) (length (versions_got calls))
+
+-- a call got a version that was never issued
+pub record IsNeverIssued (chain : List Issued) (call : Call) (version : ℕ) : Type 0 where
+  pub got : IsAnswered call version
+  pub never : Contains (versions_in chain) version → ⊥
+
+-- a call got a version that was issued to another client
+pub record IsIssuedTo (chain : List Issued) (client : ℕ) (call : Call)
+    (version owner : ℕ) : Type 0 where
+  pub got : IsAnswered call version
+  pub issued : Contains (versions_to chain owner) version
+  pub other : owner ≢ client
+
+-- A call got a version that was issued to its client, but not as the one that was due: its number
+-- among the client's versions is another, and where versions rise, so is the version.
+pub record IsOutOfTurn (chain : List Issued) (client : ℕ) (before : List Call) (call : Call)
+    (version : ℕ) (due : Option ℕ) : Type 0 where
+  pub got : IsAnswered call version
+  pub is_due : due ≡ due_after chain client before
+  pub number : ℕ
+  pub issued : slice_get (versions_to chain client) number ≡ Some version
+  pub out_of_turn : number ≢ length (versions_got before)
+  pub other : IsStrictlyIncreasing (versions_in chain) → due ≢ Some version
+
+-- a report is of a version that no earlier call of its client got
+pub record IsNotGot (before : List Call) (call : Call) (version : ℕ) : Type 0 where
+  pub raised : Bool
+  pub reported : call.answer ≡ Acked (plain version) raised raised
+  pub never : Contains (versions_got before) version → ⊥
+
+-- Behind all of a client's calls a version is still due to it, and where versions rise, none of them
+-- got it.
+pub record IsNotLogged (chain : List Issued) (client : ℕ) (calls : List Call)
+    (version : ℕ) : Type 0 where
+  pub is_due : due_after chain client calls ≡ Some version
+  pub never : IsStrictlyIncreasing (versions_in chain) → Contains (versions_got calls) version → ⊥
+
 -- ---- the whole
 
 -- The reason is why the fault stands.
@@ -107,14 +166,23 @@ IsReason start chain logs (fault.Wrong client call) (NotRaised version position 
     StandsAt (λ before report. IsNotRaised start logs report version position live) logs client call
 IsReason start chain logs (fault.NotAbove client call) (NotAbove version seen) =
     StandsAt (λ before ask. IsLow start logs ask version seen) logs client call
+IsReason start chain logs (fault.Stray client call) (NeverIssued version) =
+    StandsAt (λ before ask. IsNeverIssued chain ask version) logs client call
+IsReason start chain logs (fault.Stray client call) (IssuedTo version owner) =
+    StandsAt (λ before ask. IsIssuedTo chain client ask version owner) logs client call
+IsReason start chain logs (fault.Stray client call) (OutOfTurn version due) =
+    StandsAt (λ before ask. IsOutOfTurn chain client before ask version due) logs client call
+IsReason start chain logs (fault.Stray client call) (NotGot version) =
+    StandsAt (λ before report. IsNotGot before report version) logs client call
+IsReason start chain logs (fault.Stray client call) (NotLogged version) =
+    (call ≡ length (calls_of logs client))
+    × IsNotLogged chain client (calls_of logs client) version
 IsReason _ _ _ _ _ = ⊥
 
--- Worked-out logs have no gap, memory may run out at any time, and of a stray answer no reason is
--- told yet.
+-- Worked-out logs have no gap, and memory may run out at any time.
 abbrev pub HasNoReason : AuditFault → Type 0
 HasNoReason (fault.Gap position) = Unit {0}
 HasNoReason fault.Memory = Unit {0}
-HasNoReason (fault.Stray client call) = Unit {0}
 HasNoReason _ = ⊥
 
 -- A fault has its reason, unless it is of a kind that needs none.

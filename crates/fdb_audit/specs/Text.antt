@@ -3,7 +3,7 @@ use Rattle.std.specs.Prelude.{ℕ, List, [], ◌++◌, Option, None, Some, codes
 use Rattle.fdb_audit.specs.declared.reason.CallPlace.{CallPlace}
 use Rattle.fdb_audit.specs.declared.reason.Live.{Live}
 use Rattle.fdb_audit.specs.declared.reason.Reason.{Reason}
-use Rattle.fdb_audit.specs.declared.reason.Reason.TheVariants.{Behind, Twice, NotLive, NotRaised, NotAbove}
+use Rattle.fdb_audit.specs.declared.reason.Reason.TheVariants.{Behind, Twice, NotLive, NotRaised, NotAbove, NeverIssued, IssuedTo, OutOfTurn, NotGot, NotLogged}
 
 -- a call: its client, and its place in the client's log
 abbrev pub place_text : CallPlace → List ℕ
@@ -27,6 +27,11 @@ position_text position live =
     codes ", but the live committed version at position " ++ decimal position ++ codes " was "
     ++ live_text live
 
+-- which version was due to a client, if one was
+abbrev pub due_text : Option ℕ → List ℕ
+due_text None = codes ", but its client had got all its versions"
+due_text (Some due) = codes ", but its client's next version is " ++ decimal due
+
 -- a reason: a clause of plain English
 abbrev pub reason_text : Reason → List ℕ
 reason_text (Behind version seen call) =
@@ -43,6 +48,15 @@ reason_text (NotRaised version position live) =
     ++ codes " was " ++ live_text live
 reason_text (NotAbove version seen) =
     codes "it got " ++ decimal version ++ codes ", but its client had seen " ++ live_text seen
+reason_text (NeverIssued version) =
+    codes "it got " ++ decimal version ++ codes ", which was never issued"
+reason_text (IssuedTo version owner) =
+    codes "it got " ++ decimal version ++ codes ", which was issued to client " ++ decimal owner
+reason_text (OutOfTurn version due) = codes "it got " ++ decimal version ++ due_text due
+reason_text (NotGot version) =
+    codes "it reported " ++ decimal version ++ codes ", which its client had not got"
+reason_text (NotLogged version) =
+    decimal version ++ codes " was issued to the client, and none of its calls got it"
 
 -- a reason behind a fault, where one is told
 abbrev pub why_text : Option Reason → List ℕ

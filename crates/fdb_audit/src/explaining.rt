@@ -10,16 +10,20 @@ ghost use Rattle.fdb_audit.specs.WorkedOut.{mark_at};
 ghost use Rattle.fdb_audit.specs.private.Findings.{AreChangers, IsReached, IsReasonFor};
 ghost use Rattle.fdb_audit.specs.private.Worked.{IsWorkedOutOf};
 
+mod strays;
+
 use crate::changers::{Changers, changers_of};
 use crate::reason::{Live, Reason};
 use crate::worked_out::WorkedOut;
 use fdb_history::{AuditFault, Call, CallAnswer, ClientLog};
 use std::alloc::{AllocError, Global};
+use strays::stray;
 
 /// Why a fault of worked-out logs stands, where it is the first one. There is no reason of a gap,
-/// which no such logs have, nor of memory that runs out, and none is told yet of a stray answer.
+/// which no such logs have, nor of memory that runs out.
 ///
-/// It takes time in proportion to the calls, and memory for two calls for each position.
+/// It takes time in proportion to the calls and the commit versions, and memory for two calls for
+/// each position.
 pub fn explain(
     alloc: Global,
     worked: &WorkedOut,
@@ -41,7 +45,8 @@ pub fn explain(
         AuditFault::Clash { position } => twice(worked, &changers, position),
         AuditFault::Wrong { client, call } => not_live(worked, &changers, client, call),
         AuditFault::NotAbove { client, call } => Some(not_above(worked, &changers, client, call)),
-        AuditFault::Stray { .. } | AuditFault::Gap { .. } | AuditFault::Memory => None,
+        AuditFault::Stray { client, call } => Some(stray(worked, client, call)),
+        AuditFault::Gap { .. } | AuditFault::Memory => None,
     };
     Ok(reason)
 }

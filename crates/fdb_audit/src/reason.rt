@@ -67,6 +67,36 @@ pub enum Reason {
         /// What its client had seen.
         seen: Live,
     },
+    /// The call was answered a commit version that was never issued.
+    NeverIssued {
+        /// The version.
+        version: u64,
+    },
+    /// The call was answered a commit version that was issued to another client.
+    IssuedTo {
+        /// The version.
+        version: u64,
+        /// The other client.
+        owner: u32,
+    },
+    /// The call was answered a commit version of its client's, but another one than was due.
+    OutOfTurn {
+        /// The version.
+        version: u64,
+        /// The version that was due, none where its client had got all its versions.
+        due: Option<u64>,
+    },
+    /// The call reported a version that its client had not got.
+    NotGot {
+        /// The version.
+        version: u64,
+    },
+    /// A version was issued to the client, and none of its calls got it: the call at the end of
+    /// its log is missing.
+    NotLogged {
+        /// The version.
+        version: u64,
+    },
 }
 
 /// The client, and the call by its place.
@@ -100,6 +130,25 @@ impl fmt::Display for Live {
                 )
             }
             None => write!(f, "{version}, the start"),
+        }
+    }
+}
+
+/// The commit version that was due to a client, if one was.
+#[derive(Clone, Copy)]
+struct Due(Option<u64>);
+
+/// That another version was due, or none.
+impl fmt::Display for Due {
+    ghost use Rattle.std.specs.Prelude.{Some};
+    ghost use Rattle.fdb_audit.specs.Text.{due_text};
+
+    ghost output = { λ due. Some (due_text due.0) };
+
+    fn fmt<W: fmt::Write>(&self, f: &mut fmt::Formatter<W>) -> fmt::Result {
+        match self.0 {
+            Some(version) => write!(f, ", but its client's next version is {version}"),
+            None => f.write_str(", but its client had got all its versions"),
         }
     }
 }
@@ -149,6 +198,23 @@ impl fmt::Display for Reason {
             Reason::NotAbove { version, seen } => {
                 write!(f, "it got {version}, but its client had seen {seen}")
             }
+            Reason::NeverIssued { version } => {
+                write!(f, "it got {version}, which was never issued")
+            }
+            Reason::IssuedTo { version, owner } => {
+                write!(f, "it got {version}, which was issued to client {owner}")
+            }
+            Reason::OutOfTurn { version, due } => {
+                let due = Due(due);
+                write!(f, "it got {version}{due}")
+            }
+            Reason::NotGot { version } => {
+                write!(f, "it reported {version}, which its client had not got")
+            }
+            Reason::NotLogged { version } => write!(
+                f,
+                "{version} was issued to the client, and none of its calls got it"
+            ),
         }
     }
 }

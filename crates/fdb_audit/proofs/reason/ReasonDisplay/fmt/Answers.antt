@@ -1,4 +1,4 @@
-use Rattle.std.proofs.Common.{codes, decimal}
+use Rattle.std.proofs.Common.{codes, decimal, refl}
 use Rattle.std.proofs.Output.{has_written_of_eq}
 use Rattle.fdb_audit.specs.Text.{live_text, place_text}
 use Rattle.fdb_audit.proofs.reasons.Texts.{four, six}
@@ -19,3 +19,11 @@ returns-in-NotRaised-clause-writes g c = λ plain ok.
 pub returns-in-NotAbove-clause-writes : goal.returns-in-NotAbove-clause-writes
 returns-in-NotAbove-clause-writes g c = λ plain ok.
     has_written_of_eq _ _ _ _ _ (rw c.in-NotAbove.is (four (codes "it got ") (decimal c.in-NotAbove.version) (codes ", but its client had seen ") (live_text c.in-NotAbove.seen))) (c.write-in-NotAbove.ensures.writes plain ok)
+
+pub returns-in-IssuedTo-clause-writes : goal.returns-in-IssuedTo-clause-writes
+returns-in-IssuedTo-clause-writes g c = λ plain ok.
+    has_written_of_eq _ _ _ _ _ (rw c.in-IssuedTo.is (four (codes "it got ") (decimal c.in-IssuedTo.version) (codes ", which was issued to client ") (decimal c.in-IssuedTo.owner))) (c.write-in-IssuedTo.ensures.writes plain ok)
+
+pub returns-in-NotLogged-clause-writes : goal.returns-in-NotLogged-clause-writes
+returns-in-NotLogged-clause-writes g c = λ plain ok.
+    has_written_of_eq _ _ _ _ _ (rw c.in-NotLogged.is refl) (c.write-in-NotLogged.ensures.writes plain ok)
