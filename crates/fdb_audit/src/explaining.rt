@@ -1,6 +1,7 @@
 //! Why faults of worked-out logs stand.
 
-ghost use Rattle.std.specs.Prelude.{◌≡◌, ◌+◌, ◌<◌, ◌≤◌, ◌++◌, ◌∷◌, ◌^◌, [], IfOk, List, length, take};
+ghost use Rattle.std.specs.Prelude.{◌≡◌, ◌+◌, ◌<◌, ◌≤◌, ◌++◌, ◌∷◌, ◌^◌, []};
+ghost use Rattle.std.specs.Prelude.{IfOk, List, length, take};
 ghost use Rattle.fdb_history.specs.Audit.{IsFirstFault, Low};
 ghost use Rattle.fdb_history.specs.Log.{calls_of};
 ghost use Rattle.fdb_history.specs.declared.log.Call.{Call};

@@ -8,5 +8,5 @@ returns-in_ok-text-in-Ok-clause-ok c =
     let count : c.len.result ≡ length chain.items = omega (arith, c.len.ensures, chain.ok.0) in (
       c.in-Ok.history,
       rw (c.deref.ensures.value, c.deref-2.ensures.value) at c.in-Ok.ensures.audited,
-      c.in_ok-text-in-Ok.ensures ∙ ap (λ (n : ℕ). verdict_text c.in-Ok.history.events n c.args.with_history) count,
+      c.in_ok-text-in-Ok.ensures ∙ ap (λ (n : ℕ). verdict_text c.in-Ok.history.events n c.args.wanted.history) count,
     )
