@@ -3,7 +3,8 @@ use Rattle.std.proofs.Common.{◌≡◌, ◌∙◌, ◌<◌, ap, ℕ, zero, suc,
 use Rattle.std.specs.Borrow.{Bor}
 use Rattle.std.specs.Prelude.{is_some, option_map}
 use Rattle.clap.specs.Words.{Rule, Text}
-use Rattle.fdb_command.specs.Arguments.{HasFlag}
+use Rattle.clap.specs.declared.builder.value_parser.ValueParser.TheVariants as parser
+use Rattle.fdb_command.specs.Arguments.{HasArgument}
 use Rattle.fdb_audit.specs.Arguments.{ReadsInput, command, flag_argument}
 use Rattle.fdb_audit.specs.private.Asked.{AskAudit}
 use Rattle.fdb_audit.specs.declared.arguments.Arguments.{Arguments}
@@ -31,33 +32,33 @@ third_alone (suc zero) lt same = absurd (differ _ _ 0 104 97 refl refl (λ e. om
 third_alone (suc (suc zero)) lt same = refl
 third_alone (suc (suc (suc j))) lt same = absurd (omega arith)
 
-pub has_history : HasFlag command (codes "history")
+pub has_history : HasArgument command (codes "history") parser.Bool
 has_history = record {
   plain = refl;
   simple = simple;
   place = 1;
-  flag = flag_argument (codes "history");
+  rule = flag_argument (codes "history");
   within = omega arith;
   here = refl;
   id = refl;
   alone = second_alone;
-  parser = refl;
+  read = refl;
   case = refl;
   named = λ e. differ _ _ 0 104 0 refl refl (λ e. omega arith) e;
   own = (λ e. differ _ _ 1 105 101 refl refl (λ e. omega arith) e, λ e. differ _ _ 0 104 118 refl refl (λ e. omega arith) e);
 }
 
-pub has_all : HasFlag command (codes "all")
+pub has_all : HasArgument command (codes "all") parser.Bool
 has_all = record {
   plain = refl;
   simple = simple;
   place = 2;
-  flag = flag_argument (codes "all");
+  rule = flag_argument (codes "all");
   within = omega arith;
   here = refl;
   id = refl;
   alone = third_alone;
-  parser = refl;
+  read = refl;
   case = refl;
   named = λ e. differ _ _ 0 97 0 refl refl (λ e. omega arith) e;
   own = (λ e. differ _ _ 0 97 104 refl refl (λ e. omega arith) e, λ e. differ _ _ 0 97 118 refl refl (λ e. omega arith) e);

@@ -1,9 +1,10 @@
 -- What a parse of a command line leaves of an argument's text: it passed the argument's parser, and a getter reads it
 -- as that parser says.
-use Rattle.std.proofs.Common.{◌≡◌, ◌∙◌, ◌<◌, ◌≤◌, ◌&&◌, ◌||◌, ap, ℕ, zero, suc, Bool, true, false, List, [], ◌∷◌, get_or, map, length, Option, Some, None, refl, sym, subst, inl, inr, arith, codes}
+use Rattle.std.proofs.Common.{◌≡◌, ◌∙◌, ◌<◌, ◌≤◌, ◌&&◌, ◌||◌, ap, ℕ, zero, suc, Bool, true, false, List, [], ◌∷◌, get_or, map, length, Option, Some, None, Result, Ok, ◌^◌, pos, refl, sym, subst, inl, inr, arith, codes}
 use Rattle.std.specs.Borrow.{Bor}
 use Rattle.std.specs.List.{All, slice_index_or}
 use Rattle.std.specs.Prelude.{option_map, slice_get, not}
+use Rattle.std.specs.Str.Parse.{ParsesUnsigned}
 use Rattle.std.specs.Str.{bytes_eq}
 use Rattle.std.proofs.lemmas.Bool.{ne_eqb}
 use Rattle.std.proofs.lemmas.List.{get_or-map, get_or_default, length-map}
@@ -11,7 +12,7 @@ use Rattle.std.proofs.lemmas.List.Elements.{All-get_or}
 use Rattle.std.proofs.lemmas.Slice.Eq.{bytes_eq-Decides}
 use Rattle.clap.specs.Facts.{args_of, groups_of, Entry, EntryPasses, HasReading, PassesArg, ValuesPass, parser_of, parser_of_value}
 use Rattle.clap.specs.Built.{IsAuto, IsParsedFrom, NamesNoGroup, SameRules}
-use Rattle.clap.specs.Matches.{found_of, matched_of, one_text}
+use Rattle.clap.specs.Matches.{ReadsOne, found_of, matched_of, one_text}
 use Rattle.clap.specs.Values.{Accepts, read_as, reading_of}
 use Rattle.clap.specs.Simple.{has_plain_fields}
 use Rattle.clap.specs.Walk.{is_empty}
@@ -25,7 +26,8 @@ use Rattle.clap.specs.declared.builder.value_parser.ValueParser.TheVariants as p
 use Rattle.clap.specs.declared.parser.matches.ArgMatches.{ArgMatches}
 use Rattle.clap.specs.declared.parser.matches.Found.{Found}
 use Rattle.clap.specs.declared.parser.matches.MatchedArg.{MatchedArg}
-use Rattle.fdb_command.specs.Arguments.{HasFlag, is_set}
+use Rattle.fdb_command.specs.Arguments.{HasArgument, IsNumber, is_set}
+use Rattle.clap.proofs.CallerReads.{signed_reads}
 use Rattle.clap.proofs.CallerLemmas.{entry_by_id, same_rules_by_id}
 
 -- the text t is a value that the parser takes, as a typed getter reads it
@@ -177,12 +179,30 @@ flag_read (Some t) r read absent set unset =
         let other : bytes_eq t (codes "false") ≡ true = rw e at h in
         unset (ap Some ((bytes_eq-Decides t (codes "false")).0 other)) ∙ sym e
 
--- So is the flag of a command that has it.
-pub flag_of : (old : Command) (m : ArgMatches) → IsParsedFrom old m → (name : Text) → HasFlag (app_of old) name → (r : Bool) → (one_text (found_of m) name ≡ None → r ≡ false)
-    → (one_text (found_of m) name ≡ Some (codes "true") → r ≡ true) → (one_text (found_of m) name ≡ Some (codes "false") → r ≡ false) → r ≡ is_set (one_text (found_of m) name)
-flag_of old m p name has r absent set unset =
+-- the text of an argument that a command has
+value_of : (old : Command) (m : ArgMatches) → IsParsedFrom old m → (name : Text) (q : ValueParser) → HasArgument (app_of old) name q → (t : List ℕ) → one_text (found_of m) name ≡ Some t → IsRead q t
+value_of old m p name q has t found =
     let id = has.id in
-    flag_read (one_text (found_of m) name) r
-    (λ t found. text_is old m p (app_of old).top.rules refl has.plain has.simple has.place has.flag has.within has.here (λ j low same. has.alone j low (same ∙ id))
-    (λ e. has.named (sym id ∙ e)) (λ e. has.own.0 (sym id ∙ e)) (λ e. has.own.1 (sym id ∙ e)) parser.Bool has.parser has.case t (subst (λ (n : Text). one_text (found_of m) n ≡ Some t) (sym id) found))
-    absent set unset
+    text_is old m p (app_of old).top.rules refl has.plain has.simple has.place has.rule has.within has.here (λ j low same. has.alone j low (same ∙ id))
+    (λ e. has.named (sym id ∙ e)) (λ e. has.own.0 (sym id ∙ e)) (λ e. has.own.1 (sym id ∙ e)) q has.read has.case t (subst (λ (n : Text). one_text (found_of m) n ≡ Some t) (sym id) found)
+
+-- So a flag is given where its text is true.
+pub flag_of : (old : Command) (m : ArgMatches) → IsParsedFrom old m → (name : Text) → HasArgument (app_of old) name parser.Bool → (r : Bool) → (one_text (found_of m) name ≡ None → r ≡ false)
+    → (one_text (found_of m) name ≡ Some (codes "true") → r ≡ true) → (one_text (found_of m) name ≡ Some (codes "false") → r ≡ false) → r ≡ is_set (one_text (found_of m) name)
+flag_of old m p name has r absent set unset = flag_read (one_text (found_of m) name) r (value_of old m p name parser.Bool has) absent set unset
+
+number_read : (E : Type 0) (G : List ℕ → Result ℕ E → Type 0) (low high : ℕ) (o : Option (List ℕ)) (r : Option ℕ) → ((t : List ℕ) → o ≡ Some t → IsRead (parser.Signed (pos low) (pos high)) t)
+    → (o ≡ None → r ≡ None) → ((t : List ℕ) → o ≡ Some t → ReadsOne G t r) → ((u : List ℕ) (x : Result ℕ E) → G u x → ParsesUnsigned 32 10 u x) → high < 2 ^ 32 → IsNumber low high o r
+number_read E G low high None r read absent value only fits = absent refl
+number_read E G low high (Some t) r read absent value only fits =
+    let got = read t refl in
+    let number = signed_reads E G 32 low high got.0 r (subst (λ (u : List ℕ). ReadsOne G u r) got.1 (value t refl)) only fits got.2 in
+    let parsed = only t (Ok number.0) (subst (ReadsOne G t) number.1 (value t refl)) in
+    (number.0, number.1, number.2, number.3, parsed.1)
+
+-- And a number is the one that its digits write.
+pub number_of : (E : Type 0) (G : List ℕ → Result ℕ E → Type 0) (old : Command) (m : ArgMatches) → IsParsedFrom old m → (name : Text) (low high : ℕ) → HasArgument (app_of old) name (parser.Signed (pos low) (pos high))
+    → (r : Option ℕ) → (one_text (found_of m) name ≡ None → r ≡ None) → ((t : List ℕ) → one_text (found_of m) name ≡ Some t → ReadsOne G t r)
+    → ((u : List ℕ) (x : Result ℕ E) → G u x → ParsesUnsigned 32 10 u x) → high < 2 ^ 32 → IsNumber low high (one_text (found_of m) name) r
+number_of E G old m p name low high has r absent value only fits =
+    number_read E G low high (one_text (found_of m) name) r (value_of old m p name (parser.Signed (pos low) (pos high)) has) absent value only fits

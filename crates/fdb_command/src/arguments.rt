@@ -1,10 +1,11 @@
 //! The arguments of a command line, and what is to be done where clap takes none.
 
-ghost use Rattle.std.specs.Prelude.{◌≡◌, ◌≢◌, Ok, Err, OnOk, IfErr};
+ghost use Rattle.std.specs.Prelude.{◌≡◌, ◌≢◌, ◌<◌, ◌^◌, ℕ, Ok, Err, OnOk, IfErr, pos};
 ghost use Rattle.std.specs.IoError.{error_kind};
 ghost use Rattle.clap.specs.Words.{IsParsedFrom, app_of, found_of, kind_of, one_text};
 ghost use Rattle.clap.specs.declared.builder.command.Command.{Command};
-ghost use Rattle.fdb_command.specs.Arguments.{HasFlag, is_set};
+ghost use Rattle.clap.specs.declared.builder.value_parser.ValueParser.TheVariants as ValueParser;
+ghost use Rattle.fdb_command.specs.Arguments.{HasArgument, IsNumber, is_set};
 
 use clap::error::ErrorKind;
 use clap::{ArgMatches, Error};
@@ -48,10 +49,21 @@ pub fn command_line<R: Env + Alloc<A = Global>>(rt: &R) -> io::Result<Vec<String
 /// Whether a flag is given, by the matches of a command that has it.
 pub fn is_given(matches: &ArgMatches, flag: &str) -> bool
     ensures { (command : Command) → IsParsedFrom command matches.now
-        → HasFlag (app_of command) flag.now
+        → HasArgument (app_of command) flag.now ValueParser.Bool
         → result ≡ is_set (one_text (found_of matches.now) flag.now) }
 {
     matches.get_flag(flag)
+}
+
+/// The number that an argument gives, by the matches of a command that takes it in a range; none
+/// where it is not given.
+pub fn number(matches: &ArgMatches, argument: &str) -> Option<u32>
+    ensures { (command : Command) → IsParsedFrom command matches.now
+        → (low high : ℕ) → high < 2 ^ 32
+        → HasArgument (app_of command) argument.now (ValueParser.Signed (pos low) (pos high))
+        → IsNumber low high (one_text (found_of matches.now) argument.now) result }
+{
+    matches.get_one(argument)
 }
 
 /// The help, which is the text of an error of clap's where that was asked for; else

@@ -6,6 +6,6 @@ mod arguments;
 mod input;
 mod output;
 
-pub use arguments::{ArgumentsFault, command_line, help_of, is_given, show};
+pub use arguments::{ArgumentsFault, command_line, help_of, is_given, number, show};
 pub use input::{InputFault, input_bytes};
 pub use output::{OutputFault, write_whole};

@@ -10,7 +10,7 @@ ghost use Rattle.fdb_replay.specs.Arguments.{history_argument, proxies_argument,
 ghost use Rattle.fdb_replay.specs.private.Asked.{Ask, AskReplay};
 
 use clap::{Arg, ArgAction, ArgMatches, Command, Error, value_parser};
-use fdb_command::{ArgumentsFault, help_of};
+use fdb_command::{ArgumentsFault, help_of, is_given, number};
 use std::alloc::{AllocError, Global};
 
 /// The end of the help.
@@ -74,8 +74,8 @@ fn arguments_of<'a>(matches: &ArgMatches<'a>) -> Arguments<'a>
 {
     Arguments {
         script: matches.get_str("script"),
-        proxies: matches.get_one::<u32>("proxies").unwrap_or(1),
-        history: matches.get_flag("history"),
+        proxies: number(matches, "proxies").unwrap_or(1),
+        history: is_given(matches, "history"),
     }
 }
 
