@@ -328,6 +328,7 @@ BEHIND = (
     b"audit fault: Order 1 1: it got 100, but by its call 0 its client had seen 200, "
     b"which client 0 reported by its call 1\n"
 )
+OTHER = b"audit fault: Wrong 0 1: it reported 200\n"
 
 
 def logs(_program):
@@ -335,8 +336,9 @@ def logs(_program):
     for name, text, calls, concerned in (
         ("told", TOLD, ["0-0", "0-1", "0-2", "1-0", "1-1"], []),
         ("stale", BEHIND, ["0-0", "0-1", "1-0", "1-1"], ["1-1"]),
+        ("stale, two faults", BEHIND + OTHER, ["0-0", "0-1", "1-0", "1-1"], ["1-1", "0-1"]),
     ):
-        ran = pictured(text, "--logs", f"{LOGS}/{name}.json")
+        ran = pictured(text, "--logs", f"{LOGS}/{name.split(',')[0]}.json")
         written = ran.out.decode()
         found = sorted(re.findall(r'id="call-([0-9-]+)"', written))
         yield f"{name}: its calls", None if found == calls else f"{found}; it said {ran.err!r}"

@@ -268,7 +268,7 @@ class Figure:
         return "\n".join(found)
 
     def concerned(self, calls):
-        """What stands out of a row: the calls that a fault is about."""
+        """What stands out of a row: the calls that faults are about."""
         found = []
         for call in (it for it in calls if it in self.text.concerned):
             x, y = self.x(call), self.y(call.client)
@@ -276,5 +276,5 @@ class Figure:
             found.append(element("rect", class_="fault", **place))
             found.append(element("circle", class_="fault", cx=x, cy=y, r=10))
             if self.is_labelled:
-                found.append(self.note("fault", x, y - 14, self.text.fault.name))
+                found.append(self.note("fault", x, y - 14, self.text.concerned[call]))
         return "".join(found)

@@ -1,4 +1,4 @@
-"""Reads the text of a run, which fdb_replay prints, and the line of a fault that an audit found."""
+"""Reads the text of a run, which fdb_replay prints, and the lines of faults that an audit found."""
 import re
 from types import SimpleNamespace
 
@@ -74,23 +74,25 @@ def parts_of(found):
 
 
 class Text:
-    """What a text says: the calls of each client, the order of the events, and maybe a fault."""
+    """What a text says: the calls of each client, the order of the events, and maybe faults."""
 
     # The live committed version before the first call, which logs say.
     start = None
 
     def __init__(self, lines):
         self.lanes, self.told, self.last = {}, [], (0, -1, -1)
-        self.events, self.listed, self.audited, self.fault = None, 0, False, None
+        self.events, self.listed, self.audited, self.faults = None, 0, False, []
         self.begin()
         for self.number, self.line in enumerate(lines, 1):
             self.take()
-        if not self.audited and not self.fault:
+        if not self.audited and not self.faults:
             self.refuse("Cut", "the text ends before the line of its audit")
         self.end_replies()
         if 0 < self.listed < len(self.events):
             self.refuse("Cut", f"the history ends after {self.listed} of {len(self.events)} events")
-        self.concerned = self.calls_of_fault() if self.fault else []
+        for fault in self.faults:
+            fault.calls = self.calls_of(fault)
+        self.concerned = {call: fault.name for fault in self.faults for call in fault.calls}
 
     def begin(self):
         """Before its lines a text has no call."""
@@ -185,13 +187,14 @@ class Text:
         self.listed += 1
 
     def found(self, name, at, call=None, reason=None):
-        if self.fault or (call is None) != (name in ("Clash", "Gap")):
-            self.refuse("BadFault", "there is a second fault" if self.fault else "no such fault")
-        self.fault = SimpleNamespace(name=name, at=at, call=call, reason=reason, said=self.line)
+        if (call is None) != (name in ("Clash", "Gap")):
+            self.refuse("BadFault", "no such fault")
+        fault = SimpleNamespace(name=name, at=at, call=call, reason=reason, said=self.line)
+        self.faults.append(fault)
 
-    def calls_of_fault(self):
+    def calls_of(self, fault):
         """The calls that a fault is about. A version that no call got has none."""
-        name, at, number = self.fault.name, self.fault.at, self.fault.call
+        name, at, number = fault.name, fault.at, fault.call
         log = self.lanes.get(at, [])
         if name == "Gap":
             found = [it for it in self.events if it.position >= at][:1]
