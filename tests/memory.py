@@ -13,6 +13,7 @@ from harness import refused as refused_script
 from judge import Lawful
 from model import expected
 from races import commit
+from traces import PROGRAM as AUDIT
 
 SOURCE = f"{ROOT}/tests/refuse.c"
 LARGE = [
@@ -186,6 +187,20 @@ def used(_program):
                 threads += it.what == THREAD
                 yield f"{'from ' if goes_on else ''}allocation or thread {it.number}", it.fault
     yield "starts of threads", None if threads > 1 else f"{threads} threads were refused"
+
+
+def audited(_program):
+    """An audit of logs that is refused memory says so and writes nothing, and else ends as ever."""
+    each = lambda at: at + 1
+    starved = Ran(OUT_OF_MEMORY.status, b"", b"fdb_audit: want of memory\n")
+    with tempfile.TemporaryDirectory(prefix="refuse-") as folder:
+        preloaded = built(folder)
+        for logs, *words in (["told", "--history"], ["stale"], ["stale", "--all"]):
+            audit = [AUDIT, f"{EXAMPLES}/logs/{logs}.json", *words]
+            ended = exactly(run(audit))
+            for goes_on in (False, True):
+                for it in swept(audit, preloaded, b"", starved, ended, goes_on, each):
+                    yield f"{logs}, {'from ' if goes_on else ''}allocation {it.number}", it.fault
 
 
 def bearing_tests(tests, pattern):

@@ -31,6 +31,8 @@ pub(crate) struct Service<J: Live> {
     pub(crate) sequencer: Sequencer<J>,
     pub(crate) desk: Desk<J>,
     pub(crate) other: Desk<J>,
+    /// Whether memory is refused at most once.
+    pub(crate) once: bool,
 }
 
 /// Two clients with what they call.
@@ -106,6 +108,7 @@ fn play_named<J: Live + Send + Sync, R: Threads + Wait + Abort + Sync>(
         sequencer: Sequencer::new(core),
         desk: Desk::new(alloc),
         other: Desk::new(alloc),
+        once: matches!(case, Case::BeginEach { once: true }),
     };
     play_at(rt, &service, served, tokens, case)
 }

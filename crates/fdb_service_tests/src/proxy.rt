@@ -40,13 +40,16 @@ pub(crate) enum Case<'a> {
     Late {
         waiting: u64,
     },
-    /// A batch is served that may be refused memory.
-    ServeRefused,
-    /// A proxy is run that may be refused memory, with a queue that has
+    /// A batch is served that may be refused memory, once or from then on.
+    ServeRefused {
+        once: bool,
+    },
+    /// A proxy is run that may be refused memory, once or from then on, with a queue that has
     /// had requests before or none. Its answers go over channels with room
     /// for one, or over unbounded ones, to which a send needs memory. Where one request
     /// alone was refused it, its number goes into the note, counted from 1.
     RunRefused {
+        once: bool,
         used: bool,
         unbounded: bool,
         alone: &'a AtomicU64,
@@ -91,11 +94,18 @@ fn play_at<J: Live + Send + Sync, R: Threads + Wait + Abort + Sync>(
         Case::Lines(text) => play_lines(rt, stand, text),
         Case::Crowd => ask_all(rt, stand),
         Case::Late { waiting } => come_late(rt, stand, waiting),
-        Case::ServeRefused => serve_refused(rt, stand),
+        Case::ServeRefused { once } => {
+            stand.once = once;
+            serve_refused(rt, stand)
+        }
         Case::RunRefused {
+            once,
             used,
             unbounded,
             alone,
-        } => run_refused(rt, stand, used, unbounded, alone),
+        } => {
+            stand.once = once;
+            run_refused(rt, stand, used, unbounded, alone)
+        }
     }
 }

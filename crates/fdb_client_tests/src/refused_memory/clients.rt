@@ -65,7 +65,7 @@ impl<'a, J: Live> Caller<'a, J> {
             self.is_at(rt, calls, position);
             found = self.asked(rt, num);
         }
-        is_wanted(rt, found, wanted, "ask")
+        self.is_wanted(rt, found, wanted, "ask")
     }
 
     /// The version under a number: the next one, where the number is.
@@ -93,7 +93,7 @@ impl<'a, J: Live> Caller<'a, J> {
             self.is_at(rt, calls, position);
             found = self.client.report(rt, &OpenGate, num, false, None, 0);
         }
-        is_wanted(rt, found, wanted, "report")
+        self.is_wanted(rt, found, wanted, "report")
     }
 
     /// Tells another client.
@@ -106,7 +106,7 @@ impl<'a, J: Live> Caller<'a, J> {
             }
             told => told,
         };
-        told.ok().ok_or(AllocError)
+        self.unless_again(rt, told.ok(), "tell")
     }
 
     /// Learns what another client told. A token that comes back is the one that was told.
@@ -125,9 +125,37 @@ impl<'a, J: Live> Caller<'a, J> {
             Err((_, told)) => {
                 self.is_at(rt, calls, position);
                 same(rt, &told.position(), &at, &"is handed back");
-                self.client.learn(rt, from, told).ok().ok_or(AllocError)
+                let learnt = self.client.learn(rt, from, told);
+                self.unless_again(rt, learnt.ok(), "learn")
             }
         }
+    }
+
+    /// Fails the test where a call did not end as it should, unless it was refused memory again.
+    fn is_wanted<T: PartialEq + Debug + Drop>(
+        &self,
+        rt: &impl Abort,
+        found: Result<T, ClientError>,
+        wanted: Result<T, ClientError>,
+        call: &str,
+    ) -> Result<(), AllocError> {
+        if found == Err(ClientError::Memory) {
+            return self.unless_again(rt, None, call);
+        }
+        same(rt, &found, &wanted, &call);
+        Ok(())
+    }
+
+    /// What came of a call that was made once more, which has memory where that is refused at most
+    /// once.
+    fn unless_again<T>(
+        &self,
+        rt: &impl Abort,
+        found: Option<T>,
+        call: &str,
+    ) -> Result<T, AllocError> {
+        holds(rt, found.is_some() || !self.service.once, &call);
+        found.ok_or(AllocError)
     }
 
     /// Reads while the desk is served.
@@ -162,20 +190,6 @@ fn tagged(alloc: Global) -> Result<GrvOpts, AllocError> {
         at: 0,
         use_min: false,
     })
-}
-
-/// Fails the test where a call did not end as it should, unless it was refused memory again.
-fn is_wanted<T: PartialEq + Debug + Drop>(
-    rt: &impl Abort,
-    found: Result<T, ClientError>,
-    wanted: Result<T, ClientError>,
-    call: &str,
-) -> Result<(), AllocError> {
-    if found == Err(ClientError::Memory) {
-        return Err(AllocError);
-    }
-    same(rt, &found, &wanted, &call);
-    Ok(())
 }
 
 /// Each of six clients begins with another call. It fails where memory is refused twice to one of

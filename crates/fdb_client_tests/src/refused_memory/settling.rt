@@ -17,12 +17,12 @@ use std::test::Fail;
 
 /// Opens a service for two clients, who make calls, and settles their logs. It fails where memory
 /// is refused twice to one of them, or once to what stands round them, and passes else.
-fn settle_two<R: Wait + Abort>(rt: &R, alloc: Global) -> Result<(), AllocError> {
+fn settle_two<R: Wait + Abort>(rt: &R, alloc: Global, once: bool) -> Result<(), AllocError> {
     let Ok(opened) = LiveRecord::<Brand>::open(rt, alloc, unlocked(100), 2) else {
         return Err(AllocError);
     };
     match ChainCore::new(alloc, 0, 100, 2) {
-        Ok(core) => settle_named::<Brand, R>(rt, alloc, opened, core),
+        Ok(core) => settle_named::<Brand, R>(rt, alloc, opened, core, once),
         Err(_) => Err(AllocError),
     }
 }
@@ -33,6 +33,7 @@ fn settle_named<J: Live, R: Wait + Abort>(
     alloc: Global,
     opened: Opened,
     core: ChainCore,
+    once: bool,
 ) -> Result<(), AllocError>
     requires opened { opened
         ≡ record { table = J.table; start = J.start; reporters = J.reporters } }
@@ -49,6 +50,7 @@ fn settle_named<J: Live, R: Wait + Abort>(
         sequencer: Sequencer::new(core),
         desk: Desk::new(alloc),
         other: Desk::new(alloc),
+        once,
     };
     let mut one = Caller::new(rt, &service, &mut tokens);
     let mut zero = Caller::new(rt, &service, &mut tokens);
@@ -130,8 +132,8 @@ fn settled<J: Live, R: Wait + Abort>(
 /// Logs that are settled take no memory.
 #[test]
 fn settling_bears_it(rt: HostRuntime) -> Result<(), Fail> {
-    match settle_two(&rt, rt.alloc()) {
-        Err(_) => settle_two(&rt, rt.alloc())?,
+    match settle_two(&rt, rt.alloc(), true) {
+        Err(_) => settle_two(&rt, rt.alloc(), true)?,
         Ok(()) => {}
     }
     Ok(())
@@ -141,6 +143,6 @@ fn settling_bears_it(rt: HostRuntime) -> Result<(), Fail> {
 /// of memory, or the logs are settled as ever.
 #[test]
 fn without_memory(rt: HostRuntime) -> Result<(), Fail> {
-    let _ended = settle_two(&rt, rt.alloc());
+    let _ended = settle_two(&rt, rt.alloc(), false);
     Ok(())
 }

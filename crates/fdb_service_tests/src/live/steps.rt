@@ -135,6 +135,7 @@ pub(crate) fn learn_crosswise<J: Live, R: Wait + Abort>(rt: &R, parts: &mut Part
     live.learn(rt, &mut zero, early);
     are_at(rt, (&zero, 2), (&one, 2));
     live.meet(rt, &mut zero, &mut one);
+    are_at(rt, (&zero, 2), (&one, 2));
     reports(rt, live, &mut zero, 400, (true, 3));
 }
 

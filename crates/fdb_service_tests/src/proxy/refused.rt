@@ -74,17 +74,31 @@ fn submit_again<J: Live, R: Wait + Abort>(
     same(rt, &back.serial, &serial, &"is handed back");
     match submit(rt, &stand.desk, back) {
         Ok(()) => Ok(()),
-        Err(_) => Err(AllocError),
+        Err((cause, _)) => fails_again(rt, stand, cause),
     }
 }
 
-/// Serves a batch of requests, whose answers are the replies to them.
+/// Checks that a call that was refused memory is so once more only where memory is refused to more
+/// than one.
+fn fails_again<T, J: Live>(
+    rt: &impl Abort,
+    stand: &Stand<J>,
+    cause: ProxyError,
+) -> Result<T, AllocError> {
+    same(rt, &cause, &ProxyError::Memory, &"refused once more");
+    holds(rt, !stand.once, &"the call once more, with memory");
+    Err(AllocError)
+}
+
+/// Serves a batch of requests, whose answers are the replies to them. Each asker has seen a report
+/// of which the proxy knows nothing before.
 pub(crate) fn serve_refused<J: Live, R: Wait + Abort>(
     rt: &R,
     stand: &mut Stand<J>,
 ) -> Result<(), AllocError> {
-    submit_all(rt, stand, false)?;
     stand.report(rt, unlocked(2100));
+    stand.live.read(rt, &mut stand.seen);
+    submit_all(rt, stand, false)?;
     let answers = served(rt, stand)?;
     are_replies(rt, answers.as_slice());
     is_at(rt, stand, 1);
@@ -121,7 +135,10 @@ fn serve_again<J: Live, R: Wait + Abort>(
     same(rt, &cause, &ProxyError::Memory, &"a batch that is refused");
     is_at(rt, stand, 0);
     are_handed_back(rt, back.as_slice());
-    serve(rt, stand, queue, back).ok().ok_or(AllocError)
+    match serve(rt, stand, queue, back) {
+        Ok(answers) => Ok(answers),
+        Err((cause, _)) => fails_again(rt, stand, cause),
+    }
 }
 
 /// Compares the position of the proxy's token.

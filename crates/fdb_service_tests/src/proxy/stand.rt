@@ -34,6 +34,8 @@ pub(crate) struct Stand<J: Live> {
     pub(crate) other: Desk<J>,
     /// Where the answers come, in the order of the requests.
     pub(crate) waiters: Vec<Waiter<J>>,
+    /// Whether memory is refused at most once.
+    pub(crate) once: bool,
 }
 
 impl<J: Live> Stand<J> {
@@ -54,6 +56,7 @@ impl<J: Live> Stand<J> {
             desk: Desk::new(alloc),
             other: Desk::new(alloc),
             waiters: Vec::new(alloc),
+            once: false,
         }
     }
 

@@ -22,7 +22,7 @@ fn bears<R: Threads + Wait + Abort + Sync>(
 
 #[test]
 fn a_batch_bears_it(rt: HostRuntime) -> Result<(), Fail> {
-    bears(&rt, rt.alloc(), Case::ServeRefused)?;
+    bears(&rt, rt.alloc(), Case::ServeRefused { once: true })?;
     Ok(())
 }
 
@@ -32,7 +32,7 @@ fn a_batch_bears_it(rt: HostRuntime) -> Result<(), Fail> {
 fn a_proxy_bears_it(rt: HostRuntime) -> Result<(), Fail> {
     for used in [false, true] {
         let alone = AtomicU64::new(0);
-        bears(&rt, rt.alloc(), run(used, false, &alone))?;
+        bears(&rt, rt.alloc(), run(true, used, false, &alone))?;
         let number = alone.load(Ordering::SeqCst);
         if number > 0 {
             println!(rt; "request {number} alone was refused memory")?;
@@ -42,8 +42,9 @@ fn a_proxy_bears_it(rt: HostRuntime) -> Result<(), Fail> {
 }
 
 /// A proxy that is run.
-fn run(used: bool, unbounded: bool, alone: &AtomicU64) -> Case<'_> {
+fn run(once: bool, used: bool, unbounded: bool, alone: &AtomicU64) -> Case<'_> {
     Case::RunRefused {
+        once,
         used,
         unbounded,
         alone,
@@ -52,7 +53,8 @@ fn run(used: bool, unbounded: bool, alone: &AtomicU64) -> Case<'_> {
 
 #[test]
 fn a_proxy_that_cannot_send_bears_it(rt: HostRuntime) -> Result<(), Fail> {
-    bears(&rt, rt.alloc(), run(true, true, &AtomicU64::new(0)))?;
+    let alone = AtomicU64::new(0);
+    bears(&rt, rt.alloc(), run(true, true, true, &alone))?;
     Ok(())
 }
 
@@ -60,9 +62,10 @@ fn a_proxy_that_cannot_send_bears_it(rt: HostRuntime) -> Result<(), Fail> {
 /// then what was begun ends out of memory, or as ever.
 #[test]
 fn without_memory(rt: HostRuntime) -> Result<(), Fail> {
-    let _ended = play(&rt, rt.alloc(), Case::ServeRefused);
+    let _ended = play(&rt, rt.alloc(), Case::ServeRefused { once: false });
     for (used, unbounded) in [(false, false), (true, false), (true, true)] {
-        let _ended = play(&rt, rt.alloc(), run(used, unbounded, &AtomicU64::new(0)));
+        let alone = AtomicU64::new(0);
+        let _ended = play(&rt, rt.alloc(), run(false, used, unbounded, &alone));
     }
     Ok(())
 }

@@ -27,19 +27,26 @@ fn answer(rt: &impl Abort, chain: &mut ChainCore, ask: Ask) -> Result<Issued, Ch
                 &before,
                 &"after a refused request",
             );
+            still_keeps(rt, chain, ask);
             chain.ask(ask)
         }
         outcome => outcome,
     }
 }
 
+/// Checks that the answer before is kept still, though the request that was refused has processed it.
+fn still_keeps(rt: &impl Abort, chain: &mut ChainCore, refused: Ask) {
+    if refused.num > 1 {
+        let kept = chain.ask(numbered(refused.proxy, refused.num - 1));
+        holds(rt, kept.is_ok(), &"the answer before a refused request");
+    }
+}
+
 /// Asks for a number and once more for it, which takes no memory.
 fn twice(rt: &impl Abort, chain: &mut ChainCore, proxy: u32, num: u64) -> Result<(), ChainError> {
     let ask = Ask {
-        proxy,
-        num,
-        processed: 0,
-        at: 0,
+        processed: num.saturating_sub(1),
+        ..numbered(proxy, num)
     };
     let place = chain.answers().len();
     let issued = answer(rt, chain, ask)?;

@@ -14,10 +14,11 @@ fn offer(
     queue: &mut GrvQueue<u32>,
     request: Req<u32>,
 ) -> Result<Option<u32>, QueueError> {
-    let lengths = queue.lengths();
+    let (lengths, budgets) = (queue.lengths(), queue.budgets());
     let outcome = match queue.offer(request) {
         Err((QueueError::Memory, request)) => {
             same(rt, &queue.lengths(), &lengths, &"after a refused offer");
+            same(rt, &queue.budgets(), &budgets, &"after a refused offer");
             queue.offer(request)
         }
         outcome => outcome,
@@ -88,10 +89,12 @@ fn overfill_and_start(rt: &impl Abort, queue: &mut GrvQueue<u32>) -> Result<(), 
     Ok(())
 }
 
-/// Enough requests that each list grows more than once, and windows that start many.
+/// Enough requests that each list grows more than once, and windows that start many. The budgets are
+/// above 0 from the start.
 #[test]
 fn a_queue_bears_it(rt: HostRuntime) -> Result<(), Fail> {
     let mut queue = queue(rt.alloc(), 100_000, 100_000, 60)?;
+    is_idle(&rt, &mut queue)?;
     for _ in 0..3 {
         overfill_and_start(&rt, &mut queue)?;
     }
@@ -144,6 +147,8 @@ fn how_long_a_request_waits(rt: HostRuntime) -> Result<(), Fail> {
         same(&rt, &queue.lengths().default_, &1, &time);
     }
     same(&rt, &queue.skip_idle(1), &199_998_000_000, &"skipped");
+    // a microsecond at a limit of 1 for each window
+    same(&rt, &queue.budgets().normal, &199_998_000_000, &"saved");
     same(
         &rt,
         &queue.waits(1),

@@ -48,6 +48,7 @@ fn next<R: Wait + Abort>(
     // a version for each request, since no time passes
     same(rt, &issued.ordinal, &u64::from(before), &num);
     same(rt, &issued.version, &(u64::from(before) + 100), &num);
+    same(rt, &issued.fresh, &true, &num);
     Ok(())
 }
 

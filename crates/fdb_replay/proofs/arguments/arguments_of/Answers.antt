@@ -1,4 +1,4 @@
-use Rattle.std.proofs.Common.{◌≡◌, ◌∙◌, ap, sym, subst, codes, pos}
+use Rattle.std.proofs.Common.{◌≡◌, ◌∙◌, ap, sym, subst, arith, codes, pos}
 use Rattle.clap.specs.Words.{App, first_of, found_of, matches_of, one_of, one_text}
 use Rattle.clap.specs.declared.builder.value_parser.ValueParser.TheVariants as parser
 use Rattle.clap.proofs.WalkLemmas.{first_value-rows, one_text-rows}
