@@ -175,6 +175,8 @@ def believed(_program):
         said = form % found
         does_say = said in text_of(f"{ROOT}/{document}")
         yield f"{document}: {said}", None if does_say else "it does not say so"
+    kit = run(["rt", "version"]).out.decode().strip()
+    yield "README.md: the kit", None if f"`{kit}`" in text_of(f"{ROOT}/README.md") else kit
 
 
 def shown(program):
