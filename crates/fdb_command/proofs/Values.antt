@@ -1,6 +1,6 @@
 -- What a parse of a command line leaves of an argument's text: it passed the argument's parser, and a getter reads it
 -- as that parser says.
-use Rattle.std.proofs.Common.{◌≡◌, ◌∙◌, ◌<◌, ◌≤◌, ◌&&◌, ◌||◌, ap, ℕ, zero, suc, Bool, true, false, List, [], ◌∷◌, get_or, map, length, Option, Some, None, Result, Ok, ◌^◌, pos, refl, sym, subst, inl, inr, arith, codes}
+use Rattle.std.proofs.Common.{◌≡◌, ◌∙◌, ◌<◌, ◌&&◌, ◌||◌, ap, ℕ, suc, Bool, true, false, List, [], ◌∷◌, get_or, length, Option, Some, None, Result, Ok, ◌^◌, pos, refl, sym, subst, inl, inr, arith, codes}
 use Rattle.std.specs.Borrow.{Bor}
 use Rattle.std.specs.List.{All, slice_index_or}
 use Rattle.std.specs.Prelude.{option_map, slice_get, not}
@@ -16,7 +16,7 @@ use Rattle.clap.specs.Matches.{ReadsOne, found_of, matched_of, one_text}
 use Rattle.clap.specs.Values.{Accepts, read_as, reading_of}
 use Rattle.clap.specs.Simple.{has_plain_fields}
 use Rattle.clap.specs.Walk.{is_empty}
-use Rattle.clap.specs.Words.{App, Rule, Text, app_of, rule_of}
+use Rattle.clap.specs.Words.{Rule, Text, app_of, rule_of}
 use Rattle.clap.specs.declared.builder.arg.Arg.{Arg}
 use Rattle.clap.specs.declared.builder.command.Command.{Command}
 use Rattle.clap.specs.declared.builder.command.Command.TheViews.{out-Command}
@@ -159,11 +159,11 @@ text_is old m p rules are plain simple k rule low here unique named no_help no_v
         let is : rule_of a ≡ rule = sym (rule_at k first rule within) ∙ here in
         let id : a.id.now ≡ rule.id = ap (λ (r : Rule). r.id) is in
         let alone : (j : ℕ) (e : Arg) → j < length (args_of old) → bytes_eq (slice_index_or (args_of old) j e).id.now a.id.now ≡ true → j ≡ k = λ j e inside same.
-            let other : (slice_index_or (args_of old) j e).id.now ≡ a.id.now = (bytes_eq-Decides (slice_index_or (args_of old) j e).id.now a.id.now).0 same in
-            unique j (omega (arith, inside, long)) (ap (λ (r : Rule). r.id) (rule_at j e rule inside) ∙ other ∙ id) in
+        let other : (slice_index_or (args_of old) j e).id.now ≡ a.id.now = (bytes_eq-Decides (slice_index_or (args_of old) j e).id.now a.id.now).0 same in
+        unique j (omega (arith, inside, long)) (ap (λ (r : Rule). r.id) (rule_at j e rule inside) ∙ other ∙ id) in
         given_text old m p (no_globals old plain) ((p.from.same_groups unnamed).1 ∙ no_groups_of old plain) k a within (get_or_default (args_of old) k a first within) alone
-            (λ empty. named (sym id ∙ empty)) (λ auto. elim auto [ | inl help ↦ no_help (sym id ∙ help) | inr version ↦ no_version (sym id ∙ version) ])
-            q (ap (λ (r : Rule). r.parser) is ∙ parser) (ap (λ (r : Rule). r.ignore_case) is ∙ case) t (subst (λ (n : Text). one_text (found_of m) n ≡ Some t) (sym id) found)
+        (λ empty. named (sym id ∙ empty)) (λ auto. elim auto [ inl help ↦ no_help (sym id ∙ help) | inr version ↦ no_version (sym id ∙ version) ])
+        q (ap (λ (r : Rule). r.parser) is ∙ parser) (ap (λ (r : Rule). r.ignore_case) is ∙ case) t (subst (λ (n : Text). one_text (found_of m) n ≡ Some t) (sym id) found)
 
 -- a flag whose text passed as a bool is set where that text is true
 flag_read : (o : Option (List ℕ)) (r : Bool) → ((t : List ℕ) → o ≡ Some t → IsRead parser.Bool t) → (o ≡ None → r ≡ false) → (o ≡ Some (codes "true") → r ≡ true)

@@ -2,8 +2,8 @@
 -- makes of them: the matches of a command on them, and the kinds of error that it gives at them.
 -- Here stand the command, what is read of its matches, and what the program does then.
 -- (this product's own)
-use Rattle.std.specs.Prelude.{◌≡◌, ◌≢◌, ◌⊎◌, ◌≤◌, ⊤, ℕ, Bool, true, false, List, [], Option, Some, None, IfSome, Ok, length, codes, pos}
-use Rattle.std.specs.Io.KnownBytes.{Appends, Consumes}
+use Rattle.std.specs.Prelude.{◌≡◌, ◌≢◌, ◌⊎◌, ◌≤◌, ℕ, Bool, true, false, List, [], Option, Some, None, Ok, length, codes, pos}
+use Rattle.std.specs.Io.KnownBytes.{Appends}
 use Rattle.std.specs.Option.{option_map_or}
 use Rattle.std.specs.Str.{bytes_eq}
 use Rattle.clap.specs.Simple.{on_top}

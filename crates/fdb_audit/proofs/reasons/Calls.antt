@@ -1,8 +1,8 @@
 -- What calls of worked-out logs are answered, and which faults stand at them.
-use Rattle.std.proofs.Common.{◌≡◌, ◌≢◌, ℕ, zero, suc, ◌+◌, ◌-◌, ◌<◌, ◌≤◌, nat_lt, Bool, true, false, List, [], length, take, get_or, Option, None, Some, slice_get, slice_index_or, refl, ap, sym, subst, ◌∙◌, inl, inr, arith}
+use Rattle.std.proofs.Common.{◌≡◌, ℕ, zero, suc, ◌-◌, ◌≤◌, nat_lt, true, false, List, [], length, get_or, Option, None, Some, slice_get, slice_index_or, ap, sym, subst, ◌∙◌, inl, inr, arith}
 use Rattle.std.proofs.lemmas.Bool.{cases_lt, false≢true, ltb-true}
-use Rattle.std.proofs.lemmas.Option.{none-some, slice_get-get_or}
-use Rattle.fdb_history.specs.Faults.{IsClash, IsFirst, IsOutOfOrder, IsWrongAnswer, Nowhere, OutOfOrder, StandsAt, WronglyAnswered}
+use Rattle.std.proofs.lemmas.Option.{slice_get-get_or}
+use Rattle.fdb_history.specs.Faults.{IsClash, IsFirst, IsWrongAnswer, OutOfOrder, StandsAt, WronglyAnswered}
 use Rattle.fdb_history.specs.Log.{answer_changes, calls_of}
 use Rattle.fdb_history.specs.declared.chain.Issued.{Issued}
 use Rattle.fdb_history.specs.declared.log.Call.{Call}
@@ -121,7 +121,7 @@ module _ {given : Given} {seen : ℕ → ℕ → ℕ} {marks : List ℕ} {chain 
     ],
     elim (cases_lt (length marks) position) [
       | inl past ↦ absurd (some_other logs position None clash (λ client place stands.
-      let most = position-within worked client place stands.0 stands.1 in let at = stands.2.0 in omega (arith, past, most, at)))
+          let most = position-within worked client place stands.0 stands.1 in let at = stands.2.0 in omega (arith, past, most, at)))
       | inr within ↦ within
     ],
   )

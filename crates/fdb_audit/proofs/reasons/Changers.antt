@@ -1,14 +1,14 @@
 -- Who changed the register, call by call.
-use Rattle.std.proofs.Common.{◌≡◌, ◌≢◌, ℕ, zero, suc, ◌+◌, ◌<◌, ◌≤◌, ◌⊎◌, IsTrue, List, [], ◌∷◌, length, take, Option, None, Some, slice_get, slice_set, refl, ap, sym, subst, ◌∙◌, inl, inr, arith}
+use Rattle.std.proofs.Common.{◌≡◌, ℕ, zero, suc, ◌+◌, ◌<◌, ◌≤◌, ◌⊎◌, IsTrue, List, [], ◌∷◌, length, take, Option, None, Some, slice_get, slice_set, refl, ap, sym, subst, ◌∙◌, inl, inr, arith}
 use Rattle.std.proofs.lemmas.Bool.{cases_eq, cases_lt}
 use Rattle.std.proofs.lemmas.List.{length-set}
 use Rattle.std.proofs.lemmas.Option.{none-some, same_Some, slice_get_within}
-use Rattle.fdb_history.specs.Faults.{ComesBefore, IsFirst, Nowhere, StandsAt}
+use Rattle.fdb_history.specs.Faults.{ComesBefore, IsFirst, Nowhere}
 use Rattle.fdb_history.specs.Log.{answer_changes, calls_of}
 use Rattle.fdb_history.specs.declared.log.Call.{Call}
 use Rattle.fdb_history.specs.declared.log.ClientLog.{ClientLog}
-use Rattle.fdb_audit.specs.private.Findings.{AreChangers, AreChangersBefore, Before, ChangedBesides, IsChangers, IsChangersBefore, added, noted}
-use Rattle.fdb_audit.specs.private.Reasons.{ChangesAt, IsFirstPlace}
+use Rattle.fdb_audit.specs.private.Findings.{AreChangers, AreChangersBefore, Before, ChangedBesides, IsChangersBefore, added, noted}
+use Rattle.fdb_audit.specs.private.Reasons.{IsFirstPlace}
 use Rattle.fdb_audit.specs.declared.changers.Changers.{Changers}
 use Rattle.fdb_audit.specs.declared.reason.CallPlace.{CallPlace}
 use Rattle.fdb_audit.proofs.reasons.FirstCalls.{calls-past}
@@ -82,20 +82,20 @@ module _ (logs : List ClientLog) where
   -- one that is not this place is one besides it
   besides_other : (position : ℕ) (one : CallPlace) (client place : ℕ) → ComesBefore one.client one.call client place → ChangedBesides logs position None client place → ChangedBesides logs position (Some one) client place
   besides_other position one client place comes stands = (
-      stands.0,
-      stands.1,
-      (
-        stands.2.0,
-        stands.2.1,
-        λ is.
-            let same = same_Some _ _ is in
-            let calls = calls_of logs client in
-            let place_is : place ≡ length (take place calls) = before-length calls calls place stands.0 refl stands.1 in
-            let client_same : one.client ≡ client = ap (λ (p : CallPlace). p.client) same in
-            let call_same : one.call ≡ length (take place calls) = ap (λ (p : CallPlace). p.call) same in
-            apart one.client one.call client place comes client_same (call_same ∙ sym place_is),
-      ),
-    )
+    stands.0,
+    stands.1,
+    (
+      stands.2.0,
+      stands.2.1,
+      λ is.
+          let same = same_Some _ _ is in
+          let calls = calls_of logs client in
+          let place_is : place ≡ length (take place calls) = before-length calls calls place stands.0 refl stands.1 in
+          let client_same : one.client ≡ client = ap (λ (p : CallPlace). p.client) same in
+          let call_same : one.call ≡ length (take place calls) = ap (λ (p : CallPlace). p.call) same in
+          apart one.client one.call client place comes client_same (call_same ∙ sym place_is),
+    ),
+  )
     where
       apart : (a b c d : ℕ) → ComesBefore a b c d → a ≡ c → b ≡ d → ⊥
       apart a b c d (inl below) one two = omega arith
@@ -157,7 +157,7 @@ module _ (logs : List ClientLog) where
         second = λ one is.
             let this = same_Some first one is in
             subst (λ (o : CallPlace). IsFirst (Before client (place + 1) (ChangedBesides logs position (Some o))) client place) this
-                (found_first (ChangedBesides logs position (Some first)) client place (was.second first refl) (besides_other position first client place was.first.stands.0 stands));
+            (found_first (ChangedBesides logs position (Some first)) client place (was.second first refl) (besides_other position first client place was.first.stands.0 stands));
         alone = λ is. absurd (none-some _ (sym is));
       }
   joined client place position (Some first) (Some second) stands was =
@@ -255,7 +255,7 @@ module _ (logs : List ClientLog) where
                     let here : slice_get (slice_set table j (added old (record { client = client; call = place }))) j ≡ Some changers = ap (slice_get (slice_set table j (added old (record { client = client; call = place })))) same ∙ set in
                     let new = set_here table j (added old (record { client = client; call = place })) old changers some here in
                     subst (λ (n : ℕ). IsChangersBefore logs client (place + 1) (suc n) changers) same
-                        (subst (IsChangersBefore logs client (place + 1) (suc j)) new
-                        (joined client place (suc j) old.first old.second (at_change j is) (were j old some)))
+                    (subst (IsChangersBefore logs client (place + 1) (suc j)) new
+                    (joined client place (suc j) old.first old.second (at_change j is) (were j old some)))
                 | inr apart ↦ elsewhere k changers (λ e. apart (omega arith)) (sym (set_there table j k _ apart) ∙ set)
               ]

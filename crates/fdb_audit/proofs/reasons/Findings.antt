@@ -1,11 +1,11 @@
 -- All faults of the register, one after another.
-use Rattle.std.proofs.Common.{◌≡◌, ℕ, zero, suc, ◌+◌, ◌<◌, ◌≤◌, ◌⊎◌, All, Contains, List, [], ◌∷◌, ◌++◌, length, get_or, map, Some, slice_get, refl, ap, sym, subst, ◌∙◌, inl, inr, arith}
+use Rattle.std.proofs.Common.{◌≡◌, ℕ, ◌+◌, ◌<◌, ◌≤◌, ◌⊎◌, Contains, List, [], ◌∷◌, ◌++◌, length, get_or, map, Some, slice_get, refl, ap, sym, subst, ◌∙◌, inl, inr, arith}
 use Rattle.std.proofs.lemmas.Bool.{cases_lt}
 use Rattle.std.proofs.lemmas.List.{map-append}
 use Rattle.std.proofs.lemmas.List.Elements.{All-nil, All-push, All-weaker, Contains-append_left, Contains-push}
 use Rattle.std.proofs.lemmas.List.Quantifiers.{all_pairs_push}
-use Rattle.std.proofs.lemmas.Option.{none-some, same_Some, slice_get_within}
-use Rattle.fdb_history.specs.Faults.{ComesBefore, IsClash, StandsAt}
+use Rattle.std.proofs.lemmas.Option.{none-some, slice_get_within}
+use Rattle.fdb_history.specs.Faults.{ComesBefore, IsClash}
 use Rattle.fdb_history.specs.Log.{calls_of}
 use Rattle.fdb_history.specs.declared.chain.Issued.{Issued}
 use Rattle.fdb_history.specs.declared.fault.AuditFault.{AuditFault}
@@ -15,9 +15,8 @@ use Rattle.fdb_history.specs.declared.log.ClientLog.{ClientLog}
 use Rattle.fdb_history.specs.declared.register.Record.{Record}
 use Rattle.fdb_audit.specs.Findings.{AreFindings, IsFault, Precedes}
 use Rattle.fdb_audit.specs.Reasons.{IsReason}
-use Rattle.fdb_audit.specs.private.Findings.{AreFindingsBefore, IsReasonFor}
+use Rattle.fdb_audit.specs.private.Findings.{AreFindingsBefore}
 use Rattle.fdb_audit.specs.declared.finding.Finding.{Finding}
-use Rattle.fdb_audit.specs.declared.reason.Reason.{Reason}
 use Rattle.fdb_audit.proofs.reasons.Changers.{none_first, one_later, further}
 use Rattle.fdb_audit.proofs.reasons.FirstCalls.{calls-past}
 

@@ -37,12 +37,6 @@ rec_of (Refused cause) = plain 0
 abbrev version_of : CallAnswer → ℕ
 version_of answer = (rec_of answer).version
 
--- the version of a read that is a plain one
-pub plain_read : (answer : CallAnswer) (version : ℕ) (answered : CallAnswer) → answer ≡ Version (plain version) [] false → answer ≡ answered → answer ≡ Version (plain (rec_of answered).version) [] false
-plain_read answer version answered is other =
-    let same : version ≡ (rec_of answered).version = ap version_of (sym is ∙ other) in
-    is ∙ ap (λ v. Version (plain v) [] false) same
-
 -- a call before a place is among those before it
 pub slice_get-take : (calls : List Call) (count place : ℕ) → place < count → slice_get (take count calls) place ≡ slice_get calls place
 slice_get-take [] zero place below = absurd (omega arith)
@@ -73,9 +67,3 @@ read_apart answer version rec raised changed is other = false≢true (ap is_read
 -- and a report is no read
 pub report_apart : (answer : CallAnswer) (version : ℕ) (read : CallAnswer) → is_read read ≡ true → answer ≡ Acked (plain version) false false → answer ≡ read → ⊥
 report_apart answer version read reads is other = false≢true (ap is_read (sym is ∙ other) ∙ reads)
-
--- the version of a report that is a plain one
-pub plain_report : (answer : CallAnswer) (version : ℕ) (answered : CallAnswer) → answer ≡ Acked (plain version) false false → answer ≡ answered → answer ≡ Acked (plain (rec_of answered).version) false false
-plain_report answer version answered is other =
-    let same : version ≡ (rec_of answered).version = ap version_of (sym is ∙ other) in
-    is ∙ ap (λ v. Acked (plain v) false false) same

@@ -1,4 +1,4 @@
-use Rattle.std.proofs.Common.{◌≡◌, ◌∙◌, Bool, ap, ap₂, sym, subst, codes}
+use Rattle.std.proofs.Common.{◌∙◌, Bool, ap, ap₂, sym, subst, codes}
 use Rattle.clap.specs.Words.{App, first_of, found_of, one_of}
 use Rattle.clap.proofs.WalkLemmas.{first_value-rows, one_text-rows}
 use Rattle.clap.specs.declared.builder.value_parser.ValueParser.TheVariants as parser

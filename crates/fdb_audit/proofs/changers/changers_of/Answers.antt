@@ -1,8 +1,8 @@
-use Rattle.std.proofs.Common.{◌≡◌, length, drop, take, ap, sym, subst, ◌+◌, ◌++◌, ◌∙◌, refl, arith}
+use Rattle.std.proofs.Common.{◌≡◌, length, drop, take, ap, sym, subst, ◌+◌, ◌++◌, ◌∙◌, arith}
 use Rattle.std.proofs.Math.Seq.{take-append_seam}
 use Rattle.fdb_history.specs.Log.{calls_of}
 use Rattle.fdb_audit.specs.private.Findings.{AreChangersBefore}
-use Rattle.fdb_audit.proofs.reasons.Changers.{all_clients, next_client, none_yet}
+use Rattle.fdb_audit.proofs.reasons.Changers.{all_clients, next_client}
 use Rattle.fdb_audit.proofs.reasons.FirstCalls.{calls-at}
 use Rattle.fdb_audit.proofs.changers.changers_of.Goals as goal
 

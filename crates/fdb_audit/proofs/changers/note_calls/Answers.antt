@@ -1,8 +1,6 @@
 use Rattle.std.proofs.Common.{◌≡◌, ◌+◌, Some, slice_get, length, refl, ap, sym, subst, ◌∙◌, arith}
 use Rattle.std.proofs.lemmas.Bool.{false≢true}
-use Rattle.std.proofs.lemmas.List.{length-set}
 use Rattle.std.proofs.lemmas.Option.{slice_get_read}
-use Rattle.fdb_history.specs.Log.{answer_changes}
 use Rattle.fdb_audit.specs.private.Findings.{AreChangersBefore}
 use Rattle.fdb_audit.proofs.reasons.Changers.{changed_by, noted-length, unchanged}
 use Rattle.fdb_audit.proofs.changers.note_calls.Goals as goal

@@ -21,9 +21,9 @@ returns-clause-faulty g c =
     let asked : AskAudit arguments c.in-Audit.arguments = rw (c.in-Audit.is, c.deref.ensures.value) at c.in_ok-help.ensures.ok in
     rw c.in-Ok.is (IfErr-weaker c.audit_arguments.result _ _
     (λ fault gives found is. (
-        asked.taken,
-        found,
-        subst (λ (wanted : Wanted). Audited (logs_named arguments) wanted remaining (Some found) before after) asked.wanted
-        (subst (λ (logs : Option (List ℕ)). Audited logs c.in-Audit.arguments.wanted remaining (Some found) before after) asked.logs (gives found is)),
+      asked.taken,
+      found,
+      subst (λ (wanted : Wanted). Audited (logs_named arguments) wanted remaining (Some found) before after) asked.wanted
+          (subst (λ (logs : Option (List ℕ)). Audited logs c.in-Audit.arguments.wanted remaining (Some found) before after) asked.logs (gives found is)),
     ))
     c.audit_arguments.ensures.faulty)

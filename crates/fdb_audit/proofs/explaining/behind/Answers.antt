@@ -1,7 +1,7 @@
-use Rattle.std.proofs.Common.{◌≡◌, None, Some, take, refl, ap, sym, subst, ◌∙◌, arith}
+use Rattle.std.proofs.Common.{take, refl, ap, subst, ◌∙◌, arith}
 use Rattle.fdb_history.specs.Log.{calls_of}
 use Rattle.fdb_audit.specs.Reasons.{CameTo}
-use Rattle.fdb_audit.specs.private.Findings.{IsReached, IsReasonFor}
+use Rattle.fdb_audit.specs.private.Findings.{IsReached}
 use Rattle.fdb_audit.proofs.reasons.Calls.{goes_back_at, read_is}
 use Rattle.fdb_audit.proofs.reasons.Found.{call_at}
 use Rattle.fdb_audit.proofs.reasons.Reached.{has_come, reached_asked}

@@ -1,8 +1,7 @@
-use Rattle.std.proofs.Common.{◌≡◌, ◌-◌, None, Some, slice_index_or, ap, sym, subst, ◌∙◌, arith}
+use Rattle.std.proofs.Common.{None, ap, sym, subst, ◌∙◌, arith}
 use Rattle.fdb_history.specs.declared.register.Record.{Record}
 use Rattle.fdb_audit.specs.Reasons.{IsTwice}
 use Rattle.fdb_audit.specs.WorkedOut.{mark_at}
-use Rattle.fdb_audit.specs.private.Findings.{IsReasonFor}
 use Rattle.fdb_audit.specs.declared.changers.Changers.{Changers}
 use Rattle.fdb_audit.proofs.reasons.Calls.{clash-within, entry_at, is_twice, no_first, no_second}
 use Rattle.fdb_audit.proofs.explaining.twice.Goals as goal
