@@ -15,8 +15,8 @@ use fdb_history::AuditFault;
 use std::alloc::{AllocError, Global};
 
 /// All faults of the register that stand in worked-out logs, and why: first the calls that are out
-/// of order, then the positions of which there are two changes, then the calls that are wrongly
-/// answered. No such logs have a gap. It is refused only where memory runs out.
+/// of order, then the positions that have two changes, then the calls that are wrongly answered. No
+/// such logs have a gap. It is refused only where memory runs out.
 ///
 /// It takes time in proportion to the calls.
 pub fn register_faults(alloc: Global, worked: &WorkedOut) -> Result<Vec<Finding>, AllocError>
@@ -85,7 +85,7 @@ fn add_orders_of(
     Ok(())
 }
 
-/// Adds the positions of which there are two changes.
+/// Adds the positions that have two changes.
 fn add_clashes(
     found: &mut Vec<Finding>,
     worked: &WorkedOut,

@@ -153,8 +153,8 @@ impl<'a, J: Live> Part<'a, J> {
     }
 }
 
-/// What a thread promises: that these clients, the first of whom has this
-/// number, do their commands of a round, unless memory is refused.
+/// What a thread promises: that these clients, numbered from this one on, do their commands of a
+/// round, unless memory is refused.
 #[derive(Drop)]
 struct Plays<'a, 'c, J: Live> {
     first: u32,
@@ -195,9 +195,9 @@ fn play_all<'a, J: Live + Send + Sync, R: Threads + Wait + Sync, G: Gate>(
     )
 }
 
-/// Has these clients, the first of whom has this number, do their commands
-/// of a round, each that has any in a thread of its own, the last of them
-/// in this one. Answers what they told, by client and then by command.
+/// Has these clients do their commands of a round, each that has any in a thread of its own, the
+/// last of them in this one. Their numbers go up from this one. Answers what they told, by client
+/// and then by command.
 ///
 /// It fails only where memory runs out, or where a thread cannot be
 /// had. However it ends, each thread that it started has been joined.

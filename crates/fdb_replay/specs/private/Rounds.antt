@@ -73,8 +73,8 @@ teach logs tell = set logs tell.to (record {
       learns (calls_of logs tell.to) (record { teller = tell.from; position = tell.position });
 })
 
--- These clients, the first of whom has this number, have done their commands
--- of a round, and told this by it. Each has the number that it had.
+-- These clients, numbered from this one on, have done their commands of a round, and told this by
+-- it. Each has the number that it had.
 pub record IsPlayed (first : ℕ) (commands : List Command)
     (before after : List Account) (tells : List Tell) : Type 0 where
   pub performed : PerformsFrom first commands before after
