@@ -26,6 +26,8 @@ const GLANCES: u32 = 20;
 struct OneByOne {
     passed: AtomicU64,
     reported: AtomicU64,
+    /// The sum of the numbers that passed, less those of the reporters who have reported.
+    numbers: AtomicU64,
     /// Somebody was not alone, or passed another place.
     failed: AtomicBool,
 }
@@ -35,6 +37,7 @@ impl OneByOne {
         OneByOne {
             passed: AtomicU64::new(0),
             reported: AtomicU64::new(0),
+            numbers: AtomicU64::new(0),
             failed: AtomicBool::new(false),
         }
     }
@@ -42,6 +45,13 @@ impl OneByOne {
     /// Notes a failure.
     fn fails(&self) {
         self.failed.store(true, Ordering::SeqCst);
+    }
+
+    /// Notes that a reporter has reported.
+    fn reports(&self, number: Option<u32>) {
+        let number = u64::from(number.unwrap_or(u32::MAX));
+        self.numbers.fetch_sub(number, Ordering::SeqCst);
+        self.reported.fetch_add(1, Ordering::SeqCst);
     }
 
     /// Waits until so many have reported, and notes a failure where they do not come so far. It
@@ -69,18 +79,20 @@ impl OneByOne {
         }
     }
 
-    /// Checks that so many have passed, each alone.
+    /// Checks that so many have passed, each alone, and those who reported.
     fn was_passed(&self, rt: &impl Abort, passes: u64, case: &str) {
         same(rt, &self.passed.load(Ordering::SeqCst), &passes, &case);
+        same(rt, &self.numbers.load(Ordering::SeqCst), &0, &case);
         holds(rt, !self.failed.load(Ordering::SeqCst), &case);
     }
 }
 
 impl Gate for OneByOne {
-    fn pass(&self, place: Place, _who: u32) {
+    fn pass(&self, place: Place, who: u32) {
         if place != Place::ReportHeld {
             self.fails();
         }
+        self.numbers.fetch_add(u64::from(who), Ordering::SeqCst);
         let before = self.passed.fetch_add(1, Ordering::SeqCst);
         self.waits_for(before);
         self.glances(before);
@@ -118,7 +130,7 @@ fn pass_twice<J: Live, R: Wait + Abort>(
 ) {
     for raises in [true, false] {
         let raised = report_as(rt, live, gate, token, rec).is_ok_and(|ack| ack.raised);
-        gate.reported.fetch_add(1, Ordering::SeqCst);
+        gate.reports(token.reporter());
         same(rt, &raised, &raises, &rec);
     }
 }
@@ -153,7 +165,7 @@ fn report_on<J: Live, R: Wait + Abort>(
 ) {
     for version in 101..=TURNS + 100 {
         let acked = report_at(rt, live, gate, token, version).is_ok();
-        gate.reported.fetch_add(1, Ordering::SeqCst);
+        gate.reports(token.reporter());
         holds(rt, acked, &version);
     }
 }
