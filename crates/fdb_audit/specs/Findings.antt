@@ -1,5 +1,5 @@
 -- All faults of the register that stand in worked-out logs, each with why. (this product's own)
-use Rattle.std.specs.Prelude.{ℕ, ◌<◌, All, AllPairs, List, map}
+use Rattle.std.specs.Prelude.{ℕ, ◌<◌, ◌≤◌, All, AllPairs, List, map}
 use Rattle.std.specs.List.{Contains}
 use Rattle.fdb_history.specs.Faults.{ComesBefore, IsClash, IsGap, OutOfOrder, WronglyAnswered}
 use Rattle.fdb_history.specs.declared.chain.Issued.{Issued}
@@ -38,10 +38,12 @@ Precedes (Gap position) (Gap later) = position < later
 Precedes (Wrong client call) (Wrong other later) = ComesBefore client call other later
 Precedes one other = kind_of one < kind_of other
 
--- Each fault of the register that stands is found, once and in order, and why it stands.
+-- Each fault of the register that stands is found, once and in order, and why it stands; none of
+-- another kind is.
 pub record AreFindings (start : Record) (chain : List Issued) (logs : List ClientLog)
     (found : List Finding) : Type 0 where
   pub explained : All (λ finding. IsReason start chain logs finding.fault finding.reason) found
+  pub of_register : All (λ finding. kind_of finding.fault ≤ 3) found
   pub all : (fault : AuditFault) → IsFault start logs fault
       → Contains (map (λ finding. finding.fault) found) fault
   pub in_order : AllPairs (λ one other. Precedes one.fault other.fault) found

@@ -13,7 +13,7 @@ use Rattle.fdb_history.specs.declared.fault.AuditFault.TheVariants.{Order, Clash
 use Rattle.fdb_history.specs.declared.log.Call.{Call}
 use Rattle.fdb_history.specs.declared.log.ClientLog.{ClientLog}
 use Rattle.fdb_history.specs.declared.register.Record.{Record}
-use Rattle.fdb_audit.specs.Findings.{AreFindings, IsFault, Precedes}
+use Rattle.fdb_audit.specs.Findings.{AreFindings, IsFault, Precedes, kind_of}
 use Rattle.fdb_audit.specs.Reasons.{IsReason}
 use Rattle.fdb_audit.specs.private.Findings.{AreFindingsBefore}
 use Rattle.fdb_audit.specs.declared.finding.Finding.{Finding}
@@ -288,10 +288,20 @@ module _ (start : Record) (chain : List Issued) (logs : List ClientLog) where
   pub all_found : (count : ℕ) (found : List Finding) → length logs ≤ count → Found (Wrong count 0) found → AreFindings start chain logs found
   all_found count found all was = record {
     explained = was.explained;
+    of_register = All-weaker (λ (f : Finding). Precedes f.fault (Wrong count 0)) (λ (f : Finding). kind_of f.fault ≤ 3) (λ finding. kind finding.fault) found was.before;
     all = λ fault stands. was.all fault stands (comes fault stands);
     in_order = was.in_order;
   }
     where
+      kind : (f : AuditFault) → Precedes f (Wrong count 0) → kind_of f ≤ 3
+      kind (Order c p) before = omega arith
+      kind (Clash position) before = omega arith
+      kind (Gap position) before = omega arith
+      kind (Wrong c p) before = omega arith
+      kind (Stray c p) before = absurd (omega arith)
+      kind (NotAbove c p) before = absurd (omega arith)
+      kind Memory before = absurd (omega arith)
+
       comes : (f : AuditFault) → IsFault start logs f → Precedes f (Wrong count 0)
       comes (Order c p) stands = omega arith
       comes (Clash position) stands = omega arith
