@@ -1,10 +1,10 @@
 //! The chain of commit versions.
 
-ghost use Rattle.std.specs.Prelude.{◌≡◌, ◌+◌, ◌<◌, ◌≤◌, ◌⊎◌, ◌↔◌, ◌∷◌, ◌++◌, ◌^◌, [], false, All};
+ghost use Rattle.std.specs.Prelude.{◌≡◌, ◌+◌, ◌<◌, ◌≤◌, ◌⊎◌, ◌↔◌, ◌∷◌, ◌++◌, ◌^◌, [], false, true, All, Some};
 ghost use Rattle.std.specs.Prelude.{IsSome, IfSome, OnOk, OnErr, IfOk, IfErr};
 ghost use Rattle.fdb_history.specs.Issuing.{answer_to, fresh_answer, kept, kept_answer};
 ghost use Rattle.fdb_history.specs.Issuing.{next_answer, with_answer};
-ghost use Rattle.fdb_history.specs.Chain.{IsChain, IsNext, latest};
+ghost use Rattle.fdb_history.specs.Chain.{IsChain, IsNext, last_answer, latest, prev_after};
 ghost use Rattle.fdb_chain.specs.ChainCore.{IsAnswer, IsEpoch, IsFor, IsProxyCount, MayRefuse};
 ghost use Rattle.fdb_chain.specs.ChainCore.{new_chain};
 
@@ -102,6 +102,12 @@ impl ChainCore {
         ensures ok { IfOk result (λ issued. self.new ≡ with_answer self.old issued) }
         ensures err { OnErr result (self.new ≡ self.old) }
 
+        ensures last { IfOk result (λ issued. issued.fresh ≡ true
+            → last_answer self.new.answers ≡ Some issued) }
+        ensures prev { IfOk result (λ issued. issued.fresh ≡ true
+            → issued.prev ≡ prev_after self.old.epoch_end (last_answer self.old.answers)) }
+        ensures above { IfOk result (λ issued. issued.fresh ≡ true
+            → IfSome (last_answer self.old.answers) (λ last. last.version < issued.version)) }
         ensures request { IfOk result (IsFor ask) }
         ensures in_range { IfOk result (λ issued. issued.version ≤ MAX_VERSION) }
         ensures refused { IfErr result (MayRefuse ask) }

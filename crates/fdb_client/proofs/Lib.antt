@@ -7,3 +7,4 @@ pub mod Reading
 pub mod Refused
 pub mod Agreements
 pub mod Settled
+pub mod Beginnings

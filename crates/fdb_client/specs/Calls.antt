@@ -1,10 +1,11 @@
 -- What a client's calls may log. (all of this is this product's own)
-use Rattle.std.specs.Prelude.{◌≡◌, ℕ, ◌+◌, ◌<◌, Bool, true, ◌&&◌, not, List, length, Option, None, Some, Result}
+use Rattle.std.specs.Prelude.{◌≡◌, ℕ, ◌+◌, ◌<◌, ◌≤◌, Bool, true, ◌&&◌, not, List, length, Option, None, Some, Result}
 use Rattle.std.specs.Bool.{MatchBool}
 use mathlib.Core.List.{IsPrefix}
 use Rattle.fdb_chain.specs.ChainCore.{IsOf}
 use Rattle.fdb_history.specs.Issuing as definition
 use Rattle.fdb_history.specs.Log.{fresh_answers}
+use Rattle.fdb_history.specs.Register.{version_for}
 use Rattle.fdb_history.specs.Strays.{issued_under, logged_as, may_refuse}
 use Rattle.fdb_history.specs.declared.chain.Ask.{Ask}
 use Rattle.fdb_history.specs.declared.chain.Issued.{Issued}
@@ -15,7 +16,7 @@ use Rattle.fdb_history.specs.declared.log.Input.TheVariants as input
 use Rattle.fdb_history.specs.declared.log.Refusal.{Refusal}
 use Rattle.fdb_history.specs.declared.log.Refusal.TheVariants as refusal
 use Rattle.fdb_history.specs.declared.register.Record.{Record}
-use Rattle.fdb_live.specs.Seen.{IsChangedBy, IsNotChangedBy, IsRecord, last_record, longer}
+use Rattle.fdb_live.specs.Seen.{IsBounded, IsNotBehind, IsChangedBy, IsNotChangedBy, IsRecord, last_record, longer}
 use Rattle.fdb_live.specs.declared.ack.Ack.{Ack}
 use Rattle.fdb_live.specs.declared.change.Change.{Change}
 use Rattle.fdb_client.specs.Account.{Account, Logs, sight}
@@ -40,6 +41,19 @@ pub record Reads (start : Record) (opts : GrvOpts) (before after : Account)
   pub logged : Logs before (input.Grv opts) answer after
   pub answered : IsReadAnswer start opts after answer
   pub returned : ReadReturns opts (length after.changes) answer result
+
+-- What a read returned, to a client that had seen these changes and has then seen those: the last
+-- record of the latter, which is not behind the last one of the former, and the version of it that
+-- its options ask for.
+pub record IsReadOf (start : Record) (opts : GrvOpts) (before after : List Change)
+    (read : ReadVersion) : Type 0 where
+  pub rec : read.rec ≡ last_record start after
+  pub position : read.position ≡ length after
+  pub version : read.version ≡ version_for opts.use_min read.rec
+  pub at_least : read.rec.min_known ≤ read.version
+  pub at_most : read.version ≤ read.rec.version
+  pub never_falls : IsNotBehind (last_record start before) read.rec
+  pub bounded : IsBounded read.position read.rec
 
 -- ---- requests for a commit version
 

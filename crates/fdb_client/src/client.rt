@@ -1,14 +1,15 @@
 //! A client of the service.
 
-ghost use Rattle.std.specs.Prelude.{◌≡◌, ◌≢◌, [], length};
+ghost use Rattle.std.specs.Prelude.{◌≡◌, ◌≢◌, ◌≤◌, ℕ, [], length};
 ghost use Rattle.std.specs.Prelude.{IfOk, IfErr, OnOk, OnErr, None, Some};
 ghost use Rattle.fdb_client.specs.Account.{Account, IsSameClient, new_account, sight};
 ghost use Rattle.fdb_client.specs.Agreeing.{Agrees};
-ghost use Rattle.fdb_client.specs.Calls.{Asks, Learns, Reads, Reports, Tells};
+ghost use Rattle.fdb_client.specs.Calls.{Asks, IsReadOf, Learns, Reads, Reports, Tells};
 ghost use Rattle.fdb_client.specs.Calls.{next_number, request_of};
 ghost use Rattle.fdb_chain.specs.ChainCore.{IsFor};
 ghost use Rattle.fdb_history.specs.Log.{position_after_calls};
-ghost use Rattle.fdb_live.specs.Seen.{own_positions};
+ghost use Rattle.fdb_history.specs.Strays.{issued_under};
+ghost use Rattle.fdb_live.specs.Seen.{IsNotBehind, last_record, own_positions};
 
 use crate::error::ClientError;
 use crate::exchange::Mark;
@@ -137,6 +138,10 @@ impl<'a, J: Live> Client<'a, J> {
     ) -> Result<ReadVersion, ClientError>
         ensures logged { result ≢ Err ClientError.Memory
             → Reads J.start opts self.old self.new result }
+        ensures read { IfOk result (IsReadOf J.start opts self.old.changes self.new.changes) }
+        ensures never_falls { IsNotBehind
+            (last_record J.start self.old.changes)
+            (last_record J.start self.new.changes) }
         ensures memory { result ≡ Err ClientError.Memory → self.new ≡ self.old }
         ensures client { IsSameClient self.old self.new }
     {
@@ -255,6 +260,12 @@ impl<'a, J: Live> Client<'a, J> {
     ) -> Result<Ack, ClientError>
         ensures logged { result ≢ Err ClientError.Memory
             → Reports J.start num locked metadata min_known self.old self.new result }
+        ensures never_falls { IsNotBehind
+            (last_record J.start self.old.changes)
+            (last_record J.start self.new.changes) }
+        ensures covers { OnOk result ((version : ℕ)
+            → issued_under self.old.calls num ≡ Some version
+            → version ≤ (last_record J.start self.new.changes).version) }
         ensures memory { result ≡ Err ClientError.Memory → self.new ≡ self.old }
         ensures client { IsSameClient self.old self.new }
     {
@@ -306,6 +317,7 @@ impl<'a, J: Live> Client<'a, J> {
         ensures logged { OnOk result (Tells to self.old self.new) }
         ensures given { IfOk result (λ told.
             told ≡ record { reporter = None; changes = self.old.changes }) }
+        ensures stays { self.new.changes ≡ self.old.changes }
         ensures memory { IfErr result (λ cause. cause ≡ ClientError.Memory) }
         ensures unchanged { OnErr result (self.new ≡ self.old) }
         ensures client { IsSameClient self.old self.new }
@@ -333,6 +345,12 @@ impl<'a, J: Live> Client<'a, J> {
     ) -> Result<(), (ClientError, Seen<J>)>
         requires { told.reporter ≡ None }
         ensures logged { OnOk result (Learns from told.changes self.old self.new) }
+        ensures never_falls { IsNotBehind
+            (last_record J.start self.old.changes)
+            (last_record J.start self.new.changes) }
+        ensures covers { OnOk result (IsNotBehind
+            (last_record J.start told.changes)
+            (last_record J.start self.new.changes)) }
         ensures memory { IfErr result (λ refused. refused.0 ≡ ClientError.Memory) }
         ensures handed_back { IfErr result (λ refused. refused.1 ≡ told) }
         ensures unchanged { OnErr result (self.new ≡ self.old) }
@@ -352,13 +370,15 @@ impl<'a, J: Live> Client<'a, J> {
         Ok(())
     }
 
-    /// The log and the token, which agree with one another. Takes no memory.
+    /// The log and the token, which agree with one another, from whichever position the client began
+    /// as from the first one: so they may be settled. Takes no memory.
     pub fn finish(self) -> (ClientLog, Seen<J>)
         ensures log { result.0 ≡ record { calls = self.entry.calls } }
         ensures seen { result.1 ≡ sight self.entry }
         ensures come_to { position_after_calls self.entry.begun self.entry.calls
             ≡ length self.entry.changes }
         ensures agrees { Agrees J.start self.entry }
+        ensures settles { Agrees J.start (record self.entry { begun = 0 }) }
     {
         let Client {
             alloc: _,

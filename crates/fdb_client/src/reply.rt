@@ -2,11 +2,11 @@
 
 ghost use Rattle.std.specs.Prelude.{◌≡◌, ◌≢◌, ℕ, ◌<◌, ◌≤◌, ◌++◌, ◌∷◌, [], IfOk, None, Some, length};
 ghost use Rattle.std.specs.Prelude.{vec_len, vec_capacity};
-ghost use Rattle.fdb_client.specs.Calls.{Reads};
+ghost use Rattle.fdb_client.specs.Calls.{IsReadOf, Reads};
 ghost use Rattle.fdb_client.specs.Returned.{ReadReturns};
 ghost use Rattle.fdb_client.specs.private.Exchange.{answer_of};
 ghost use Rattle.fdb_history.specs.Log.{position_after_calls};
-ghost use Rattle.fdb_live.specs.Seen.{own_positions};
+ghost use Rattle.fdb_live.specs.Seen.{IsBounded, IsNotBehind, last_record, own_positions};
 ghost use mathlib.Core.List.{IsPrefix};
 
 use crate::error::ClientError;
@@ -20,6 +20,7 @@ use std::sync::Wait;
 
 /// Takes in the reply to a read, logs it, and gives what the read returns. Where memory is refused,
 /// nothing has changed.
+#[tactic(auto, using(crate::proofs::Reading::is_read, crate::proofs::Reading::not_behind_itself))]
 pub(crate) fn take_reply<J: Live, R: Wait>(
     rt: &R,
     live: &LiveRecord<J>,
@@ -56,6 +57,10 @@ pub(crate) fn take_reply<J: Live, R: Wait>(
           changes = seen.new.changes;
         })
         result }
+    ensures read { IfOk result (IsReadOf J.start opts seen.old.changes seen.new.changes) }
+    ensures never_falls { IsNotBehind
+        (last_record J.start seen.old.changes)
+        (last_record J.start seen.new.changes) }
     ensures come_to { result ≢ Err ClientError.Memory
         → (begun : ℕ) → position_after_calls begun journal.new.calls.items
         ≡ length seen.new.changes }
@@ -98,6 +103,10 @@ fn hear<J: Live, R: Wait>(rt: &R, live: &LiveRecord<J>, seen: &mut Seen<J>, told
     ensures changes { seen.new.changes ≡ told.changes }
     ensures extends { IsPrefix seen.old.changes seen.new.changes }
     ensures own { own_positions seen.new ≡ own_positions seen.old }
+    ensures never_falls { IsNotBehind
+        (last_record J.start seen.old.changes)
+        (last_record J.start seen.new.changes) }
+    ensures bounded { IsBounded (length seen.new.changes) (last_record J.start seen.new.changes) }
 {
     live.learn(rt, seen, told);
 }

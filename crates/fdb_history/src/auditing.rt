@@ -1,7 +1,8 @@
 //! The audit of a run's logs: their history, or the first fault that stands.
 
-ghost use Rattle.std.specs.Prelude.{◌≡◌, ◌≤◌, ◌^◌, ◌⊎◌, length, List, OnOk, IfOk, IfErr, Ok, Err};
-ghost use Rattle.fdb_history.specs.Audit.{IsAudited, IsFirstFault, Low};
+ghost use Rattle.std.specs.Prelude.{◌≡◌, ◌≤◌, ◌^◌, ◌⊎◌, ◌≢◌, length, map, List, OnOk, IfOk, IfErr, Ok, Err};
+ghost use Rattle.fdb_history.specs.Audit.{IsAudited, IsFirstFault, IsOfAnAnswer, Low};
+ghost use Rattle.fdb_history.specs.Explained.{explained};
 ghost use Rattle.fdb_history.specs.private.Auditing.{AreChangesOf, AreRegisters};
 ghost use Rattle.fdb_history.specs.private.Explaining.{AreEventsByPosition, changes_of};
 ghost use Rattle.fdb_history.specs.Faults.{IsFaultless, Nowhere, OutOfOrder};
@@ -54,6 +55,74 @@ pub fn audit(
     history_or_fault(alloc, start, chain, logs)
 }
 
+/// The history of logs in which no fault of the register's history stands, as where their clients'
+/// tokens were brought together, in the fixed order; or the first fault of an answer. It looks for
+/// `Stray` and `NotAbove` alone.
+///
+/// Memory may be refused at any time. It takes the time that [`audit`] does.
+pub fn history_of(
+    alloc: Global,
+    start: Record,
+    chain: &[Issued],
+    logs: &[ClientLog],
+) -> Result<History, AuditFault>
+    requires few { length logs.now ≤ 2 ^ 32 }
+    requires faultless { IsFaultless start logs.now }
+    ensures audited { IsAudited start chain.now logs.now result }
+    ensures linear { IfOk result (λ history. IsLinear start logs.now history.events) }
+    ensures of_an_answer { IfErr result
+        (λ fault. fault ≢ AuditFault.Memory → IsOfAnAnswer fault) }
+{
+    let events = placed::events_by_position(alloc, logs)?;
+    let registers = registers_without_fault(alloc, start, &events, logs)?;
+    answers_or_fault(alloc, chain, logs, events, &registers)
+}
+
+/// The register at each position that a call has reached, of logs with no fault.
+fn registers_without_fault(
+    alloc: Global,
+    start: Record,
+    events: &[Placed],
+    logs: &[ClientLog],
+) -> Result<Registers, AllocError>
+    requires faultless { IsFaultless start logs.now }
+    requires sorted { AreEventsByPosition events.now }
+    requires changes { AreChangesOf logs.now (changes_of events.now) }
+    ensures begins { IfOk result (λ registers. registers.start ≡ start) }
+    ensures right { IfOk result (λ registers. AreRegisters start logs.now registers) }
+{
+    let changes = changes::changes_of(alloc, events)?;
+    match registers::registers_of(alloc, start, &changes, logs) {
+        Ok(registers) => Ok(registers),
+        Err(AuditFault::Memory) => Err(AllocError),
+        Err(_) => unreachable!(),
+    }
+}
+
+/// The history, or the first fault of an answer: the half of an audit that looks at answers. The
+/// register's history has no fault.
+fn answers_or_fault(
+    alloc: Global,
+    chain: &[Issued],
+    logs: &[ClientLog],
+    events: Vec<Placed>,
+    registers: &Registers,
+) -> Result<History, AuditFault>
+    requires few { length logs.now ≤ 2 ^ 32 }
+    requires faultless { IsFaultless registers.now.start logs.now }
+    requires right { AreRegisters registers.now.start logs.now registers.now }
+    requires history { map (λ p. p.event) events.items ≡ explained logs.now }
+    ensures { IsAudited registers.now.start chain.now logs.now result }
+{
+    if let Some(CallName { client, call }) = stray::first_stray(alloc, chain, logs)? {
+        return Err(AuditFault::Stray { client, call });
+    }
+    if let Some(CallName { client, call }) = judging::first_low(registers, logs) {
+        return Err(AuditFault::NotAbove { client, call });
+    }
+    Ok(explaining::explain(alloc, events)?)
+}
+
 /// The history, or the first fault.
 fn history_or_fault(
     alloc: Global,
@@ -69,13 +138,7 @@ fn history_or_fault(
     }
     let events = placed::events_by_position(alloc, logs)?;
     let registers = faultless_registers(alloc, start, &events, logs)?;
-    if let Some(CallName { client, call }) = stray::first_stray(alloc, chain, logs)? {
-        return Err(AuditFault::Stray { client, call });
-    }
-    if let Some(CallName { client, call }) = judging::first_low(&registers, logs) {
-        return Err(AuditFault::NotAbove { client, call });
-    }
-    Ok(explaining::explain(alloc, events)?)
+    answers_or_fault(alloc, chain, logs, events, &registers)
 }
 
 /// The register at each position that a call has reached, or the first fault of the

@@ -21,7 +21,7 @@ mod replies;
 mod sequence;
 mod service;
 
-pub use auditing::audit;
+pub use auditing::{audit, history_of};
 pub use chain::{Ask, Issued, MAX_STEP};
 pub use event::{Event, History, register_after};
 pub use fault::AuditFault;

@@ -1,6 +1,7 @@
 pub mod Prefixes
 pub mod Register
 pub mod Logs
+pub mod Rising
 pub mod Fitting
 pub mod Splits
 pub mod Joins

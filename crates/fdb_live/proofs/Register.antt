@@ -32,7 +32,7 @@ version_at_least a b =
     (λ e. let higher = ltb-true a.version b.version e in (omega arith, le_refl b.version))
     (λ e. let lower = ltb-false a.version b.version e in (le_refl a.version, lower))
 
-min_known_at_least : (a b : Record) → (a.min_known ≤ (after_report a b).min_known) × (b.min_known ≤ (after_report a b).min_known)
+pub min_known_at_least : (a b : Record) → (a.min_known ≤ (after_report a b).min_known) × (b.min_known ≤ (after_report a b).min_known)
 min_known_at_least a b =
     cond_both (ltb a.min_known b.min_known) b.min_known a.min_known (λ n. (a.min_known ≤ n) × (b.min_known ≤ n))
     (λ e. let higher = ltb-true a.min_known b.min_known e in (omega arith, le_refl b.min_known))

@@ -1,5 +1,5 @@
 -- What a token proves that its holder has seen of the live committed version.
-use Rattle.std.specs.Prelude.{◌≡◌, ℕ, ◌+◌, ◌<◌, ◌≤◌, ◌==◌, ◌&&◌, Bool, true, false, Option, None, Some, List, [], ◌∷◌, ◌++◌, All, length, if◌then◌else◌, nat_lt}
+use Rattle.std.specs.Prelude.{◌≡◌, ℕ, ◌+◌, ◌*◌, ◌<◌, ◌≤◌, ◌==◌, ◌&&◌, Bool, true, false, Option, None, Some, List, [], ◌∷◌, ◌++◌, All, length, if◌then◌else◌, nat_lt}
 use mathlib.Core.List.{IsPrefix}
 use Rattle.atomic_table.specs.Seated.{TableId}
 use Rattle.fdb_history.specs.declared.register.Record.{Record}
@@ -57,6 +57,18 @@ own_positions sight = own_among sight.reporter sight.changes
 -- The longer of two lists.
 abbrev pub longer : List Change → List Change → List Change
 longer these those = if nat_lt (length these) (length those) then those else these
+
+-- A record is not behind another: neither its version nor its minimum known committed version is
+-- below the other's.
+pub record IsNotBehind (other rec : Record) : Type 0 where
+  pub version : other.version ≤ rec.version
+  pub minimum : other.min_known ≤ rec.min_known
+
+-- A record and its position are within bounds.
+pub record IsBounded (position : ℕ) (rec : Record) : Type 0 where
+  pub below : position ≤ 2 * rec.version
+  pub within : rec.min_known ≤ rec.version
+  pub in_range : rec.version ≤ MAX_VERSION
 
 -- The holder of a token reported a record, and changed the live record with it: this change is the
 -- last that it has now seen, it made of the record what the rule says, and it is the one position

@@ -3,8 +3,8 @@
 ghost use Rattle.std.specs.Prelude.{◌≡◌, ◌≢◌, ◌*◌, ◌<◌, ◌≤◌, ◌⊎◌, ◌↔◌, length, Option, None};
 ghost use Rattle.std.specs.Prelude.{IsSome, IfOk, OnOk, OnErr, true, false};
 ghost use mathlib.Core.List.{IsPrefix};
-ghost use Rattle.fdb_live.specs.Seen.{IsLog, IsNotChangedBy, IsChangedBy, last_record, longer};
-ghost use Rattle.fdb_live.specs.Seen.{own_positions};
+ghost use Rattle.fdb_live.specs.Seen.{IsBounded, IsLog, IsNotBehind, IsNotChangedBy, IsChangedBy, last_record};
+ghost use Rattle.fdb_live.specs.Seen.{longer, own_positions};
 
 use crate::ack::Ack;
 use crate::error::LiveError;
@@ -38,6 +38,7 @@ impl<J: Live> LiveRecord<J> {
     ///
     /// It waits for a replacement that is under way, and not for the lock of the reports. That it
     /// sees a report of which its caller had seen nothing, no clause says.
+    #[tactic(auto, using(crate::proofs::Rising::never_behind, crate::proofs::Rising::never_shorter))]
     #[inline]
     pub fn read<R: Wait>(&self, rt: &R, seen: &mut Seen<J>) -> Fetched
         ensures reporter { seen.new.reporter ≡ seen.old.reporter }
@@ -45,6 +46,8 @@ impl<J: Live> LiveRecord<J> {
         ensures own { own_positions seen.new ≡ own_positions seen.old }
         ensures rec { result.rec ≡ last_record J.start seen.new.changes }
         ensures position { result.position ≡ length seen.new.changes }
+        ensures never_falls { IsNotBehind (last_record J.start seen.old.changes) result.rec }
+        ensures never_back { length seen.old.changes ≤ result.position }
         ensures below { result.position ≤ 2 * result.rec.version }
         ensures within { result.rec.min_known ≤ result.rec.version }
         ensures in_range { result.rec.version ≤ MAX_VERSION }
@@ -67,6 +70,7 @@ impl<J: Live> LiveRecord<J> {
     /// where the minimum known committed version is above the version, and for nothing else. It
     /// waits for the other reports. While it holds their lock it passes the gate as `who`,
     /// before it looks at the record.
+    #[tactic(auto, using(crate::proofs::Rising::never_behind, crate::proofs::Rising::covered))]
     #[inline]
     pub fn report<R: Wait, G: Gate>(
         &self,
@@ -85,6 +89,12 @@ impl<J: Live> LiveRecord<J> {
         ensures reporter { seen.new.reporter ≡ seen.old.reporter }
         ensures extends { IsPrefix seen.old.changes seen.new.changes }
         ensures position { IfOk result (λ ack. ack.position ≡ length seen.new.changes) }
+        ensures never_falls { IsNotBehind
+            (last_record J.start seen.old.changes)
+            (last_record J.start seen.new.changes) }
+        ensures covers { OnOk result (IsNotBehind rec (last_record J.start seen.new.changes)) }
+        ensures bounded { OnOk result
+            (IsBounded (length seen.new.changes) (last_record J.start seen.new.changes)) }
         ensures log { OnOk result (IsLog J.start J.reporters seen.new.changes) }
         ensures changed { IfOk result (λ ack. ack.changed ≡ true →
             IsChangedBy J.start rec ack.raised seen.old seen.new) }
@@ -118,6 +128,7 @@ impl<J: Live> LiveRecord<J> {
     }
 
     /// The holder of the first token learns what that of the second has seen. It keeps its number.
+    #[tactic(auto, using(crate::proofs::Rising::never_behind))]
     #[inline]
     pub fn learn<R: Wait>(&self, rt: &R, seen: &mut Seen<J>, told: Seen<J>)
         requires { told.reporter ≡ None }
@@ -125,6 +136,15 @@ impl<J: Live> LiveRecord<J> {
         ensures longer { seen.new.changes ≡ longer seen.old.changes told.changes }
         ensures extends { IsPrefix seen.old.changes seen.new.changes }
         ensures told { IsPrefix told.changes seen.new.changes }
+        ensures never_falls { IsNotBehind
+            (last_record J.start seen.old.changes)
+            (last_record J.start seen.new.changes) }
+        ensures covers { IsNotBehind
+            (last_record J.start told.changes)
+            (last_record J.start seen.new.changes) }
+        ensures bounded { IsBounded
+            (length seen.new.changes)
+            (last_record J.start seen.new.changes) }
         ensures own { own_positions seen.new ≡ own_positions seen.old }
         ensures log { IsLog J.start J.reporters seen.new.changes }
     {

@@ -2,7 +2,7 @@
 use Rattle.std.proofs.Common.{◌≡◌, ◌≢◌, ℕ, suc, ◌+◌, ◌<◌, List, [], ◌∷◌, Result, Ok, Err, IfErr, length, replicate, drop, get_or, refl, ap, sym, ◌∙◌, subst}
 use Rattle.std.specs.List.{FoldsTo}
 use Rattle.std.proofs.lemmas.List.{drop_more, length-replicate}
-use Rattle.fdb_history.specs.Audit.{IsAudited, IsFirstFault}
+use Rattle.fdb_history.specs.Audit.{IsFirstFault, IsOfAnAnswer}
 use Rattle.fdb_history.specs.Chain.{IsChain}
 use Rattle.fdb_history.specs.Faults.{IsFaultless}
 use Rattle.fdb_history.specs.declared.chain.Issued.{Issued}
@@ -12,7 +12,7 @@ use Rattle.fdb_history.specs.declared.fault.AuditFault.TheVariants.{Order, Clash
 use Rattle.fdb_history.specs.declared.log.Call.{Call}
 use Rattle.fdb_history.specs.declared.log.ClientLog.{ClientLog}
 use Rattle.fdb_history.specs.declared.register.Record.{Record}
-use Rattle.fdb_replay.specs.Outcome.{Fails, IsOfAnAnswer, opening, run_fault}
+use Rattle.fdb_replay.specs.Outcome.{Fails, opening, run_fault}
 use Rattle.fdb_script.specs.Answering.{Answers, AnswersRound, added_calls, learnt_from}
 use Rattle.fdb_script.specs.Plan.{Plan}
 use Rattle.fdb_script.specs.declared.script.Command.{Command}
@@ -43,23 +43,6 @@ pub same_clients : (plan : Plan) (logs : List ClientLog) → Answers plan logs �
 same_clients plan logs answers = rounds_length (replicate plan.setup.clients (record { calls = [] })) plan.rounds logs answers ∙ length-replicate plan.setup.clients (record { calls = [] })
 
 -- ---- the audit
-
--- where the history has no fault, the first that stands is one of an answer
-of_an_answer : (start : Record) (chain : List Issued) (logs : List ClientLog) (fault : AuditFault) → IsFaultless start logs → IsFirstFault start chain logs fault → fault ≢ Memory
-    → IsOfAnAnswer fault
-of_an_answer start chain logs (Order client call) none first other = none.order client call first.stands
-of_an_answer start chain logs (Clash position) none first other = none.clash position first.1.stands
-of_an_answer start chain logs (Gap position) none first other = none.gap position first.2.stands
-of_an_answer start chain logs (Wrong client call) none first other = none.wrong client call first.3.stands
-of_an_answer start chain logs (Stray client call) none first other = tt
-of_an_answer start chain logs (NotAbove client call) none first other = tt
-of_an_answer start chain logs Memory none first other = other refl
-
--- and so of what an audit answers there
-pub others_of_an_answer : (start : Record) (chain : List Issued) (logs : List ClientLog) (result : Result History AuditFault) → IsFaultless start logs → IsAudited start chain logs result
-    → IfErr result (λ fault. fault ≢ Memory → IsOfAnAnswer fault)
-others_of_an_answer start chain logs (Ok history) none audited = tt
-others_of_an_answer start chain logs (Err fault) none audited = of_an_answer start chain logs fault none audited
 
 -- a run fails as its audit says
 pub fails : (plan : Plan) (chain : List Issued) (logs : List ClientLog) (fault : AuditFault) → Answers plan logs → IsChain plan.setup.epoch_end plan.setup.recovery chain

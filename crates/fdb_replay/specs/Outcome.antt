@@ -1,6 +1,6 @@
 -- What a run promises of its outcome. (this product's own)
 use Rattle.std.specs.Prelude.{◌≡◌, ℕ, false, None, List}
-use Rattle.fdb_history.specs.Audit.{IsFirstFault, Low}
+use Rattle.fdb_history.specs.Audit.{IsFirstFault, IsOfAnAnswer, Low}
 use Rattle.fdb_history.specs.Chain.{IsChain}
 use Rattle.fdb_history.specs.Explained.{explained}
 use Rattle.fdb_history.specs.Faults.{Nowhere}
@@ -43,13 +43,6 @@ pub record IsRunOf (plan : Plan) (outcome : Outcome) : Type 0 where
 abbrev pub run_fault : AuditFault → RunFault
 run_fault audit.Memory = Memory
 run_fault fault = Audit fault
-
--- A fault of one answer: nothing justifies it, or it is a commit version that
--- is not above what its asker had seen.
-abbrev pub IsOfAnAnswer : AuditFault → Type 0
-IsOfAnAnswer (audit.Stray client call) = Unit {0}
-IsOfAnAnswer (audit.NotAbove client call) = Unit {0}
-IsOfAnAnswer _ = ⊥
 
 -- The clients did what the script says, and the audit of what they were
 -- answered finds this fault first. It is no fault of the register's history.

@@ -4,10 +4,11 @@ ghost use Rattle.std.specs.Prelude.{◌≡◌, ◌≢◌, ◌<◌, ◌≤◌, �
 ghost use Rattle.std.specs.Prelude.{slice_get, vec_len};
 ghost use Rattle.fdb_client.specs.Cluster.{IsClusterConfig};
 ghost use Rattle.fdb_client.specs.Settling.{AllAgree};
-ghost use Rattle.fdb_history.specs.Audit.{IsAudited};
+ghost use Rattle.fdb_history.specs.Audit.{IsAudited, IsOfAnAnswer};
+ghost use Rattle.fdb_history.specs.Faults.{IsFaultless};
 ghost use Rattle.fdb_history.specs.Linear.{IsLinear};
 ghost use Rattle.fdb_live.specs.Gathering.{AreNumbered};
-ghost use Rattle.fdb_replay.specs.Outcome.{IsRunOf, IsOfAnAnswer, Fails, opening};
+ghost use Rattle.fdb_replay.specs.Outcome.{IsRunOf, Fails, opening};
 ghost use Rattle.fdb_replay.specs.private.Configured.{IsConfigFor};
 ghost use Rattle.fdb_script.specs.Answering.{Answers};
 ghost use Rattle.fdb_script.specs.Plan.{IsPlan, Plan};
@@ -17,7 +18,7 @@ use crate::fault::RunFault;
 use crate::serving::served;
 use crate::world::World;
 use fdb_client::{Cluster, ClusterConfig, clients_of, settle};
-use fdb_history::{AuditFault, ClientLog, Gate, History, Issued, Record, audit};
+use fdb_history::{AuditFault, ClientLog, Gate, History, Issued, Record, history_of};
 use fdb_live::{Live, LiveError, LiveRecord, Opened, Seen};
 use fdb_script::{Outcome, Script};
 use std::alloc::{AllocError, Global};
@@ -179,11 +180,12 @@ fn settled<J: Live, R: Wait>(
     requires count { length tokens.old ≡ J.reporters }
     requires numbered { AreNumbered tokens.old }
     requires agree { AllAgree J.start logs.now tokens.old }
+    ensures faultless { IsFaultless start logs.now }
     ensures audited { IsAudited start chain.now logs.now result }
     ensures linear { IfOk result (λ history. IsLinear start logs.now history.events) }
     ensures of_an_answer { IfErr result
         (λ fault. fault ≢ AuditFault.Memory → IsOfAnAnswer fault) }
 {
     settle(rt, live, first, tokens, logs);
-    audit(alloc, start, chain, logs)
+    history_of(alloc, start, chain, logs)
 }
