@@ -1,6 +1,6 @@
 -- Where no fault of the history stands, the changes by position stand in turn as far as some call has come, so that
 -- the table of the register after each of them is right.
-use Rattle.std.proofs.Common.{◌≡◌, ℕ, zero, suc, ◌+◌, ◌<◌, ◌≤◌, List, [], length, get_or, sym, ap, ◌∙◌, arith, inl, inr}
+use Rattle.std.proofs.Common.{◌≡◌, ℕ, zero, suc, ◌+◌, ◌≤◌, List, [], length, get_or, sym, ap, ◌∙◌, arith, inl, inr}
 use Rattle.std.proofs.lemmas.Bool.{cases_lt, cases_eq}
 use Rattle.fdb_history.specs.private.Auditing.{AreByPosition, AreChangesOf, AreRegisters, AreTwoAt, IsTable, StandInTurn}
 use Rattle.fdb_history.specs.Faults.{AtNoPosition, IsFaultless, at_position}
@@ -31,7 +31,7 @@ turn-to changes sorted from_one once (suc count) filled place d below =
               ∙ missing-here changes place d sorted from_one once (λ k e early. (before k e (omega arith)).1) within apart))
         ]
         | inr beyond ↦ absurd (missing (at-none (count + 1) changes (λ k e within same.
-          let earlier = (before k e (omega arith)).1 in absurd (omega arith))))
+            let earlier = (before k e (omega arith)).1 in absurd (omega arith))))
       ]
     ]
 

@@ -58,7 +58,8 @@ pub(crate) fn registers_of(
     if position <= greatest_position(logs) {
         return Err(AuditFault::Gap { position });
     }
-    Ok(after_each(alloc, start, changes)?)
+    let registers = after_each(alloc, start, changes)?;
+    Ok(registers)
 }
 
 /// The register before any change and after each of these in turn. They are looked at no further:

@@ -1,4 +1,4 @@
-use Rattle.std.proofs.Common.{◌≡◌, ap, sym, subst, ◌∙◌}
+use Rattle.std.proofs.Common.{ap, sym, subst, ◌∙◌}
 use Rattle.fdb_history.proofs.faultless.Explained.{all_events_within}
 use Rattle.fdb_history.proofs.faultless.Sorted.{changes_by_position}
 use Rattle.fdb_history.proofs.faults.Audited.{audited_linear, others_of_an_answer}
