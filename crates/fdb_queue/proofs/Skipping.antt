@@ -2,7 +2,7 @@
 use Rattle.std.proofs.Common.{◌≡◌, ℕ, zero, suc, ◌+◌, ◌-◌, ◌*◌, ◌≤◌, ◌<◌, ◌==◌, ◌&&◌, ◌⊎◌, inl, inr, Bool, true, false, List, [], ◌∷◌, ◌++◌, length, refl, sym, ap, ◌∙◌, arith, length-append}
 use native.Mathlib.Nat.{suc-mul, mul-pos}
 use Rattle.std.specs.Int.{div_ceil}
-use Rattle.std.specs.Prelude.{All, Some, max, nat_le}
+use Rattle.std.specs.Prelude.{All, Some, IfSome, max, nat_le}
 use Rattle.std.proofs.lemmas.Bool.{and_parts}
 use Rattle.std.proofs.lemmas.Bool.Decides.{nat_tests}
 use Rattle.std.proofs.lemmas.Grind.{div_ceil_times}
@@ -226,6 +226,15 @@ batch_held queue request elapsed normal batch count h time is own normal_is batc
       | inl same ↦ inl (rw same by_normal.1)
       | inr same ↦ inr (rw same by_batch.1)
     ])
+
+none_before : {T : Type 0} (requests : List (Req T)) (queue : Queue T) (elapsed windows : ℕ) → IfSome (first requests) (λ _. StartsAfter elapsed queue windows) → (requests ≡ [] → windows ≡ 0)
+    → (before : ℕ) → before < windows → window (after_windows elapsed before queue) ≡ []
+none_before [] queue elapsed windows exact empty before less = absurd (omega (arith, empty refl))
+none_before (request ∷ requests) queue elapsed windows exact empty before less = exact.idle before less
+
+pub idle_by : {T : Type 0} (queue : Queue T) (elapsed windows : ℕ) → IfSome (first (row queue.waiting)) (λ _. StartsAfter elapsed queue windows) → (row queue.waiting ≡ [] → windows ≡ 0)
+    → (before : ℕ) → before < windows → window (after_windows elapsed before queue) ≡ []
+idle_by queue elapsed windows exact empty = none_before (row queue.waiting) queue elapsed windows exact empty
 
 -- the queue that is left
 pub skipped_by : {T : Type 0} (elapsed windows : ℕ) (queue : Queue T) (normal batch : ℕ) → ((before : ℕ) → before < windows → window (after_windows elapsed before queue) ≡ [])

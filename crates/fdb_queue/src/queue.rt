@@ -284,8 +284,6 @@ impl<T> GrvQueue<T> {
     /// row. A batch request waits until neither rate holds it.
     fn idle_windows(&self, elapsed: u64) -> u64
         requires { IsElapsed elapsed }
-        ensures idle { (before : ℕ) → before < result
-            → window (after_windows elapsed before self.now) ≡ [] }
         ensures exact { IfSome (first (row self.now.waiting))
             (λ _. StartsAfter elapsed self.now result) }
         ensures system { IfSome (first (row self.now.waiting))

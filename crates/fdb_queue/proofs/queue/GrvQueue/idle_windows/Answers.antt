@@ -1,4 +1,4 @@
-use Rattle.std.proofs.Common.{sym, ◌∙◌, ap, rules}
+use Rattle.std.proofs.Common.{sym, ◌∙◌, ap}
 use Rattle.std.specs.Option.{option_copied}
 use Rattle.fdb_queue.proofs.Skipping.{batch_grants, system_goes, default_held, batch_held}
 use Rattle.fdb_queue.proofs.Turning.{count_of}
@@ -23,19 +23,8 @@ returns-in-Default-clause-exact g c =
     let head = sym c.head.ensures ∙ ap option_copied c.in-Some.is in
     rw (← c.self.view_is) (rw head (default_held _ c.in-Some.head.now c.args.elapsed c.windows_held-normal.result c.self.invariant c.requires.some head c.in-Default.is c.windows_held-normal.ensures))
 
-pub returns-in-Default-clause-idle : goal.returns-in-Default-clause-idle
-returns-in-Default-clause-idle g c =
-    let head = sym c.head.ensures ∙ ap option_copied c.in-Some.is in
-    rw (← c.self.view_is) (default_held _ c.in-Some.head.now c.args.elapsed c.windows_held-normal.result c.self.invariant c.requires.some head c.in-Default.is c.windows_held-normal.ensures).idle
-
 pub returns-in-Batch-clause-exact : goal.returns-in-Batch-clause-exact
 returns-in-Batch-clause-exact g c =
     let head = sym c.head.ensures ∙ ap option_copied c.in-Some.is in
     rw (← c.self.view_is) (rw head (batch_held _ c.in-Some.head.now c.args.elapsed c.windows_held-normal.result c.windows_held-batch.result c.max.result c.self.invariant c.requires.some head c.in-Batch.is
     c.windows_held-normal.ensures c.windows_held-batch.ensures c.max.ensures))
-
-pub returns-in-Batch-clause-idle : goal.returns-in-Batch-clause-idle
-returns-in-Batch-clause-idle g c =
-    let head = sym c.head.ensures ∙ ap option_copied c.in-Some.is in
-    rw (← c.self.view_is) (batch_held _ c.in-Some.head.now c.args.elapsed c.windows_held-normal.result c.windows_held-batch.result c.max.result c.self.invariant c.requires.some head c.in-Batch.is
-    c.windows_held-normal.ensures c.windows_held-batch.ensures c.max.ensures).idle
