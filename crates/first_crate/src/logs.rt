@@ -21,7 +21,7 @@ pub(crate) fn explained(rt: &impl Print, alloc: Global) -> Result<()> {
 }
 
 /// Tells the history of some logs, or the first fault.
-pub(crate) fn explain(
+fn explain(
     rt: &impl Print,
     alloc: Global,
     chain: &[Issued],
