@@ -18,8 +18,8 @@ returns g c =
     let start : logs_of made.items ≡ replicate plan.setup.clients (record { calls = [] }) = no_calls made.items plan.setup.clients count new in
     record {
       answers = IfOk-weaker c.served.result (FoldsTo AnswersRound (logs_of clients) c.rounds.result.now) (Answers plan)
-      (λ logs played. subst (λ before. FoldsTo AnswersRound before plan.rounds logs) start
-      (subst (λ clients. FoldsTo AnswersRound (logs_of clients) plan.rounds logs) c.in_ok-clients.ensures
-      (subst (λ rounds. FoldsTo AnswersRound (logs_of clients) rounds logs) c.rounds.ensures played)))
-      c.served.ensures;
+          (λ logs played. subst (λ before. FoldsTo AnswersRound before plan.rounds logs) start
+          (subst (λ clients. FoldsTo AnswersRound (logs_of clients) plan.rounds logs) c.in_ok-clients.ensures
+          (subst (λ rounds. FoldsTo AnswersRound (logs_of clients) rounds logs) c.rounds.ensures played)))
+          c.served.ensures;
     }

@@ -1,16 +1,11 @@
-use Rattle.std.proofs.Common.{◌≡◌, ℕ, ◌≤◌, ◌∷◌, All, ap, arith, rules, sym, subst, ◌∙◌}
+use Rattle.std.proofs.Common.{◌≡◌, ◌≤◌, ◌∷◌, ap, arith, sym, subst, ◌∙◌}
 use Rattle.std.proofs.lemmas.List.Elements.{All-from_recursion, recursion_from_All}
-use Rattle.std.proofs.lemmas.Result.{err_from_is_err_and}
-use Rattle.fdb_history.specs.Audit.{IsAudited}
 use Rattle.fdb_history.specs.Chain.{IsChain}
 use Rattle.fdb_history.specs.Laws.{reports_of}
 use Rattle.fdb_history.specs.Linear.{IsLinear}
-use Rattle.fdb_history.specs.declared.event.History.{History}
-use Rattle.fdb_history.specs.declared.fault.AuditFault.{AuditFault}
 use Rattle.fdb_history.specs.declared.register.Record.{Record}
 use Rattle.fdb_script.specs.Answering.{Answers}
 use Rattle.fdb_replay.specs.Outcome.{opening}
-use Rattle.fdb_replay.proofs.Runs.{fails}
 use Rattle.fdb_replay.proofs.running.run_named.Goals as goal
 
 abbrev IsWithin : Record → Type 0
