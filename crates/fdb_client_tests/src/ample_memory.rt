@@ -23,8 +23,8 @@ const CLUSTERS: &str = "
 run_workload, Cluster::new, clients_of, serve_while | clients | 1 2 5 6 63 64
 run_workload, Cluster::new, clients_of, serve_while | GRV proxies | 1 2 5 6 8 9 15 16
 run_workload, Cluster::new, clients_of, serve_while | throttles | 0 few 999 1000 1001 many
-run_workload, Cluster::new | a start whose minimum is its version | few many 9223372036854775807
-run_workload, Cluster::new | a start whose minimum is 0 | few many 9223372036854775807
+run_workload, Cluster::new | a start with a minimum as great | few many 9223372036854775807
+run_workload, Cluster::new | a start with a minimum of 0 | few many 9223372036854775807
 ";
 
 /// `fdb_client`: calls of a client, at a cluster with one GRV proxy.
@@ -60,11 +60,7 @@ impl Case<'_> {
 }
 
 /// The cases of a table.
-fn cases<'a>(
-    rt: &impl Abort,
-    alloc: Global,
-    table: &'a str,
-) -> Result<Vec<Case<'a>>, AllocError> {
+fn cases<'a>(rt: &impl Abort, alloc: Global, table: &'a str) -> Result<Vec<Case<'a>>, AllocError> {
     let mut cases = Vec::new(alloc);
     for line in table.lines() {
         if let Some((calls, numbers)) = line.rsplit_once('|') {

@@ -21,6 +21,8 @@ const MANY: &str = "65535 65536 65537";
 /// which replays it.
 const SCRIPTS: &str = "
 read_script, run, text, replay, drive | reads in a round | 0 few 9999 10000
+read_script, run, text, replay, drive | reads with all members | 0 few 9999 10000
+read_script, run, text, replay, drive | reports with all members | 0 few 9999 10000
 read_script, run, text, replay, drive | requests in a round | 0 few 9999 10000
 read_script, run, text, replay, drive | repeated requests in a round | 0 few 9999 10000
 read_script, run, text, replay, drive | commits in a round | 0 few 4999 5000
@@ -63,11 +65,7 @@ impl Case<'_> {
 }
 
 /// The cases of a table.
-fn cases<'a>(
-    rt: &impl Abort,
-    alloc: Global,
-    table: &'a str,
-) -> Result<Vec<Case<'a>>, AllocError> {
+fn cases<'a>(rt: &impl Abort, alloc: Global, table: &'a str) -> Result<Vec<Case<'a>>, AllocError> {
     let mut cases = Vec::new(alloc);
     for line in table.lines() {
         if let Some((calls, numbers)) = line.rsplit_once('|') {

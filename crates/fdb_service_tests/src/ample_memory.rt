@@ -21,9 +21,9 @@ const MANY: &str = "65535 65536 65537";
 /// `fdb_live`.
 const LIVE_RECORDS: &str = "
 LiveRecord::open, Opened::parts | reporters | 1 2 5 6 63 64
-LiveRecord::open, Opened::parts | a start whose minimum is its version | 0 few many 9223372036854775807
-LiveRecord::open, Opened::parts | a start whose minimum is 1 less | few many 9223372036854775807
-LiveRecord::open, Opened::parts | a start whose minimum is 0 | 0 few many 9223372036854775807
+LiveRecord::open, Opened::parts | a start with a minimum as great | 0 few many 9223372036854775807
+LiveRecord::open, Opened::parts | a start with a minimum of 1 less | few many 9223372036854775807
+LiveRecord::open, Opened::parts | a start with a minimum of 0 | 0 few many 9223372036854775807
 LiveRecord::open, Opened::parts | a locked start with metadata | 0 few many 9223372036854775807
 ";
 
@@ -38,6 +38,7 @@ GrvProxy::run | system requests that start | 0 few 9999 10000 10001 20000 20001 
 GrvProxy::run | default requests that start | 0 few 9999 10000 10001 20000 20001 many 99999 100000
 GrvProxy::run | batch requests that start | 0 few 9999 10000 10001 20000 20001 many 99999 100000
 GrvProxy::run | limits of a request | 0 few many
+GrvProxy::run | a count | few many 99999 100000
 GrvProxy::run | requests that find no place | few 10000 10001 20000 20001 many
 GrvProxy::run | requests that wait when the desk is closed | few 10000 10001 20000 20001 many
 ";
@@ -62,11 +63,7 @@ impl Case<'_> {
 }
 
 /// The cases of a table.
-fn cases<'a>(
-    rt: &impl Abort,
-    alloc: Global,
-    table: &'a str,
-) -> Result<Vec<Case<'a>>, AllocError> {
+fn cases<'a>(rt: &impl Abort, alloc: Global, table: &'a str) -> Result<Vec<Case<'a>>, AllocError> {
     let mut cases = Vec::new(alloc);
     for line in table.lines() {
         if let Some((calls, numbers)) = line.rsplit_once('|') {

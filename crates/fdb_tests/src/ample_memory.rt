@@ -45,8 +45,10 @@ audit, history_of | raises by one client | 0 few many
 audit, history_of | raises of the minimum | 0 few many
 audit, history_of | clients that raise | 0 few 65 many
 audit, history_of | repeats of a request | 0 few many
-audit, history_of | a start whose minimum is its version | 0 few many 9223372036854775807
-audit, history_of | a start whose minimum is 0 | 0 few many 9223372036854775807
+audit, history_of | tells | 0 few many
+audit, history_of | refused reports | 0 few many
+audit, history_of | a start with a minimum as great | 0 few many 9223372036854775807
+audit, history_of | a start with a minimum of 0 | 0 few many 9223372036854775807
 ";
 
 /// `fdb_chain`.
@@ -65,8 +67,8 @@ const QUEUES: &str = "
 GrvQueue::offer | system requests that wait | 100000
 GrvQueue::offer | default requests that wait | 100000
 GrvQueue::offer | batch requests that wait | 100000
-GrvQueue::offer | default requests that are pushed out | 100000
-GrvQueue::offer | batch requests that are pushed out | 100000
+GrvQueue::offer | default requests that are pushed out | few many 99999 100000
+GrvQueue::offer | batch requests that are pushed out | few many 99999 100000
 GrvQueue::offer | a count | few many 99999 100000
 GrvQueue::offer | a batch limit | few many 99999 100000
 ";
@@ -76,6 +78,7 @@ const WINDOWS: &str = "
 GrvQueue::window | system requests that wait | few 9999 10000 10001 20000 20001 many 99999 100000
 GrvQueue::window | default requests that wait | few 9999 10000 10001 20000 20001 many 99999 100000
 GrvQueue::window | batch requests that wait | few 9999 10000 10001 20000 20001 many 99999 100000
+GrvQueue::window | requests of each priority | few 3333 3334 10000 10001 33333
 GrvQueue::window | a count | few many 99999 100000
 GrvQueue::window | windows | 65538
 GrvQueue::window | a time | few many 9999999 10000000
@@ -116,11 +119,7 @@ impl Case<'_> {
 }
 
 /// The cases of a table.
-fn cases<'a>(
-    rt: &impl Abort,
-    alloc: Global,
-    table: &'a str,
-) -> Result<Vec<Case<'a>>, AllocError> {
+fn cases<'a>(rt: &impl Abort, alloc: Global, table: &'a str) -> Result<Vec<Case<'a>>, AllocError> {
     let mut cases = Vec::new(alloc);
     for line in table.lines() {
         if let Some((calls, numbers)) = line.rsplit_once('|') {

@@ -62,7 +62,10 @@ impl<R: Wait> Workload<R> for Calls<'_> {
         }
         let (client, others) = clients.split_first_mut()?;
         match calls {
-            "Client::tell, Client::learn | tells" => told(rt, client, others.first_mut()?, number),
+            "Client::tell, Client::learn | tells" => {
+                raised(rt, cluster, client, 2)?;
+                told(rt, client, others.first_mut()?, number)
+            }
             _ => called_by(rt, alloc, cluster, client, calls, number),
         }
     }
@@ -92,7 +95,7 @@ fn called_by<J: Live, R: Wait>(
     }
 }
 
-/// A default read of so many transactions, with the tag `t` so many times.
+/// A read of so many transactions, with the tag `t` so many times.
 fn opts_of(alloc: Global, count: u64, tags: u64) -> Option<GrvOpts> {
     let mut list: Sequence<Tag> = Sequence::new(alloc);
     for _ in 0..tags {
@@ -198,7 +201,7 @@ fn out_of_turn<J: Live, R: Wait>(
     Some(right)
 }
 
-/// So many reports, each of another version. The first version is that of the start.
+/// So many reports, each of another version and minimum. Those of the first are the start's.
 fn raised<J: Live, R: Wait>(
     rt: &R,
     cluster: &Cluster<'_, J>,
@@ -209,7 +212,10 @@ fn raised<J: Live, R: Wait>(
     for before in 0..number {
         let sequencer = cluster.sequencer();
         let num = client.ask(rt, &OpenGate, sequencer, before, 0).ok()?.num;
-        let ack = client.report(rt, &OpenGate, num, false, None, 0).ok()?;
+        let (locked, metadata) = (before % 2 == 1, (before % 3 == 2).then_some([8; 10]));
+        let ack = client
+            .report(rt, &OpenGate, num, locked, metadata, before)
+            .ok()?;
         right &= ack.position == before;
     }
     Some(right)
@@ -231,7 +237,7 @@ fn unchanged<J: Live, R: Wait>(
     Some(right)
 }
 
-/// One client tells another so often, which learns each time.
+/// One client raises the record, and tells another so often, which learns each time.
 fn told<J: Live, R: Wait>(
     rt: &R,
     teller: &mut Client<'_, J>,
@@ -242,11 +248,11 @@ fn told<J: Live, R: Wait>(
         let told = teller.tell(learner.number()).ok()?;
         learner.learn(rt, teller.number(), told).ok()?;
     }
-    let calls = (teller.calls().len() as u64, learner.calls().len() as u64);
-    Some(calls == (number, number))
+    Some(learner.calls().len() as u64 == number && learner.position() == teller.position())
 }
 
-/// So many reads.
+/// So many reads. Each is at the next priority, every second one does not mind locks, and every
+/// fifth one asks for the minimum.
 fn read<J: Live, R: Wait>(
     rt: &R,
     alloc: Global,
@@ -254,11 +260,18 @@ fn read<J: Live, R: Wait>(
     client: &mut Client<'_, J>,
     number: u64,
 ) -> Option<bool> {
-    let mut right = true;
-    for _ in 0..number {
-        right &= read_of(rt, alloc, cluster, client, (1, 0))?;
+    for before in 0..number {
+        let mut opts = opts_of(alloc, 1, 0)?;
+        opts.priority = match before % 3 {
+            0 => Priority::System,
+            1 => Priority::Default,
+            _ => Priority::Batch,
+        };
+        (opts.lock_aware, opts.use_min) = (before % 2 == 1, before % 5 == 4);
+        let desk = cluster.desk(0);
+        client.read_version(rt, &OpenGate, desk, opts).ok()?;
     }
-    Some(right && client.calls().len() as u64 == number)
+    Some(client.calls().len() as u64 == number)
 }
 
 /// A read of so many transactions, with so many tags, each of which has a limit.

@@ -29,10 +29,10 @@ pub(crate) fn called<R: Threads + Wait + Sync>(
             let throttles = throttles_of(alloc, number)?;
             at_cluster(rt, known(100, 0), (1, 1), &throttles, calls)
         }
-        "a start whose minimum is its version" => {
+        "a start with a minimum as great" => {
             at_cluster(rt, known(number, number), (1, 1), &[], calls)
         }
-        "a start whose minimum is 0" => at_cluster(rt, known(number, 0), (1, 1), &[], calls),
+        "a start with a minimum of 0" => at_cluster(rt, known(number, 0), (1, 1), &[], calls),
         _ => Some(false),
     }
 }
@@ -67,7 +67,7 @@ fn throttles_of(alloc: Global, number: u64) -> Option<Vec<Throttle>> {
     Some(throttles)
 }
 
-/// What comes of calls at a cluster of two clients and one GRV proxy, with a throttle of the tag `t`.
+/// What comes of calls at a cluster of two clients and one GRV proxy, which throttles the tag `t`.
 pub(crate) fn at_throttled<R: Threads + Wait + Sync>(
     rt: &R,
     alloc: Global,
@@ -84,8 +84,8 @@ fn are_in_range(throttles: &[Throttle]) -> bool
     throttles.iter().all(|throttle| throttle.is_in_range())
 }
 
-/// What comes of calls at a cluster that begins with a record, with so many clients and GRV proxies,
-/// each of which serves to the end.
+/// What comes of calls at a cluster that begins with a record. It has so many clients, and so many
+/// GRV proxies, each of which serves to the end.
 fn at_cluster<R: Threads + Wait + Sync>(
     rt: &R,
     start: Record,

@@ -70,7 +70,9 @@ fn arguments_of(alloc: Global, proxies: u32) -> Option<Vec<String>> {
     let mut arguments = Vec::new(alloc);
     let proxies = format!(in alloc; "--proxies={proxies}").ok()?;
     arguments.push(proxies).ok()?;
-    arguments.push(String::from_str(alloc, "--history").ok()?).ok()?;
+    arguments
+        .push(String::from_str(alloc, "--history").ok()?)
+        .ok()?;
     Some(arguments)
 }
 

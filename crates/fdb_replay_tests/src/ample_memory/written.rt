@@ -4,13 +4,27 @@ use std::alloc::Global;
 
 /// Commands, rounds and throttles. In the place of each `#` stands a number.
 const READ: &str = r#"{"do":"grv","client":0}"#;
+
 const READ_OF: &str = r#"{"do":"grv","client":#}"#;
+
+const FULL_READ: &str = r#"{"do":"grv","client":0,"at":#,"priority":"batch","count":1,
+"tags":["t0"],"lock_aware":true,"use_min":true}"#;
+
+const FULL_REPORT: &str = r#"{"do":"report","client":0,"num":1,"locked":true,
+"metadata":"0102030405060708090A","min_known":#}"#;
+
 const ASK: &str = r#"{"do":"ask","client":0,"at":#}"#;
+
 const REASK: &str = r#"{"do":"reask","client":0,"num":1,"at":#}"#;
+
 const COMMIT: &str = r#"{"do":"ask","client":0,"at":#},{"do":"report","client":0,"num":#}"#;
+
 const REPORT: &str = r#"{"do":"report","client":0,"num":#}"#;
+
 const TELL: &str = r#"{"do":"tell","client":0,"to":1}"#;
+
 const READS: &str = r#"[{"do":"grv","client":0}]"#;
+
 const THROTTLE: &str = r#"{"priority":"default","tag":"t#","rate":5,"expires":5000}"#;
 
 /// A script with so much of something.
@@ -35,6 +49,8 @@ fn in_a_round(alloc: Global, of: &str, number: u64) -> Option<String> {
     let (clients, command, first) = match of {
         "clients" => (number, READ_OF, 0),
         "reads in a round" => (1, READ, 0),
+        "reads with all members" => (1, FULL_READ, 0),
+        "reports with all members" => (1, FULL_REPORT, 0),
         "requests in a round" => (1, ASK, 0),
         "repeated requests in a round" => (1, REASK, 0),
         "commits in a round" => (1, COMMIT, 1),
@@ -43,7 +59,12 @@ fn in_a_round(alloc: Global, of: &str, number: u64) -> Option<String> {
         _ => return None,
     };
     let commands = items(alloc, command, first, number)?;
-    script_of(alloc, (100, clients), "", &format!(in alloc; "[{commands}]").ok()?)
+    script_of(
+        alloc,
+        (100, clients),
+        "",
+        &format!(in alloc; "[{commands}]").ok()?,
+    )
 }
 
 /// A script that begins at a version, for so many clients, with throttles and rounds.
@@ -54,7 +75,8 @@ fn script_of(
     rounds: &str,
 ) -> Option<String> {
     format!(in alloc;
-        "{{\"epoch_end\":0,\"recovery\":{recovery},\"clients\":{clients},\"throttles\":[{throttles}],\"rounds\":[{rounds}]}}"
+        "{{\"epoch_end\":0,\"recovery\":{recovery},\"clients\":{clients},\
+        \"throttles\":[{throttles}],\"rounds\":[{rounds}]}}"
     )
     .ok()
 }
@@ -96,8 +118,7 @@ fn letters(alloc: Global, number: u64) -> Option<String> {
 fn limited(alloc: Global, tag: &str, number: u64) -> Option<String> {
     let throttle = format!(in alloc;
         "{{\"priority\":\"default\",\"tag\":\"{tag}\",\"rate\":5,\"expires\":5000}}"
-    )
-    .ok()?;
+    ).ok()?;
     let tags = items(alloc, &format!(in alloc; "\"{tag}\"").ok()?, 0, number)?;
     let round = format!(in alloc; "[{{\"do\":\"grv\",\"client\":0,\"tags\":[{tags}]}}]").ok()?;
     script_of(alloc, (100, 1), &throttle, &round)

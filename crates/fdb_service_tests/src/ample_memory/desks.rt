@@ -64,6 +64,7 @@ fn called_at<J: Live + Send + Sync, R: Threads + Wait + Sync>(
             started(rt, stand, Priority::Batch, number, 1)
         }
         "GrvProxy::run | limits of a request" => started(rt, stand, Priority::Default, 1, number),
+        "GrvProxy::run | a count" => of_count(rt, stand, number),
         "GrvProxy::run | requests that find no place" => without_place(rt, stand, number),
         "GrvProxy::run | requests that wait when the desk is closed" => {
             waiting(rt, stand, number)
@@ -81,7 +82,8 @@ fn tags_of(alloc: Global, number: u64) -> Option<Vec<Tag>> {
     Some(tags)
 }
 
-/// Leaves so many requests on the desk, each of one transaction and with so many tags.
+/// Leaves so many requests on the desk, each of one transaction and with so many tags. Every second
+/// one does not mind locks, and every third one asks for the minimum.
 fn leave<J: Live, R: Wait>(
     rt: &R,
     stand: &mut Stand<J>,
@@ -90,7 +92,8 @@ fn leave<J: Live, R: Wait>(
     tags: u64,
 ) -> Option<()> {
     for serial in 0..number {
-        let opts = opts_of(priority, 1, tags_of(stand.alloc, tags)?, 0);
+        let mut opts = opts_of(priority, 1, tags_of(stand.alloc, tags)?, 0);
+        (opts.lock_aware, opts.use_min) = (serial % 2 == 1, serial % 3 == 2);
         let (request, waiter) = stand.request(0, serial, opts).ok()?;
         stand.waiters.push(waiter).ok()?;
         submit(rt, &stand.desk, request).ok()?;
@@ -172,12 +175,7 @@ impl Heard {
 }
 
 /// Hears all who wait, and then closes the desk.
-fn hear<J: Live, R: Wait>(
-    rt: &R,
-    desk: &Desk<J>,
-    waiters: &[Waiter<J>],
-    limits: u64,
-) -> Heard {
+fn hear<J: Live, R: Wait>(rt: &R, desk: &Desk<J>, waiters: &[Waiter<J>], limits: u64) -> Heard {
     let mut heard = Heard {
         replies: 0,
         full: 0,
@@ -229,6 +227,25 @@ fn started<J: Live + Send + Sync, R: Threads + Wait + Sync>(
         closed: 0,
     };
     Some(run(rt, stand, queue, limits)? == wanted)
+}
+
+/// A request of so many transactions, for which the proxy holds idle windows.
+fn of_count<J: Live + Send + Sync, R: Threads + Wait + Sync>(
+    rt: &R,
+    stand: &mut Stand<J>,
+    count: u64,
+) -> Option<bool> {
+    let opts = opts_of(Priority::Default, count, Vec::new(stand.alloc), 0);
+    let (request, waiter) = stand.request(0, 0, opts).ok()?;
+    stand.waiters.push(waiter).ok()?;
+    submit(rt, &stand.desk, request).ok()?;
+    let queue = throttled(stand.alloc, 1, 1)?;
+    let wanted = Heard {
+        replies: 1,
+        full: 0,
+        closed: 0,
+    };
+    Some(run(rt, stand, queue, 0)? == wanted)
 }
 
 /// So many requests besides the one that the queue has room for.

@@ -13,18 +13,12 @@ use std::sync::Wait;
 pub(crate) fn called<R: Wait>(rt: &R, alloc: Global, of: &str, number: u64) -> Option<bool> {
     match of {
         "reporters" => opened(rt, alloc, unlocked(100), number),
-        "a start whose minimum is its version" => {
-            opened(rt, alloc, known(number, number), 64)
-        }
-        "a start whose minimum is 1 less" => {
+        "a start with a minimum as great" => { opened(rt, alloc, known(number, number), 64) }
+        "a start with a minimum of 1 less" => {
             opened(rt, alloc, known(number, number.checked_sub(1)?), 64)
         }
-        "a start whose minimum is 0" => {
-            opened(rt, alloc, known(number, 0), 64)
-        }
-        "a locked start with metadata" => {
-            opened(rt, alloc, locked(number), 64)
-        }
+        "a start with a minimum of 0" => { opened(rt, alloc, known(number, 0), 64) }
+        "a locked start with metadata" => { opened(rt, alloc, locked(number), 64) }
         _ => Some(false),
     }
 }
@@ -57,12 +51,7 @@ fn opened<R: Wait>(rt: &R, alloc: Global, start: Record, reporters: u64) -> Opti
 }
 
 /// Whether it begins with that record, and has a token for each reporter.
-fn parted<J: Live, R: Wait>(
-    rt: &R,
-    opened: Opened,
-    start: Record,
-    reporters: u32,
-) -> Option<bool>
+fn parted<J: Live, R: Wait>(rt: &R, opened: Opened, start: Record, reporters: u32) -> Option<bool>
     requires { opened ≡ record { table = J.table; start = J.start; reporters = J.reporters } }
 {
     let (live, mut first, tokens) = opened.parts::<J>().ok()?;

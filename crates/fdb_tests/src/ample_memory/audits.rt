@@ -8,7 +8,7 @@ use crate::audits::words::plain;
 use fdb_history::laws::explained_logs_are_faultless;
 use fdb_history::{
     AuditFault, Call, CallAnswer, ClientLog, GrvOpts, History, Input, Issued, Priority, Record,
-    Sequence, TagLimit, audit, history_of,
+    Refusal, Sequence, TagLimit, audit, history_of,
 };
 use std::alloc::Global;
 
@@ -23,10 +23,12 @@ pub(crate) fn called(alloc: Global, of: &str, number: u64) -> Option<bool> {
         "raises of the minimum" => left.add_raises_of_minimum(number)?,
         "clients that raise" => left.add_raisers(number)?,
         "repeats of a request" => left.add_repeats(number)?,
-        "a start whose minimum is its version" => {
+        "tells" => left.add_tells(number)?,
+        "refused reports" => left.add_refusals(number)?,
+        "a start with a minimum as great" => {
             left = begun(alloc, number, number)?;
         }
-        "a start whose minimum is 0" => left = begun(alloc, number, 0)?,
+        "a start with a minimum of 0" => left = begun(alloc, number, 0)?,
         _ => return Some(false),
     }
     left.is_explained()
@@ -229,6 +231,39 @@ impl Left {
         };
         for _ in 0..number {
             self.add_answer(kept, 0)?;
+        }
+        Some(())
+    }
+
+    /// A client tells another so often.
+    fn add_tells(&mut self, number: u64) -> Option<()> {
+        self.add_log()?;
+        for _ in 0..number {
+            self.add(Call {
+                input: Input::Tell { to: 1 },
+                asked: 0,
+                position: 0,
+                answer: CallAnswer::Told,
+            })?;
+        }
+        Some(())
+    }
+
+    /// A client reports so often what it was not issued.
+    fn add_refusals(&mut self, number: u64) -> Option<()> {
+        self.add_log()?;
+        for num in 0..number {
+            self.add(Call {
+                input: Input::Report {
+                    num,
+                    locked: true,
+                    metadata: None,
+                    min_known: 0,
+                },
+                asked: 0,
+                position: 0,
+                answer: CallAnswer::Refused(Refusal::NotIssued),
+            })?;
         }
         Some(())
     }

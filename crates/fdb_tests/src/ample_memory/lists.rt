@@ -60,7 +60,7 @@ pub(crate) fn tags_of(alloc: Global, number: u64, bytes: u64) -> Option<Sequence
 }
 
 fn opts_cloned(alloc: Global, number: u64, bytes: u64) -> Option<bool> {
-    let opts = GrvOpts {
+    let mut opts = GrvOpts {
         priority: Priority::Default,
         count: 1,
         tags: tags_of(alloc, number, bytes)?,
@@ -68,8 +68,13 @@ fn opts_cloned(alloc: Global, number: u64, bytes: u64) -> Option<bool> {
         at: 0,
         use_min: false,
     };
-    let copy = opts.clone().ok()?;
-    Some(copy == opts)
+    let mut same = opts.clone().ok()? == opts;
+    (opts.lock_aware, opts.use_min, opts.at) = (true, true, u64::MAX);
+    for priority in [Priority::System, Priority::Default, Priority::Batch] {
+        opts.priority = priority;
+        same &= opts.clone().ok()? == opts;
+    }
+    Some(same)
 }
 
 /// A limit of a tag of so many bytes.

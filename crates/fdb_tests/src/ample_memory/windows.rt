@@ -13,6 +13,7 @@ pub(crate) fn called(alloc: Global, calls: &str, number: u64) -> Option<bool> {
             started(alloc, Priority::Default, number)
         }
         "GrvQueue::window | batch requests that wait" => started(alloc, Priority::Batch, number),
+        "GrvQueue::window | requests of each priority" => of_each(alloc, number),
         "GrvQueue::window | a count" => of_count(alloc, number),
         "GrvQueue::window | windows" => one_each(alloc, number),
         "GrvQueue::window | a time" => after_time(alloc, number),
@@ -28,6 +29,17 @@ fn started(alloc: Global, priority: Priority, number: u64) -> Option<bool> {
     let last = started.last().map(|request| u64::from(request.payload));
     let in_order = last == wanted.checked_sub(1);
     Some(in_order && length(&queue) == number.saturating_sub(wanted))
+}
+
+/// A window while so many requests of each priority wait.
+fn of_each(alloc: Global, number: u64) -> Option<bool> {
+    let mut queue = waiting(alloc, 100_000, Priority::Batch, number)?;
+    for payload in 0..u32::try_from(number).ok()? {
+        queue.offer(request_of(Priority::Default, 1, payload)).ok()?;
+        queue.offer(request_of(Priority::System, 1, payload)).ok()?;
+    }
+    let wanted = number.saturating_mul(3).min(10_000);
+    Some(queue.window(1).ok()?.len() as u64 == wanted)
 }
 
 /// A window that starts one request of so many transactions, of each priority.
