@@ -15,8 +15,8 @@ LIBRARIES = (
 )
 # What an error for memory is, or may be.
 MEMORY = re.compile(
-    r"\b(?:AllocError|AllocFailed|(?:Audit|Run|Replay)Fault|(?:Chain|Live|Queue|Proxy|Client|Script)"
-    r"Error)\b"
+    r"\b(?:AllocError|AllocFailed|(?:Audit|Run|Replay)Fault"
+    r"|(?:Chain|Live|Queue|Proxy|Client|Script)Error)\b"
 )
 # The clause by which a call is not refused memory, though the type of its errors has one for it.
 NOT_REFUSED = {"GrvQueue::new": "bad_config", "LiveRecord::report": "no_memory"}
@@ -54,16 +54,16 @@ def calls_of(code):
 
 
 def refusable():
-    """The calls that may be refused memory, and the faults in what is said of those that are not."""
+    """The calls that may be refused memory, and what is wrong with those that never are."""
+    files = [file for library in LIBRARIES for file in sources(f"crates/{library}/src")]
     found, faults = set(), []
-    for library in LIBRARIES:
-        for call, code in (it for file in sources(f"crates/{library}/src") for it in calls_of(file)):
-            answer = ENDS.split(code)[0].partition("->")[2]
-            if call in NOT_REFUSED:
-                clause = f"ensures {NOT_REFUSED[call]} "
-                faults += [f"{call} has no {clause}"] * (clause not in code)
-            elif call in BY_STATUS or MEMORY.search(answer):
-                found.add(call)
+    for call, code in (it for file in files for it in calls_of(file)):
+        answer = ENDS.split(code)[0].partition("->")[2]
+        if call in NOT_REFUSED:
+            clause = f"ensures {NOT_REFUSED[call]} "
+            faults += [f"{call} has no {clause}"] * (clause not in code)
+        elif call in BY_STATUS or MEMORY.search(answer):
+            found.add(call)
     return found, faults
 
 
