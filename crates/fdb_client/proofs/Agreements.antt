@@ -6,6 +6,7 @@ use Rattle.std.proofs.lemmas.List.{append-nil, take-append-le}
 use Rattle.std.proofs.Math.Seq.{take-append_seam, take-length}
 use Rattle.fdb_history.specs.Faults.{IsMisanswered, IsWrongBy}
 use Rattle.fdb_history.specs.Issuing.{answer_to}
+use Rattle.fdb_history.specs.Laws.{HasMinimumWithin}
 use Rattle.fdb_history.specs.Linear.{NeverGoesBack}
 use Rattle.fdb_history.specs.Log.{answer_changes, position_after_calls}
 use Rattle.fdb_history.specs.Register.{changes, raises}
@@ -64,6 +65,7 @@ agrees_alike start number log more call within agrees = record {
   right = λ wrong. agrees.right (wrong_alike (record_at start (log ++ more)) (record_at start log) call.position call.answer
       (record_alike start log more call.position within) (record_alike start log more (call.position - 1) (omega arith)) wrong);
   made = made_alike number log more call.position call.answer agrees.made;
+  within = agrees.within;
 }
 
 -- ---- calls that never go back
@@ -100,8 +102,9 @@ agrees_logged : (start : Record) (input : Input) (answer : CallAnswer) (before a
     → (IsTrue (answer_changes answer) → length before.changes < length after.changes)
     → (IsWrongBy (record_at start after.changes) (length after.changes) answer → ⊥)
     → IsMade after.number after.changes (length after.changes) answer
+    → HasMinimumWithin answer
     → Agrees start after
-agrees_logged start input answer before after agrees logged new right made =
+agrees_logged start input answer before after agrees logged new right made within =
     let call : Call = record { input = input; asked = length before.changes; position = length after.changes; answer = answer } in
     let (more, whole) = logged.extends in
     let longer : length before.changes ≤ length after.changes = omega (arith, sym (ap length whole) ∙ length-append before.changes more) in
@@ -110,7 +113,7 @@ agrees_logged start input answer before after agrees logged new right made =
     let all = all_alike start before.number before.begun before.changes more before.calls agrees.order (omega arith) agrees.each in
     let seen : AllByRecursion (AgreesAt start before.number after.changes) before.calls = subst (λ log. AllByRecursion (AgreesAt start before.number log) before.calls) whole all in
     let own : AllByRecursion (AgreesAt start after.number after.changes) before.calls = subst (λ number. AllByRecursion (AgreesAt start number after.changes) before.calls) (sym logged.number) seen in
-    let here : AgreesAt start after.number after.changes call = record { right = right; made = made } in
+    let here : AgreesAt start after.number after.changes call = record { right = right; made = made; within = within } in
     record {
       own = owned (answer_changes answer) refl;
       order = subst (NeverGoesBack after.begun) (sym logged.calls) (subst (λ begun. NeverGoesBack begun (before.calls ++ call ∷ [])) (sym logged.begun) order);
@@ -140,9 +143,9 @@ IsQuiet (Refused cause) = Unit {0}
 pub agrees_quiet : (start : Record) (input : Input) (answer : CallAnswer) (before after : Account) → IsQuiet answer → Agrees start before → Logs before input answer after → Agrees start after
 agrees_quiet start input (Version rec limits locked_out) before after quiet agrees logged = absurd quiet
 agrees_quiet start input (Acked rec raised changed) before after quiet agrees logged = absurd quiet
-agrees_quiet start input (Answered issued) before after quiet agrees logged = agrees_logged start input (Answered issued) before after agrees logged (λ is. absurd (cc is)) (λ wrong. wrong) tt
-agrees_quiet start input Told before after quiet agrees logged = agrees_logged start input Told before after agrees logged (λ is. absurd (cc is)) (λ wrong. wrong) tt
-agrees_quiet start input (Refused cause) before after quiet agrees logged = agrees_logged start input (Refused cause) before after agrees logged (λ is. absurd (cc is)) (λ wrong. wrong) tt
+agrees_quiet start input (Answered issued) before after quiet agrees logged = agrees_logged start input (Answered issued) before after agrees logged (λ is. absurd (cc is)) (λ wrong. wrong) tt tt
+agrees_quiet start input Told before after quiet agrees logged = agrees_logged start input Told before after agrees logged (λ is. absurd (cc is)) (λ wrong. wrong) tt tt
+agrees_quiet start input (Refused cause) before after quiet agrees logged = agrees_logged start input (Refused cause) before after agrees logged (λ is. absurd (cc is)) (λ wrong. wrong) tt tt
 
 asked_quiet : (found : Result Issued Refusal) → IsQuiet (logged_as found)
 asked_quiet (Ok issued) = tt
@@ -159,7 +162,7 @@ last_at start log = ap (last_record start) (take-length log)
 
 read_agrees : (start : Record) (opts : GrvOpts) (answer : CallAnswer) (before after : Account) → IsReadAnswer start opts after answer → Agrees start before → Logs before (input.Grv opts) answer after → Agrees start after
 read_agrees start opts (Version rec limits locked_out) before after answered agrees logged =
-    agrees_logged start (input.Grv opts) (Version rec limits locked_out) before after agrees logged (λ is. absurd (cc is)) (λ wrong. wrong (answered.0 ∙ sym (last_at start after.changes))) tt
+    agrees_logged start (input.Grv opts) (Version rec limits locked_out) before after agrees logged (λ is. absurd (cc is)) (λ wrong. wrong (answered.0 ∙ sym (last_at start after.changes))) tt tt
 read_agrees start opts (Acked rec raised changed) before after answered agrees logged = absurd answered
 read_agrees start opts (Answered issued) before after answered agrees logged = absurd answered
 read_agrees start opts Told before after answered agrees logged = absurd answered
@@ -214,9 +217,9 @@ report_agrees start num locked metadata min_known version (Refused cause) before
 report_agrees start num locked metadata min_known version (Acked rec raised true) before after answered agrees logged =
     let last = change_last start rec raised before after answered.5 in
     agrees_logged start (input.Report num locked metadata min_known) (Acked rec raised true) before after agrees logged (λ _. last.longer) last.right
-    (last.made ∙ ap (λ number. Some (record { reporter = number; rec = rec })) (sym logged.number))
+    (last.made ∙ ap (λ number. Some (record { reporter = number; rec = rec })) (sym logged.number)) answered.4.within
 report_agrees start num locked metadata min_known version (Acked rec raised false) before after answered agrees logged =
-    agrees_logged start (input.Report num locked metadata min_known) (Acked rec raised false) before after agrees logged (λ is. absurd (cc is)) right tt
+    agrees_logged start (input.Report num locked metadata min_known) (Acked rec raised false) before after agrees logged (λ is. absurd (cc is)) right tt answered.4.within
   where
     none : changes (record_at start after.changes (length after.changes)) rec ≡ false
     none = ap (λ (r : Record). changes r rec) (last_at start after.changes) ∙ answered.5.changes

@@ -8,3 +8,4 @@ pub mod Refused
 pub mod Agreements
 pub mod Settled
 pub mod Beginnings
+pub mod Left

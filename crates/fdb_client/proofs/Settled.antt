@@ -2,12 +2,14 @@
 use Rattle.std.proofs.Common.{◌≡◌, ℕ, zero, suc, ◌+◌, ◌-◌, ◌<◌, ◌≤◌, ◌==◌, Bool, true, false, IsTrue, List, [], ◌∷◌, ◌++◌, length, Option, None, Some, if◌then◌else◌, refl, sym, ap, ◌∙◌, arith, slice_get, take, subst, inl, inr, length-append, append_assoc}
 use Rattle.std.specs.Prelude.{All, nat_lt}
 use Rattle.std.specs.List.{AllByRecursion, flat_map}
+use Rattle.std.proofs.lemmas.Bool.{cases_lt}
 use Rattle.std.proofs.lemmas.Bool.Decides.{nat_tests}
 use Rattle.std.proofs.lemmas.List.{append-nil}
 use Rattle.std.proofs.lemmas.List.Elements.{All-head, All-tail, filter-append}
 use Rattle.std.proofs.lemmas.Option.{slice_get_within}
 use mathlib.Core.List.{IsPrefix}
 use Rattle.fdb_history.specs.Faults.{change_in, changes_in, changes_at, at_position, after_changes, register_at, IsFaultless, OutOfOrder, WronglyAnswered, IsClash, IsGap, IsOutOfOrder}
+use Rattle.fdb_history.specs.Laws.{HasMinimumWithin, HaveMinimaWithin}
 use Rattle.fdb_history.specs.Linear.{NeverGoesBack}
 use Rattle.fdb_history.specs.Log.{answer_changes, calls_of, position_after_calls}
 use Rattle.fdb_history.specs.Register.{after_report}
@@ -329,6 +331,15 @@ calls_is [] k one is = absurd (cc is)
 calls_is (first ∷ logs) zero one is = let same : first ≡ one = cc is in ap (λ (log : ClientLog). log.calls) same
 calls_is (first ∷ logs) (suc k) one is = calls_is logs k one is
 
+calls_beyond : (logs : List ClientLog) (client : ℕ) → (client < length logs → ⊥) → calls_of logs client ≡ []
+calls_beyond [] client beyond = refl
+calls_beyond (one ∷ logs) zero beyond = absurd (beyond (omega arith))
+calls_beyond (one ∷ logs) (suc client) beyond = calls_beyond logs client (λ below. beyond (omega arith))
+
+all_within : (start : Record) (number : ℕ) (log : List Change) (calls : List Call) → AllByRecursion (AgreesAt start number log) calls → AllByRecursion (λ call. HasMinimumWithin call.answer) calls
+all_within start number log [] each = tt
+all_within start number log (call ∷ calls) each = (each.0.within, all_within start number log calls each.1)
+
 few : (position : ℕ) (found : Option Change) → 1 < length (entry position found) → ⊥
 few position None more = omega arith
 few position (Some change) more = omega arith
@@ -386,6 +397,12 @@ module _ (start : Record) (logs : List ClientLog) (log : List Change) (settled :
 
   pub faultless : IsFaultless start logs
   faultless = record { order = no_disorder; clash = no_clash; gap = no_gap; wrong = no_wrong }
+
+  pub minima : HaveMinimaWithin logs
+  minima client = elim (cases_lt client (length logs)) [
+    | inl below ↦ all_within start client log (calls_of logs client) (settled.each client below).each
+    | inr beyond ↦ subst (AllByRecursion (λ (call : Call). HasMinimumWithin call.answer)) (sym (calls_beyond logs client (λ below. omega arith))) tt
+  ]
 
 -- ---- tokens that were brought together
 

@@ -3,6 +3,7 @@
 use Rattle.std.specs.Prelude.{◌≡◌, ℕ, ◌-◌, ◌≤◌, Some, true, List, length, [], ◌∷◌, flat_map, if◌then◌else◌, slice_get, take}
 use Rattle.std.specs.List.{AllByRecursion}
 use Rattle.fdb_history.specs.Faults.{IsWrongBy}
+use Rattle.fdb_history.specs.Laws.{HasMinimumWithin}
 use Rattle.fdb_history.specs.Linear.{NeverGoesBack}
 use Rattle.fdb_history.specs.Log.{answer_changes, position_after_calls}
 use Rattle.fdb_history.specs.declared.log.Call.{Call}
@@ -29,10 +30,12 @@ IsMade number log position (Acked rec raised true) =
 IsMade number log position _ = Unit {0}
 
 -- A call was answered as the record is after these changes: a read with the record at its position,
--- a report with the flags that are due; and a change is the client's own.
+-- a report with the flags that are due; a change is the client's own; and no report told of a
+-- minimum above its version.
 pub record AgreesAt (start : Record) (number : ℕ) (log : List Change) (call : Call) : Type 0 where
   pub right : IsWrongBy (record_at start log) call.position call.answer → ⊥
   pub made : IsMade number log call.position call.answer
+  pub within : HasMinimumWithin call.answer
 
 -- A client's calls agree with its token: what it owns are the positions of its changes, each once;
 -- its calls never go back, nor beyond what the token has seen; and each agrees with that.

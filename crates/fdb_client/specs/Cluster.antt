@@ -1,7 +1,8 @@
 -- What a cluster is made with. (this product's own)
-use Rattle.std.specs.Prelude.{◌<◌, ◌≤◌, IsTrue}
+use Rattle.std.specs.Prelude.{ℕ, ◌<◌, ◌≤◌, IsTrue}
 use Rattle.std.specs.List.{list_all}
 use Rattle.fdb_chain.specs.ChainCore.{IsEpoch, IsProxyCount}
+use Rattle.fdb_live.specs.Seen.{Origin}
 use Rattle.fdb_queue.specs.Config.{IsConfig, IsElapsed}
 use Rattle.fdb_queue.specs.Throttles.{is_throttle}
 use Rattle.fdb_client.specs.declared.cluster.ClusterConfig.{ClusterConfig}
@@ -16,3 +17,10 @@ pub record IsClusterConfig (config : ClusterConfig) : Type 0 where
   pub queue : IsConfig config.queue
   pub throttles : IsTrue (list_all is_throttle config.throttles.now)
   pub elapsed : IsElapsed config.elapsed
+
+-- What the name of a cluster stands for: what its live record was opened with, the last version of
+-- the epoch before, and the first commit version.
+pub record Opening : Type 0 where
+  pub origin : Origin
+  pub epoch_end : ℕ
+  pub recovery : ℕ

@@ -1,9 +1,10 @@
 -- Logs of a service's clients beside their tokens. (this product's own)
-use Rattle.std.specs.Prelude.{◌≡◌, ℕ, Some, List, slice_get}
+use Rattle.std.specs.Prelude.{◌≡◌, ℕ, ◌<◌, [], Some, List, length, map, slice_get}
 use Rattle.fdb_history.specs.Log.{calls_of}
 use Rattle.fdb_history.specs.declared.log.ClientLog.{ClientLog}
 use Rattle.fdb_history.specs.declared.register.Record.{Record}
 use Rattle.fdb_live.specs.Seen.{Sight}
+use Rattle.fdb_client.specs.Account.{Account, new_account}
 use Rattle.fdb_client.specs.Agreeing.{Agrees}
 
 -- Each log agrees with the token at its place, as that of a client that began before any change.
@@ -12,3 +13,22 @@ AllAgree start logs tokens =
     (k : ℕ) (token : Sight) → slice_get tokens k ≡ Some token
     → Agrees start
     (record { number = k; begun = 0; calls = calls_of logs k; changes = token.changes })
+
+-- the logs of some clients
+abbrev pub logs_of : List Account → List ClientLog
+logs_of clients = map (λ client. record { calls = client.calls }) clients
+
+-- each client stands at the place of its number
+abbrev pub HaveNumbers : List Account → Type 0
+HaveNumbers clients =
+    (k : ℕ) (client : Account) → slice_get clients k ≡ Some client → client.number ≡ k
+
+-- so many clients, each at the place of its number
+pub record AreAllInPlace (number : ℕ) (clients : List Account) : Type 0 where
+  pub count : length clients ≡ number
+  pub numbers : HaveNumbers clients
+
+-- so many clients, each at the place of its number, who have called nobody and have seen nothing
+pub record AreNew (number : ℕ) (clients : List Account) : Type 0 where
+  pub count : length clients ≡ number
+  pub each : (k : ℕ) → k < number → slice_get clients k ≡ Some (new_account k [])

@@ -21,7 +21,7 @@ use fdb_history::{
     Ask, Call, CallAnswer, ClientLog, Gate, GrvOpts, Input, Issued, Record, Sequence,
 };
 use fdb_live::{Ack, Live, LiveError, LiveRecord, Seen};
-use fdb_proxy::{Desk, Request};
+use fdb_proxy::Desk;
 use std::alloc::Global;
 use std::marker::Model;
 use std::sync::Wait;
@@ -148,19 +148,9 @@ impl<'a, J: Live> Client<'a, J> {
         self.journal.reserve()?;
         let logged = opts.clone()?;
         let (reply, answers) = crossbeam_channel::bounded(self.alloc, 1)?;
-        let own = Mark {
-            client: self.id,
-            serial: self.journal.len(),
-            asked: self.seen.position(),
-        };
-        let request = Request {
-            client: own.client,
-            serial: own.serial,
-            asked: own.asked,
-            seen: self.live.split(&mut self.seen),
-            opts,
-            reply,
-        };
+        let own = Mark::next(self.id, &self.journal, &self.seen);
+        let told = self.live.split(&mut self.seen);
+        let request = own.request(told, opts, reply);
         let answer = exchange::answer_to(rt, gate, desk, request, answers);
         match answer.and_then(|answer| exchange::judge(own, answer)) {
             Ok(reply) => reply::take_reply(

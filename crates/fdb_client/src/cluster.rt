@@ -40,11 +40,13 @@ pub struct ClusterConfig<'c> {
 /// which serve there while [`serve_while`](crate::serve_while) runs something else.
 #[derive(Drop)]
 pub struct Cluster<'c, J: Live> {
-    config: ClusterConfig<'c>,
+    pub(crate) config: ClusterConfig<'c>,
     sequencer: Sequencer<J>,
-    live: LiveRecord<J>,
+    pub(crate) live: LiveRecord<J>,
     desks: Vec<Desk<J>>,
     ghost in_range: { IsClusterConfig config },
+    ghost epoch_end: { config.epoch_end ≡ J.epoch_end },
+    ghost recovery: { config.start.version ≡ J.recovery },
     ghost start: { config.start ≡ J.start },
     ghost clients: { config.clients ≡ J.reporters },
     ghost each: { vec_len desks ≡ config.grv_proxies },
@@ -139,21 +141,13 @@ impl<'c, J: Live> Cluster<'c, J> {
     pub fn into_chain(self) -> Vec<Issued>
         ensures { IsChain J.epoch_end J.recovery result.items }
     {
-        self.into_parts().0
-    }
-
-    /// The chain of commit versions, once nobody calls any more, and the live record.
-    pub fn into_parts(self) -> (Vec<Issued>, LiveRecord<J>)
-        ensures one_chain { IsChain J.epoch_end J.recovery result.0.items }
-        ensures live { result.1 ≡ self.entry.live }
-    {
         let Cluster {
             config: _,
             sequencer,
-            live,
+            live: _,
             desks: _,
         } = self;
-        (sequencer.close().into_answers(), live)
+        sequencer.close().into_answers()
     }
 }
 

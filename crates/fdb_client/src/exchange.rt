@@ -1,13 +1,14 @@
 //! A request at a proxy's desk, and its answer.
 
-ghost use Rattle.std.specs.Prelude.{◌≡◌, ◌==◌, IfErr, IfOk};
+ghost use Rattle.std.specs.Prelude.{◌≡◌, ◌==◌, IfErr, IfOk, None, length};
 ghost use Rattle.fdb_client.specs.private.Exchange.{is_same, judged, mark_of};
 ghost use Rattle.fdb_client.specs.private.Refusals.{IsOfRead};
 
 use crate::error::ClientError;
-use crossbeam_channel::Receiver;
-use fdb_history::{Gate, Place};
-use fdb_live::Live;
+use crate::journal::Journal;
+use crossbeam_channel::{Receiver, Sender};
+use fdb_history::{Gate, GrvOpts, Place};
+use fdb_live::{Live, Seen};
 use fdb_proxy::{Answer, Desk, Reply, Request};
 use fdb_queue::Req;
 use std::sync::Wait;
@@ -21,6 +22,46 @@ pub(crate) struct Mark {
     pub(crate) serial: u64,
     /// The position that it had seen when it asked.
     pub(crate) asked: u64,
+}
+
+impl Mark {
+    /// The mark of a client's next request: the number of the request is the length of its log.
+    pub(crate) fn next<J: Live>(client: u32, journal: &Journal, seen: &Seen<J>) -> Mark
+        ensures client { result.client ≡ client }
+        ensures serial { result.serial ≡ length journal.now.calls.items }
+        ensures asked { result.asked ≡ length seen.now.changes }
+    {
+        Mark {
+            client,
+            serial: journal.len(),
+            asked: seen.position(),
+        }
+    }
+
+    /// The request with this mark.
+    pub(crate) fn request<J: Live>(
+        self,
+        seen: Seen<J>,
+        opts: GrvOpts,
+        reply: Sender<Answer<J>>,
+    ) -> Request<J>
+        requires unnumbered { seen.reporter ≡ None }
+        requires asked { self.asked ≡ length seen.changes }
+        ensures client { result.client ≡ self.client }
+        ensures serial { result.serial ≡ self.serial }
+        ensures asked { result.asked ≡ self.asked }
+        ensures seen { result.seen ≡ seen }
+        ensures opts { result.opts ≡ opts }
+    {
+        Request {
+            client: self.client,
+            serial: self.serial,
+            asked: self.asked,
+            seen,
+            opts,
+            reply,
+        }
+    }
 }
 
 /// Leaves a request at a desk, and waits for what is answered. Once an answer has come, the gate's

@@ -1,6 +1,6 @@
 //! GRV proxies that serve while something else runs.
 
-ghost use Rattle.std.specs.Prelude.{◌≡◌, All, IfOk, vec_len};
+ghost use Rattle.std.specs.Prelude.{◌≡◌, ◌↔◌, ◌≤◌, [], All, IfOk, IsTrue, true, vec_capacity, vec_len};
 ghost use Rattle.fdb_client.specs.private.Serving.{IsMadeFor};
 
 use crate::cluster::Cluster;
@@ -11,10 +11,37 @@ use std::sync::Wait;
 use std::thread;
 use std::thread::{JoinHandle, Scope, Threads};
 
+/// How the GRV proxies of a cluster ended.
+#[derive(Debug, Drop)]
+pub struct Ends {
+    /// Whether each served until its desk was closed, by its number. One that did not ran out of
+    /// memory and closed its desk itself; whoever read there from then on was refused as
+    /// `ProxyClosed`.
+    pub served: Vec<bool>,
+}
+
+impl Ends {
+    /// Whether all served until their desks were closed.
+    pub fn all_served(&self) -> bool
+        ensures { IsTrue result ↔ All (λ served. served ≡ true) self.now.served.items }
+    {
+        self.served.iter().all(|served| *served)
+    }
+}
+
+/// What came of a body, and how the GRV proxies ended that served while it ran.
+#[derive(Debug, Drop)]
+pub struct Served<O> {
+    /// What came of the body.
+    pub output: O,
+    /// How the GRV proxies ended.
+    pub ends: Ends,
+}
+
 /// Runs `body` in this thread while the GRV proxies of the cluster serve, each in a thread of its
 /// own and with a token that is split off `first`. Once `body` has ended the desks are closed and
-/// the proxies joined. Answers what came of `body`, and whether each proxy served until its desk
-/// was closed: where not, one ran out of memory and closed its desk itself.
+/// the proxies joined. Answers what came of `body`, and of each proxy whether it served until its
+/// desk was closed.
 ///
 /// It is refused where memory runs out or a thread cannot be had. `body` has not run then, and
 /// what was started has ended.
@@ -22,29 +49,36 @@ pub fn serve_while<J: Live + Send + Sync, R: Threads + Wait + Sync, O, F: FnOnce
     rt: &R,
     alloc: Global,
     cluster: &Cluster<'_, J>,
-    first: Seen<J>,
+    first: &mut Seen<J>,
     body: F,
-) -> Result<(O, bool), AllocError>
+) -> Result<Served<O>, AllocError>
     requires { F.pre body }
-    ensures { IfOk result (λ ran. F.post body ran.0) }
+    ensures output { IfOk result (λ ran. F.post body ran.output) }
+    ensures ends { IfOk result
+        (λ ran. vec_len ran.ends.served ≡ cluster.now.config.grv_proxies) }
+    ensures first { first.new ≡ first.old }
 {
-    let proxies = proxies_of(alloc, cluster, first)?;
+    let own = cluster.live().split(first);
+    let proxies = proxies_of(alloc, cluster, own)?;
+    let served = Vec::with_capacity(alloc, proxies.len())?;
     thread::scope(
         thread::scope_env(),
         rt,
-        move |scope| -> Result<(O, bool), AllocError>
-            requires { F.pre body }
-            ensures { IfOk result (λ ran. F.post body ran.0) }
+        move |scope| -> Result<Served<O>, AllocError>
+            requires body { F.pre body }
+            requires capacity { vec_len proxies ≤ vec_capacity served }
+            requires empty { served.items ≡ [] }
+            ensures output { IfOk result (λ ran. F.post body ran.output) }
+            ensures ends { IfOk result (λ ran. vec_len ran.ends.served ≡ vec_len proxies.entry) }
         {
             let mut threads = Vec::new(alloc);
-            let output = if start_all(rt, scope, proxies, &mut threads) {
-                Ok(body())
-            } else {
-                Err(AllocError)
-            };
-            cluster.close(rt);
-            let all_served = join_all(rt, threads);
-            Ok((output?, all_served))
+            if !start_all(rt, scope, proxies, &mut threads) {
+                let _ends = end_all(rt, cluster, threads, served);
+                return Err(AllocError);
+            }
+            let output = body();
+            let ends = end_all(rt, cluster, threads, served);
+            Ok(Served { output, ends })
         },
     )
 }
@@ -66,29 +100,44 @@ fn proxies_of<'a, J: Live>(
     Ok(proxies)
 }
 
-/// Has each proxy serve its desk in a thread of its own, and keeps the threads that could be had.
-/// Answers whether there is one for each proxy.
+/// Has each proxy serve its desk in a thread of its own, in order, until one cannot be had. Answers
+/// whether there is one for each proxy.
 fn start_all<'s, E, J: Live + Send + Sync, R: Threads + Wait + Sync>(
     rt: &'s R,
     scope: &Scope<'s, E>,
     proxies: Vec<GrvProxy<'s, J>>,
     threads: &mut Vec<JoinHandle<bool>>,
-) -> bool {
-    let mut all_started = true;
+) -> bool
+    requires { threads.old.items ≡ [] }
+    ensures few { vec_len threads.new ≤ vec_len proxies.entry }
+    ensures each { result ≡ true → vec_len threads.new ≡ vec_len proxies.entry }
+{
     for proxy in proxies {
-        match scope.spawn(move || proxy.run(rt).is_ok()) {
-            Ok(thread) => all_started &= threads.push(thread).is_ok(),
-            Err(_) => all_started = false,
+        let Ok(thread) = scope.spawn(move || proxy.run(rt).is_ok()) else {
+            return false;
+        };
+        if threads.push(thread).is_err() {
+            return false;
         }
     }
-    all_started
+    true
 }
 
-/// Joins all proxies, and answers whether each served until its desk was closed.
-fn join_all<R: Threads>(rt: &R, threads: Vec<JoinHandle<bool>>) -> bool {
-    let mut all_served = true;
+/// Closes the desks and joins the proxies, and keeps for each whether it served until its desk was
+/// closed.
+fn end_all<J: Live, R: Threads + Wait>(
+    rt: &R,
+    cluster: &Cluster<'_, J>,
+    threads: Vec<JoinHandle<bool>>,
+    mut served: Vec<bool>,
+) -> Ends
+    requires capacity { vec_len threads ≤ vec_capacity served }
+    requires empty { served.items ≡ [] }
+    ensures { vec_len result.served ≡ vec_len threads }
+{
+    cluster.close(rt);
     for thread in threads {
-        all_served &= thread.join(rt);
+        served.push_reserved(thread.join(rt));
     }
-    all_served
+    Ends { served }
 }

@@ -4,6 +4,7 @@ ghost use Rattle.std.specs.Prelude.{◌≡◌, ◌<◌, ℕ, Some, length, slice
 ghost use mathlib.Core.List.{IsPrefix};
 ghost use Rattle.fdb_client.specs.Settling.{AllAgree};
 ghost use Rattle.fdb_history.specs.Faults.{IsFaultless, changes_in};
+ghost use Rattle.fdb_history.specs.Laws.{HaveMinimaWithin};
 ghost use Rattle.fdb_live.specs.Gathering.{AreNumbered};
 
 use fdb_history::ClientLog;
@@ -13,8 +14,8 @@ use std::sync::Wait;
 /// Brings together what all clients of a service have seen, each by the token that it left beside
 /// its log, and so shows that no fault of the register's history stands in their logs: no call was
 /// answered from before what its client had seen, each position has one change, and each read and
-/// report was answered as the record at its position would. Answers how many reports changed the
-/// record.
+/// report was answered as the record at its position would. Nor did a report tell of a minimum known
+/// committed version above its version. Answers how many reports changed the record.
 ///
 /// It refuses nothing, takes no memory, and waits as a read does. It takes time in proportion to
 /// the number of clients.
@@ -31,6 +32,7 @@ pub fn settle<J: Live, R: Wait>(
     requires agree { AllAgree J.start logs.now tokens.old }
     ensures changes { result ≡ length (changes_in logs.now) }
     ensures faultless { IsFaultless J.start logs.now }
+    ensures minima { HaveMinimaWithin logs.now }
     ensures position { result ≡ length first.new.changes }
     ensures extends { IsPrefix first.old.changes first.new.changes }
     ensures reporter { first.new.reporter ≡ first.old.reporter }

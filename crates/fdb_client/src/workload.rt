@@ -3,39 +3,42 @@
 ghost use Rattle.std.specs.Prelude.{◌≡◌, ◌<◌, ◌≤◌, ℕ, [], IfOk, Some, ⊤, slice_get, vec_len};
 ghost use Rattle.fdb_client.specs.Account.{new_account};
 ghost use Rattle.fdb_client.specs.Cluster.{IsClusterConfig};
+ghost use Rattle.fdb_client.specs.Settling.{AreNew};
 ghost use Rattle.fdb_history.specs.Chain.{IsChain};
+ghost use Rattle.fdb_history.specs.Laws.{HaveMinimaWithin};
 
 use crate::client::Client;
 use crate::cluster::{Cluster, ClusterConfig};
-use crate::serving::serve_while;
-use fdb_history::Issued;
-use fdb_live::{Live, LiveError, LiveRecord, Opened, Seen};
+use crate::finishing::{FinishError, Finished};
+use crate::opening::{ClusterParts, OpenedCluster};
+use crate::serving::{Ends, Served, serve_while};
+use crate::settled_run::SettledRun;
+use fdb_live::{Live, LiveRecord, Seen};
 use std::alloc::{AllocError, Global};
 use std::marker::Brand;
 use std::sync::Wait;
 use std::thread::Threads;
+use thiserror::Error;
 
 /// Calls that a user writes (`TestWorkload`, FoundationDB 7.1).
 pub trait Workload<R> {
     /// What comes of it.
-    type Output;
+    type Output: Drop;
 
     // What it promises of that.
     ghost gives: { Self → Self.Output → Type 0 } = { λ _ _. ⊤ };
 
     /// Has the clients call the cluster, in the thread that called `run_workload`. There are as
-    /// many as the cluster was made for, each at the place of its number. They have called nobody
-    /// yet, and have seen nothing.
+    /// many as the cluster was made for, each at the place of its number, where it is to be found
+    /// at the end too. They have called nobody yet, and have seen nothing.
     fn start<J: Live>(
         self,
         rt: &R,
         cluster: &Cluster<'_, J>,
-        clients: Vec<Client<'_, J>>,
+        clients: &mut [Client<'_, J>],
     ) -> Self::Output
-        requires count { vec_len clients ≡ J.reporters }
-        requires new { (k : ℕ) → k < vec_len clients
-            → slice_get clients.items k ≡ Some (new_account k []) }
-        ensures gives { gives self result };
+        requires { AreNew J.reporters clients.old }
+        ensures { gives self result };
 }
 
 /// What a workload at a cluster has left.
@@ -43,99 +46,127 @@ pub trait Workload<R> {
 pub struct WorkloadOutcome<O> {
     /// What came of the workload.
     pub output: O,
-    /// The chain of commit versions.
-    pub chain: Vec<Issued>,
-    /// Whether each GRV proxy served until its desk was closed. Where not, one ran out of memory
-    /// and closed its desk, and whoever read there from then on was refused as `ProxyClosed`.
-    pub all_served: bool,
+    /// The logs of its clients and the chain of commit versions, settled.
+    pub run: SettledRun,
+    /// How the GRV proxies ended.
+    pub ends: Ends,
 }
 
-/// Runs a workload at a new cluster, and answers what came of it, the chain of commit versions, and
-/// whether each GRV proxy served to the end.
+/// Why a workload has left nothing.
+#[derive(Clone, Copy, Debug, PartialEq, Eq, Error)]
+pub enum WorkloadError {
+    /// Memory was refused, or a thread could not be had.
+    #[error("want of memory")]
+    Memory,
+    /// The workload left a client at another place than that of its number.
+    #[error("a client is not in its place")]
+    Astray,
+}
+
+impl From<AllocError> for WorkloadError {
+    ghost use Rattle.std.specs.Prelude.{◌≡◌};
+    ghost use Rattle.fdb_client.specs.declared.workload.WorkloadError.TheVariants.{Memory};
+
+    ghost from_gives = { λ _ error. error ≡ Memory };
+
+    fn from(_refused: AllocError) -> Self {
+        WorkloadError::Memory
+    }
+}
+
+impl From<FinishError> for WorkloadError {
+    fn from(error: FinishError) -> Self {
+        match error {
+            FinishError::Astray => WorkloadError::Astray,
+            FinishError::Memory => WorkloadError::Memory,
+        }
+    }
+}
+
+/// Runs a workload at a new cluster, and answers what came of it, its clients' logs and the chain of
+/// commit versions, settled, and how the GRV proxies ended.
 ///
 /// Each GRV proxy serves in a thread of its own, and all have ended before this returns: it waits
-/// for the workload, and then for them. It is refused where memory runs out or a thread cannot be
-/// had, and the workload has not started then. Nothing of what came of it is lost where a proxy
-/// runs out of memory later. `audit` of `fdb_history` looks for a history that explains the
-/// clients' logs and the chain.
+/// for the workload, and then for them. It is refused as `Memory` where memory runs out or a thread
+/// cannot be had, and as `Astray` where the workload left a client at another place than that of
+/// its number.
 pub fn run_workload<R: Threads + Wait + Sync, W: Workload<R> + Drop>(
     rt: &R,
     alloc: Global,
     config: ClusterConfig<'_>,
     workload: W,
-) -> Result<WorkloadOutcome<W::Output>, AllocError>
+) -> Result<WorkloadOutcome<W::Output>, WorkloadError>
     requires { IsClusterConfig config }
     ensures gives { IfOk result (λ ran. W.gives workload ran.output) }
-    ensures one_chain { IfOk result
-        (λ ran. IsChain config.entry.epoch_end config.entry.start.version ran.chain.items) }
+    ensures epoch_end { IfOk result (λ ran. ran.run.epoch_end ≡ config.entry.epoch_end) }
+    ensures start { IfOk result (λ ran. ran.run.start ≡ config.entry.start) }
+    ensures logs { IfOk result (λ ran. vec_len ran.run.logs ≡ config.entry.clients) }
+    ensures minima { IfOk result (λ ran. HaveMinimaWithin ran.run.logs.items) }
+    ensures one_chain { IfOk result (λ ran.
+        IsChain config.entry.epoch_end config.entry.start.version ran.run.chain.items) }
 {
-    match LiveRecord::<Brand>::open(rt, alloc, config.start, config.clients) {
-        Ok(opened) => run_named::<Brand, R, W>(rt, alloc, config, opened, workload),
-        Err(LiveError::Memory) => Err(AllocError),
-        Err(LiveError::TooLarge | LiveError::MinAbove) => unreachable!(),
-    }
+    let opened = config.open(rt, alloc)?;
+    run_named::<Brand, R, W>(rt, alloc, opened, workload)
 }
 
 /// Runs it under a name that stands for the cluster.
 fn run_named<J: Live + Send + Sync, R: Threads + Wait + Sync, W: Workload<R> + Drop>(
     rt: &R,
     alloc: Global,
-    config: ClusterConfig<'_>,
-    opened: Opened,
+    opened: OpenedCluster<'_>,
     workload: W,
-) -> Result<WorkloadOutcome<W::Output>, AllocError>
-    requires opened { opened
-        ≡ record { table = J.table; start = J.start; reporters = J.reporters } }
-    requires in_range { IsClusterConfig config }
-    requires epoch_end { config.epoch_end ≡ J.epoch_end }
-    requires recovery { config.start.version ≡ J.recovery }
-    requires start { config.start ≡ J.start }
-    requires clients { config.clients ≡ J.reporters }
+) -> Result<WorkloadOutcome<W::Output>, WorkloadError>
+    requires named { opened ≡ record {
+      origin = record { table = J.table; start = J.start; reporters = J.reporters };
+      epoch_end = J.epoch_end;
+      recovery = J.recovery;
+    } }
     ensures gives { IfOk result (λ ran. W.gives workload ran.output) }
-    ensures one_chain { IfOk result
-        (λ ran. IsChain config.entry.epoch_end config.entry.start.version ran.chain.items) }
+    ensures epoch_end { IfOk result (λ ran. ran.run.epoch_end ≡ opened.entry.epoch_end) }
+    ensures start { IfOk result (λ ran. ran.run.start ≡ opened.entry.origin.start) }
+    ensures logs { IfOk result (λ ran. vec_len ran.run.logs ≡ opened.entry.origin.reporters) }
+    ensures minima { IfOk result (λ ran. HaveMinimaWithin ran.run.logs.items) }
+    ensures one_chain { IfOk result (λ ran.
+        IsChain opened.entry.epoch_end opened.entry.recovery ran.run.chain.items) }
 {
-    let Ok((live, first, tokens)) = opened.parts::<J>() else {
-        return Err(AllocError);
-    };
-    let cluster = Cluster::new(alloc, live, config)?;
-    let (output, all_served) = started(rt, alloc, &cluster, first, tokens, workload)?;
+    let ClusterParts {
+        cluster,
+        mut first,
+        tokens,
+    } = opened.parts::<J>(alloc)?;
+    let clients = clients_of(alloc, cluster.live(), tokens)?;
+    let Served { output, ends } = serve_while(
+        rt,
+        alloc,
+        &cluster,
+        &mut first,
+        || -> Result<(W::Output, Finished<J>), FinishError>
+            requires { AreNew J.reporters clients.items }
+            ensures { IfOk result (λ left. W.gives workload left.0) }
+        { played(rt, alloc, &cluster, clients, workload) },
+    )?;
+    let (output, finished) = output?;
     Ok(WorkloadOutcome {
         output,
-        chain: cluster.into_chain(),
-        all_served,
+        run: cluster.settle(rt, first, finished),
+        ends,
     })
 }
 
-/// Has the clients of these tokens call a cluster that nobody has called yet, while its GRV proxies
-/// serve. Answers what came of it, and whether each of these served to the end.
-fn started<J: Live + Send + Sync, R: Threads + Wait + Sync, W: Workload<R> + Drop>(
+/// Has the clients of a cluster play a workload. Answers what came of it, and what they left.
+fn played<J: Live, R, W: Workload<R>>(
     rt: &R,
     alloc: Global,
     cluster: &Cluster<'_, J>,
-    first: Seen<J>,
-    tokens: Vec<Seen<J>>,
+    mut clients: Vec<Client<'_, J>>,
     workload: W,
-) -> Result<(W::Output, bool), AllocError>
-    requires few { vec_len tokens ≤ 64 }
-    requires count { vec_len tokens ≡ J.reporters }
-    requires tokens { (k : ℕ) → k < vec_len tokens
-        → slice_get tokens.items k ≡ Some (record { reporter = Some k; changes = [] }) }
-    ensures gives { IfOk result (λ ran. W.gives workload ran.0) }
+) -> Result<(W::Output, Finished<J>), FinishError>
+    requires { AreNew J.reporters clients.items }
+    ensures { IfOk result (λ left. W.gives workload left.0) }
 {
-    let clients = clients_of(alloc, cluster.live(), tokens)?;
-    serve_while(
-        rt,
-        alloc,
-        cluster,
-        first,
-        move || -> W::Output
-            requires count { vec_len clients ≡ J.reporters }
-            requires new { (k : ℕ) → k < vec_len clients
-                → slice_get clients.items k ≡ Some (new_account k []) }
-            ensures gives { W.gives workload result }
-        { workload.start::<J>(rt, cluster, clients) },
-    )
+    let output = workload.start::<J>(rt, cluster, clients.as_mut_slice());
+    let finished = cluster.finish(alloc, clients)?;
+    Ok((output, finished))
 }
 
 /// A client for each token, which has called nobody yet and has seen nothing. The one at a place has

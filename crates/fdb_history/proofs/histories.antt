@@ -1,4 +1,5 @@
 pub mod AfterReport
 pub mod HistoryLaws
 pub mod KnownCommits
+pub mod Minima
 mod Examples

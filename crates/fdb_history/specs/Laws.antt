@@ -1,7 +1,11 @@
 -- Words of the laws about events: what an event shows its client, and what it reports.
-use Rattle.std.specs.Prelude.{ℕ, if◌then◌else◌, List, Option, None, Some, slice_get}
-use Rattle.std.specs.List.{filter_map}
+use Rattle.std.specs.Prelude.{ℕ, ◌≤◌, if◌then◌else◌, List, Option, None, Some, slice_get}
+use Rattle.std.specs.List.{AllByRecursion, filter_map}
 use Rattle.std.specs.Option.{option_and_then}
+use Rattle.fdb_history.specs.Log.{calls_of}
+use Rattle.fdb_history.specs.declared.log.CallAnswer.{CallAnswer}
+use Rattle.fdb_history.specs.declared.log.CallAnswer.TheVariants.{Version, Answered, Acked, Told, Refused}
+use Rattle.fdb_history.specs.declared.log.ClientLog.{ClientLog}
 use Rattle.fdb_history.specs.declared.register.Record.{Record}
 use Rattle.fdb_history.specs.declared.event.Event.{Event}
 use Rattle.fdb_history.specs.declared.event.Event.TheVariants.{Report, Read}
@@ -25,3 +29,17 @@ reported (Read client call rec) = None
 -- the records that were reported, in order
 abbrev pub reports_of : List Event → List Record
 reports_of events = filter_map reported events
+
+-- A report that was acknowledged told of no minimum known committed version above its version.
+-- (this product's own)
+abbrev pub HasMinimumWithin : CallAnswer → Type 0
+HasMinimumWithin (Acked rec raised changed) = rec.min_known ≤ rec.version
+HasMinimumWithin (Version rec limits locked_out) = Unit {0}
+HasMinimumWithin (Answered issued) = Unit {0}
+HasMinimumWithin Told = Unit {0}
+HasMinimumWithin (Refused cause) = Unit {0}
+
+-- nor did any of the logs
+abbrev pub HaveMinimaWithin : List ClientLog → Type 0
+HaveMinimaWithin logs =
+    (client : ℕ) → AllByRecursion (λ call. HasMinimumWithin call.answer) (calls_of logs client)

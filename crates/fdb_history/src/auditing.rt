@@ -74,29 +74,9 @@ pub fn history_of(
         (λ fault. fault ≢ AuditFault.Memory → IsOfAnAnswer fault) }
 {
     let events = placed::events_by_position(alloc, logs)?;
-    let registers = registers_without_fault(alloc, start, &events, logs)?;
+    let changes = changes::changes_of(alloc, &events)?;
+    let registers = registers::after_each(alloc, start, &changes)?;
     answers_or_fault(alloc, chain, logs, events, &registers)
-}
-
-/// The register at each position that a call has reached, of logs with no fault.
-fn registers_without_fault(
-    alloc: Global,
-    start: Record,
-    events: &[Placed],
-    logs: &[ClientLog],
-) -> Result<Registers, AllocError>
-    requires faultless { IsFaultless start logs.now }
-    requires sorted { AreEventsByPosition events.now }
-    requires changes { AreChangesOf logs.now (changes_of events.now) }
-    ensures begins { IfOk result (λ registers. registers.start ≡ start) }
-    ensures right { IfOk result (λ registers. AreRegisters start logs.now registers) }
-{
-    let changes = changes::changes_of(alloc, events)?;
-    match registers::registers_of(alloc, start, &changes, logs) {
-        Ok(registers) => Ok(registers),
-        Err(AuditFault::Memory) => Err(AllocError),
-        Err(_) => unreachable!(),
-    }
 }
 
 /// The history, or the first fault of an answer: the half of an audit that looks at answers. The

@@ -12,7 +12,7 @@ ghost use Rattle.fdb_history.specs.Chain.{IsChain};
 ghost use Rattle.fdb_history.specs.Event.{IsLegal, register_after, change_count, positions_from};
 ghost use Rattle.fdb_history.specs.Explained.{explained};
 ghost use Rattle.fdb_history.specs.Faults.{IsFaultless};
-ghost use Rattle.fdb_history.specs.Laws.{seen_at, reports_of};
+ghost use Rattle.fdb_history.specs.Laws.{HaveMinimaWithin, seen_at, reports_of};
 ghost use Rattle.fdb_history.specs.Linear.{IsLinear};
 ghost use Rattle.fdb_history.specs.Log.{calls_of};
 ghost use Rattle.fdb_history.specs.declared.grv.TagLimit.{TagLimit};
@@ -79,6 +79,14 @@ pub fn positions_below_versions()
         → All (λ rec. rec.min_known ≤ rec.version) (start ∷ reports_of events)
         → slice_get (positions_from 0 events) place ≡ Some position
         → position ≤ 2 * (register_after start (take (place + 1) events)).version }
+{}
+
+/// Where no acknowledged report of the logs told of a minimum above its own version, no report of a
+/// history that explains them does: what `twice` of [`positions_below_versions`] asks for.
+pub fn minima_stay_within()
+    ensures { (start : Record) (logs : List ClientLog) (history : List Event)
+        → IsLinear start logs history → HaveMinimaWithin logs
+        → All (λ rec. rec.min_known ≤ rec.version) (reports_of history) }
 {}
 
 /// The register has the greatest version and the greatest minimum known committed version, of the

@@ -1,4 +1,4 @@
-use Rattle.fdb_client.proofs.Settled.{counted, faultless, settled_by, still_agree}
+use Rattle.fdb_client.proofs.Settled.{counted, faultless, minima, settled_by, still_agree}
 use Rattle.fdb_client.proofs.settling.settle.Goals as goal
 
 pub returns-clause-changes : goal.returns-clause-changes
@@ -12,6 +12,12 @@ returns-clause-faultless g c =
     let settled = settled_by g.J.Service.start g.J.Service.reporters c.args.logs.now c.args.tokens.now c.gather.new.others c.gather.new.first.changes c.requires.logs c.gather.ensures.one_list
     c.requires.count c.requires.numbered c.requires.agree c.gather.ensures.log.numbered c.gather.ensures.extends_each c.gather.ensures.own_each in
     faultless g.J.Service.start c.args.logs.now c.gather.new.first.changes settled
+
+pub returns-clause-minima : goal.returns-clause-minima
+returns-clause-minima g c =
+    let settled = settled_by g.J.Service.start g.J.Service.reporters c.args.logs.now c.args.tokens.now c.gather.new.others c.gather.new.first.changes c.requires.logs c.gather.ensures.one_list
+    c.requires.count c.requires.numbered c.requires.agree c.gather.ensures.log.numbered c.gather.ensures.extends_each c.gather.ensures.own_each in
+    minima g.J.Service.start c.args.logs.now c.gather.new.first.changes settled
 
 pub returns-clause-agree : goal.returns-clause-agree
 returns-clause-agree g c =

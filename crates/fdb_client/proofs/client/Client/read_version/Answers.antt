@@ -11,8 +11,8 @@ use Rattle.fdb_client.proofs.client.Client.read_version.Goals as goal
 pub returns-in-Ok-clause-logged : goal.returns-in-Ok-clause-logged
 returns-in-Ok-clause-logged g c not_memory =
     let logged = c.take_reply.ensures.logged not_memory c.self.inside.id c.self.inside.begun (search rules) (search rules) in
-    let account : Account = record { number = c.self.inside.id; begun = c.self.inside.begun; calls = c.reserve.new.self.calls.items; changes = c.split.new.seen.changes } in
-    let before : account ≡ c.args.self.now = cc (c.reserve.ensures.calls, c.split.ensures.same, c.self.view_is) in
+    let account : Account = record { number = c.self.inside.id; begun = c.self.inside.begun; calls = c.reserve.new.self.calls.items; changes = c.split-told.new.seen.changes } in
+    let before : account ≡ c.args.self.now = cc (c.reserve.ensures.calls, c.split-told.ensures.same, c.self.view_is) in
     reads_alike c.in_ok-logged.ensures.cases before logged
 
 pub returns-in-Err-clause-logged : goal.returns-in-Err-clause-logged
@@ -24,11 +24,11 @@ returns-in-Err-clause-logged g c not_memory =
 pub invariant_of-self-in-Ok : goal.invariant_of-self-in-Ok
 invariant_of-self-in-Ok g c =
     let was : Account = record { number = c.self.inside.id; begun = c.self.inside.begun; calls = c.self.inside.journal.calls.items; changes = c.self.inside.seen.changes } in
-    let before : Account = record { number = c.self.inside.id; begun = c.self.inside.begun; calls = c.reserve.new.self.calls.items; changes = c.split.new.seen.changes } in
+    let before : Account = record { number = c.self.inside.id; begun = c.self.inside.begun; calls = c.reserve.new.self.calls.items; changes = c.split-told.new.seen.changes } in
     let after : Account = record { number = c.self.inside.id; begun = c.self.inside.begun; calls = c.take_reply.new.journal.calls.items; changes = c.take_reply.new.seen.changes } in
-    let alike : was ≡ before = cc (c.reserve.ensures.calls, c.split.ensures.same) in
+    let alike : was ≡ before = cc (c.reserve.ensures.calls, c.split-told.ensures.same) in
     let agreed : HasAgreed g.J.Service.start before = subst (HasAgreed g.J.Service.start) alike (c.self.invariant.1, c.self.invariant.2) in
-    let reporter : c.split.new.seen.reporter ≡ Some c.self.inside.id = search rules in
+    let reporter : c.split-told.new.seen.reporter ≡ Some c.self.inside.id = search rules in
     let held = either_way (HasAgreed g.J.Service.start) before after c.take_reply.result agreed
     (λ done. (
       c.take_reply.ensures.come_to done c.self.inside.begun,
@@ -40,9 +40,9 @@ invariant_of-self-in-Ok g c =
 pub invariant_of-self-in-Err : goal.invariant_of-self-in-Err
 invariant_of-self-in-Err g c =
     let was : Account = record { number = c.self.inside.id; begun = c.self.inside.begun; calls = c.self.inside.journal.calls.items; changes = c.self.inside.seen.changes } in
-    let before : Account = record { number = c.self.inside.id; begun = c.self.inside.begun; calls = c.reserve.new.self.calls.items; changes = c.split.new.seen.changes } in
-    let after : Account = record { number = c.self.inside.id; begun = c.self.inside.begun; calls = c.add_refused.new.self.calls.items; changes = c.split.new.seen.changes } in
-    let alike : was ≡ before = cc (c.reserve.ensures.calls, c.split.ensures.same) in
+    let before : Account = record { number = c.self.inside.id; begun = c.self.inside.begun; calls = c.reserve.new.self.calls.items; changes = c.split-told.new.seen.changes } in
+    let after : Account = record { number = c.self.inside.id; begun = c.self.inside.begun; calls = c.add_refused.new.self.calls.items; changes = c.split-told.new.seen.changes } in
+    let alike : was ≡ before = cc (c.reserve.ensures.calls, c.split-told.ensures.same) in
     let agreed = agrees_refused g.J.Service.start (Grv c.in_ok-logged.logged) c.in-Err.error before after refl refl refl
     c.add_refused.ensures.unlogged (λ same. cc same) (search rules) (subst (HasAgreed g.J.Service.start) alike (c.self.invariant.1, c.self.invariant.2)) in
     (search rules, agreed.0, agreed.1)

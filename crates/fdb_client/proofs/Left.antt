@@ -1,0 +1,70 @@
+-- What clients that stand in the order of their numbers leave.
+use Rattle.std.proofs.Common.{◌≡◌, ℕ, Bool, true, false, zero, suc, ◌+◌, ◌<◌, List, [], ◌∷◌, ◌++◌, Some, length, map, refl, ap, sym, ◌∙◌, subst, append-nil, arith}
+use Rattle.std.specs.List.{AllByRecursion, slice_get}
+use Rattle.std.specs.Prelude.{nat_lt}
+use Rattle.std.proofs.lemmas.Bool.Decides.{nat_tests}
+use Rattle.std.proofs.lemmas.Option.{slice_get-map}
+use Rattle.fdb_client.specs.Account.{Account, sight}
+use Rattle.fdb_client.specs.Agreeing.{Agrees}
+use Rattle.fdb_client.specs.Settling.{AllAgree, HaveNumbers, logs_of}
+use Rattle.fdb_history.specs.Log.{calls_of}
+use Rattle.fdb_history.specs.declared.log.Call.{Call}
+use Rattle.fdb_history.specs.declared.log.ClientLog.{ClientLog}
+use Rattle.fdb_history.specs.declared.register.Record.{Record}
+use Rattle.fdb_live.specs.Gathering.{AreNumbered}
+use Rattle.fdb_live.specs.declared.change.Change.{Change}
+
+-- a client's calls agree with its token, as those of one that began before any change
+abbrev pub MaySettle : Record → Account → Type 0
+MaySettle start client = Agrees start (record client { begun = 0 })
+
+at_map : {X Y : Type 0} (f : X → Y) (xs : List X) (k : ℕ) (y : Y) → slice_get (map f xs) k ≡ Some y → (x : X) × (slice_get xs k ≡ Some x) × (f x ≡ y)
+at_map f [] k y is = absurd cc
+at_map f (x ∷ xs) zero y is = (x, refl, cc)
+at_map f (x ∷ xs) (suc k) y is = at_map f xs k y is
+
+pub all_yielded : {X : Type 0} (yielded rest all : List X) → length rest ≡ 0 → yielded ++ rest ≡ all → yielded ≡ all
+all_yielded yielded [] all none whole = sym (append-nil yielded) ∙ whole
+all_yielded yielded (x ∷ rest) all none whole = absurd (omega (arith, none))
+
+at_each : {X : Type 0} (P : X → Type 0) (xs : List X) (k : ℕ) (x : X) → AllByRecursion P xs → slice_get xs k ≡ Some x → P x
+at_each P [] k x all is = absurd cc
+at_each P (y ∷ xs) zero x all is =
+    let this : y ≡ x = cc in
+    subst P this all.0
+at_each P (y ∷ xs) (suc k) x all is = at_each P xs k x all.1 is
+
+pub one_more : {X : Type 0} (P : X → Type 0) (xs : List X) (x : X) → AllByRecursion P xs → P x → AllByRecursion P (xs ++ x ∷ [])
+one_more P [] x all one = (one, tt)
+one_more P (y ∷ xs) x all one = (all.0, one_more P xs x all.1 one)
+
+pub are_numbered : (clients : List Account) → HaveNumbers clients → AreNumbered (map sight clients)
+are_numbered clients have k token is =
+    let own = at_map sight clients k token is in
+    sym (ap (λ one. one.reporter) own.2) ∙ ap Some (have k own.0 own.1)
+
+said : (start : Record) (client : Account) (number : ℕ) (calls : List Call) (changes : List Change) → client.number ≡ number → client.calls ≡ calls → client.changes ≡ changes
+    → MaySettle start client → Agrees start (record { number = number; begun = 0; calls = calls; changes = changes })
+said start client number calls changes a c d agrees = rw (← a, ← c, ← d) agrees
+
+pub all_agree : (start : Record) (clients : List Account) → HaveNumbers clients → AllByRecursion (MaySettle start) clients → AllAgree start (logs_of clients) (map sight clients)
+all_agree start clients have all k token is =
+    let own = at_map sight clients k token is in
+    let settled = at_each (MaySettle start) clients k own.0 all own.1 in
+    let calls : calls_of (logs_of clients) k ≡ own.0.calls = rw (slice_get-map {B = ClientLog} (λ (client : Account). record { calls = client.calls }) clients k, own.1) refl in
+    said start own.0 k (calls_of (logs_of clients) k) token.changes (have k own.0 own.1) (sym calls) (ap (λ one. one.changes) own.2) settled
+
+-- the clients before a place stand at their numbers
+abbrev pub HaveNumbersBelow : ℕ → List Account → Type 0
+HaveNumbersBelow place clients = (k : ℕ) (client : Account) → k < place → slice_get clients k ≡ Some client → client.number ≡ k
+
+pub one_in_place : (clients : List Account) (place : ℕ) (here : Account) → slice_get clients place ≡ Some here → here.number ≡ place → HaveNumbersBelow place clients → HaveNumbersBelow (place + 1) clients
+one_in_place clients place here at own before k client below is = go (nat_lt k place) refl
+  where
+    go : (b : Bool) → nat_lt k place ≡ b → client.number ≡ k
+    go true e = before k client (grind (arith, nat_tests)) is
+    go false e =
+        let same : k ≡ place = grind (arith, nat_tests) in
+        let found : Some client ≡ Some here = sym is ∙ (ap (slice_get clients) same ∙ at) in
+        let this : client ≡ here = cc found in
+        ap (λ (one : Account). one.number) this ∙ (own ∙ sym same)

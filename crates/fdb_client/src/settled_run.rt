@@ -1,0 +1,83 @@
+//! A run of a cluster, whose logs its clients' tokens have settled.
+
+ghost use Rattle.std.specs.Prelude.{◌≡◌, ◌≢◌, ◌≤◌, IfErr, IfOk, length};
+ghost use Rattle.fdb_history.specs.Audit.{IsAudited, IsOfAnAnswer};
+ghost use Rattle.fdb_history.specs.Chain.{IsChain};
+ghost use Rattle.fdb_history.specs.Faults.{IsFaultless, changes_in};
+ghost use Rattle.fdb_history.specs.Laws.{HaveMinimaWithin};
+ghost use Rattle.fdb_history.specs.Linear.{IsLinear};
+
+use crate::cluster::Cluster;
+use crate::finishing::Finished;
+use crate::settling::settle;
+use fdb_history::{AuditFault, ClientLog, History, Issued, Record, history_of};
+use fdb_live::{Live, Seen};
+use std::alloc::Global;
+use std::sync::Wait;
+
+/// What a run of a cluster has left, once it is settled: no fault of the register's history stands
+/// in its logs.
+#[derive(Debug, Drop)]
+pub struct SettledRun {
+    /// The last version of the epoch before.
+    pub epoch_end: u64,
+    /// The live committed version before any report. Its version is the first commit version.
+    pub start: Record,
+    /// The log of each client, at the place of its number.
+    pub logs: Vec<ClientLog>,
+    /// The commit versions, in order.
+    pub chain: Vec<Issued>,
+    /// How many reports changed the record.
+    pub changes: u64,
+    pub ghost few: { length logs.items ≤ 64 },
+    pub ghost faultless: { IsFaultless start logs.items },
+    pub ghost counted: { changes ≡ length (changes_in logs.items) },
+}
+
+impl SettledRun {
+    /// The history that explains all answered reads and reports, in the fixed order; or the first
+    /// fault of an answer, `Stray` or `NotAbove`.
+    ///
+    /// Memory may be refused at any time. It takes time in proportion to the calls and to the chain,
+    /// up to a sort of the reads and reports by position.
+    pub fn history(&self, alloc: Global) -> Result<History, AuditFault>
+        ensures linear { IfOk result
+            (λ history. IsLinear self.now.start self.now.logs.items history.events) }
+        ensures audited { IsAudited
+            self.now.start self.now.chain.items self.now.logs.items result }
+        ensures of_an_answer { IfErr result
+            (λ fault. fault ≢ AuditFault.Memory → IsOfAnAnswer fault) }
+    {
+        history_of(alloc, self.start, &self.chain, &self.logs)
+    }
+}
+
+impl<'c, J: Live> Cluster<'c, J> {
+    /// Brings together what the clients of this cluster have seen, and so shows that no fault of the
+    /// register's history stands in their logs: no call was answered from before what its client
+    /// had seen, each position has one change, and each read and report was answered as the record
+    /// at its position would. Any token of the cluster serves as `first`.
+    ///
+    /// It refuses nothing, takes no memory, and waits as a read does. It takes time in proportion
+    /// to the number of clients.
+    pub fn settle<R: Wait>(self, rt: &R, mut first: Seen<J>, finished: Finished<J>) -> SettledRun
+        ensures epoch_end { result.epoch_end ≡ J.epoch_end }
+        ensures recovery { result.start.version ≡ J.recovery }
+        ensures start { result.start ≡ J.start }
+        ensures logs { result.logs.items ≡ finished }
+        ensures count { length result.logs.items ≡ J.reporters }
+        ensures minima { HaveMinimaWithin result.logs.items }
+        ensures one_chain { IsChain J.epoch_end J.recovery result.chain.items }
+    {
+        let Finished { logs, mut tokens } = finished;
+        let changes = settle(rt, &self.live, &mut first, &mut tokens, &logs);
+        let (epoch_end, start) = (self.config.epoch_end, self.config.start);
+        SettledRun {
+            epoch_end,
+            start,
+            logs,
+            chain: self.into_chain(),
+            changes,
+        }
+    }
+}
