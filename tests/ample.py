@@ -13,10 +13,10 @@ LIBRARIES = (
     "fdb_history", "fdb_chain", "fdb_live", "fdb_queue", "fdb_proxy", "fdb_client", "fdb_script",
     "fdb_replay",
 )
-# What an error for memory is, or may be.
-MEMORY = re.compile(
-    r"\b(?:AllocError|AllocFailed|(?:Audit|Run|Replay)Fault"
-    r"|(?:Chain|Live|Queue|Proxy|Client|Script)Error)\b"
+# The errors of the standard library for memory, and those of a library that may be for memory.
+ALLOC = {"AllocError", "AllocFailed"}
+OF_MEMORY = re.compile(
+    r"^pub enum (\w+) \{\n(?:(?!\}).*\n)*? +(?:Memory,|\w+\(\w+(?:Error|Fault)\),)", re.MULTILINE
 )
 # The clause by which a call is not refused memory, though the type of its errors has one for it.
 NOT_REFUSED = {"GrvQueue::new": "bad_config", "LiveRecord::report": "no_memory"}
@@ -56,13 +56,14 @@ def calls_of(code):
 def refusable():
     """The calls that may be refused memory, and what is wrong with those that never are."""
     files = [file for library in LIBRARIES for file in sources(f"crates/{library}/src")]
+    errors = ALLOC.union(*map(OF_MEMORY.findall, files))
     found, faults = set(), []
     for call, code in (it for file in files for it in calls_of(file)):
         answer = ENDS.split(code)[0].partition("->")[2]
         if call in NOT_REFUSED:
             clause = f"ensures {NOT_REFUSED[call]} "
             faults += [f"{call} has no {clause}"] * (clause not in code)
-        elif call in BY_STATUS or MEMORY.search(answer):
+        elif call in BY_STATUS or errors & set(re.findall(r"\w+", answer)):
             found.add(call)
     return found, faults
 

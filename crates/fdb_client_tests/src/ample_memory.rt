@@ -18,26 +18,26 @@ const FEW: &str = "1 2 5 6 64 101";
 /// What `many` stands for: numbers beside 2^16.
 const MANY: &str = "65535 65536 65537";
 
-/// `fdb_client`: clusters. `run_workload` makes the other calls.
+/// `fdb_client`: clusters. `run_workload` makes the other calls, too.
 const CLUSTERS: &str = "
-run_workload, Cluster::new, clients_of, serve_while | clients | 1 2 5 6 63 64
-run_workload, Cluster::new, clients_of, serve_while | GRV proxies | 1 2 5 6 8 9 15 16
-run_workload, Cluster::new, clients_of, serve_while | throttles | 0 few 999 1000 1001 many
-run_workload, Cluster::new | a start with a minimum as great | few many 9223372036854775807
-run_workload, Cluster::new | a start with a minimum of 0 | few many 9223372036854775807
+run_workload, OpenedCluster::parts, clients_of, Cluster::finish | clients | 1 2 5 6 63 64
+run_workload, Cluster::new, serve_while | GRV proxies | 1 2 5 6 8 9 15 16
+run_workload, serve_while | throttles | 0 few 999 1000 1001 many
+run_workload, ClusterConfig::open | a start with a minimum as great | few many 9223372036854775807
+run_workload, ClusterConfig::open | a start with a minimum of 0 | few many 9223372036854775807
 ";
 
-/// `fdb_client`: calls of a client, at a cluster with one GRV proxy.
+/// `fdb_client`: calls of a client at a cluster with one GRV proxy, and the history of its log.
 const CALLS: &str = "
-Client::ask | requests | 65538
-Client::reask | repeats of a request | 65538
-Client::reask | answers out of turn | few
-Client::report | reports that raise the record | 65538
-Client::report | reports that change nothing | 65538
-Client::tell, Client::learn | tells | 65538
-Client::read_version | reads | 65538
-Client::read_version | tags, each with a limit | 0 few many
-Client::read_version | a count | few many 99999 100000
+Client::ask, SettledRun::history | requests | 65538
+Client::reask, SettledRun::history | repeats of a request | 65538
+Client::reask, SettledRun::history | answers out of turn | few
+Client::report, SettledRun::history | reports that raise the record | 65538
+Client::report, SettledRun::history | reports that change nothing | 65538
+Client::tell, Client::learn, SettledRun::history | tells | 65538
+Client::read_version, SettledRun::history | reads | 65538
+Client::read_version, SettledRun::history | tags, each with a limit | 0 few many
+Client::read_version, SettledRun::history | a count | few many 99999 100000
 ";
 
 /// Some calls, and a number at which they are made.
@@ -117,7 +117,7 @@ fn clusters_have_memory(rt: HostRuntime) -> Result<(), Fail> {
 #[test]
 fn clients_have_memory(rt: HostRuntime) -> Result<(), Fail> {
     for case in cases(&rt, rt.alloc(), CALLS)? {
-        let found = calls::called(&rt, rt.alloc(), case.calls, case.number);
+        let found = calls::called(&rt, rt.alloc(), case.of, case.number);
         case.came_to(&rt, found);
     }
     Ok(())

@@ -13,22 +13,17 @@ use std::thread::Threads;
 pub(crate) fn called<R: Threads + Wait + Sync>(
     rt: &R,
     alloc: Global,
-    calls: &str,
+    of: &str,
     number: u64,
 ) -> Option<bool> {
-    let calls = Calls {
-        alloc,
-        calls,
-        number,
-    };
-    at_throttled(rt, alloc, calls)
+    at_throttled(rt, alloc, Calls { alloc, of, number })
 }
 
-/// Calls that clients make.
+/// Calls that clients make: so many of something.
 #[derive(Drop)]
 pub(crate) struct Calls<'t> {
     pub(crate) alloc: Global,
-    calls: &'t str,
+    of: &'t str,
     number: u64,
 }
 
@@ -37,7 +32,7 @@ impl Calls<'_> {
     pub(crate) fn of_each(alloc: Global) -> Calls<'static> {
         Calls {
             alloc,
-            calls: "each",
+            of: "each",
             number: 0,
         }
     }
@@ -50,24 +45,18 @@ impl<R: Wait> Workload<R> for Calls<'_> {
         self,
         rt: &R,
         cluster: &Cluster<'_, J>,
-        mut clients: Vec<Client<'_, J>>,
+        clients: &mut [Client<'_, J>],
     ) -> Option<bool> {
-        let Calls {
-            alloc,
-            calls,
-            number,
-        } = self;
-        if calls == "each" {
-            return each_reads(rt, alloc, cluster, &mut clients);
+        let Calls { alloc, of, number } = self;
+        if of == "each" {
+            return each_reads(rt, alloc, cluster, clients);
         }
         let (client, others) = clients.split_first_mut()?;
-        match calls {
-            "Client::tell, Client::learn | tells" => {
-                raised(rt, cluster, client, 2)?;
-                told(rt, client, others.first_mut()?, number)
-            }
-            _ => called_by(rt, alloc, cluster, client, calls, number),
+        if of == "tells" {
+            raised(rt, cluster, client, 2)?;
+            return told(rt, client, others.first_mut()?, number);
         }
+        called_by(rt, alloc, cluster, client, of, number)
     }
 }
 
@@ -77,20 +66,18 @@ fn called_by<J: Live, R: Wait>(
     alloc: Global,
     cluster: &Cluster<'_, J>,
     client: &mut Client<'_, J>,
-    calls: &str,
+    of: &str,
     number: u64,
 ) -> Option<bool> {
-    match calls {
-        "Client::ask | requests" => asked(rt, cluster, client, number),
-        "Client::reask | repeats of a request" => repeated(rt, cluster, client, number),
-        "Client::reask | answers out of turn" => out_of_turn(rt, cluster, client, number),
-        "Client::report | reports that raise the record" => raised(rt, cluster, client, number),
-        "Client::report | reports that change nothing" => unchanged(rt, cluster, client, number),
-        "Client::read_version | reads" => read(rt, alloc, cluster, client, number),
-        "Client::read_version | tags, each with a limit" => {
-            read_of(rt, alloc, cluster, client, (1, number))
-        }
-        "Client::read_version | a count" => read_of(rt, alloc, cluster, client, (number, 1)),
+    match of {
+        "requests" => asked(rt, cluster, client, number),
+        "repeats of a request" => repeated(rt, cluster, client, number),
+        "answers out of turn" => out_of_turn(rt, cluster, client, number),
+        "reports that raise the record" => raised(rt, cluster, client, number),
+        "reports that change nothing" => unchanged(rt, cluster, client, number),
+        "reads" => read(rt, alloc, cluster, client, number),
+        "tags, each with a limit" => { read_of(rt, alloc, cluster, client, (1, number)) }
+        "a count" => read_of(rt, alloc, cluster, client, (number, 1)),
         _ => Some(false),
     }
 }

@@ -7,7 +7,7 @@ ghost use Rattle.fdb_queue.specs.Throttles.{is_throttle};
 use crate::ample_memory::calls::Calls;
 use crate::line::tag;
 use fdb_client::{ClusterConfig, run_workload};
-use fdb_history::{MAX_VERSION, Priority, Record, Tag};
+use fdb_history::{AuditFault, MAX_VERSION, Priority, Record, Tag};
 use fdb_queue::{QueueConfig, Throttle};
 use std::alloc::Global;
 use std::sync::Wait;
@@ -113,5 +113,9 @@ fn at_cluster<R: Threads + Wait + Sync>(
     };
     let alloc = calls.alloc;
     let ran = run_workload(rt, alloc, config, calls).ok()?;
-    if ran.all_served { ran.output } else { None }
+    let refused = matches!(ran.run.history(alloc), Err(AuditFault::Memory));
+    if refused || !ran.ends.all_served() {
+        return None;
+    }
+    ran.output
 }
