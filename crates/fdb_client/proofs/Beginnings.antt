@@ -1,5 +1,5 @@
 -- What agrees from the position at which a client began agrees from the first one too.
-use Rattle.std.proofs.Common.{◌≡◌, ℕ, ◌≤◌, List, [], ◌∷◌, arith}
+use Rattle.std.proofs.Common.{ℕ, ◌≤◌, List, [], ◌∷◌, arith}
 use Rattle.fdb_client.specs.Account.{Account}
 use Rattle.fdb_client.specs.Agreeing.{Agrees}
 use Rattle.fdb_history.specs.Linear.{NeverGoesBack}

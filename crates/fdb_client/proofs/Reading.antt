@@ -1,5 +1,5 @@
 -- A read as one of equal options, by an equal client; and what it returned.
-use Rattle.std.proofs.Common.{◌≡◌, ℕ, ◌≤◌, Bool, true, false, List, length, Result, Ok, Err, IfOk, refl, sym, ap, ◌∙◌, subst, le_refl}
+use Rattle.std.proofs.Common.{◌≡◌, ℕ, ◌≤◌, Bool, true, false, List, length, Result, IfOk, refl, sym, subst, le_refl}
 use Rattle.fdb_client.specs.Account.{Account}
 use Rattle.fdb_client.specs.Calls.{IsReadOf, Reads}
 use Rattle.fdb_client.specs.Returned.{ReadReturns}

@@ -1,5 +1,5 @@
 -- What a cluster is made with. (this product's own)
-use Rattle.std.specs.Prelude.{ℕ, ◌<◌, ◌≤◌, IsTrue}
+use Rattle.std.specs.Prelude.{◌<◌, ◌≤◌, IsTrue}
 use Rattle.std.specs.List.{list_all}
 use Rattle.fdb_chain.specs.ChainCore.{IsEpoch, IsProxyCount}
 use Rattle.fdb_live.specs.Seen.{Origin}
@@ -18,9 +18,7 @@ pub record IsClusterConfig (config : ClusterConfig) : Type 0 where
   pub throttles : IsTrue (list_all is_throttle config.throttles.now)
   pub elapsed : IsElapsed config.elapsed
 
--- What the name of a cluster stands for: what its live record was opened with, the last version of
--- the epoch before, and the first commit version.
+-- A cluster that was opened: what its live record was opened with, and what it is made with.
 pub record Opening : Type 0 where
   pub origin : Origin
-  pub epoch_end : ℕ
-  pub recovery : ℕ
+  pub config : ClusterConfig

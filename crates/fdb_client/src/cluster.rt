@@ -44,11 +44,11 @@ pub struct Cluster<'c, J: Live> {
     sequencer: Sequencer<J>,
     pub(crate) live: LiveRecord<J>,
     desks: Vec<Desk<J>>,
-    ghost in_range: { IsClusterConfig config },
-    ghost epoch_end: { config.epoch_end ≡ J.epoch_end },
-    ghost recovery: { config.start.version ≡ J.recovery },
-    ghost start: { config.start ≡ J.start },
-    ghost clients: { config.clients ≡ J.reporters },
+    pub ghost in_range: { IsClusterConfig config },
+    pub ghost epoch_end: { config.epoch_end ≡ J.epoch_end },
+    pub ghost recovery: { config.start.version ≡ J.recovery },
+    pub ghost start: { config.start ≡ J.start },
+    pub ghost clients: { config.clients ≡ J.reporters },
     ghost each: { vec_len desks ≡ config.grv_proxies },
 }
 

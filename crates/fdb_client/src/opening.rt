@@ -9,8 +9,8 @@ use std::alloc::{AllocError, Global};
 use std::marker::{Brand, Model};
 use std::sync::Wait;
 
-/// A cluster whose live record was opened. Contracts see it as what that was opened with, the last
-/// version of the epoch before, and the first commit version; a name is picked that stands for these, and [`OpenedCluster::parts`]
+/// A cluster whose live record was opened. Contracts see it as what that was opened with, and the
+/// configuration of the cluster; a name is picked that stands for these, and [`OpenedCluster::parts`]
 /// gives the cluster and its tokens under that name.
 #[derive(Drop)]
 pub struct OpenedCluster<'c> {
@@ -24,11 +24,7 @@ impl<'c> Model for OpenedCluster<'c> {
 
     ghost Value = { Opening };
 
-    ghost view = { λ o. record {
-      origin = o.opened;
-      epoch_end = o.config.epoch_end;
-      recovery = o.config.start.version;
-    } };
+    ghost view = { λ o. record { origin = o.opened; config = o.config } };
 
     ghost invariant = { λ o. IsClusterConfig o.config
         × (o.opened.start ≡ o.config.start)
@@ -50,8 +46,7 @@ impl<'c> ClusterConfig<'c> {
     /// Opens the live record of a cluster of this configuration. It is refused for memory alone.
     pub fn open<R: Wait>(self, rt: &R, alloc: Global) -> Result<OpenedCluster<'c>, AllocError>
         requires { IsClusterConfig self }
-        ensures epoch_end { IfOk result (λ opened. opened.epoch_end ≡ self.entry.epoch_end) }
-        ensures recovery { IfOk result (λ opened. opened.recovery ≡ self.entry.start.version) }
+        ensures config { IfOk result (λ opened. opened.config ≡ self.entry) }
         ensures start { IfOk result (λ opened. opened.origin.start ≡ self.entry.start) }
         ensures clients { IfOk result (λ opened. opened.origin.reporters ≡ self.entry.clients) }
     {
@@ -70,11 +65,11 @@ impl<'c> OpenedCluster<'c> {
     /// The cluster under a name that stands for it, with its tokens. It is refused for memory alone;
     /// the cluster is then given up.
     pub fn parts<J: Live>(self, alloc: Global) -> Result<ClusterParts<'c, J>, AllocError>
-        requires { self ≡ record {
-          origin = record { table = J.table; start = J.start; reporters = J.reporters };
-          epoch_end = J.epoch_end;
-          recovery = J.recovery;
-        } }
+        requires origin { self.origin
+            ≡ record { table = J.table; start = J.start; reporters = J.reporters } }
+        requires epoch_end { self.config.epoch_end ≡ J.epoch_end }
+        requires recovery { self.config.start.version ≡ J.recovery }
+        ensures config { IfOk result (λ parts. parts.cluster.config ≡ self.entry.config) }
         ensures first { IfOk result
             (λ parts. parts.first ≡ record { reporter = None; changes = [] }) }
         ensures count { IfOk result (λ parts. vec_len parts.tokens ≡ J.reporters) }

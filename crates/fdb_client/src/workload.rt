@@ -116,18 +116,17 @@ fn run_named<J: Live + Send + Sync, R: Threads + Wait + Sync, W: Workload<R> + D
     opened: OpenedCluster<'_>,
     workload: W,
 ) -> Result<WorkloadOutcome<W::Output>, WorkloadError>
-    requires named { opened ≡ record {
-      origin = record { table = J.table; start = J.start; reporters = J.reporters };
-      epoch_end = J.epoch_end;
-      recovery = J.recovery;
-    } }
+    requires origin { opened.origin
+        ≡ record { table = J.table; start = J.start; reporters = J.reporters } }
+    requires epoch_end { opened.config.epoch_end ≡ J.epoch_end }
+    requires recovery { opened.config.start.version ≡ J.recovery }
     ensures gives { IfOk result (λ ran. W.gives workload ran.output) }
-    ensures epoch_end { IfOk result (λ ran. ran.run.epoch_end ≡ opened.entry.epoch_end) }
+    ensures epoch_end { IfOk result (λ ran. ran.run.epoch_end ≡ opened.entry.config.epoch_end) }
     ensures start { IfOk result (λ ran. ran.run.start ≡ opened.entry.origin.start) }
     ensures logs { IfOk result (λ ran. vec_len ran.run.logs ≡ opened.entry.origin.reporters) }
     ensures minima { IfOk result (λ ran. HaveMinimaWithin ran.run.logs.items) }
     ensures one_chain { IfOk result (λ ran.
-        IsChain opened.entry.epoch_end opened.entry.recovery ran.run.chain.items) }
+        IsChain J.epoch_end J.recovery ran.run.chain.items) }
 {
     let ClusterParts {
         cluster,

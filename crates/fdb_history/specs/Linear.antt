@@ -30,8 +30,8 @@ NeverGoesBack before (call ∷ calls) =
 pub record IsLinear (start : Record) (logs : List ClientLog) (history : List Event) : Type 0 where
   -- it is legal from the start
   pub legal : IsLegal start history
-  -- each client's register calls stand in it once and in the log's order, with their places,
-  -- records and raised flags, and nothing else stands in it
+  -- each client's register calls stand in it once and in the log's order, with their places and
+  -- records, and for a report whether it raised and changed the register; nothing else stands in it
   pub complete : (client : ℕ) → filter (λ event. client_of event == client) history
       ≡ map (λ p. p.event) (placed_from client 0 (calls_of logs client))
   -- each client's events have the positions of its calls

@@ -5,7 +5,7 @@ ghost use Rattle.std.specs.Prelude.{length, true};
 ghost use Rattle.std.specs.Prelude.{option_to_list, vec_len, vec_capacity};
 ghost use Rattle.fdb_proxy.specs.Cause.{is_of_an_offer};
 ghost use Rattle.fdb_proxy.specs.private.Turn.{AreOffered, HasReady, IsReady, IsTurn, Offers};
-ghost use Rattle.fdb_proxy.specs.private.Turn.{StartsSure};
+ghost use Rattle.fdb_proxy.specs.private.Turn.{StartsSome};
 ghost use Rattle.fdb_queue.specs.Config.{IsElapsed};
 ghost use Rattle.fdb_queue.specs.Waiting.{first, row, without_first};
 ghost use Rattle.fdb_queue.specs.Window.{window, after_window};
@@ -64,8 +64,8 @@ impl<T: Drop> Line<T> {
         ensures memory { IfErr result (λ cause. cause ≡ ProxyError.Memory) }
         ensures ready { OnErr result
             (HasReady self.old.elapsed self.old.queue offered.items self.new.queue) }
-        ensures sure { IfOk result (λ turn.
-            StartsSure self.old.queue offered.items (length turn.started.items)) }
+        ensures some { IfOk result (λ turn.
+            StartsSome self.old.queue offered.items (length turn.started.items)) }
     {
         self.make_ready(offered, &mut turned_away);
         let started = self.start()?;
@@ -81,7 +81,7 @@ impl<T: Drop> Line<T> {
         requires room { vec_len turned_away.old + vec_len offered ≤ vec_capacity turned_away.old }
         ensures ready { IsReady self.old.elapsed
             self.old.queue offered.items turned_away.new.items self.new.queue }
-        ensures sure { StartsSure self.old.queue offered.items (length (window self.new.queue)) }
+        ensures some { StartsSome self.old.queue offered.items (length (window self.new.queue)) }
         ensures due { All (λ gone. is_of_an_offer gone.cause ≡ true) turned_away.new.items }
         ensures elapsed { self.new.elapsed ≡ self.old.elapsed }
     {

@@ -15,20 +15,24 @@ use Rattle.fdb_queue.specs.Waiting.{Requests, row, with_last}
 -- what is known of a request that is let in
 pub record IsLetIn {T : Type 0} (queue : Queue T) (request : Req T) : Type 0 where
   pub count : is_count queue.config request.priority request.count ≡ true
+  pub unthrottled : is_throttled queue.config request.priority ≡ false
   pub room : is_full queue ≡ true → (length (below request.priority queue.waiting) == 0) ≡ false
 
 let_in_by : {E : Type 0} (one two three : E) (count throttled full none : Bool) → (if not count then Some one else if throttled then Some two else if full && none then Some three else None) ≡ None
-    → (count ≡ true) × (full ≡ true → none ≡ false)
-let_in_by one two three true false true false h = (refl, λ _. refl)
+    → (count ≡ true) × (throttled ≡ false) × (full ≡ true → none ≡ false)
+let_in_by one two three true false true false h = (refl, refl, λ _. refl)
 let_in_by one two three true false true true h = cc
-let_in_by one two three true false false none h = (refl, λ e. cc)
+let_in_by one two three true false false none h = (refl, refl, λ e. cc)
 let_in_by one two three true true full none h = cc
 let_in_by one two three false throttled full none h = cc
 
 pub let_in : {T : Type 0} (queue : Queue T) (request : Req T) → refusal_of queue request ≡ None → IsLetIn queue request
 let_in queue request h =
-    let both = let_in_by _ _ _ (is_count queue.config request.priority request.count) (is_throttled queue.config request.priority) (is_full queue) (length (below request.priority queue.waiting) == 0) h in
-    record { count = both.0; room = both.1 }
+    let all = let_in_by _ _ _ (is_count queue.config request.priority request.count) (is_throttled queue.config request.priority) (is_full queue) (length (below request.priority queue.waiting) == 0) h in
+    record { count = all.0; unthrottled = all.1; room = all.2 }
+
+is_admitted : {T : Type 0} (queue : Queue T) (request : Req T) → IsLetIn queue request → IsAdmitted queue.config request.priority request
+is_admitted queue request let_in = record { own = refl; count = let_in.count; unthrottled = let_in.unthrottled }
 
 -- each list has admitted requests of its priority
 pub record AreAdmitted {T : Type 0} (config : QueueConfig) (waiting : Requests T) : Type 0 where
@@ -37,22 +41,22 @@ pub record AreAdmitted {T : Type 0} (config : QueueConfig) (waiting : Requests T
   pub batch : All (IsAdmitted config Batch) waiting.batch
 
 AreAdmitted-with_last : {T : Type 0} (config : QueueConfig) (waiting : Requests T) (request : Req T) (priority : Priority)
-    → request.priority ≡ priority → is_count config priority request.count ≡ true → AreAdmitted config waiting
+    → IsAdmitted config priority request → AreAdmitted config waiting
     → AreAdmitted config (with_last waiting request priority)
-AreAdmitted-with_last config waiting request System own count h = record {
-  system = All-push (IsAdmitted config System) waiting.system request h.system (record { own = own; count = count });
+AreAdmitted-with_last config waiting request System it h = record {
+  system = All-push (IsAdmitted config System) waiting.system request h.system it;
   default_ = h.default_;
   batch = h.batch;
 }
-AreAdmitted-with_last config waiting request Default own count h = record {
+AreAdmitted-with_last config waiting request Default it h = record {
   system = h.system;
-  default_ = All-push (IsAdmitted config Default) waiting.default_ request h.default_ (record { own = own; count = count });
+  default_ = All-push (IsAdmitted config Default) waiting.default_ request h.default_ it;
   batch = h.batch;
 }
-AreAdmitted-with_last config waiting request Batch own count h = record {
+AreAdmitted-with_last config waiting request Batch it h = record {
   system = h.system;
   default_ = h.default_;
-  batch = All-push (IsAdmitted config Batch) waiting.batch request h.batch (record { own = own; count = count });
+  batch = All-push (IsAdmitted config Batch) waiting.batch request h.batch it;
 }
 
 AreAdmitted-without_oldest : {T : Type 0} (config : QueueConfig) (waiting : Requests T) → AreAdmitted config waiting
@@ -96,7 +100,7 @@ pub IsQueue-pushed_out : {T : Type 0} (queue : Queue T) (request : Req T) → Is
     → IsQueue (record queue { waiting = without_oldest (with_last queue.waiting request request.priority) })
 IsQueue-pushed_out queue request h let_in full =
     let own : AreAdmitted queue.config queue.waiting = record { system = h.system; default_ = h.default_; batch = h.batch } in
-    let grown = AreAdmitted-with_last queue.config queue.waiting request request.priority refl let_in.count own in
+    let grown = AreAdmitted-with_last queue.config queue.waiting request request.priority (is_admitted queue request let_in) own in
     let kept = AreAdmitted-without_oldest queue.config (with_last queue.waiting request request.priority) grown in
     let longer = length_row-with_last queue.waiting request request.priority in
     let shorter = length_row-without_oldest (with_last queue.waiting request request.priority) (some_lowest queue.waiting request request.priority (let_in.room full)) in
@@ -115,10 +119,10 @@ lowest_of waiting System some = grind (arith, nat_tests, length-append waiting.b
 lowest_of waiting Default some = grind (arith, nat_tests)
 lowest_of waiting Batch some = cc
 
-admitted_at : {T : Type 0} (queue : Queue T) (request : Req T) (waiting : Requests T) → IsQueue queue → is_count queue.config request.priority request.count ≡ true
+admitted_at : {T : Type 0} (queue : Queue T) (request : Req T) (waiting : Requests T) → IsQueue queue → IsLetIn queue request
     → AreAdmitted queue.config waiting → length (row waiting) < queue.config.room → IsQueue (record queue { waiting = with_last waiting request request.priority })
-admitted_at queue request waiting h count own room =
-    let kept = AreAdmitted-with_last queue.config waiting request request.priority refl count own in
+admitted_at queue request waiting h let_in own room =
+    let kept = AreAdmitted-with_last queue.config waiting request request.priority (is_admitted queue request let_in) own in
     let longer = length_row-with_last waiting request request.priority in
     record {
       config = h.config;
@@ -135,10 +139,10 @@ admitted_by queue request true full h let_in =
     let own : AreAdmitted queue.config queue.waiting = record { system = h.system; default_ = h.default_; batch = h.batch } in
     let shorter = length_row-without_oldest queue.waiting (lowest_of queue.waiting request.priority (let_in.room full)) in
     let room = h.room in
-    admitted_at queue request (without_oldest queue.waiting) h let_in.count (AreAdmitted-without_oldest queue.config queue.waiting own) (omega arith)
+    admitted_at queue request (without_oldest queue.waiting) h let_in (AreAdmitted-without_oldest queue.config queue.waiting own) (omega arith)
 admitted_by queue request false full h let_in =
     let own : AreAdmitted queue.config queue.waiting = record { system = h.system; default_ = h.default_; batch = h.batch } in
-    admitted_at queue request queue.waiting h let_in.count own (grind (arith, nat_tests, h.room))
+    admitted_at queue request queue.waiting h let_in own (grind (arith, nat_tests, h.room))
 
 pub IsQueue-admitted : {T : Type 0} (queue : Queue T) (request : Req T) → IsQueue queue → refusal_of queue request ≡ None → IsQueue (admitted queue request)
 IsQueue-admitted queue request h none = admitted_by queue request (is_full queue) refl h (let_in queue request none)

@@ -66,7 +66,7 @@ not_both queue request left is goes none =
       | inr stays ↦ (let both : true ≡ false = sym goes ∙ ap (λ some. may_start queue.config queue.budgets request.priority some) (sym sum) ∙ stays in cc)
     ]
 
-started : {T : Type 0} (queue : Queue T) (request : Req T) (left : List (Req T)) → row queue.waiting ≡ request ∷ left
+pub started : {T : Type 0} (queue : Queue T) (request : Req T) (left : List (Req T)) → row queue.waiting ≡ request ∷ left
     → may_start queue.config queue.budgets request.priority request.count ≡ true → 0 < length (window queue)
 started queue request left is goes =
     elim (cases_Bool (length (window queue) == 0)) [
@@ -75,7 +75,7 @@ started queue request left is goes =
     ]
 
 -- The first of the row may start where nothing is missing.
-may_by_limit : (limit budget count : ℕ) → count ≤ MAX_BURST → can_start limit budget count ≡ nat_le (count * RATE_WINDOW - (limit * RATE_WINDOW + budget)) 0
+pub may_by_limit : (limit budget count : ℕ) → count ≤ MAX_BURST → can_start limit budget count ≡ nat_le (count * RATE_WINDOW - (limit * RATE_WINDOW + budget)) 0
 may_by_limit limit budget count small = grind (arith, nat_tests)
 
 normal_suffices : (limit budget count : ℕ) → limit ≤ MAX_BURST → count ≤ limit → can_start limit budget count ≡ true
@@ -97,7 +97,7 @@ pub after_idle : {T : Type 0} (elapsed : ℕ) (queue : Queue T) → window queue
 after_idle elapsed queue idle = rw idle refl
 
 -- What is missing falls by what the limit grants.
-cut_missing : (elapsed limit budget count : ℕ) → count ≤ MAX_BURST
+pub cut_missing : (elapsed limit budget count : ℕ) → count ≤ MAX_BURST
     → count * RATE_WINDOW - (limit * RATE_WINDOW + cut false (budget_after elapsed limit 0 budget)) ≡ count * RATE_WINDOW - (limit * RATE_WINDOW + budget) - elapsed * limit
 cut_missing elapsed limit budget count small = grind (arith)
 
@@ -112,7 +112,7 @@ next_missing : {T : Type 0} (elapsed : ℕ) (queue : Queue T) (request : Req T) 
     → missing (waited elapsed queue) request ≡ missing queue request - elapsed * limit_of queue.config request.priority
 next_missing elapsed queue request left h = falls elapsed queue request request.priority h.config h.sure h.waiting
 
-not_none : (n : ℕ) → 0 < n → nat_le n 0 ≡ false
+pub not_none : (n : ℕ) → 0 < n → nat_le n 0 ≡ false
 not_none n some = grind (arith, nat_tests)
 
 idle_where : {T : Type 0} (queue : Queue T) (request : Req T) (left : List (Req T)) → IsHead queue request left → 0 < missing queue request → window queue ≡ []
@@ -126,7 +126,7 @@ still_head elapsed queue request left h = record { row_is = h.row_is; config = h
 
 -- ---- how many windows start nothing
 
-each_before : {T : Type 0} (elapsed : ℕ) (queue : Queue T) (count : ℕ) → window queue ≡ [] → StartsAfter elapsed (after_window elapsed queue) count
+pub each_before : {T : Type 0} (elapsed : ℕ) (queue : Queue T) (count : ℕ) → window queue ≡ [] → StartsAfter elapsed (after_window elapsed queue) count
     → (before : ℕ) → before < suc count → window (after_windows elapsed before queue) ≡ []
 each_before elapsed queue count idle rest zero less = idle
 each_before elapsed queue count idle rest (suc before) less = rest.idle before (omega arith)

@@ -1,21 +1,23 @@
 -- What a queue keeps to. (this product's own)
-use Rattle.std.specs.Prelude.{ℕ, ◌*◌, ◌≤◌, ◌≡◌, true, All, length}
+use Rattle.std.specs.Prelude.{ℕ, ◌*◌, ◌≤◌, ◌≡◌, true, false, All, length}
 use Rattle.fdb_history.specs.declared.grv.Priority.{Priority}
 use Rattle.fdb_history.specs.declared.grv.Priority.TheVariants.{System, Default, Batch}
 use Rattle.fdb_queue.specs.declared.budgets.Budgets.{Budgets}
 use Rattle.fdb_queue.specs.declared.config.TheConstants.{MAX_BURST, RATE_WINDOW}
 use Rattle.fdb_queue.specs.declared.config.QueueConfig.{QueueConfig}
 use Rattle.fdb_queue.specs.declared.request.Req.{Req}
-use Rattle.fdb_queue.specs.Admission.{is_count}
+use Rattle.fdb_queue.specs.Admission.{is_count, is_throttled}
 use Rattle.fdb_queue.specs.Config.{IsConfig}
 use Rattle.fdb_queue.specs.Queue.{Queue}
 use Rattle.fdb_queue.specs.Waiting.{row}
 
--- a request has the priority of its list and a count that is admitted
+-- A request has the priority of its list and a count that is admitted, and its limit is not 0: a
+-- batch request never waits where no batch request is let in.
 pub record IsAdmitted {T : Type 0} (config : QueueConfig) (priority : Priority)
     (request : Req T) : Type 0 where
   pub own : request.priority ≡ priority
   pub count : is_count config priority request.count ≡ true
+  pub unthrottled : is_throttled config priority ≡ false
 
 -- a budget does not exceed the greatest burst
 abbrev pub IsBudget : ℕ → Type 0

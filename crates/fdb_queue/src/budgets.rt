@@ -1,6 +1,7 @@
 //! The budgets of the two rates.
 
-ghost use Rattle.std.specs.Prelude.{◌≡◌, ◌≤◌, ◌<◌, ◌*◌, ◌^◌, ℕ};
+ghost use Rattle.std.specs.Prelude.{◌≡◌, ◌≤◌, ◌*◌, ◌^◌};
+ghost use Rattle.std.specs.Int.{div_ceil};
 ghost use Rattle.fdb_queue.specs.Budgets.{can_start, budget_after, cut};
 ghost use Rattle.fdb_queue.specs.Config.{IsElapsed};
 ghost use Rattle.fdb_queue.specs.Kept.{IsBudget};
@@ -64,19 +65,16 @@ pub(crate) fn after_idle(windows: u64, elapsed: u64, limit: u64, budget: u64, id
         .min(burst * RATE_WINDOW)
 }
 
-/// A number of windows for all of which a rate holds so many transactions back.
+/// How many windows a rate holds so many transactions back, if they start nothing and do not cut
+/// its budget.
 pub(crate) fn windows_held(elapsed: u64, limit: u64, budget: u64, transactions: u64) -> u64
     requires elapsed { IsElapsed elapsed }
+    requires grants { 1 ≤ limit }
     requires limit { limit ≤ MAX_RATE }
     requires budget { IsBudget budget }
     requires transactions { transactions ≤ MAX_COUNT }
-    ensures { (before : ℕ) → before < result
-        → before * (elapsed * limit) < lacking limit budget transactions }
+    ensures { result ≡ div_ceil (lacking limit budget transactions) (elapsed * limit) }
 {
-    let granted = elapsed * limit;
-    if granted == 0 {
-        return 0;
-    }
     let lacking = (transactions * RATE_WINDOW).saturating_sub(limit * RATE_WINDOW + budget);
-    lacking.div_ceil(granted)
+    lacking.div_ceil(elapsed * limit)
 }

@@ -237,20 +237,23 @@ impl<T> GrvQueue<T> {
         Some(missing.div_ceil(elapsed * limit))
     }
 
-    /// Holds at once the windows of `elapsed` microseconds that start nothing before
-    /// the head of the row may start, with no offer between them, and answers how many
-    /// they are. Where the head is sure to start, the next window starts it: they are
-    /// as many as [`GrvQueue::waits`] says. It takes constant time and no memory.
+    /// Holds at once the windows of `elapsed` microseconds that start nothing before the head of
+    /// the row starts, with no offer between them, and answers how many they are: the next window
+    /// starts it, whatever its priority. Where [`GrvQueue::waits`] tells a number, it is the same.
+    /// It takes constant time and no memory.
     ///
-    /// It holds none in an empty row, where the head is a system request, which any window starts,
+    /// It holds none where the head is a system request, which any window starts, in an empty row,
     /// and for a time out of range.
     pub fn skip_idle(&mut self, elapsed: u64) -> u64
         ensures idle { (before : ℕ) → before < result
             → window (after_windows elapsed before self.old) ≡ [] }
         ensures after { self.new ≡ after_windows elapsed result self.old }
-        ensures exact { IsElapsed elapsed → IfSome (first (row self.old.waiting)) (λ head.
-            IsSure self.old.config head.priority head.count
-            → StartsAfter elapsed self.old result) }
+        ensures exact { IsElapsed elapsed
+            → IfSome (first (row self.old.waiting)) (λ _. StartsAfter elapsed self.old result) }
+        ensures system { IfSome (first (row self.old.waiting))
+            (λ head. head.priority ≡ Priority.System → result ≡ 0) }
+        ensures empty { row self.old.waiting ≡ [] → result ≡ 0 }
+        ensures out_of_range { ((elapsed ≡ 0) ⊎ (MAX_ELAPSED < elapsed)) → result ≡ 0 }
     {
         if !config::is_elapsed(elapsed) {
             return 0;
@@ -277,38 +280,29 @@ impl<T> GrvQueue<T> {
         windows
     }
 
-    /// How many windows start nothing before the head of the row may start.
+    /// How many windows start nothing before one starts the head of the row, and none in an empty
+    /// row. A batch request waits until neither rate holds it.
     fn idle_windows(&self, elapsed: u64) -> u64
         requires { IsElapsed elapsed }
-        ensures idle { (before : ℕ) → before < result
-            → window (after_windows elapsed before self.now) ≡ [] }
-        ensures exact { IfSome (first (row self.now.waiting)) (λ head.
-            IsSure self.now.config head.priority head.count
-            → StartsAfter elapsed self.now result) }
-    {
-        match self.waits(elapsed) {
-            Some(windows) => windows,
-            None => self.windows_both_hold(elapsed),
-        }
-    }
-
-    /// How many windows start nothing while both rates may hold a batch request at the head of the
-    /// row, and none where no such one is there.
-    fn windows_both_hold(&self, elapsed: u64) -> u64
-        requires { IsElapsed elapsed }
-        ensures { (before : ℕ) → before < result
-            → window (after_windows elapsed before self.now) ≡ [] }
+        ensures exact { IfSome (first (row self.now.waiting))
+            (λ _. StartsAfter elapsed self.now result) }
+        ensures system { IfSome (first (row self.now.waiting))
+            (λ head. head.priority ≡ Priority.System → result ≡ 0) }
+        ensures empty { row self.now.waiting ≡ [] → result ≡ 0 }
     {
         let Some(head) = self.waiting.head() else {
             return 0;
         };
-        if head.priority != Priority::Batch {
-            return 0;
-        }
         let (config, budgets) = (self.config, self.budgets);
         let normal = budgets::windows_held(elapsed, config.normal, budgets.normal, head.count);
-        let batch = budgets::windows_held(elapsed, config.batch, budgets.batch, head.count);
-        normal.max(batch)
+        match head.priority {
+            Priority::System => 0,
+            Priority::Default => normal,
+            Priority::Batch => {
+                let batch = budgets::windows_held(elapsed, config.batch, budgets.batch, head.count);
+                normal.max(batch)
+            }
+        }
     }
 
     /// The limit and the budget of the rate that alone holds a request at the head of the row, if

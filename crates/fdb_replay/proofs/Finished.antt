@@ -12,7 +12,8 @@ use Rattle.fdb_history.specs.declared.log.ClientLog.{ClientLog}
 use Rattle.fdb_history.specs.declared.register.Record.{Record}
 use Rattle.fdb_live.specs.Gathering.{AreNumbered}
 use Rattle.fdb_live.specs.declared.change.Change.{Change}
-use Rattle.fdb_replay.specs.private.Rounds.{HaveNumbers, logs_of, numbers_of}
+use Rattle.fdb_client.specs.Settling.{HaveNumbers, logs_of}
+use Rattle.fdb_replay.specs.private.Rounds.{numbers_of}
 
 -- ---- new clients
 
@@ -85,35 +86,3 @@ numbers_kept before after same have k client is =
 pub all_yielded : {X : Type 0} (yielded rest all : List X) → length rest ≡ 0 → yielded ++ rest ≡ all → yielded ≡ all
 all_yielded yielded [] all none whole = sym (append-nil yielded) ∙ whole
 all_yielded yielded (x ∷ rest) all none whole = absurd (omega (arith, none))
-
--- A client began before any change, and its calls agree with its token.
-pub record IsSettled (start : Record) (client : Account) : Type 0 where
-  pub begun : client.begun ≡ 0
-  pub agrees : Agrees start client
-
-at_each : {X : Type 0} (P : X → Type 0) (xs : List X) (k : ℕ) (x : X) → AllByRecursion P xs → slice_get xs k ≡ Some x → P x
-at_each P [] k x all is = absurd cc
-at_each P (y ∷ xs) zero x all is =
-    let this : y ≡ x = cc in
-    subst P this all.0
-at_each P (y ∷ xs) (suc k) x all is = at_each P xs k x all.1 is
-
-pub one_more : {X : Type 0} (P : X → Type 0) (xs : List X) (x : X) → AllByRecursion P xs → P x → AllByRecursion P (xs ++ x ∷ [])
-one_more P [] x all one = (one, tt)
-one_more P (y ∷ xs) x all one = (all.0, one_more P xs x all.1 one)
-
-pub are_numbered : (clients : List Account) → HaveNumbers clients → AreNumbered (map sight clients)
-are_numbered clients have k token is =
-    let own = at_map sight clients k token is in
-    sym (ap (λ one. one.reporter) own.2) ∙ ap Some (have k own.0 own.1)
-
-said : (start : Record) (client : Account) (number begun : ℕ) (calls : List Call) (changes : List Change) → client.number ≡ number → client.begun ≡ begun → client.calls ≡ calls → client.changes ≡ changes
-    → Agrees start client → Agrees start (record { number = number; begun = begun; calls = calls; changes = changes })
-said start client number begun calls changes a b c d agrees = rw (← a, ← b, ← c, ← d) agrees
-
-pub all_agree : (start : Record) (clients : List Account) → HaveNumbers clients → AllByRecursion (IsSettled start) clients → AllAgree start (logs_of clients) (map sight clients)
-all_agree start clients have all k token is =
-    let own = at_map sight clients k token is in
-    let settled = at_each (IsSettled start) clients k own.0 all own.1 in
-    let calls : calls_of (logs_of clients) k ≡ own.0.calls = rw (slice_get-map {B = ClientLog} (λ (client : Account). record { calls = client.calls }) clients k, own.1) refl in
-    said start own.0 k 0 (calls_of (logs_of clients) k) token.changes (have k own.0 own.1) settled.begun (sym calls) (ap (λ one. one.changes) own.2) settled.agrees

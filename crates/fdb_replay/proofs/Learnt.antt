@@ -10,7 +10,8 @@ use Rattle.fdb_history.specs.declared.log.Call.{Call}
 use Rattle.fdb_history.specs.declared.log.ClientLog.{ClientLog}
 use Rattle.fdb_history.specs.declared.log.Input.{Input}
 use Rattle.fdb_history.specs.declared.log.Input.TheVariants as input
-use Rattle.fdb_replay.specs.private.Rounds.{Tell, all_tells, logs_of, numbers_of, teach, tells_in}
+use Rattle.fdb_client.specs.Settling.{logs_of}
+use Rattle.fdb_replay.specs.private.Rounds.{Tell, all_tells, numbers_of, teach, tells_in}
 use Rattle.fdb_script.specs.Answering.{Told, added_calls, learnt_from, learns, told_from, tells}
 
 abbrev told_of : Tell → Told

@@ -5,7 +5,8 @@ use Rattle.std.proofs.lemmas.List.{length-map}
 use Rattle.fdb_client.specs.Account.{Account}
 use Rattle.fdb_history.specs.Log.{calls_of}
 use Rattle.fdb_history.specs.declared.log.ClientLog.{ClientLog}
-use Rattle.fdb_replay.specs.private.Rounds.{IsPlayed, PerformsFrom, Tell, all_tells, logs_of}
+use Rattle.fdb_client.specs.Settling.{logs_of}
+use Rattle.fdb_replay.specs.private.Rounds.{IsPlayed, PerformsFrom, Tell, all_tells}
 use Rattle.fdb_replay.proofs.Parts.{same_clients}
 use Rattle.fdb_script.specs.Answering.{AnswersCommand, AnswersRound, added_calls, commands_of, learnt_from}
 use Rattle.fdb_script.specs.declared.script.Command.{Command}

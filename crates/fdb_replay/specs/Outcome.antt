@@ -1,9 +1,10 @@
 -- What a run promises of its outcome. (this product's own)
-use Rattle.std.specs.Prelude.{◌≡◌, ℕ, false, None, List}
+use Rattle.std.specs.Prelude.{◌≡◌, ℕ, ◌≤◌, ◌∷◌, All, false, None, List}
 use Rattle.fdb_history.specs.Audit.{IsFirstFault, IsOfAnAnswer, Low}
 use Rattle.fdb_history.specs.Chain.{IsChain}
 use Rattle.fdb_history.specs.Explained.{explained}
 use Rattle.fdb_history.specs.Faults.{Nowhere}
+use Rattle.fdb_history.specs.Laws.{reports_of}
 use Rattle.fdb_history.specs.Linear.{IsLinear}
 use Rattle.fdb_history.specs.Strays.{IsStray}
 use Rattle.fdb_history.specs.declared.chain.Issued.{Issued}
@@ -30,6 +31,10 @@ pub record IsRunOf (plan : Plan) (outcome : Outcome) : Type 0 where
   pub one_chain : IsChain plan.setup.epoch_end plan.setup.recovery outcome.chain.items
   -- the replies are those of one register that takes reports and reads one at a time
   pub linear : IsLinear (opening plan.setup.recovery) outcome.logs.items outcome.history.events
+  -- no report of it tells of a minimum known committed version above its own version, nor does
+  -- the record before any report
+  pub minima : All (λ rec. rec.min_known ≤ rec.version)
+      (opening plan.setup.recovery ∷ reports_of outcome.history.events)
   -- the history is in the fixed order
   pub in_order : outcome.history.events ≡ explained outcome.logs.items
   -- each answer is justified by its input, the chain and its

@@ -4,15 +4,15 @@ ghost use Rattle.std.specs.Prelude.{◌≡◌, ◌<◌, ◌≤◌, ℕ, [], IfOk
 ghost use Rattle.std.specs.Prelude.{vec_len};
 ghost use Rattle.std.specs.List.{FoldsTo};
 ghost use Rattle.fdb_client.specs.Account.{new_account};
-ghost use Rattle.fdb_replay.specs.private.Rounds.{logs_of};
+ghost use Rattle.fdb_client.specs.Settling.{logs_of};
 ghost use Rattle.fdb_script.specs.Answering.{AnswersRound};
 
 use crate::player::Player;
 use crate::rounds::play_rounds;
 use crate::world::World;
-use fdb_client::Client;
-use fdb_history::{ClientLog, Gate, Sequence};
-use fdb_live::{Live, Seen};
+use fdb_client::{Client, Cluster, FinishError, Finished};
+use fdb_history::{Gate, Sequence};
+use fdb_live::Live;
 use fdb_script::Command;
 use std::alloc::{AllocError, Global};
 use std::marker::Model;
@@ -29,38 +29,13 @@ pub(crate) struct Clients<'a, J: Live> {
 impl<'a, J: Live> Model for Clients<'a, J> {
     ghost use Rattle.std.specs.Prelude.{List};
     ghost use Rattle.fdb_client.specs.Account.{Account};
-    ghost use Rattle.fdb_replay.specs.private.Rounds.{HaveNumbers};
+    ghost use Rattle.fdb_client.specs.Settling.{HaveNumbers};
 
     ghost Value = { List Account };
 
     ghost view = { λ clients. clients.players.items };
 
     ghost invariant = { λ clients. HaveNumbers clients.players.items };
-}
-
-/// What the clients of a run leave: their logs, each at the place of its client's number, and beside
-/// each the token that it agrees with.
-///
-/// Contracts see it as the logs.
-#[derive(Drop)]
-pub(crate) struct Finished<J: Live> {
-    pub(crate) logs: Vec<ClientLog>,
-    pub(crate) tokens: Vec<Seen<J>>,
-}
-
-impl<J: Live> Model for Finished<J> {
-    ghost use Rattle.std.specs.Prelude.{◌≡◌, List, length};
-    ghost use Rattle.fdb_client.specs.Settling.{AllAgree};
-    ghost use Rattle.fdb_history.specs.declared.log.ClientLog.{ClientLog};
-    ghost use Rattle.fdb_live.specs.Gathering.{AreNumbered};
-
-    ghost Value = { List ClientLog };
-
-    ghost view = { λ finished. finished.logs.items };
-
-    ghost invariant = { λ finished. (length finished.tokens.items ≡ length finished.logs.items)
-        × AreNumbered finished.tokens.items
-        × AllAgree J.start finished.logs.items finished.tokens.items };
 }
 
 impl<'a, J: Live + Send + Sync> Clients<'a, J> {
@@ -87,8 +62,9 @@ impl<'a, J: Live + Send + Sync> Clients<'a, J> {
         rounds: &[Sequence<Command>],
     ) -> Result<(), AllocError>
         requires { length self.old ≤ 64 }
-        ensures { OnOk result
+        ensures played { OnOk result
             (FoldsTo AnswersRound (logs_of self.old) rounds.now (logs_of self.new)) }
+        ensures count { OnOk result (length self.new ≡ length self.old) }
     {
         let players = mem::replace(&mut self.players, Vec::new(alloc));
         let Ok(players) = play_rounds(rt, alloc, world, players, rounds) else {
@@ -98,18 +74,24 @@ impl<'a, J: Live + Send + Sync> Clients<'a, J> {
         Ok(())
     }
 
-    /// What the clients leave.
-    pub(crate) fn finish(self, alloc: Global) -> Result<Finished<J>, AllocError>
+    /// What the clients leave. It fails only where memory runs out.
+    pub(crate) fn finish(
+        self,
+        alloc: Global,
+        cluster: &Cluster<'_, J>,
+    ) -> Result<Finished<J>, AllocError>
+        requires { length self ≡ J.reporters }
         ensures { IfOk result (λ finished. finished ≡ logs_of self.entry) }
     {
         let Clients { players } = self;
-        let mut logs = Vec::new(alloc);
-        let mut tokens = Vec::new(alloc);
+        let mut clients = Vec::with_capacity(alloc, players.len())?;
         for player in players {
-            let (log, token) = player.finish();
-            logs.push(log)?;
-            tokens.push(token)?;
+            clients.push_reserved(player.into_client());
         }
-        Ok(Finished { logs, tokens })
+        match cluster.finish(alloc, clients) {
+            Ok(finished) => Ok(finished),
+            Err(FinishError::Memory) => Err(AllocError),
+            Err(FinishError::Astray) => unreachable!(),
+        }
     }
 }

@@ -1,8 +1,6 @@
 //! A client of a run.
 
 ghost use Rattle.std.specs.Prelude.{◌≡◌, ◌≢◌, ◌+◌, ◌++◌, [], Err, true, false, OnOk, length};
-ghost use Rattle.fdb_client.specs.Account.{sight};
-ghost use Rattle.fdb_client.specs.Agreeing.{Agrees};
 ghost use Rattle.fdb_history.specs.Log.{fresh_answers};
 ghost use Rattle.fdb_history.specs.declared.log.Input.TheVariants as input;
 ghost use Rattle.fdb_replay.specs.private.Rounds.{CallsOnce, tells_since};
@@ -11,8 +9,8 @@ ghost use Rattle.fdb_script.specs.Answering.{input_of, learns};
 use crate::tell::Tell;
 use crate::world::World;
 use fdb_client::{Client, ClientError};
-use fdb_history::{ClientLog, Gate, GrvOpts};
-use fdb_live::{Live, Seen};
+use fdb_history::{Gate, GrvOpts};
+use fdb_live::Live;
 use fdb_script::Act;
 use std::alloc::AllocError;
 use std::marker::Model;
@@ -51,15 +49,12 @@ impl<'a, J: Live> Player<'a, J> {
         Player { client, reads: 0 }
     }
 
-    /// Its log and its token, which agree with one another.
-    pub(crate) fn finish(self) -> (ClientLog, Seen<J>)
-        ensures log { result.0 ≡ record { calls = self.entry.calls } }
-        ensures seen { result.1 ≡ sight self.entry }
-        ensures begun { self.entry.begun ≡ 0 }
-        ensures agrees { Agrees J.start self.entry }
+    /// The client that it is.
+    pub(crate) fn into_client(self) -> Client<'a, J>
+        ensures { result ≡ self.entry }
     {
         let Player { client, reads: _ } = self;
-        client.finish()
+        client
     }
 
     /// Does what a command says, as the client with this number. What it tells
@@ -101,7 +96,7 @@ impl<'a, J: Live> Player<'a, J> {
         ensures { OnOk result (CallsOnce self.old (input.Grv opts.now) self.new) }
     {
         let opts = opts.clone()?;
-        let desk = world.route(number, self.reads);
+        let desk = world.cluster.desk(world.route(number, self.reads));
         let answer = self.client.read_version(rt, world.gate, desk, opts);
         if !is_logged(&answer) {
             return Err(AllocError);

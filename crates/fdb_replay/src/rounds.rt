@@ -4,7 +4,8 @@ ghost use Rattle.std.specs.Prelude.{◌≡◌, ◌+◌, ◌++◌, ◌≤◌, ◌
 ghost use Rattle.std.specs.Prelude.{length, fold, slice_index_or, vec_len};
 ghost use Rattle.std.specs.List.{FoldsTo};
 ghost use Rattle.std.specs.Thread.{IsSync, IsSend};
-ghost use Rattle.fdb_replay.specs.private.Rounds.{IsPlayed, logs_of, numbers_of, teach};
+ghost use Rattle.fdb_client.specs.Settling.{logs_of};
+ghost use Rattle.fdb_replay.specs.private.Rounds.{IsPlayed, numbers_of, teach};
 ghost use Rattle.fdb_replay.specs.private.Rounds.{tells_since};
 ghost use Rattle.fdb_script.specs.Answering.{AnswersCommand, AnswersRound, commands_of};
 

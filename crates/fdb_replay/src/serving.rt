@@ -1,13 +1,13 @@
 //! The GRV proxies of a run, which serve while its rounds are played.
 
-ghost use Rattle.std.specs.Prelude.{◌≤◌, IfOk, length};
+ghost use Rattle.std.specs.Prelude.{◌≡◌, ◌≤◌, IfOk, length};
 ghost use Rattle.std.specs.List.{FoldsTo};
-ghost use Rattle.fdb_replay.specs.private.Rounds.{logs_of};
+ghost use Rattle.fdb_client.specs.Settling.{logs_of};
 ghost use Rattle.fdb_script.specs.Answering.{AnswersRound};
 
-use crate::clients::{Clients, Finished};
+use crate::clients::Clients;
 use crate::world::World;
-use fdb_client::serve_while;
+use fdb_client::{Finished, Served, serve_while};
 use fdb_history::{Gate, Sequence};
 use fdb_live::{Live, Seen};
 use fdb_script::Command;
@@ -24,25 +24,27 @@ pub(crate) fn served<J: Live + Send + Sync, R: Threads + Wait + Sync, G: Gate>(
     rt: &R,
     alloc: Global,
     world: &World<'_, J, G>,
-    first: Seen<J>,
+    first: &mut Seen<J>,
     clients: Clients<'_, J>,
     rounds: &[Sequence<Command>],
 ) -> Result<Finished<J>, AllocError>
-    requires { length clients ≤ 64 }
+    requires few { length clients ≤ 64 }
+    requires count { length clients ≡ J.reporters }
     ensures { IfOk result (FoldsTo AnswersRound (logs_of clients.entry) rounds.now) }
 {
-    let (played, all_served) = serve_while(
+    let Served { output, ends } = serve_while(
         rt,
         alloc,
         world.cluster,
         first,
         move || -> Result<Finished<J>, AllocError>
-            requires { length clients ≤ 64 }
+            requires few { length clients ≤ 64 }
+            requires count { length clients ≡ J.reporters }
             ensures { IfOk result
                 (FoldsTo AnswersRound (logs_of clients.entry) rounds.entry.now) }
         { played(rt, alloc, world, clients, rounds) },
     )?;
-    if all_served { played } else { Err(AllocError) }
+    if ends.all_served() { output } else { Err(AllocError) }
 }
 
 /// What the clients leave, once all rounds are played.
@@ -53,9 +55,10 @@ fn played<J: Live + Send + Sync, R: Threads + Wait + Sync, G: Gate>(
     mut clients: Clients<'_, J>,
     rounds: &[Sequence<Command>],
 ) -> Result<Finished<J>, AllocError>
-    requires { length clients ≤ 64 }
+    requires few { length clients ≤ 64 }
+    requires count { length clients ≡ J.reporters }
     ensures { IfOk result (FoldsTo AnswersRound (logs_of clients.entry) rounds.now) }
 {
     clients.play(rt, alloc, world, rounds)?;
-    clients.finish(alloc)
+    clients.finish(alloc, world.cluster)
 }

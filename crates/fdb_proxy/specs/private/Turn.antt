@@ -8,7 +8,7 @@ use Rattle.fdb_queue.specs.declared.request.Req.{Req}
 use Rattle.fdb_queue.specs.Admission.{refusal_of, admitted, pushed_out}
 use Rattle.fdb_queue.specs.Queue.{Queue}
 use Rattle.fdb_queue.specs.Waiting.{first, nothing, row}
-use Rattle.fdb_queue.specs.Waits.{IsSure, after_windows}
+use Rattle.fdb_queue.specs.Waits.{after_windows}
 use Rattle.fdb_queue.specs.Window.{window, after_window}
 
 -- A queue while requests are offered to it, and those that it turned away so far, in order.
@@ -68,11 +68,10 @@ pub record HasReady {T : Type 0}
   pub ready : IsReady elapsed before offered turned_away after
   pub starts : 0 < length (window after)
 
--- Where nobody was offered and the head of the row is sure to start, so many requests are some.
-abbrev pub StartsSure : {T : Type 0} → Queue T → List (Req T) → ℕ → Type 0
-StartsSure before offered started = offered ≡ []
-    → IfSome (first (row before.waiting))
-    (λ head. IsSure before.config head.priority head.count → 0 < started)
+-- Where nobody was offered and somebody waits, so many requests are some.
+abbrev pub StartsSome : {T : Type 0} → Queue T → List (Req T) → ℕ → Type 0
+StartsSome before offered started =
+    offered ≡ [] → IfSome (first (row before.waiting)) (λ _. 0 < started)
 
 -- A turn of a proxy: each of some requests is offered to its queue, in order, and
 -- then one window is held; where nobody is offered, the windows before that start

@@ -18,15 +18,6 @@ pub record Tell : Type 0 where
   pub from : ℕ
   pub position : ℕ
 
--- the logs of clients
-abbrev pub logs_of : List Account → List ClientLog
-logs_of clients = map (λ client. record { calls = client.calls }) clients
-
--- each client has the number of its place
-abbrev pub HaveNumbers : List Account → Type 0
-HaveNumbers clients =
-    (k : ℕ) (client : Account) → slice_get clients k ≡ Some client → client.number ≡ k
-
 -- the clients' numbers
 abbrev pub numbers_of : List Account → List ℕ
 numbers_of clients = map (λ client. client.number) clients

@@ -5,4 +5,4 @@ abbrev pub ghosts-run_named-J-Live : goal.ghosts-run_named-J-Live
 ghosts-run_named-J-Live g a = record { table = a.opened.origin.table }
 
 abbrev pub ghosts-run_named-J-Service : goal.ghosts-run_named-J-Service
-ghosts-run_named-J-Service g a = record { epoch_end = a.opened.epoch_end; recovery = a.opened.recovery; start = a.opened.origin.start; reporters = a.opened.origin.reporters }
+ghosts-run_named-J-Service g a = record { epoch_end = a.opened.config.epoch_end; recovery = a.opened.config.start.version; start = a.opened.origin.start; reporters = a.opened.origin.reporters }

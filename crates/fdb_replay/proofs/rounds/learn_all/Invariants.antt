@@ -1,5 +1,6 @@
 use Rattle.std.proofs.Common.{◌≡◌, fold}
-use Rattle.fdb_replay.specs.private.Rounds.{logs_of, numbers_of, teach}
+use Rattle.fdb_client.specs.Settling.{logs_of}
+use Rattle.fdb_replay.specs.private.Rounds.{numbers_of, teach}
 use Rattle.fdb_replay.proofs.rounds.learn_all.Given as goal
 
 -- what was yielded is learnt

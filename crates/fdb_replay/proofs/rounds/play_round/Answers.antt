@@ -1,5 +1,6 @@
 use Rattle.std.proofs.Common.{fold, sym, subst, ◌∙◌}
-use Rattle.fdb_replay.specs.private.Rounds.{IsPlayed, logs_of, teach}
+use Rattle.fdb_client.specs.Settling.{logs_of}
+use Rattle.fdb_replay.specs.private.Rounds.{IsPlayed, teach}
 use Rattle.fdb_script.specs.Answering.{AnswersRound}
 use Rattle.fdb_replay.proofs.Learnt.{learnt}
 use Rattle.fdb_replay.proofs.Performed.{round_answered}

@@ -1,5 +1,5 @@
 use Rattle.std.proofs.Common.{◌<◌, length, subst, ◌∙◌, arith}
-use Rattle.fdb_replay.specs.private.Rounds.{logs_of}
+use Rattle.fdb_client.specs.Settling.{logs_of}
 use Rattle.fdb_script.specs.Answering.{AnswersRound}
 use Rattle.fdb_replay.proofs.Runs.{one_round_more}
 use Rattle.fdb_replay.proofs.rounds.play_rounds.Goals as goal

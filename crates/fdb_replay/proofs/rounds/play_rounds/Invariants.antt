@@ -1,7 +1,8 @@
 use Rattle.std.proofs.Common.{◌≡◌, List, drop}
 use Rattle.std.specs.List.{FoldsTo}
 use Rattle.fdb_history.specs.declared.log.ClientLog.{ClientLog}
-use Rattle.fdb_replay.specs.private.Rounds.{logs_of, numbers_of}
+use Rattle.fdb_client.specs.Settling.{logs_of}
+use Rattle.fdb_replay.specs.private.Rounds.{numbers_of}
 use Rattle.fdb_script.specs.Answering.{AnswersRound}
 use Rattle.fdb_replay.proofs.rounds.play_rounds.Given as goal
 

@@ -2,7 +2,7 @@ use Rattle.fdb_replay.proofs.running.run.Given as goal
 
 -- the service of the script
 abbrev pub ghosts-run_named-J-Live : goal.ghosts-run_named-J-Live
-ghosts-run_named-J-Live g a = record { table = a.opened.table }
+ghosts-run_named-J-Live g a = record { table = a.opened.origin.table }
 
 abbrev pub ghosts-run_named-J-Service : goal.ghosts-run_named-J-Service
-ghosts-run_named-J-Service g a = record { epoch_end = a.script.now.setup.epoch_end; recovery = a.script.now.setup.recovery; start = a.opened.start; reporters = a.opened.reporters }
+ghosts-run_named-J-Service g a = record { epoch_end = a.opened.config.epoch_end; recovery = a.opened.config.start.version; start = a.opened.origin.start; reporters = a.opened.origin.reporters }
