@@ -10,7 +10,7 @@ mod lines;
 mod many;
 mod refused;
 mod rows;
-mod stand;
+pub mod stand;
 
 use crate::live::steps::unlocked;
 use crate::proxy::crowd::ask_all;
