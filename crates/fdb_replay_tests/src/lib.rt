@@ -7,6 +7,8 @@ mod calls;
 #[cfg(test)]
 mod gated;
 #[cfg(test)]
+mod many;
+#[cfg(test)]
 mod refused_memory;
 #[cfg(test)]
 mod replay;
