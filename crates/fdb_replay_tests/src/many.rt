@@ -56,13 +56,15 @@ fn rounds_of_many_commands_run_side_by_side(rt: HostRuntime) -> Result<(), Fail>
     read_side_by_side(&rt, rt.alloc(), (64, 156), 16)
 }
 
+/// A round in which client 0 raises the record.
+const RAISE: &str = r#"[{"do":"ask","client":0,"at":0},{"do":"ask","client":0,"at":9},
+{"do":"report","client":0,"num":2}]"#;
+
 /// A script in which client 0 raises the record, and in the next round each of so many clients tells
 /// each other so often.
 fn each_tells(alloc: Global, clients: u32, times: u32) -> Result<String, AllocError> {
     let mut text = begun(alloc, clients)?;
-    text.push_str(
-        r#"[{"do":"ask","client":0,"at":0},{"do":"ask","client":0,"at":9},{"do":"report","client":0,"num":2}]"#,
-    )?;
+    text.push_str(RAISE)?;
     let mut part = ",[";
     for from in 0..clients {
         for to in 0..clients {
