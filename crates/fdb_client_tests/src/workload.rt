@@ -261,12 +261,7 @@ struct ChangePlaces;
 impl<R: Wait> Workload<R> for ChangePlaces {
     type Output = ();
 
-    fn start<J: Live>(
-        self,
-        _rt: &R,
-        _cluster: &Cluster<'_, J>,
-        clients: &mut [Client<'_, J>],
-    ) {
+    fn start<J: Live>(self, _rt: &R, _cluster: &Cluster<'_, J>, clients: &mut [Client<'_, J>]) {
         if clients.len() > 1 {
             clients.swap(0, 1);
         }

@@ -34,8 +34,12 @@ pub(crate) fn two_clients<R: Print + Threads + Wait + Sync>(rt: &R, alloc: Globa
         throttles: &[],
         elapsed: 1_000_000,
     };
-    let WorkloadOutcome { output, run, ends } =
-        run_workload(rt, alloc, config, CommitAndRead { alloc })?;
+    let WorkloadOutcome { output, run, ends } = run_workload(
+        rt,
+        alloc,
+        config,
+        CommitAndRead { alloc },
+    )?;
     output?;
     if !ends.all_served() {
         return Err(anyhow!("a GRV proxy ran out of memory"));
@@ -77,8 +81,7 @@ fn commit_and_read<J: Live, R: Print + Wait>(
     cluster: &Cluster<'_, J>,
     writer: &mut Client<'_, J>,
     reader: &mut Client<'_, J>,
-) -> Result<()>
-{
+) -> Result<()> {
     commit(rt, cluster, writer)?;
     tell(rt, writer, reader)?;
     read(rt, alloc, cluster.desk(0), writer)?;
@@ -90,8 +93,7 @@ fn commit<J: Live, R: Print + Wait>(
     rt: &R,
     cluster: &Cluster<'_, J>,
     client: &mut Client<'_, J>,
-) -> Result<()>
-{
+) -> Result<()> {
     client.ask(rt, &OpenGate, cluster.sequencer(), 0, 1_000)?;
     client.ask(rt, &OpenGate, cluster.sequencer(), 0, 3_000)?;
     let ack = client.report(rt, &OpenGate, 2, false, None, 0)?;
@@ -107,8 +109,7 @@ fn tell<J: Live, R: Wait>(
     rt: &R,
     teller: &mut Client<'_, J>,
     learner: &mut Client<'_, J>,
-) -> Result<()>
-{
+) -> Result<()> {
     let told = teller.tell(learner.number())?;
     match learner.learn(rt, teller.number(), told) {
         Ok(()) => Ok(()),
@@ -122,8 +123,7 @@ fn read<J: Live, R: Print + Wait>(
     alloc: Global,
     desk: &Desk<J>,
     client: &mut Client<'_, J>,
-) -> Result<()>
-{
+) -> Result<()> {
     let opts = GrvOpts {
         priority: Priority::Default,
         count: 1,
