@@ -6,6 +6,7 @@ import re
 import traces
 from believed import counts
 from edits import BESIDE, TRIED, crates, edits_in, fault_of_edit
+from exported import cited_by
 from harness import EXAMPLES, ROOT, done, fault_of, run
 from readmes import blocks
 
@@ -21,6 +22,8 @@ FILE = re.compile(r"(` of )?`(?:(\w+)/specs/)?([\w/]+\.antt)`")
 # A citation of what a crate proves for itself. Other crates go by its contracts and definitions.
 PROOFS_OF = re.compile(r"\bRattle\.(fdb_\w+)\.proofs\b")
 MOST_TRIED = 12
+# What is trusted of a kit, in what rt says of it. Kits with the same logic differ in their letter.
+LOGIC = re.compile(r"\blogic [0-9a-f]+\b")
 # Where documents say how many lines of definitions there are, by the names of believed.counts.
 COUNTED = (
     ("README.md", "rest on %(headline)d lines of ours"),
@@ -92,7 +95,8 @@ def private_files():
 def definitions(_program):
     """Each definition is named in a section about its crate, unless its file is private.
 
-    No other crate and no public file uses a private file, and none what is in another's proofs.
+    No other crate, no public file and no clause of an exported function uses a private file, and no
+    crate what is in another's proofs.
     """
     private = private_files()
     for crate in crates():
@@ -110,22 +114,26 @@ def definitions(_program):
         yield f"crates/{crate}/specs/{file} is private", users_of(crate, file, private)
     for crate in crates():
         yield f"crates/{crate} cites no proofs of another", proofs_cited_by(crate)
+        yield f"clauses of what crates/{crate} exports", cited_by(crate)
 
 
 def users_of(crate, file, private):
     """Returns what uses a private file and may not, or that there is no such file, or None."""
     if file not in specs_of(crate):
         return "there is no such file"
-    module = f"Rattle.{crate}.specs.{file.removesuffix('.antt').replace('/', '.')}."
+    place = file.removesuffix(".antt").replace("/", r"\.")
+    module = re.compile(rf"Rattle\.{crate}\.specs\.{place}\b")
     used = [
         it
         for it in crates()
-        if it != crate and any(module in text_of(path) for path in sources_of(it))
+        if it != crate and any(module.search(text_of(path)) for path in sources_of(it))
     ]
     if file.startswith(PRIVATE_FOLDER):
         public = [it for it in specs_of(crate) if (crate, it) not in private]
         used += [
-            f"specs/{it}" for it in public if module in text_of(f"{ROOT}/crates/{crate}/specs/{it}")
+            f"specs/{it}"
+            for it in public
+            if module.search(text_of(f"{ROOT}/crates/{crate}/specs/{it}"))
         ]
     return f"it is used by {', '.join(used)}" if used else None
 
@@ -175,8 +183,17 @@ def believed(_program):
         said = form % found
         does_say = said in text_of(f"{ROOT}/{document}")
         yield f"{document}: {said}", None if does_say else "it does not say so"
-    kit = run(["rt", "version"]).out.decode().strip()
-    yield "README.md: the kit", None if f"`{kit}`" in text_of(f"{ROOT}/README.md") else kit
+    yield "README.md: the kit's logic", fault_of_logic(text_of(f"{ROOT}/README.md"))
+
+
+def fault_of_logic(document):
+    """Says which logic the kit has, where a document does not name it, or returns None."""
+    said = run(["rt", "version"]).out.decode(errors="replace").strip()
+    logic = LOGIC.search(said)
+    if not logic:
+        return f"rt version names no logic: {said!r}"
+    is_named = logic[0] in LOGIC.findall(document)
+    return None if is_named else f"{logic[0]} is not named there"
 
 
 def shown(program):

@@ -43,7 +43,7 @@ SAID = (
     (README, "tags, of at most {MAX_TAG} bytes"),
     (README, "`fdb_audit` reads at most {MAX_TRACE_BYTES:,} bytes"),
     (FORMATS, "has at most {MAX_TRACE_BYTES:,} bytes, and at most {MAX_TRACE_CLIENTS:,} clients"),
-    (README, "0 to {MAX_VERSION:,} |"),
+    (README, "0 to {MAX_VERSION:,}."),
     (README, "1 to {MAX_PROXIES} commit proxies, 1 to {MAX_REPORTERS} reporters"),
     (README, "room for 1 to {MAX_ROOM:,} requests; a normal limit of 1 to {MAX_RATE:,}"),
     (README, "a batch limit of 0 to {MAX_RATE:,} transactions"),

@@ -55,16 +55,20 @@ def named_in(program, folder):
         ("most.json", first_script().rjust(MOST_BYTES), first),
         ("more.json", first_script().rjust(MOST_BYTES + 1), READING_FAILED),
     ]:
-        with open(f"{folder}/{name}", "wb") as it:
+        # (in UTF-8, whatever the locale says)
+        file = name.encode()
+        with open(os.fsencode(folder) + b"/" + file, "wb") as it:
             it.write(text)
         yield f"the file {name!r}", fault_of(
-            run([program, "--", name], script().encode(), cwd=folder), wanted
+            run([program, "--", file], script().encode(), cwd=folder), wanted
         )
+    yield from no_utf_8(program, folder, first)
     yield "a pipe", fault_of(under("/dev/stdin", program, first_script()), first)
-    yield "standard input is closed", fault_of(under(f"{folder}/script.json <&-", program), first)
-    yield "standard input is a folder", fault_of(under(f"{folder}/script.json < /", program), first)
+    whole = [f"{folder}/script.json"]
+    yield "standard input is closed", fault_of(under("<&-", program, arguments=whole), first)
+    yield "standard input is a folder", fault_of(under("< /", program, arguments=whole), first)
     yield "a full standard output", fault_of(
-        under(f"{folder}/script.json --history > /dev/full", program), WRITING_FAILED
+        under("> /dev/full", program, arguments=[*whole, "--history"]), WRITING_FAILED
     )
     for given, wanted in [
         (f"{folder}/script.json", first),
@@ -75,6 +79,20 @@ def named_in(program, folder):
         yield f"what is not asked for is not read, with {given}", left_unread(
             program, given, wanted
         )
+
+
+def no_utf_8(program, folder, first):
+    """A file whose name is no UTF-8 cannot be named, and goes through standard input."""
+    file = os.fsencode(folder) + b"/\xe9.json"
+    with open(file, "wb") as it:
+        it.write(first_script())
+    for given in ([file], [b"--", file], [b"--history", file]):
+        yield f"a name that is no UTF-8: {given}", fault_of(
+            run([program, *given], first_script()), ARGUMENTS_REFUSED
+        )
+    with open(file, "rb") as it:
+        ran = run([program], stdin=it)
+    yield "a file with such a name, as standard input", fault_of(ran, first)
 
 
 def left_unread(program, argument, wanted):

@@ -16,7 +16,9 @@ OUTSIDE = re.compile(r"https?:|//|\bsrc=|@import|<link|<script|url\((?!#)|href=\
 AUDIT = re.compile(r"^audit ok events (\d+) raised (\d+) ", re.MULTILINE)
 # The widths of letters that are as wide as any, in the picture's units.
 LETTER, BOLD = 7, 8
-SECONDS, BYTES = 2, 8_000_000
+# What a picture of 10,000 events may take: of processor time some ten times what it does, since
+# machines differ.
+SECONDS, BYTES = 15, 8_000_000
 
 STALE = """0 0 0 ask prev 0 version 100 ordinal 0 fresh
 0 0 1 ask prev 100 version 200 ordinal 1 fresh

@@ -72,7 +72,8 @@ pub fn meet_ITS<J: Live, K: Live, R: Wait>(
 }
 NAMES = {"own": "J", "other": "K"}
 ERROR = re.compile(r"src/main\.rt:(\d+):\d+: error(.*)")
-MISMATCH = re.compile(r"\[mismatched-types\]: expected `(&mut )?Seen<J>`, found `(&mut )?Seen<K>`")
+# (what else stands around the types may differ from kit to kit)
+MISMATCH = re.compile(r".*\bSeen<J>.*\bSeen<K>.*")
 
 
 def text_of_calls():

@@ -7,7 +7,7 @@ use Rattle.fdb_command.specs.Input.{MayBeRead}
 use Rattle.fdb_history.specs.declared.fault.AuditFault.{AuditFault}
 use Rattle.fdb_audit.specs.Arguments.{Audited}
 use Rattle.fdb_audit.specs.Judged.{IsJudgement}
-use Rattle.fdb_audit.specs.private.Faulty.{fault_of}
+use Rattle.fdb_audit.specs.Faulty.{fault_of}
 use Rattle.fdb_audit.specs.declared.driving.Fault.TheVariants as made
 use Rattle.fdb_audit.specs.declared.error.TraceError.{TraceError}
 use Rattle.fdb_audit.specs.declared.error.TraceError.TheVariants.{NotJson, BadMember, BadVersion, BadClient, BadCall, Circular, Memory}

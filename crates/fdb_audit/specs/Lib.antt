@@ -8,5 +8,6 @@ pub mod Findings
 pub mod Text
 pub mod Judged
 pub mod Arguments
+pub mod Faulty
 pub mod private
 pub use Rattle.fdb_history.specs.Audit

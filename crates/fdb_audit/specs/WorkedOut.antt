@@ -18,6 +18,7 @@ use Rattle.fdb_audit.specs.Trace.{Given, steps_of}
 use Rattle.fdb_audit.specs.declared.trace.Drawn.{Drawn}
 use Rattle.fdb_audit.specs.declared.trace.Step.{Step}
 use Rattle.fdb_audit.specs.declared.trace.Step.TheVariants.{Read, Ask, Report, Learn}
+use Rattle.fdb_audit.specs.declared.worked_out.WorkedOut.{WorkedOut}
 
 -- ---- what each client had seen, as a version for each call of each client
 
@@ -207,3 +208,10 @@ pub record IsWorkedOut (given : Given) (seen : ℕ → ℕ → ℕ) (marks : Lis
   pub raised : AreMarks (raised_in given.start seen 0 given.clients) marks
   pub issued : chain ≡ chain_of given.versions
   pub logged : logs ≡ logs_from chain marks given.start seen 0 given.clients
+
+-- what is worked out of a trace is that, from its start, with what each client had seen
+abbrev pub IsWorkedOutOf : Given → WorkedOut → Type 0
+IsWorkedOutOf given worked =
+    (worked.start ≡ plain given.start)
+    × ((seen : ℕ → ℕ → ℕ)
+    × IsWorkedOut given seen worked.marks.items worked.chain.items worked.logs.items)

@@ -105,7 +105,7 @@ impl From<InputFault> for Fault {
 
 impl From<TraceError> for Fault {
     ghost use Rattle.std.specs.Prelude.{◌≡◌};
-    ghost use Rattle.fdb_audit.specs.private.Faulty.{fault_of};
+    ghost use Rattle.fdb_audit.specs.Faulty.{fault_of};
 
     ghost from_gives = { λ error fault. fault ≡ fault_of error };
 

@@ -7,9 +7,8 @@ ghost use Rattle.fdb_history.specs.Log.{calls_of};
 ghost use Rattle.fdb_history.specs.declared.log.Call.{Call};
 ghost use Rattle.fdb_audit.specs.Reasons.{IsExplained, IsLive, IsReason};
 ghost use Rattle.fdb_audit.specs.Trace.{Given};
-ghost use Rattle.fdb_audit.specs.WorkedOut.{mark_at};
+ghost use Rattle.fdb_audit.specs.WorkedOut.{IsWorkedOutOf, mark_at};
 ghost use Rattle.fdb_audit.specs.private.Findings.{AreChangers, IsReached, IsReasonFor};
-ghost use Rattle.fdb_audit.specs.private.Worked.{IsWorkedOutOf};
 
 mod strays;
 

@@ -8,7 +8,7 @@ ghost use Rattle.fdb_audit.specs.Judged.{fault_text, finding_text, listing_text}
 ghost use Rattle.fdb_audit.specs.Reading.{ReadsAs};
 ghost use Rattle.fdb_audit.specs.Text.{why_text};
 ghost use Rattle.fdb_audit.specs.Trace.{Given};
-ghost use Rattle.fdb_audit.specs.private.Worked.{IsWorkedOutOf};
+ghost use Rattle.fdb_audit.specs.WorkedOut.{IsWorkedOutOf};
 ghost use Rattle.fdb_audit.specs.declared.trace.TheConstants.{MAX_TRACE_CLIENTS};
 
 use crate::error::TraceError;

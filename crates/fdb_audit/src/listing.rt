@@ -4,8 +4,8 @@ ghost use Rattle.std.specs.Prelude.{◌≡◌, ◌<◌, ◌≤◌, ◌^◌, [], 
 ghost use Rattle.fdb_history.specs.Log.{calls_of};
 ghost use Rattle.fdb_audit.specs.Findings.{AreFindings};
 ghost use Rattle.fdb_audit.specs.Trace.{Given};
+ghost use Rattle.fdb_audit.specs.WorkedOut.{IsWorkedOutOf};
 ghost use Rattle.fdb_audit.specs.private.Findings.{AreChangers, AreFindingsBefore};
-ghost use Rattle.fdb_audit.specs.private.Worked.{IsWorkedOutOf};
 
 use crate::changers::{Changers, changers_of};
 use crate::explaining::{behind, calls_of, not_live, reached_after, twice};

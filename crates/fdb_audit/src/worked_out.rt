@@ -4,11 +4,11 @@ ghost use Rattle.std.specs.Prelude.{◌≡◌, ◌⊎◌, ◌≤◌, ◌++◌, �
 ghost use Rattle.std.specs.Prelude.{option_to_list};
 ghost use Rattle.std.specs.List.Sorted.{IsStrictlyIncreasing};
 ghost use Rattle.fdb_audit.specs.Circular.{IsCircular};
-ghost use Rattle.fdb_audit.specs.WorkedOut.{AreMarks, answer_of, answered_at, call_of};
-ghost use Rattle.fdb_audit.specs.WorkedOut.{calls_from, input_of, logs_from, plain, position_of};
-ghost use Rattle.fdb_audit.specs.WorkedOut.{raised_by, raised_from, raised_in, seen_before};
+ghost use Rattle.fdb_audit.specs.WorkedOut.{AreMarks, IsWorkedOutOf, answer_of, answered_at};
+ghost use Rattle.fdb_audit.specs.WorkedOut.{call_of, calls_from, input_of, logs_from, plain};
+ghost use Rattle.fdb_audit.specs.WorkedOut.{position_of, raised_by, raised_from, raised_in};
+ghost use Rattle.fdb_audit.specs.WorkedOut.{seen_before};
 ghost use Rattle.fdb_audit.specs.private.Seen.{seen_at};
-ghost use Rattle.fdb_audit.specs.private.Worked.{IsWorkedOutOf};
 ghost use Rattle.fdb_audit.specs.declared.trace.TheConstants.{MAX_TRACE_CLIENTS};
 
 use crate::chain::{chain_of, entry_of, number_in};

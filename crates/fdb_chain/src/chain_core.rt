@@ -1,6 +1,7 @@
 //! The chain of commit versions.
 
-ghost use Rattle.std.specs.Prelude.{◌≡◌, ◌+◌, ◌<◌, ◌≤◌, ◌⊎◌, ◌↔◌, ◌∷◌, ◌++◌, ◌^◌, [], false, true, All, Some};
+ghost use Rattle.std.specs.Prelude.{◌≡◌, ◌+◌, ◌<◌, ◌≤◌, ◌⊎◌, ◌↔◌, ◌∷◌, ◌++◌, ◌^◌, [], false, true};
+ghost use Rattle.std.specs.Prelude.{All, Some};
 ghost use Rattle.std.specs.Prelude.{IsSome, IfSome, OnOk, OnErr, IfOk, IfErr};
 ghost use Rattle.fdb_history.specs.Issuing.{answer_to, fresh_answer, kept, kept_answer};
 ghost use Rattle.fdb_history.specs.Issuing.{next_answer, with_answer};

@@ -9,7 +9,7 @@ ghost use Rattle.fdb_client.specs.Calls.{next_number, request_of};
 ghost use Rattle.fdb_chain.specs.ChainCore.{IsFor};
 ghost use Rattle.fdb_history.specs.Log.{position_after_calls};
 ghost use Rattle.fdb_history.specs.Strays.{issued_under};
-ghost use Rattle.fdb_live.specs.Seen.{IsNotBehind, last_record, own_positions};
+ghost use Rattle.fdb_live.specs.Seen.{IsBounded, IsNotBehind, last_record, own_positions};
 
 use crate::error::ClientError;
 use crate::exchange::Mark;
@@ -256,6 +256,9 @@ impl<'a, J: Live> Client<'a, J> {
         ensures covers { OnOk result ((version : ℕ)
             → issued_under self.old.calls num ≡ Some version
             → version ≤ (last_record J.start self.new.changes).version) }
+        ensures position { IfOk result (λ ack. ack.position ≡ length self.new.changes) }
+        ensures bounded { OnOk result
+            (IsBounded (length self.new.changes) (last_record J.start self.new.changes)) }
         ensures memory { result ≡ Err ClientError.Memory → self.new ≡ self.old }
         ensures client { IsSameClient self.old self.new }
     {

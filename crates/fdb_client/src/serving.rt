@@ -1,6 +1,7 @@
 //! GRV proxies that serve while something else runs.
 
-ghost use Rattle.std.specs.Prelude.{◌≡◌, ◌↔◌, ◌≤◌, [], All, IfOk, IsTrue, true, vec_capacity, vec_len};
+ghost use Rattle.std.specs.Prelude.{◌≡◌, ◌↔◌, ◌≤◌, [], All, IfOk, IsTrue, true, vec_capacity};
+ghost use Rattle.std.specs.Prelude.{vec_len};
 ghost use Rattle.fdb_client.specs.private.Serving.{IsMadeFor};
 
 use crate::cluster::Cluster;

@@ -31,13 +31,13 @@ impl<R: Wait> Workload<R> for ReadTagged {
         self,
         rt: &R,
         cluster: &Cluster<'_, J>,
-        mut clients: Vec<Client<'_, J>>,
+        clients: &mut [Client<'_, J>],
     ) -> [Limits; 2] {
-        let Some(mut client) = clients.pop() else {
+        let [client] = clients else {
             return [None; 2];
         };
-        let first = self.limits_at(rt, cluster.desk(0), &mut client);
-        let second = self.limits_at(rt, cluster.desk(1), &mut client);
+        let first = self.limits_at(rt, cluster.desk(0), client);
+        let second = self.limits_at(rt, cluster.desk(1), client);
         [first, second]
     }
 }
@@ -112,6 +112,6 @@ fn each_proxy_has_the_throttles(rt: HostRuntime) -> Result<(), Fail> {
     let ran = run_workload(&rt, alloc, config, ReadTagged { alloc })?;
     let last = Some((1, 5, 5_000));
     same(&rt, &ran.output, &[last, last], &"limits");
-    holds(&rt, ran.all_served, &"all served");
+    holds(&rt, ran.ends.all_served(), &"all served");
     Ok(())
 }

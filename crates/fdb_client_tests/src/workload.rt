@@ -5,11 +5,9 @@ ghost use Rattle.fdb_client.specs.Cluster.{IsClusterConfig};
 use crate::same::{holds, same};
 use fdb_chain::ChainError;
 use fdb_client::{
-    Client, ClientError, Cluster, ClusterConfig, Workload, WorkloadOutcome, run_workload,
+    Client, ClientError, Cluster, ClusterConfig, SettledRun, Workload, WorkloadError, run_workload,
 };
-use fdb_history::{
-    Ask, AuditFault, ClientLog, GrvOpts, Issued, OpenGate, Priority, Record, Sequence, audit,
-};
+use fdb_history::{Ask, AuditFault, GrvOpts, OpenGate, Priority, Record, Sequence};
 use fdb_live::Live;
 use fdb_queue::QueueConfig;
 use std::alloc::{AllocError, Global};
@@ -27,8 +25,7 @@ const START: Record = Record {
     min_known: 100,
 };
 
-/// Each client in turn draws a commit version, reports it, and reads through each GRV proxy. The
-/// logs are left.
+/// Each client in turn draws a commit version, reports it, and reads through each GRV proxy.
 #[derive(Drop)]
 struct CommitAndRead {
     alloc: Global,
@@ -36,39 +33,35 @@ struct CommitAndRead {
 }
 
 impl<R: Wait> Workload<R> for CommitAndRead {
-    type Output = Result<Vec<ClientLog>, ClientError>;
+    type Output = Result<(), ClientError>;
 
     fn start<J: Live>(
         self,
         rt: &R,
         cluster: &Cluster<'_, J>,
-        clients: Vec<Client<'_, J>>,
-    ) -> Result<Vec<ClientLog>, ClientError> {
-        let mut logs = Vec::new(self.alloc);
-        for client in clients {
-            let log = self.log_of(rt, cluster, client)?;
-            if logs.push(log).is_err() {
-                return Err(ClientError::Memory);
-            }
+        clients: &mut [Client<'_, J>],
+    ) -> Result<(), ClientError> {
+        for client in clients.iter_mut() {
+            self.call(rt, cluster, client)?;
         }
-        Ok(logs)
+        Ok(())
     }
 }
 
 impl CommitAndRead {
-    /// Has a client make its calls, and answers its log.
-    fn log_of<J: Live, R: Wait>(
+    /// Has a client make its calls.
+    fn call<J: Live, R: Wait>(
         &self,
         rt: &R,
         cluster: &Cluster<'_, J>,
-        mut client: Client<'_, J>,
-    ) -> Result<ClientLog, ClientError> {
+        client: &mut Client<'_, J>,
+    ) -> Result<(), ClientError> {
         client.ask(rt, &OpenGate, cluster.sequencer(), 0, 1_000)?;
         client.report(rt, &OpenGate, 1, true, Some([8; 10]), 90)?;
         for number in 0..self.grv_proxies {
             client.read_version(rt, &OpenGate, cluster.desk(number), one_read(self.alloc))?;
         }
-        Ok(client.finish().0)
+        Ok(())
     }
 }
 
@@ -117,15 +110,16 @@ pub(crate) fn commit_and_read<R: Threads + Wait + Abort + Sync>(
     grv_proxies: u32,
 ) -> Result<(), AllocError> {
     let config = config_of(rt, clients, grv_proxies);
-    let WorkloadOutcome {
-        output,
-        chain,
-        all_served,
-    } = run_workload(rt, alloc, config, CommitAndRead { alloc, grv_proxies })?;
-    match output {
-        Ok(logs) => {
+    let ran = match run_workload(rt, alloc, config, CommitAndRead { alloc, grv_proxies }) {
+        Ok(ran) => ran,
+        Err(WorkloadError::Memory) => return Err(AllocError),
+        Err(WorkloadError::Astray) => panic!(rt; "each client is in its place"),
+    };
+    let all_served = ran.ends.all_served();
+    match ran.output {
+        Ok(()) => {
             holds(rt, all_served, &"each GRV proxy has served");
-            explained(rt, alloc, &logs, &chain, clients, grv_proxies)
+            explained(rt, alloc, &ran.run, clients, grv_proxies)
         }
         Err(ClientError::Memory) => Err(AllocError),
         Err(cause) => {
@@ -140,15 +134,13 @@ pub(crate) fn commit_and_read<R: Threads + Wait + Abort + Sync>(
 fn explained(
     rt: &impl Abort,
     alloc: Global,
-    logs: &[ClientLog],
-    chain: &[Issued],
+    run: &SettledRun,
     clients: u32,
     grv_proxies: u32,
 ) -> Result<(), AllocError> {
-    same(rt, &logs.len(), &(clients as usize), &"logs");
-    same(rt, &chain.len(), &(clients as usize), &"chain");
-    assert!(rt; logs.len() <= 64, "few logs");
-    let events = match audit(alloc, START, chain, logs) {
+    same(rt, &run.logs.len(), &(clients as usize), &"logs");
+    same(rt, &run.chain.len(), &(clients as usize), &"chain");
+    let events = match run.history(alloc) {
         Ok(history) => history.events.len() as u64,
         Err(AuditFault::Memory) => return Err(AllocError),
         Err(fault) => panic!(rt; "{fault}"),
@@ -175,9 +167,9 @@ impl<R: Wait> Workload<R> for CloseAndRead {
         self,
         rt: &R,
         cluster: &Cluster<'_, J>,
-        mut clients: Vec<Client<'_, J>>,
+        clients: &mut [Client<'_, J>],
     ) -> Option<u32> {
-        let mut client = clients.pop()?;
+        let client = clients.first_mut()?;
         cluster.desk(self.closed).close(rt);
         for number in 0..=self.grv_proxies {
             let desk = cluster.desk(number);
@@ -215,7 +207,7 @@ fn each_desk_is_closed_alone(rt: HostRuntime) -> Result<(), Fail> {
             };
             let ran = run_workload(&rt, alloc, config_of(&rt, 1, grv_proxies), workload)?;
             same(&rt, &ran.output, &None, &grv_proxies);
-            holds(&rt, ran.all_served, &grv_proxies);
+            holds(&rt, ran.ends.all_served(), &grv_proxies);
         }
     }
     Ok(())
@@ -233,7 +225,7 @@ impl<R: Wait> Workload<R> for AskAsEach {
         self,
         rt: &R,
         cluster: &Cluster<'_, J>,
-        _clients: Vec<Client<'_, J>>,
+        _clients: &mut [Client<'_, J>],
     ) -> Option<(u32, ChainError)> {
         for proxy in 0..100 {
             let ask = Ask {
@@ -257,7 +249,32 @@ fn a_commit_proxy_for_each_client(rt: HostRuntime) -> Result<(), Fail> {
         let ran = run_workload(&rt, rt.alloc(), config_of(&rt, clients, 1), AskAsEach)?;
         let wanted = Some((clients, ChainError::UnknownProxy));
         same(&rt, &ran.output, &wanted, &"the first that is refused");
-        same(&rt, &ran.chain.len(), &(clients as usize), &"chain");
+        same(&rt, &ran.run.chain.len(), &(clients as usize), &"chain");
+    }
+    Ok(())
+}
+
+/// Leaves two clients at one another's places.
+#[derive(Drop)]
+struct ChangePlaces;
+
+impl<R: Wait> Workload<R> for ChangePlaces {
+    type Output = ();
+
+    fn start<J: Live>(self, _rt: &R, _cluster: &Cluster<'_, J>, clients: &mut [Client<'_, J>]) {
+        if clients.len() > 1 {
+            clients.swap(0, 1);
+        }
+    }
+}
+
+/// Clients that are not where they were are refused, and others are not.
+#[test]
+fn each_client_stays_in_its_place(rt: HostRuntime) -> Result<(), Fail> {
+    for (clients, astray) in [(1, false), (2, true), (64, true)] {
+        let ran = run_workload(&rt, rt.alloc(), config_of(&rt, clients, 1), ChangePlaces);
+        let refused = matches!(ran, Err(WorkloadError::Astray));
+        same(&rt, &refused, &astray, &clients);
     }
     Ok(())
 }

@@ -1,6 +1,7 @@
 //! The audit of a run's logs: their history, or the first fault that stands.
 
-ghost use Rattle.std.specs.Prelude.{◌≡◌, ◌≤◌, ◌^◌, ◌⊎◌, ◌≢◌, length, map, List, OnOk, IfOk, IfErr, Ok, Err};
+ghost use Rattle.std.specs.Prelude.{◌≡◌, ◌≤◌, ◌^◌, ◌⊎◌, ◌≢◌, length, map, List, OnOk, IfOk, IfErr};
+ghost use Rattle.std.specs.Prelude.{Ok, Err};
 ghost use Rattle.fdb_history.specs.Audit.{IsAudited, IsFirstFault, IsOfAnAnswer, Low};
 ghost use Rattle.fdb_history.specs.Explained.{explained};
 ghost use Rattle.fdb_history.specs.private.Auditing.{AreChangesOf, AreRegisters};

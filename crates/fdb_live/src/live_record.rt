@@ -3,8 +3,8 @@
 ghost use Rattle.std.specs.Prelude.{◌≡◌, ◌≢◌, ◌*◌, ◌<◌, ◌≤◌, ◌⊎◌, ◌↔◌, length, Option, None};
 ghost use Rattle.std.specs.Prelude.{IsSome, IfOk, OnOk, OnErr, true, false};
 ghost use mathlib.Core.List.{IsPrefix};
-ghost use Rattle.fdb_live.specs.Seen.{IsBounded, IsLog, IsNotBehind, IsNotChangedBy, IsChangedBy, last_record};
-ghost use Rattle.fdb_live.specs.Seen.{longer, own_positions};
+ghost use Rattle.fdb_live.specs.Seen.{IsBounded, IsLog, IsNotBehind, IsNotChangedBy, IsChangedBy};
+ghost use Rattle.fdb_live.specs.Seen.{last_record, longer, own_positions};
 
 use crate::ack::Ack;
 use crate::error::LiveError;

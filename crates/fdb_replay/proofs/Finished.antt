@@ -3,15 +3,7 @@ use Rattle.std.proofs.Common.{◌≡◌, ℕ, zero, suc, ◌+◌, ◌<◌, List,
 use Rattle.std.specs.List.{AllByRecursion, slice_get}
 use Rattle.std.specs.Option.{option_map}
 use Rattle.std.proofs.lemmas.Option.{slice_get-map, slice_get_within}
-use Rattle.fdb_client.specs.Account.{Account, new_account, sight}
-use Rattle.fdb_client.specs.Agreeing.{Agrees}
-use Rattle.fdb_client.specs.Settling.{AllAgree}
-use Rattle.fdb_history.specs.Log.{calls_of}
-use Rattle.fdb_history.specs.declared.log.Call.{Call}
-use Rattle.fdb_history.specs.declared.log.ClientLog.{ClientLog}
-use Rattle.fdb_history.specs.declared.register.Record.{Record}
-use Rattle.fdb_live.specs.Gathering.{AreNumbered}
-use Rattle.fdb_live.specs.declared.change.Change.{Change}
+use Rattle.fdb_client.specs.Account.{Account, new_account}
 use Rattle.fdb_client.specs.Settling.{HaveNumbers, logs_of}
 use Rattle.fdb_replay.specs.private.Rounds.{numbers_of}
 

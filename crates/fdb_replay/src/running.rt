@@ -12,7 +12,7 @@ use crate::fault::RunFault;
 use crate::serving::served;
 use crate::world::World;
 use fdb_client::{Cluster, ClusterConfig, ClusterParts, Finished, OpenedCluster, clients_of};
-use fdb_history::{Gate, Record};
+use fdb_history::{Gate, Record, laws};
 use fdb_live::{Live, Seen};
 use fdb_script::{Outcome, Script};
 use std::alloc::{AllocError, Global};
@@ -95,6 +95,7 @@ fn run_named<J: Live + Send + Sync, R: Threads + Wait + Sync, G: Gate>(
     } = opened.parts::<J>(alloc)?;
     let finished = finished_at(rt, alloc, &cluster, gate, script, &mut first, tokens)?;
     let run = cluster.settle(rt, first, finished);
+    laws::minima_stay_within();
     let history = run.history(alloc)?;
     Ok(Outcome {
         chain: run.chain,

@@ -44,7 +44,11 @@ pub(crate) fn served<J: Live + Send + Sync, R: Threads + Wait + Sync, G: Gate>(
                 (FoldsTo AnswersRound (logs_of clients.entry) rounds.entry.now) }
         { played(rt, alloc, world, clients, rounds) },
     )?;
-    if ends.all_served() { output } else { Err(AllocError) }
+    if ends.all_served() {
+        output
+    } else {
+        Err(AllocError)
+    }
 }
 
 /// What the clients leave, once all rounds are played.

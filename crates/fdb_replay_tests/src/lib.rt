@@ -9,6 +9,8 @@ mod calls;
 #[cfg(test)]
 mod gated;
 #[cfg(test)]
+mod many;
+#[cfg(test)]
 mod refused_memory;
 #[cfg(test)]
 mod replay;

@@ -21,12 +21,7 @@ pub(crate) fn explained(rt: &impl Print, alloc: Global) -> Result<()> {
 }
 
 /// Tells the history of some logs, or the first fault.
-pub(crate) fn explain(
-    rt: &impl Print,
-    alloc: Global,
-    chain: &[Issued],
-    logs: &[ClientLog],
-) -> Result<()> {
+fn explain(rt: &impl Print, alloc: Global, chain: &[Issued], logs: &[ClientLog]) -> Result<()> {
     if logs.len() > u32::MAX as usize {
         return Err(anyhow!("more logs than clients have numbers"));
     }

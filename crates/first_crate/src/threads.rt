@@ -1,13 +1,16 @@
-//! Two clients that read at once, each in a thread of its own, and an audit of their logs.
+//! Two clients that read at once, each in a thread of its own, and the history that explains what
+//! they were answered.
 
 ghost use Rattle.std.specs.Prelude.{◌≡◌};
-ghost use Rattle.fdb_client.specs.Cluster.{IsClusterConfig};
 
-use crate::logs::{START, explain};
+use crate::logs::START;
 use anyhow::{Result, anyhow};
-use fdb_client::{Client, Cluster, ClusterConfig, ReadVersion, clients_of, serve_while};
-use fdb_history::{ClientLog, GrvOpts, OpenGate, Priority, Sequence};
-use fdb_live::{Live, LiveRecord, Opened};
+use fdb_client::{
+    Client, Cluster, ClusterConfig, ClusterParts, Finished, OpenedCluster, Served, clients_of,
+    serve_while,
+};
+use fdb_history::{GrvOpts, OpenGate, Priority, Sequence};
+use fdb_live::Live;
 use fdb_proxy::Desk;
 use fdb_queue::QueueConfig;
 use std::alloc::Global;
@@ -31,67 +34,67 @@ pub(crate) fn two_readers<R: Print + Threads + Wait + Sync>(rt: &R, alloc: Globa
         throttles: &[],
         elapsed: 1_000_000,
     };
-    let opened = LiveRecord::<Brand>::open(rt, alloc, config.start, config.clients)?;
-    run_named::<Brand, R>(rt, alloc, config, opened)
+    let opened = config.open(rt, alloc)?;
+    run_named::<Brand, R>(rt, alloc, opened)
 }
 
-/// Has them read at a cluster, under a name that stands for it, and explains their logs.
+/// Has them read at a cluster, under a name that stands for it, and settles what they leave. So one
+/// history explains what they were answered.
 fn run_named<J: Live + Send + Sync, R: Print + Threads + Wait + Sync>(
     rt: &R,
     alloc: Global,
-    config: ClusterConfig<'_>,
-    opened: Opened,
+    opened: OpenedCluster<'_>,
 ) -> Result<()>
-    requires opened { opened
+    requires origin { opened.origin
         ≡ record { table = J.table; start = J.start; reporters = J.reporters } }
-    requires in_range { IsClusterConfig config }
-    requires epoch_end { config.epoch_end ≡ J.epoch_end }
-    requires recovery { config.start.version ≡ J.recovery }
-    requires start { config.start ≡ J.start }
-    requires clients { config.clients ≡ J.reporters }
+    requires epoch_end { opened.config.epoch_end ≡ J.epoch_end }
+    requires recovery { opened.config.start.version ≡ J.recovery }
 {
-    let (live, first, tokens) = opened.parts::<J>()?;
-    let cluster = Cluster::new(alloc, live, config)?;
+    let ClusterParts {
+        cluster,
+        mut first,
+        tokens,
+    } = opened.parts::<J>(alloc)?;
     let clients = clients_of(alloc, cluster.live(), tokens)?;
-    let (logs, all_served) = serve_while(rt, alloc, &cluster, first, || {
+    let Served { output, ends } = serve_while(rt, alloc, &cluster, &mut first, || {
         read_both(rt, alloc, &cluster, clients)
     })?;
-    let logs = logs?;
-    if !all_served {
+    if !ends.all_served() {
         return Err(anyhow!("a GRV proxy ran out of memory"));
     }
-    explain(rt, alloc, &cluster.into_chain(), &logs)
+    let run = cluster.settle(rt, first, output?);
+    let history = run.history(alloc)?;
+    println!(rt; "explained by {} events", history.events.len())?;
+    Ok(())
 }
 
-/// Both read, each in a thread and at a desk of its own. Answers their logs.
+/// Both read, each in a thread and at a desk of its own. Answers what they leave.
 fn read_both<J: Live + Send + Sync, R: Print + Threads + Wait + Sync>(
     rt: &R,
     alloc: Global,
     cluster: &Cluster<'_, J>,
     mut clients: Vec<Client<'_, J>>,
-) -> Result<Vec<ClientLog>> {
-    let (Some(mut one), Some(mut zero)) = (clients.pop(), clients.pop()) else {
+) -> Result<Finished<J>> {
+    if clients.len() != 2 {
         return Err(anyhow!("two clients are wanted"));
-    };
+    }
+    let (zero, one) = clients.as_mut_slice().split_at_mut(1);
     let (first, second) = thread::join(
         rt,
-        || read(rt, alloc, cluster.desk(0), &mut zero),
-        || read(rt, alloc, cluster.desk(1), &mut one),
+        || read(rt, alloc, cluster.desk(0), &mut zero[0]),
+        || read(rt, alloc, cluster.desk(1), &mut one[0]),
     );
-    println!(rt; "read {} and {}", first?.version, second?.version)?;
-    let mut logs = Vec::new(alloc);
-    logs.push(zero.finish().0)?;
-    logs.push(one.finish().0)?;
-    Ok(logs)
+    println!(rt; "read {} and {}", first?, second?)?;
+    Ok(cluster.finish(alloc, clients)?)
 }
 
-/// Reads the read version for one transaction.
+/// The read version for one transaction.
 fn read<J: Live, R: Wait>(
     rt: &R,
     alloc: Global,
     desk: &Desk<J>,
     client: &mut Client<'_, J>,
-) -> Result<ReadVersion> {
+) -> Result<u64> {
     let opts = GrvOpts {
         priority: Priority::Default,
         count: 1,
@@ -100,5 +103,5 @@ fn read<J: Live, R: Wait>(
         at: 0,
         use_min: false,
     };
-    Ok(client.read_version(rt, &OpenGate, desk, opts)?)
+    Ok(client.read_version(rt, &OpenGate, desk, opts)?.version)
 }

@@ -5,8 +5,8 @@ ghost use Rattle.fdb_history.specs.Faults.{IsFirst};
 ghost use Rattle.fdb_history.specs.Strays.{IsStray};
 ghost use Rattle.fdb_audit.specs.Reasons.{IsReason, due_after, versions_got, versions_to};
 ghost use Rattle.fdb_audit.specs.Trace.{Given};
+ghost use Rattle.fdb_audit.specs.WorkedOut.{IsWorkedOutOf};
 ghost use Rattle.fdb_audit.specs.private.Strays.{why_not_due};
-ghost use Rattle.fdb_audit.specs.private.Worked.{IsWorkedOutOf};
 
 use super::calls_of;
 use crate::reason::Reason;

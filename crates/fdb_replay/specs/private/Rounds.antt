@@ -1,5 +1,5 @@
 -- A round of a run, as all clients play it. (this product's own)
-use Rattle.std.specs.Prelude.{◌≡◌, ℕ, ◌+◌, List, [], ◌∷◌, ◌++◌, Some, length, drop, map, slice_get}
+use Rattle.std.specs.Prelude.{◌≡◌, ℕ, ◌+◌, List, [], ◌∷◌, ◌++◌, length, drop, map}
 use Rattle.std.proofs.Common.{set}
 use Rattle.std.specs.List.{FoldsTo, flat_map}
 use Rattle.fdb_client.specs.Account.{Account}

@@ -1,0 +1,171 @@
+//! Over clients.
+
+ghost use Rattle.std.specs.Prelude.{◌≡◌, ◌*◌, ◌<◌, ◌≤◌, ℕ, [], false, true, IfOk, Some};
+ghost use Rattle.fdb_history.specs.Faults.{IsFaultless};
+ghost use Rattle.fdb_history.specs.Strays.{issued_under};
+ghost use Rattle.fdb_live.specs.Seen.{last_record};
+
+use fdb_chain::Sequencer;
+use fdb_client::{Client, ClientError, ReadVersion, settle};
+use fdb_history::{ClientLog, GrvOpts, Issued, MAX_VERSION, OpenGate};
+use fdb_live::{Ack, Live, LiveRecord, Seen};
+use fdb_proxy::Desk;
+use std::sync::Wait;
+
+/// A client's reads never fall, but for one that asks for the minimum known committed version.
+pub fn read_twice<J: Live, R: Wait>(
+    rt: &R,
+    desk: &Desk<J>,
+    client: &mut Client<'_, J>,
+    first: GrvOpts,
+    second: GrvOpts,
+) -> Result<(ReadVersion, ReadVersion), ClientError>
+    requires { second.use_min ≡ false }
+    ensures { IfOk result (λ reads. reads.0.version ≤ reads.1.version) }
+{
+    let one = client.read_version(rt, &OpenGate, desk, first)?;
+    let two = client.read_version(rt, &OpenGate, desk, second)?;
+    Ok((one, two))
+}
+
+/// Who reported the version that it was issued under a number reads none below it.
+pub fn report_and_read<J: Live, R: Wait>(
+    rt: &R,
+    desk: &Desk<J>,
+    client: &mut Client<'_, J>,
+    num: u64,
+    opts: GrvOpts,
+) -> Result<ReadVersion, ClientError>
+    requires { opts.use_min ≡ false }
+    ensures { IfOk result (λ read. (version : ℕ)
+        → issued_under client.old.calls num ≡ Some version → version ≤ read.version) }
+{
+    client.report(rt, &OpenGate, num, false, None, 0)?;
+    client.read_version(rt, &OpenGate, desk, opts)
+}
+
+/// A new client that draws a version, reports it and reads gets none below it.
+pub fn commit_and_read<J: Live, R: Wait>(
+    rt: &R,
+    sequencer: &Sequencer<J>,
+    desk: &Desk<J>,
+    client: &mut Client<'_, J>,
+    at: u64,
+    opts: GrvOpts,
+) -> Result<(Issued, ReadVersion), ClientError>
+    requires new { client.old.calls ≡ [] }
+    requires opts { opts.use_min ≡ false }
+    ensures { IfOk result (λ both. both.0.version ≤ both.1.version) }
+{
+    let issued = client.ask(rt, &OpenGate, sequencer, 0, at)?;
+    client.report(rt, &OpenGate, issued.num, false, None, 0)?;
+    let read = client.read_version(rt, &OpenGate, desk, opts)?;
+    Ok((issued, read))
+}
+
+/// Who was told reads no older version than the teller had read.
+pub fn read_once_told<J: Live, R: Wait>(
+    rt: &R,
+    desk: &Desk<J>,
+    teller: &mut Client<'_, J>,
+    learner: &mut Client<'_, J>,
+    first: GrvOpts,
+    second: GrvOpts,
+) -> Result<(ReadVersion, ReadVersion), ClientError>
+    requires { second.use_min ≡ false }
+    ensures { IfOk result (λ reads. reads.0.version ≤ reads.1.version) }
+{
+    let one = teller.read_version(rt, &OpenGate, desk, first)?;
+    tell(rt, teller, learner)?;
+    let two = learner.read_version(rt, &OpenGate, desk, second)?;
+    Ok((one, two))
+}
+
+/// Nor one below what the teller had reported.
+pub fn read_once_told_of_a_report<J: Live, R: Wait>(
+    rt: &R,
+    desk: &Desk<J>,
+    teller: &mut Client<'_, J>,
+    learner: &mut Client<'_, J>,
+    num: u64,
+    opts: GrvOpts,
+) -> Result<ReadVersion, ClientError>
+    requires { opts.use_min ≡ false }
+    ensures { IfOk result (λ read. (version : ℕ)
+        → issued_under teller.old.calls num ≡ Some version → version ≤ read.version) }
+{
+    teller.report(rt, &OpenGate, num, false, None, 0)?;
+    tell(rt, teller, learner)?;
+    learner.read_version(rt, &OpenGate, desk, opts)
+}
+
+/// One client tells another what it has seen, who has then seen no less.
+pub fn tell<J: Live, R: Wait>(
+    rt: &R,
+    teller: &mut Client<'_, J>,
+    learner: &mut Client<'_, J>,
+) -> Result<(), ClientError>
+    ensures stays { teller.new.changes ≡ teller.old.changes }
+    ensures knows { IfOk result (λ _. (last_record J.start teller.old.changes).version
+        ≤ (last_record J.start learner.new.changes).version) }
+{
+    let told = teller.tell(learner.number())?;
+    match learner.learn(rt, teller.number(), told) {
+        Ok(()) => Ok(()),
+        Err((cause, _told)) => Err(cause),
+    }
+}
+
+/// A read is within bounds: its version is one of its record's two, of which the minimum known
+/// committed one is not above the other, and its position not above twice that.
+pub fn read_within<J: Live, R: Wait>(
+    rt: &R,
+    desk: &Desk<J>,
+    client: &mut Client<'_, J>,
+    opts: GrvOpts,
+) -> Result<ReadVersion, ClientError>
+    ensures least { IfOk result (λ read. read.rec.min_known ≤ read.version) }
+    ensures most { IfOk result (λ read. read.version ≤ read.rec.version) }
+    ensures greatest { IfOk result (λ read. read.version ≤ MAX_VERSION) }
+    ensures position { IfOk result (λ read. read.position ≤ 2 * read.rec.version) }
+{
+    client.read_version(rt, &OpenGate, desk, opts)
+}
+
+/// And so is an acknowledgement, with the record that its client has then seen.
+pub fn report_within<J: Live, R: Wait>(
+    rt: &R,
+    client: &mut Client<'_, J>,
+    num: u64,
+) -> Result<Ack, ClientError>
+    ensures minimum { IfOk result (λ _. (last_record J.start client.new.changes).min_known
+        ≤ (last_record J.start client.new.changes).version) }
+    ensures greatest { IfOk result
+        (λ _. (last_record J.start client.new.changes).version ≤ MAX_VERSION) }
+    ensures position { IfOk result
+        (λ ack. ack.position ≤ 2 * (last_record J.start client.new.changes).version) }
+{
+    client.report(rt, &OpenGate, num, false, None, 0)
+}
+
+/// What two clients left, from whichever positions they began, is settled: no fault of the
+/// register's history stands in their logs.
+pub fn settle_both<J: Live, R: Wait>(
+    rt: &R,
+    live: &LiveRecord<J>,
+    first: &mut Seen<J>,
+    zero: Client<'_, J>,
+    one: Client<'_, J>,
+) -> [ClientLog; 2]
+    requires two { J.reporters ≡ 2 }
+    requires zero { zero.number ≡ 0 }
+    requires one { one.number ≡ 1 }
+    ensures { IsFaultless J.start result }
+{
+    let (log, token) = zero.finish();
+    let (other_log, other_token) = one.finish();
+    let logs = [log, other_log];
+    let mut tokens = [token, other_token];
+    settle(rt, live, first, &mut tokens, &logs);
+    logs
+}

@@ -1,0 +1,33 @@
+use Rattle.std.proofs.Common.{◌≡◌, ◌≤◌, ◌∷◌, ap, arith, sym, subst, ◌∙◌}
+use Rattle.std.proofs.lemmas.List.Elements.{All-from_recursion, recursion_from_All}
+use Rattle.fdb_history.specs.Chain.{IsChain}
+use Rattle.fdb_history.specs.Laws.{reports_of}
+use Rattle.fdb_history.specs.Linear.{IsLinear}
+use Rattle.fdb_history.specs.declared.register.Record.{Record}
+use Rattle.fdb_script.specs.Answering.{Answers}
+use Rattle.fdb_replay.specs.Outcome.{opening}
+use Rattle.fdb_replay.proofs.running.run_named.Goals as goal
+
+abbrev IsWithin : Record → Type 0
+IsWithin rec = rec.min_known ≤ rec.version
+
+pub returns-clause-ok : goal.returns-clause-ok
+returns-clause-ok g c =
+    let plan = c.args.script.now in
+    let run = c.settle-run.result in
+    let settled = c.settle-run.ensures in
+    let events = c.in_ok-history.history.events in
+    let start : run.start ≡ opening plan.setup.recovery = cc (settled.start, c.in_ok-cluster.cluster.start, c.in_ok-cluster.ensures.config, c.in_ok-cluster.cluster-is, c.requires.config.start) in
+    let epoch_end : g.J.Service.epoch_end ≡ plan.setup.epoch_end = sym c.requires.epoch_end ∙ c.requires.config.epoch_end in
+    let recovery : g.J.Service.recovery ≡ plan.setup.recovery = sym c.requires.recovery ∙ ap (λ (rec : Record). rec.version) c.requires.config.start in
+    let told = c.in_ok-history.ensures.audited in
+    let linear = subst (λ start. IsLinear start run.logs.items events) start c.in_ok-history.ensures.linear in
+    record {
+      answers = subst (Answers plan) (sym settled.logs) c.in_ok-finished.ensures.answers;
+      one_chain = subst (λ recovery. IsChain plan.setup.epoch_end recovery run.chain.items) recovery (subst (λ epoch_end. IsChain epoch_end g.J.Service.recovery run.chain.items) epoch_end settled.one_chain);
+      linear = linear;
+      minima = All-from_recursion IsWithin (opening plan.setup.recovery ∷ reports_of events) (omega arith, recursion_from_All IsWithin (reports_of events) (c.minima_stay_within.ensures run.start run.logs.items events c.in_ok-history.ensures.linear settled.minima));
+      in_order = told.3;
+      none_stray = told.1;
+      none_low = rw start at told.2;
+    }

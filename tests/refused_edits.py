@@ -1,0 +1,69 @@
+"""Whether edits were refused for what they turn, by what rt says of each.
+
+    python3 tests/refused_edits.py FILE      (FILE: what rt ci printed)
+
+The prover has to refuse each edit of crates/NAME/must-fail/. That shows something only where a goal
+was left without a proof: what a clause ensures, requires or keeps, or a condition that an operator
+has. It shows nothing where the borrow checker does not cover the edited code, a proof cites what
+went away, a loop may not end, or a limit stopped the prover. rt says of each edit, tried now or by
+an earlier run, the first thing that the prover said, cut at 160 characters; of code that is not
+covered it says nothing more than that it was refused.
+
+There is a line for each edit that shows nothing or has no line. The last line is 'N passed, M
+failed'; the status is 1 where M > 0.
+"""
+import re
+import sys
+
+sys.dont_write_bytecode = True
+
+from edits import TRIED, crates, edits_in
+
+LINE = re.compile(r"^rt: must-fail (\w+)/(\S+)\.edit: (.*)$", re.MULTILINE)
+REFUSED = "refused, as it must be"
+# How rt begins what it says of an edit that was not refused, and how that is said here.
+OTHERS = {
+    "NOT REFUSED": "LET THROUGH",
+    "BAD EDIT": "DOES NOT APPLY OR COMPILE",
+    "NOT TRIED": "NOT TRIED",
+}
+# A goal in the code to which the prover finds no proof.
+OPEN = r"note: src/\S+\.rt:\d+:\d+: (?:it is not proved that (?!the loop ends)|`search` found no)"
+# A goal whose proof is written down, and follows no more.
+FALSE = r"\./proofs/\S+/Answers\.antt:\d+:\d+: error: `\S+`: `\w+`: the goal does not follow"
+SHOWS = re.compile(rf"{re.escape(REFUSED)}: (?:{OPEN}|{FALSE})")
+
+
+def verdict(said):
+    """Says what came of an edit, by what rt says behind its name: 'refused: ..' if that counts."""
+    if SHOWS.match(said):
+        return f"refused: {said.removeprefix(f'{REFUSED}: ')}"
+    if said.startswith(REFUSED):
+        return f"REFUSED FOR WHAT SHOWS NOTHING: {said.removeprefix(REFUSED).strip(': ')}"
+    word = next((it for it in OTHERS if said.startswith(it)), "")
+    return f"{OTHERS.get(word, 'UNKNOWN')}: {said.removeprefix(word).strip(': ')}"
+
+
+def counts(found):
+    """Whether a verdict is that of an edit that was refused for what it turns."""
+    return found.startswith("refused: ")
+
+
+def verdicts(text):
+    """What came of each edit of which rt printed a line, by crate and name."""
+    return {(crate, name): verdict(said) for crate, name, said in LINE.findall(text)}
+
+
+def main():
+    with open(sys.argv[1], encoding="utf-8", errors="replace") as it:
+        found = verdicts(it.read())
+    wanted = [(crate, name) for crate in crates() for name in edits_in(crate, TRIED)[0]]
+    faults = [it for it in wanted if not counts(found.get(it, ""))]
+    for crate, name in faults:
+        print(f"{crate}/{TRIED}/{name}: {found.get((crate, name), 'rt says nothing of it')}")
+    print(f"{len(wanted) - len(faults)} passed, {len(faults)} failed")
+    return 1 if faults else 0
+
+
+if __name__ == "__main__":
+    sys.exit(main())
