@@ -1,0 +1,11 @@
+pub mod Numbers
+pub mod Standing
+pub mod Sound
+pub mod Sorted
+pub mod Facts
+pub mod Complete
+pub mod Steps
+pub mod Clocks
+pub mod Telling
+pub mod Ranked
+pub mod Search
