@@ -9,3 +9,4 @@ pub mod Clocks
 pub mod Telling
 pub mod Ranked
 pub mod Search
+pub mod Tables

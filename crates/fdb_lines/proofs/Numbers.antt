@@ -54,3 +54,11 @@ least_below P decide (suc n) =
         | inr not_here ↦ inr (λ j h p. elim (cases_eq j n) [ inl same ↦ not_here (subst P same p) | inr other ↦ none j (omega arith) p ])
       ]
     ]
+
+-- tests that agree have one greatest
+pub greatest_same : (one other : ℕ → Bool) (f : ℕ → ℕ) (n : ℕ) → ((i : ℕ) → i < n → one i ≡ other i) → greatest_of one f n ≡ greatest_of other f n
+greatest_same one other f zero h = refl
+greatest_same one other f (suc n) h =
+    let rest = greatest_same one other f n (λ i l. h i (omega arith)) in
+    let here = ap (λ b. cond b (f n) 0) (h n (omega arith)) in
+    omega arith

@@ -7,12 +7,8 @@ use Rattle.std.proofs.lemmas.Bool.{cases_Bool, cond-true, cond-false, lt-ltb, le
 use Rattle.std.proofs.lemmas.List.Elements.{All-from_recursion, recursion_from_All, All-from_get_or, All-get_or}
 use Rattle.std.proofs.lemmas.List.Sorted.{All-permutation, IsPermutation-sym}
 use Rattle.fdb_lines.specs.Faults.{greatest_of}
+use Rattle.fdb_lines.specs.private.Ends.{top}
 use Rattle.fdb_lines.proofs.Numbers.{greatest_bound, greatest_least}
-
--- the greatest of those that pass a test, and 0
-abbrev pub top : {X : Type 0} → (X → Bool) → (X → ℕ) → List X → ℕ
-top test f [] = 0
-top test f (x ∷ xs) = max (cond (test x) (f x) 0) (top test f xs)
 
 abbrev Within : {X : Type 0} → (X → Bool) → (X → ℕ) → ℕ → X → Type 0
 Within test f b x = test x ≡ true → f x ≤ b

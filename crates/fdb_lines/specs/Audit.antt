@@ -3,7 +3,7 @@ use Rattle.std.specs.Prelude.{◌↔◌, ℕ, Bool, true, false, List, Option, N
 use Rattle.fdb_lines.specs.declared.act.Act.{Act}
 use Rattle.fdb_lines.specs.declared.line.Line.{Line}
 use Rattle.fdb_lines.specs.declared.opts.AuditOpts.{AuditOpts}
-use Rattle.fdb_lines.specs.Lines.{Case}
+use Rattle.fdb_lines.specs.Lines.{Case, Lines}
 use Rattle.fdb_lines.specs.Before.{comes_before}
 use Rattle.fdb_lines.specs.Explained.{Explains}
 
@@ -16,11 +16,11 @@ abbrev pub is_complete : Option ℕ → Bool
 is_complete None = false
 is_complete (Some start) = true
 
--- Lines, which have times or have none, as a case.
-abbrev pub case_of : Bool → List Line → AuditOpts → Case
-case_of timed lines opts = record {
-  lines = lines;
-  before = comes_before timed opts.margin lines;
+-- What is asked of a log, as a case.
+abbrev pub case_of : Lines → AuditOpts → Case
+case_of log opts = record {
+  lines = log.lines;
+  before = comes_before log.timed opts.margin log.lines;
   start = start_of opts.complete;
   complete = is_complete opts.complete;
 }

@@ -1,3 +1,4 @@
+pub mod Log
 pub mod Lines
 pub mod Before
 pub mod Explained
@@ -5,3 +6,4 @@ pub mod Faults
 pub mod Order
 pub mod Steps
 pub mod Audit
+pub mod private

@@ -3,6 +3,7 @@ use Rattle.std.specs.Prelude.{◌≡◌, ℕ, Bool, true, false, ◌==◌, List,
 use Rattle.fdb_lines.specs.declared.line.Call.{Call}
 use Rattle.fdb_lines.specs.declared.line.Call.TheVariants.{Read as ReadOf, Commit as CommitOf, Ask as AskOf, Report as ReportOf, Learn as LearnFrom}
 use Rattle.fdb_lines.specs.declared.line.Line.{Line}
+use Rattle.fdb_lines.specs.declared.line.Times.{Times}
 
 pub data Kind : Type 0 where
   Read : Kind
@@ -47,6 +48,13 @@ is_commit Commit = true
 is_commit Ask = false
 is_commit Report = false
 is_commit Learn = false
+
+abbrev pub is_ask : Kind → Bool
+is_ask Read = false
+is_ask Commit = false
+is_ask Ask = true
+is_ask Report = false
+is_ask Learn = false
 
 abbrev pub is_report : Kind → Bool
 is_report Read = false
@@ -97,6 +105,19 @@ nobody = record { client = None; call = LearnFrom 0; times = None }
 
 abbrev pub line_at : List Line → ℕ → Line
 line_at lines k = slice_index_or lines k nobody
+
+-- whether a line has times
+abbrev pub are_known : Option Times → Bool
+are_known None = false
+are_known (Some times) = true
+
+abbrev pub has_times : Line → Bool
+has_times line = are_known line.times
+
+-- A log: its lines, and whether all have times or none has.
+pub record Lines : Type 0 where
+  pub timed : Bool
+  pub lines : List Line
 
 -- Some lines, with which of them comes before which (by places), the version that all begins with, and whether the
 -- log has all calls.

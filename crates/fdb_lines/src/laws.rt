@@ -1,11 +1,10 @@
 //! Laws of the definitions.
 
-ghost use Rattle.std.specs.Prelude.{ℕ, Bool, ◌<◌, ◌≡◌, ◌≢◌, ◌↔◌, true, List, length, IsTrue};
+ghost use Rattle.std.specs.Prelude.{ℕ, ◌≡◌, ◌≢◌, ◌↔◌, List, IsTrue};
 ghost use Rattle.fdb_lines.specs.declared.act.Act.{Act};
-ghost use Rattle.fdb_lines.specs.declared.line.Line.{Line};
 ghost use Rattle.fdb_lines.specs.declared.opts.AuditOpts.{AuditOpts};
 ghost use Rattle.fdb_lines.specs.Audit.{AreExplained, case_of};
-ghost use Rattle.fdb_lines.specs.Lines.{Case, Ask, Learn, kind_at};
+ghost use Rattle.fdb_lines.specs.Lines.{Case, Lines, Ask, Learn, kind_at};
 ghost use Rattle.fdb_lines.specs.Explained.{Explains, IsLegal, precedes};
 ghost use Rattle.fdb_lines.specs.Steps.{runs, fresh};
 ghost use Rattle.fdb_lines.specs.Faults.{IsFaultless};
@@ -24,8 +23,8 @@ pub fn nothing_is_hidden()
 /// No fault stands exactly where some history explains the lines: with times and any margin or
 /// without times, and with all calls or with some.
 pub fn no_fault_exactly_where_explained()
-    ensures { (timed : Bool) (lines : List Line) (opts : AuditOpts)
-        → let c = case_of timed lines opts in IsFaultless c ↔ AreExplained c }
+    ensures { (log : Lines) (opts : AuditOpts)
+        → let c = case_of log opts in IsFaultless c ↔ AreExplained c }
 {}
 
 /// A history is legal exactly where register and sequencer run through it, one act after another.

@@ -4,10 +4,15 @@
 mod act;
 mod fault;
 pub mod laws;
+mod end;
+mod ends;
 mod line;
+mod log;
 mod opts;
+mod seen;
 
 pub use act::Act;
 pub use fault::Fault;
 pub use line::{Call, Line, Times};
+pub use log::{LineError, Log, MAX_LINES};
 pub use opts::AuditOpts;

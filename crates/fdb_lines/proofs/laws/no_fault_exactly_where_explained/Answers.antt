@@ -6,7 +6,7 @@ use Rattle.fdb_lines.proofs.Complete.{explained}
 use Rattle.fdb_lines.proofs.Ranked.{ranked}
 
 pub returns : goal.returns
-returns c timed lines opts = (
-  λ none. (history (case_of timed lines opts) (rank_of timed lines), explained (case_of timed lines opts) (rank_of timed lines) (ranked timed lines opts) none),
-  λ some. invented (case_of timed lines opts) some.0 some.1,
+returns c log opts = (
+  λ none. (history (case_of log opts) (rank_of log.timed log.lines), explained (case_of log opts) (rank_of log.timed log.lines) (ranked log opts) none),
+  λ some. invented (case_of log opts) some.0 some.1,
 )
