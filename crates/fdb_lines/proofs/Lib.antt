@@ -10,3 +10,4 @@ pub mod Telling
 pub mod Ranked
 pub mod Search
 pub mod Tables
+pub mod Knowing

@@ -6,6 +6,7 @@ mod fault;
 pub mod laws;
 mod end;
 mod ends;
+mod known;
 mod line;
 mod log;
 mod opts;

@@ -118,3 +118,27 @@ pub struct Line {
     /// When, in a log with times.
     pub times: Option<Times>,
 }
+
+impl Line {
+    ghost use Rattle.fdb_lines.specs.Before.{began, ended};
+
+    /// When it began; 0 without times.
+    pub fn began(&self) -> u64
+        ensures { result ≡ began self.now }
+    {
+        match self.times {
+            Some(times) => times.began,
+            None => 0,
+        }
+    }
+
+    /// When it ended, where that is known.
+    pub fn ended(&self) -> Option<u64>
+        ensures { result ≡ ended self.now }
+    {
+        match self.times {
+            Some(times) => times.ended,
+            None => None,
+        }
+    }
+}
