@@ -13,6 +13,7 @@ use Rattle.fdb_lines.specs.private.Ends.{top, is_earlier, newest_before}
 use Rattle.fdb_lines.specs.private.Known.{counts_at, version_in, newest_known, in_group, had_ended, stands_in, newest_in, IsTable, newest_of_end, newest_of_own}
 use Rattle.fdb_lines.proofs.Numbers.{greatest_same, greatest_least}
 use Rattle.fdb_lines.proofs.Search.{greatest_either}
+use Rattle.fdb_lines.proofs.Tests.{with_false, only_left, swapped, spread, same_tests}
 
 -- ---- a table grows
 
@@ -41,40 +42,6 @@ table_more by_client seen lines k ends line o table lt is adds group time place 
 
 -- ---- what comes before by time stands in one of the tables
 
-with_false : (b : Bool) → (b && false) ≡ false
-with_false true = refl
-with_false false = refl
-
-only_left : (b : Bool) → (b || false) ≡ b
-only_left true = refl
-only_left false = refl
-
-swapped : (a b : Bool) → (a && b) ≡ (b && a)
-swapped true true = refl
-swapped true false = refl
-swapped false true = refl
-swapped false false = refl
-
-spread : (a b d : Bool) → ((a || b) && d) ≡ ((d && a) || (d && b))
-spread true true true = refl
-spread true true false = refl
-spread true false true = refl
-spread true false false = refl
-spread false true true = refl
-spread false true false = refl
-spread false false true = refl
-spread false false false = refl
-
-same_tests : (a b m n x y : ℕ) → (a < b → x < y) → (x < y → a < b) → nat_lt a b ≡ nat_lt x y
-same_tests a b m n x y f g =
-    elim (cases_lt a b) [
-      | inl l ↦ lt-ltb a b l ∙ sym (lt-ltb x y (f l))
-      | inr ge ↦ elim (cases_lt x y) [
-        | inl l ↦ let back = g l in absurd (omega arith)
-        | inr ge' ↦ le-ltb a b ge ∙ sym (le-ltb x y ge')
-      ]
-    ]
-
 -- an end before a moment and any place is just an end before it
 at_zero : (end time above : ℕ) → is_earlier end above time 0 ≡ nat_lt end time
 at_zero end time above =
@@ -83,7 +50,7 @@ at_zero end time above =
 
 margins : (end margin time above : ℕ) → nat_lt (end + margin) time ≡ is_earlier end above (time - margin) 0
 margins end margin time above =
-    same_tests (end + margin) time 0 0 end (time - margin) (λ l. omega arith) (λ l. omega arith) ∙ sym (at_zero end (time - margin) above)
+    same_tests (end + margin) time end (time - margin) (λ l. omega arith) (λ l. omega arith) ∙ sym (at_zero end (time - margin) above)
 
 -- the test of a client's own table, where the client is known
 abbrev own_test : Seen → List Line → Option ℕ → ℕ → ℕ → ℕ → Bool

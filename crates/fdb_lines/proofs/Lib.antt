@@ -6,8 +6,10 @@ pub mod Facts
 pub mod Complete
 pub mod Steps
 pub mod Clocks
-pub mod Telling
+pub mod Told
 pub mod Ranked
 pub mod Search
 pub mod Tables
 pub mod Knowing
+pub mod Tests
+pub mod Hearing

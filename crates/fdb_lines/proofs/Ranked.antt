@@ -5,7 +5,7 @@ use Rattle.fdb_lines.specs.declared.opts.AuditOpts.{AuditOpts}
 use Rattle.fdb_lines.specs.Audit.{case_of}
 use Rattle.fdb_lines.specs.Order.{IsRanked, rank_of}
 use Rattle.fdb_lines.proofs.Clocks as clocks
-use Rattle.fdb_lines.proofs.Telling as telling
+use Rattle.fdb_lines.proofs.Told as telling
 
 pub ranked : (log : Lines) (opts : AuditOpts) → IsRanked (case_of log opts) (rank_of log.timed log.lines)
 ranked log opts = by log.timed

@@ -1,3 +1,4 @@
 pub mod Seen
 pub mod Ends
 pub mod Known
+pub mod Telling

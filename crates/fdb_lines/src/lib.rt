@@ -11,6 +11,7 @@ mod line;
 mod log;
 mod opts;
 mod seen;
+mod telling;
 
 pub use act::Act;
 pub use fault::Fault;
