@@ -9,7 +9,10 @@ pub mod Clocks
 pub mod Told
 pub mod Ranked
 pub mod Search
-pub mod Tables
+pub mod Newest
 pub mod Knowing
 pub mod Tests
 pub mod Hearing
+pub mod Counting
+pub mod Verdicts
+pub mod Listed

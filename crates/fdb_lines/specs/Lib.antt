@@ -6,4 +6,5 @@ pub mod Faults
 pub mod Order
 pub mod Steps
 pub mod Audit
+pub mod Listing
 pub mod private

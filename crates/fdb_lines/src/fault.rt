@@ -14,3 +14,12 @@ pub enum Fault {
     /// A report of a version that others drew, or that nobody can have drawn.
     Stray,
 }
+
+/// A fault, and the line at which it stands, counted from 0.
+#[derive(Clone, Copy, Debug, PartialEq, Eq)]
+pub struct Found {
+    /// The line.
+    pub line: u32,
+    /// What is wrong with it.
+    pub fault: Fault,
+}

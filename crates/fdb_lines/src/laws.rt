@@ -1,10 +1,10 @@
 //! Laws of the definitions.
 
-ghost use Rattle.std.specs.Prelude.{ℕ, ◌≡◌, ◌≢◌, ◌↔◌, List, IsTrue};
+ghost use Rattle.std.specs.Prelude.{ℕ, ◌<◌, ◌≤◌, ◌≡◌, ◌≢◌, ◌↔◌, List, length, IsTrue};
 ghost use Rattle.fdb_lines.specs.declared.act.Act.{Act};
 ghost use Rattle.fdb_lines.specs.declared.opts.AuditOpts.{AuditOpts};
 ghost use Rattle.fdb_lines.specs.Audit.{AreExplained, case_of};
-ghost use Rattle.fdb_lines.specs.Lines.{Case, Lines, Ask, Learn, kind_at};
+ghost use Rattle.fdb_lines.specs.Lines.{Case, Lines, Read, Ask, Learn, kind_at, shows, version_at};
 ghost use Rattle.fdb_lines.specs.Explained.{Explains, IsLegal, precedes};
 ghost use Rattle.fdb_lines.specs.Steps.{runs, fresh};
 ghost use Rattle.fdb_lines.specs.Faults.{IsFaultless};
@@ -25,6 +25,16 @@ pub fn nothing_is_hidden()
 pub fn no_fault_exactly_where_explained()
     ensures { (log : Lines) (opts : AuditOpts)
         → let c = case_of log opts in IsFaultless c ↔ AreExplained c }
+{}
+
+/// Where no fault stands, no read is below what a line before it showed, and none is below the
+/// version that all began with.
+pub fn no_read_goes_back()
+    ensures after_what_was_shown { (c : Case) (j k : ℕ) → IsFaultless c
+        → j < length c.lines → k < length c.lines → IsTrue (c.before j k)
+        → IsTrue (shows (kind_at c j)) → kind_at c k ≡ Read → version_at c j ≤ version_at c k }
+    ensures after_the_start { (c : Case) (k : ℕ) → IsFaultless c
+        → k < length c.lines → kind_at c k ≡ Read → c.start ≤ version_at c k }
 {}
 
 /// A history is legal exactly where register and sequencer run through it, one act after another.

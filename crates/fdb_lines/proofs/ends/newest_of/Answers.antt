@@ -3,7 +3,7 @@ use Rattle.std.proofs.lemmas.Bool.{cases_lt}
 use Rattle.std.proofs.lemmas.List.{get_or_read, get_or_default, get_or_append_left, get_or_push}
 use Rattle.fdb_lines.specs.declared.end.End.{End}
 use Rattle.fdb_lines.specs.private.Ends.{end_at, no_end, newest_at}
-use Rattle.fdb_lines.proofs.Tables.{next}
+use Rattle.fdb_lines.proofs.Newest.{next}
 use Rattle.fdb_lines.proofs.ends.newest_of.Goals as goal
 use Rattle.fdb_lines.proofs.ends.newest_of.Goals.{then-i-gt0+then-ends-i, else-i-gt0, else-i-gt0-via-then-i-gt0+else-ends-i, else-i-gt0-via-else-i-gt0}
 

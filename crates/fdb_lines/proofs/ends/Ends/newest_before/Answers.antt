@@ -2,7 +2,7 @@ use Rattle.std.proofs.Common.{◌≡◌, ◌≢◌, ◌⊎◌, ℕ, ◌-◌, ◌
 use Rattle.std.proofs.lemmas.List.{get_or_default, get_or_read}
 use Rattle.fdb_lines.specs.declared.end.End.{End}
 use Rattle.fdb_lines.specs.private.Ends.{end_at, no_end, end_key, key, IsFront}
-use Rattle.fdb_lines.proofs.Tables.{found, not_found}
+use Rattle.fdb_lines.proofs.Newest.{found, not_found}
 use Rattle.fdb_lines.proofs.ends.Ends.newest_before.Goals as goal
 use Rattle.fdb_lines.proofs.ends.Ends.newest_before.Goals.{else-front-gt0-via-then-front-gt0+else-index-group, else-front-gt0-via-else-front-gt0}
 
