@@ -1,7 +1,7 @@
 -- How many versions are equal to one, and how many numbers pass a test.
 use Rattle.std.proofs.Common.{◌≡◌, ◌≢◌, ℕ, zero, suc, max, ◌+◌, ◌<◌, ◌≤◌, ◌==◌, nat_lt, nat_le, not, Bool, true, false, cond, ◌&&◌, ◌||◌, List, [], ◌∷◌, ◌++◌, length, get_or, slice_index, count_by, sum_by, refl, ap, sym, ◌∙◌, inl, inr, arith, add-one}
 use Rattle.std.specs.List.Sorted.{IsPartitionPoint}
-use Rattle.std.proofs.lemmas.Bool.{cases_Bool, cases_eq, cases_order, cond-true, cond-false, eq-eqb, eqb-true, ne_eqb, lt-ltb, le-ltb, le-leb, lt-leb}
+use Rattle.std.proofs.lemmas.Bool.{both_ways, cases_Bool, cases_eq, cases_order, cond-true, cond-false, eq-eqb, eqb-true, ne_eqb, lt-ltb, le-ltb, le-leb, lt-leb}
 use Rattle.std.proofs.lemmas.List.{get_or_default}
 use Rattle.std.proofs.lemmas.List.Sums.{sum_by-cons, sum_by-append}
 use Rattle.fdb_lines.specs.declared.choice.Choice.{Choice}
@@ -10,6 +10,18 @@ use Rattle.fdb_lines.specs.Lines.{nobody, line_at, kind_of, version_of}
 use Rattle.fdb_lines.specs.Faults.{some_below}
 use Rattle.fdb_lines.specs.private.Versions.{times_in, tally, is_chosen, is_choice, AreBelow}
 use Rattle.fdb_lines.proofs.Tests.{same_tests}
+
+-- what a test adds to a count
+abbrev adds : Bool → ℕ
+adds b = cond b 1 0
+
+one_more : (b : Bool) → b ≡ true → adds b ≡ 1
+one_more true e = refl
+one_more false e = absurd (both_ways false refl e)
+
+no_more : (b : Bool) → b ≡ false → adds b ≡ 0
+no_more true e = absurd (both_ways true e refl)
+no_more false e = refl
 
 -- ---- lists of versions
 
@@ -35,20 +47,20 @@ split_at (x ∷ xs) v =
     let c = sum_by-cons (λ y. cond (y == v) 1 0) x xs in
     elim (cases_order x v) [
       | inl same ↦
-          let d = cond-true (nat_le x v) 1 0 (le-leb x v (omega arith)) in
-          let e = cond-false (nat_lt x v) 1 0 (le-ltb x v (omega arith)) in
-          let f = cond-true (x == v) 1 0 (eq-eqb x v same) in
+          let d = one_more (nat_le x v) (le-leb x v (omega arith)) in
+          let e = no_more (nat_lt x v) (le-ltb x v (omega arith)) in
+          let f = one_more (x == v) (eq-eqb x v same) in
           omega arith
       | inr other ↦ elim other [
         | inl less ↦
-            let d = cond-true (nat_le x v) 1 0 (le-leb x v (omega arith)) in
-            let e = cond-true (nat_lt x v) 1 0 (lt-ltb x v less) in
-            let f = cond-false (x == v) 1 0 (ne_eqb x v (λ same. omega arith)) in
+            let d = one_more (nat_le x v) (le-leb x v (omega arith)) in
+            let e = one_more (nat_lt x v) (lt-ltb x v less) in
+            let f = no_more (x == v) (ne_eqb x v (λ same. omega arith)) in
             omega arith
         | inr more ↦
-            let d = cond-false (nat_le x v) 1 0 (lt-leb v x more) in
-            let e = cond-false (nat_lt x v) 1 0 (le-ltb x v (omega arith)) in
-            let f = cond-false (x == v) 1 0 (ne_eqb x v (λ same. omega arith)) in
+            let d = no_more (nat_le x v) (lt-leb x v more) in
+            let e = no_more (nat_lt x v) (le-ltb x v (omega arith)) in
+            let f = no_more (x == v) (ne_eqb x v (λ same. omega arith)) in
             omega arith
       ]
     ]
@@ -74,7 +86,7 @@ chosen_more choice start shown lines k versions line are lt is chosen q =
     let here : is_choice choice start shown lines q k ≡ (version_of line.call == q) =
     ap (λ (l : Line). is_chosen choice (kind_of l.call) (version_of l.call) (max start (slice_index shown k)) && version_of l.call == q) (sym at)
     ∙ ap (λ b. b && version_of line.call == q) chosen in
-    let same = ap (λ b. cond b 1 0) here in
+    let same = ap adds here in
     omega arith
 
 pub other_more : (choice : Choice) (start : ℕ) (shown : List ℕ) (lines : List Line) (k : ℕ) (versions : List ℕ) (line : Line)
@@ -89,7 +101,7 @@ other_more choice start shown lines k versions line are lt is chosen q =
     let here : is_choice choice start shown lines q k ≡ false =
     ap (λ (l : Line). is_chosen choice (kind_of l.call) (version_of l.call) (max start (slice_index shown k)) && version_of l.call == q) (sym at)
     ∙ ap (λ b. b && version_of line.call == q) chosen in
-    let same = cond-false (is_choice choice start shown lines q k) 1 0 here in
+    let same = no_more (is_choice choice start shown lines q k) here in
     omega arith
 
 -- ---- tallies
@@ -98,7 +110,7 @@ pub tally_same : (one other : ℕ → Bool) (n : ℕ) → ((i : ℕ) → i < n �
 tally_same one other zero h = refl
 tally_same one other (suc n) h =
     let rest = tally_same one other n (λ i l. h i (omega arith)) in
-    let here = ap (λ b. cond b 1 0) (h n (omega arith)) in
+    let here = ap adds (h n (omega arith)) in
     omega arith
 
 -- some pass a test exactly where their tally is above 0
@@ -108,10 +120,10 @@ some_tally test (suc n) =
     let rest = some_tally test n in
     elim (cases_Bool (test n)) [
       | inl passes ↦
-          let e = cond-true (test n) 1 0 passes in
+          let e = one_more (test n) passes in
           ap (λ b. b || some_below test n) passes ∙ sym (lt-ltb 0 (cond (test n) 1 0 + tally test n) (omega arith))
       | inr fails ↦
-          ap (λ b. b || some_below test n) fails ∙ (rest ∙ ap (λ m. nat_lt 0 m) (let e = cond-false (test n) 1 0 fails in let sum : tally test n ≡ cond (test n) 1 0 + tally test n = omega arith in sum))
+          ap (λ b. b || some_below test n) fails ∙ (rest ∙ ap (λ m. nat_lt 0 m) (let e = no_more (test n) fails in let sum : tally test n ≡ cond (test n) 1 0 + tally test n = omega arith in sum))
     ]
 
 pub some_same : (one other : ℕ → Bool) (n : ℕ) → ((i : ℕ) → i < n → one i ≡ other i) → some_below one n ≡ some_below other n
@@ -129,12 +141,12 @@ tally_without test k zero passes lt = absurd (omega arith)
 tally_without test k (suc n) passes lt =
     elim (cases_eq n k) [
       | inl same ↦
-          let a = cond-true (test n) 1 0 (ap test same ∙ passes) in
-          let b = cond-false (not (n == k) && test n) 1 0 (ap (λ b. not b && test n) (eq-eqb n k same)) in
+          let a = one_more (test n) (ap test same ∙ passes) in
+          let b = no_more (not (n == k) && test n) (ap (λ b. not b && test n) (eq-eqb n k same)) in
           let rest = apart_before test k n (omega arith) in
           omega arith
       | inr other ↦
           let rest = tally_without test k n passes (omega arith) in
-          let b = ap (λ b. cond b 1 0) (ap (λ b. not b && test n) (ne_eqb n k other)) in
+          let b = ap adds (ap (λ b. not b && test n) (ne_eqb n k other)) in
           omega arith
     ]

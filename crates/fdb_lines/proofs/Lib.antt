@@ -16,3 +16,4 @@ pub mod Hearing
 pub mod Counting
 pub mod Verdicts
 pub mod Listed
+pub mod Owning

@@ -34,19 +34,18 @@ not_found c fault k e =
     ]
 
 none_at : (c : Case) (k : ℕ) → faults_at c k ≡ [] → (fault : Fault) → stands c fault k ≡ false
-none_at c k e = by
-  where
-    four = both_empty (found_if c Order k ++ found_if c Wrong k ++ found_if c NotAbove k ++ found_if c Twice k) (found_if c Stray k) e
-    three = both_empty (found_if c Order k ++ found_if c Wrong k ++ found_if c NotAbove k) (found_if c Twice k) four.0
-    two = both_empty (found_if c Order k ++ found_if c Wrong k) (found_if c NotAbove k) three.0
-    one = both_empty (found_if c Order k) (found_if c Wrong k) two.0
-
-    by : (fault : Fault) → stands c fault k ≡ false
-    by Order = not_found c Order k one.0
-    by Wrong = not_found c Wrong k one.1
-    by NotAbove = not_found c NotAbove k two.1
-    by Twice = not_found c Twice k three.1
-    by Stray = not_found c Stray k four.1
+none_at c k e fault =
+    let four = both_empty (found_if c Order k ++ found_if c Wrong k ++ found_if c NotAbove k ++ found_if c Twice k) (found_if c Stray k) e in
+    let three = both_empty (found_if c Order k ++ found_if c Wrong k ++ found_if c NotAbove k) (found_if c Twice k) four.0 in
+    let two = both_empty (found_if c Order k ++ found_if c Wrong k) (found_if c NotAbove k) three.0 in
+    let one = both_empty (found_if c Order k) (found_if c Wrong k) two.0 in
+    elim fault as (λ f. stands c f k ≡ false) [
+      | Order ↦ not_found c Order k one.0
+      | Wrong ↦ not_found c Wrong k one.1
+      | NotAbove ↦ not_found c NotAbove k two.1
+      | Twice ↦ not_found c Twice k three.1
+      | Stray ↦ not_found c Stray k four.1
+    ]
 
 none_below : (c : Case) (n : ℕ) → faults_below c n ≡ [] → (fault : Fault) (k : ℕ) → k < n → stands c fault k ≡ false
 none_below c zero e fault k lt = absurd (omega arith)

@@ -3,9 +3,11 @@ use Rattle.std.proofs.Common.{◌≡◌, ◌≢◌, ℕ, max, ◌+◌, ◌<◌, 
 use Rattle.std.specs.List.{list_any}
 use Rattle.std.proofs.lemmas.Bool.{cases_Bool, cases_eq, both_ways, cond-true, cond-false, eq-eqb, eqb-true, ne_eqb}
 use Rattle.fdb_lines.specs.declared.choice.Choice.TheVariants.{Reports, Raises, Draws, Asks}
+use Rattle.fdb_lines.specs.declared.fault.Fault.TheVariants.{Wrong, Twice, Stray}
+use Rattle.fdb_lines.specs.declared.line.Line.{Line}
 use Rattle.fdb_lines.specs.declared.tables.Tables.{Tables}
-use Rattle.fdb_lines.specs.Lines.{Kind, Read, Commit, Ask, Report, Learn, Case, kind_at, version_at, client_at, is_commit, is_ask, draws, reports}
-use Rattle.fdb_lines.specs.Faults.{knows, last, is_reported, is_drawn, is_raised, is_own, is_twice, some_below}
+use Rattle.fdb_lines.specs.Lines.{Kind, Read, Commit, Ask, Report, Learn, Case, kind_at, version_at, client_at, line_at, kind_of, version_of, is_read, is_report, is_commit, is_ask, draws, reports}
+use Rattle.fdb_lines.specs.Faults.{knows, last, is_reported, is_drawn, is_raised, is_own, is_twice, stands, some_below}
 use Rattle.fdb_lines.specs.private.Owners.{is_owner}
 use Rattle.fdb_lines.specs.private.Tables.{AreTables}
 use Rattle.fdb_lines.specs.private.Versions.{times_in, tally, is_choice}
@@ -114,3 +116,44 @@ twice_is c t are k lt drawn =
           (λ j l. ap (λ b. not (j == k) && b) (beside_ask (kind_at c j) (version_at c j == v))))
           ∙ ap (λ b. some_below (twice c k b) n) (sym is_not)))))
     ]
+
+-- ---- the faults, from the tables
+
+abbrev pub wrong_by : Case → Tables → Line → Bool
+wrong_by c t line =
+    is_read (kind_of line.call)
+    && (not (version_of line.call == c.start)
+    && (not (nat_lt 0 (times_in (version_of line.call) t.raised.rising.items))
+    && (c.complete || nat_lt 0 (times_in (version_of line.call) t.reported.rising.items))))
+
+pub wrong_is : (c : Case) (t : Tables) → AreTables c t → (k : ℕ) → wrong_by c t (line_at c.lines k) ≡ stands c Wrong k
+wrong_is c t are k =
+    let v = version_at c k in
+    ap (λ b. is_read (kind_at c k) && (not (v == c.start) && (not b && (c.complete || nat_lt 0 (times_in v t.reported.rising.items))))) (raised_is c t are v)
+    ∙ ap (λ b. is_read (kind_at c k) && (not (v == c.start) && (not (is_raised c v) && (c.complete || b)))) (reported_is c t are v)
+
+abbrev pub twice_by : Tables → Line → Bool
+twice_by t line =
+    draws (kind_of line.call)
+    && cond (is_commit (kind_of line.call)) (nat_lt 0 (times_in (version_of line.call) t.asked.rising.items)) (nat_lt 1 (times_in (version_of line.call) t.versions.rising.items))
+
+pub twice_at : (c : Case) (t : Tables) → AreTables c t → (k : ℕ) → k < length c.lines → twice_by t (line_at c.lines k) ≡ stands c Twice k
+twice_at c t are k lt =
+    let v = version_at c k in
+    let rest = cond (is_commit (kind_at c k)) (nat_lt 0 (times_in v t.asked.rising.items)) (nat_lt 1 (times_in v t.versions.rising.items)) in
+    elim (cases_Bool (draws (kind_at c k))) [
+      | inl drawn ↦ ap (λ b. draws (kind_at c k) && b) (twice_is c t are k lt drawn)
+      | inr not_drawn ↦ ap (λ b. b && rest) not_drawn ∙ sym (ap (λ b. b && is_twice c k) not_drawn)
+    ]
+
+abbrev pub stray_by : Case → Tables → Line → Bool
+stray_by c t line =
+    is_report (kind_of line.call)
+    && cond (nat_lt 0 (times_in (version_of line.call) t.versions.rising.items))
+    (not (list_any (is_owner (version_of line.call) line.client) t.owners.owners.items)) (c.complete || nat_le (version_of line.call) c.start)
+
+pub stray_is : (c : Case) (t : Tables) → AreTables c t → (k : ℕ) → stray_by c t (line_at c.lines k) ≡ stands c Stray k
+stray_is c t are k =
+    let v = version_at c k in
+    ap (λ b. is_report (kind_at c k) && cond b (not (list_any (is_owner v (client_at c k)) t.owners.owners.items)) (c.complete || nat_le v c.start)) (drawn_is c t are v)
+    ∙ ap (λ b. is_report (kind_at c k) && cond (is_drawn c v) (not b) (c.complete || nat_le v c.start)) (own_is c t are k)
