@@ -1,0 +1,77 @@
+-- When lines are explained: there is an order of the calls, and of what others may have done, that register and
+-- sequencer allow, in which what comes before comes before. (linearizability of Herlihy and Wing, 1990)
+use Rattle.std.specs.Prelude.{◌≡◌, ◌≢◌, ◌⊎◌, ℕ, ◌<◌, ◌≤◌, ◌&&◌, ◌||◌, Bool, false, List, Some, slice_get, length, IsTrue}
+use Rattle.fdb_lines.specs.declared.act.Act.{Act}
+use Rattle.fdb_lines.specs.declared.act.Act.TheVariants.{Asks, Reports, Reads}
+use Rattle.fdb_lines.specs.Lines.{Kind, Read, Commit, Ask, Report, Learn, Case, kind_at, version_at, client_at, draws, reports, shows, is_commit}
+
+-- the act at a moment of a history
+abbrev pub Happens : List Act → ℕ → Act → Type 0
+Happens history moment act = slice_get history moment ≡ Some act
+
+-- a version was reported before a moment, or all began with it
+abbrev pub ReportedBefore : ℕ → List Act → ℕ → ℕ → Type 0
+ReportedBefore start history moment v =
+    (v ≡ start) ⊎ ((m : ℕ) × (m < moment) × Happens history m (Reports v))
+
+abbrev pub AskedBefore : List Act → ℕ → ℕ → Type 0
+AskedBefore history moment v = (m : ℕ) × (m < moment) × Happens history m (Asks v)
+
+pub record IsLegal (start : ℕ) (history : List Act) : Type 0 where
+  -- a read has a version that was reported before it, and the greatest
+  pub had : (m v : ℕ) → Happens history m (Reads v) → ReportedBefore start history m v
+  pub greatest : (m v w : ℕ) → Happens history m (Reads v) → ReportedBefore start history m w → w ≤ v
+  -- a version is reported after it was asked for
+  pub drawn : (m v : ℕ) → Happens history m (Reports v) → AskedBefore history m v
+  -- what is asked for is above all that were asked for and all that were reported before
+  pub rising : (m v w : ℕ) → Happens history m (Asks v) → AskedBefore history m w → w < v
+  pub above : (m v w : ℕ) → Happens history m (Asks v) → ReportedBefore start history m w → w < v
+
+-- what a line's read or report is
+abbrev pub taken_by : Kind → ℕ → Act
+taken_by Read v = Reads v
+taken_by Commit v = Reports v
+taken_by Ask v = Reports v
+taken_by Report v = Reports v
+taken_by Learn v = Reports v
+
+abbrev pub taken : Case → ℕ → Act
+taken c k = taken_by (kind_at c k) (version_at c k)
+
+-- Callers who logged nothing may ask, read, and report what nobody in the log reports.
+abbrev pub OthersMay : Case → Act → Type 0
+OthersMay c (Asks v) = Unit {0}
+OthersMay c (Reports v) = (k : ℕ) → k < length c.lines → IsTrue (reports (kind_at c k)) → version_at c k ≢ v
+OthersMay c (Reads v) = Unit {0}
+
+-- What an ask drew is told to later asks alone: no read and no report shows it.
+abbrev pub precedes : Case → ℕ → ℕ → Bool
+precedes c j k = c.before j k && (shows (kind_at c j) || draws (kind_at c k))
+
+-- the moments of a line, given those of the asks and of the reads and reports
+abbrev pub IsMoment : Case → (ℕ → ℕ) → (ℕ → ℕ) → ℕ → ℕ → Type 0
+IsMoment c asked took k m =
+    (IsTrue (draws (kind_at c k)) × (m ≡ asked k)) ⊎ (IsTrue (shows (kind_at c k)) × (m ≡ took k))
+
+pub record Explains (c : Case) (history : List Act) : Type 0 where
+  pub legal : IsLegal c.start history
+  -- each line's ask has a moment, and its read or report has one
+  pub asked : ℕ → ℕ
+  pub took : ℕ → ℕ
+  pub asks : (k : ℕ) → k < length c.lines → IsTrue (draws (kind_at c k)) → Happens history (asked k) (Asks (version_at c k))
+  pub takes : (k : ℕ) → k < length c.lines → IsTrue (shows (kind_at c k)) → Happens history (took k) (taken c k)
+  -- no two lines have one, unless they are commits
+  pub apart : (j k m : ℕ) → j < length c.lines → k < length c.lines → j ≢ k
+      → IsMoment c asked took j m → IsMoment c asked took k m
+      → IsTrue (is_commit (kind_at c j)) × IsTrue (is_commit (kind_at c k))
+  -- what comes before comes before
+  pub ordered : (j k m n : ℕ) → j < length c.lines → k < length c.lines → IsTrue (precedes c j k)
+      → IsMoment c asked took j m → IsMoment c asked took k n → m < n
+  -- a version is reported by who asked for it, where a line did
+  pub owned : (j k : ℕ) → j < length c.lines → k < length c.lines → kind_at c k ≡ Report → IsTrue (draws (kind_at c j))
+      → version_at c j ≡ version_at c k
+      → (i : ℕ) × (i < length c.lines) × IsTrue (draws (kind_at c i)) × (version_at c i ≡ version_at c k)
+      × (client_at c i ≡ client_at c k)
+  -- all else was done by others
+  pub others : (m : ℕ) (act : Act) → Happens history m act
+      → ((k : ℕ) × (k < length c.lines) × IsMoment c asked took k m) ⊎ ((c.complete ≡ false) × OthersMay c act)

@@ -1,0 +1,10 @@
+pub mod Log
+pub mod Lines
+pub mod Before
+pub mod Explained
+pub mod Faults
+pub mod Order
+pub mod Steps
+pub mod Audit
+pub mod Listing
+pub mod private

@@ -1,0 +1,107 @@
+//! A log: its lines, which all have times or all have none.
+
+ghost use Rattle.std.specs.Prelude.{◌≡◌, ℕ, ◌<◌, ◌≤◌, ◌⊎◌, [], None, Some, IfErr, OnErr, OnOk, length};
+ghost use Rattle.fdb_lines.specs.Lines.{has_times, line_at};
+
+use crate::line::{Call, Line};
+use std::alloc::Global;
+use thiserror::Error;
+
+/// How many lines a log may have: each place fits 32 bits.
+pub const MAX_LINES: usize = 4_294_967_295;
+
+/// Why a line is refused.
+#[derive(Clone, Copy, Debug, PartialEq, Eq, Error)]
+pub enum LineError {
+    /// There are as many lines as a log may have.
+    #[error("too many lines")]
+    TooMany,
+    /// It has times and the lines above have none, or the other way round.
+    #[error("times on some lines only")]
+    SomeTimes,
+    /// A line with times has learnt.
+    #[error("a learn beside times")]
+    TimedLearn,
+    /// A line without times names no client.
+    #[error("no client and no times")]
+    NoClient,
+    /// Memory was refused.
+    #[error("want of memory")]
+    Memory,
+}
+
+/// The lines of a log: all have times, or all have none.
+#[derive(Debug, Drop)]
+pub struct Log {
+    lines: Vec<Line>,
+    timed: bool,
+    ghost few: { length lines.items ≤ 4294967295 },
+    ghost alike: { (k : ℕ) → k < length lines.items → has_times (line_at lines.items k) ≡ timed },
+}
+
+impl Log {
+    ghost use Rattle.fdb_lines.specs.declared.log.LineError.TheVariants.{Memory};
+    ghost use Rattle.fdb_lines.specs.Log.{added, lines_of, refusal_of};
+
+    /// A log without lines.
+    pub fn new(alloc: Global) -> Self
+        ensures { (lines_of result).lines ≡ [] }
+    {
+        Log {
+            lines: Vec::new(alloc),
+            timed: false,
+        }
+    }
+
+    /// The lines.
+    pub fn lines(&self) -> &[Line]
+        ensures { result.now ≡ (lines_of self.now).lines }
+    {
+        self.lines.as_slice()
+    }
+
+    /// Whether all lines have times, or none has.
+    pub fn is_timed(&self) -> bool
+        ensures { result ≡ (lines_of self.now).timed }
+    {
+        self.timed
+    }
+
+    /// Adds a line at the end. An error says why it is refused, in the order of [`LineError`], or
+    /// that memory was refused; the log is as it was then.
+    pub fn push(&mut self, line: Line) -> Result<(), LineError>
+        ensures ok { OnOk result ((refusal_of (lines_of self.old) line ≡ None)
+            × (lines_of self.new ≡ added (lines_of self.old) line)) }
+        ensures err { OnErr result (lines_of self.new ≡ lines_of self.old) }
+        ensures why { IfErr result (λ error. (refusal_of (lines_of self.old) line ≡ Some error)
+            ⊎ ((refusal_of (lines_of self.old) line ≡ None) × (error ≡ Memory))) }
+    {
+        if let Some(error) = self.refusal(&line) {
+            return Err(error);
+        }
+        let timed = line.times.is_some();
+        if self.lines.push(line).is_err() {
+            return Err(LineError::Memory);
+        }
+        self.timed = timed;
+        Ok(())
+    }
+
+    /// Why a line may not be added, if it may not.
+    fn refusal(&self, line: &Line) -> Option<LineError>
+        ensures { result ≡ refusal_of (lines_of self.now) line.now }
+    {
+        let timed = line.times.is_some();
+        if self.lines.len() >= MAX_LINES {
+            Some(LineError::TooMany)
+        } else if !self.lines.is_empty() && self.timed != timed {
+            Some(LineError::SomeTimes)
+        } else if timed && matches!(line.call, Call::Learn(_)) {
+            Some(LineError::TimedLearn)
+        } else if !timed && line.client.is_none() {
+            Some(LineError::NoClient)
+        } else {
+            None
+        }
+    }
+}

@@ -1,0 +1,26 @@
+//! What lines let others know.
+
+ghost use Rattle.std.specs.Prelude.{◌≡◌};
+ghost use Rattle.fdb_lines.specs.Lines.{kind_of};
+ghost use Rattle.fdb_lines.specs.private.Seen.{counts};
+
+use crate::line::Call;
+
+/// What lines let others know of a version: that it was shown, or that it was drawn.
+#[derive(Clone, Copy, Debug, PartialEq, Eq)]
+pub(crate) enum Seen {
+    /// Reads, reports and commits show their versions.
+    Shown,
+    /// Asks and commits draw theirs.
+    Drawn,
+}
+
+/// Whether a call lets this be known.
+pub(crate) fn counts(seen: Seen, call: Call) -> bool
+    ensures { result ≡ counts seen (kind_of call) }
+{
+    match seen {
+        Seen::Shown => call.shows(),
+        Seen::Drawn => call.draws(),
+    }
+}
