@@ -126,4 +126,3 @@ apart lines j k lj lk e =
         | inr more ↦ let m = mul-le-mul_left (length lines) (let h : began (line_at lines k) + 1 ≤ began (line_at lines j) = omega arith in h) in absurd (omega arith)
       ]
     ]
-

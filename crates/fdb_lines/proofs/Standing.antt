@@ -61,8 +61,7 @@ standing c Order k h =
 standing c Wrong k h =
     let p = and_parts (is_read (kind_at c k)) _ h in
     let q = and_parts (not (version_at c k == c.start)) _ p.1 in
-    let r = and_parts (not (is_raised c (version_at c k))) (c.complete || is_reported c (version_at c k)) q.1 in
-    (
+    let r = and_parts (not (is_raised c (version_at c k))) (c.complete || is_reported c (version_at c k)) q.1 in (
       kind_read (kind_at c k) p.0,
       eqb-false (version_at c k) c.start (not-true (version_at c k == c.start) q.0),
       not-true (is_raised c (version_at c k)) r.0,
@@ -80,14 +79,16 @@ standing c Twice k h =
     let s = and_parts (version_at c j == version_at c k) (not (is_commit (kind_at c j) && is_commit (kind_at c k))) r.1 in
     (p.0, (j, some.1, eqb-false j k (not-true (j == k) q.0), r.0, eqb-true (version_at c j) (version_at c k) s.0, not-true (is_commit (kind_at c j) && is_commit (kind_at c k)) s.1))
 standing c Stray k h =
-    let p = and_parts (is_report (kind_at c k)) _ h in
-    (
+    let p = and_parts (is_report (kind_at c k)) _ h in (
       kind_report (kind_at c k) p.0,
       elim (cases_Bool (is_drawn c (version_at c k))) [
         | inl drawn ↦ inr (drawn, not-true (is_own c k) (sym (cond-true (is_drawn c (version_at c k)) (not (is_own c k)) _ drawn) ∙ p.1))
-        | inr undrawn ↦ inl (undrawn, elim (or_cases c.complete (nat_le (version_at c k) c.start) (sym (cond-false (is_drawn c (version_at c k)) (not (is_own c k)) (c.complete || nat_le (version_at c k) c.start) undrawn) ∙ p.1)) [
-          | inl a ↦ inl a
-          | inr b ↦ inr (leb-true (version_at c k) c.start b)
-        ])
+        | inr undrawn ↦ inl (
+          undrawn,
+          elim (or_cases c.complete (nat_le (version_at c k) c.start) (sym (cond-false (is_drawn c (version_at c k)) (not (is_own c k)) (c.complete || nat_le (version_at c k) c.start) undrawn) ∙ p.1)) [
+            | inl a ↦ inl a
+            | inr b ↦ inr (leb-true (version_at c k) c.start b)
+          ],
+        )
       ],
     )

@@ -76,4 +76,3 @@ began_rank lines k = length lines * began (line_at lines k) + k
 abbrev pub rank_of : Bool → List Line → ℕ → ℕ
 rank_of true lines = began_rank lines
 rank_of false lines = λ k. k
-

@@ -35,11 +35,7 @@ pub fn faults(alloc: Global, log: &Log, opts: &AuditOpts) -> Result<Vec<Found>, 
 /// the lines. An error only where memory is refused.
 ///
 /// `n log n` in how many lines there are.
-pub fn first_fault(
-    alloc: Global,
-    log: &Log,
-    opts: &AuditOpts,
-) -> Result<Option<Found>, AllocError>
+pub fn first_fault(alloc: Global, log: &Log, opts: &AuditOpts) -> Result<Option<Found>, AllocError>
     ensures first { IfOk result
         (λ first. first ≡ slice_get (faults_of (case_of (lines_of log.now) opts.now)) 0) }
     ensures explained { IfOk result

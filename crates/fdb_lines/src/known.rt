@@ -78,12 +78,7 @@ fn own_before(table: &Ends, line: &Line, place: u32) -> u64
 }
 
 /// The table of the lines that let a version be known and that ended.
-fn table_of(
-    alloc: Global,
-    lines: &[Line],
-    seen: Seen,
-    by_client: bool,
-) -> Result<Ends, AllocError>
+fn table_of(alloc: Global, lines: &[Line], seen: Seen, by_client: bool) -> Result<Ends, AllocError>
     requires { length lines.now ≤ 4294967295 }
     ensures settled { IfOk result (λ table. AreSettled table) }
     ensures table { IfOk result

@@ -38,11 +38,7 @@ pub(crate) struct Tables {
 }
 
 /// The tables of a log. `n log n` in how many lines it has.
-pub(crate) fn tables_of(
-    alloc: Global,
-    log: &Log,
-    opts: &AuditOpts,
-) -> Result<Tables, AllocError>
+pub(crate) fn tables_of(alloc: Global, log: &Log, opts: &AuditOpts) -> Result<Tables, AllocError>
     ensures { IfOk result (λ tables. AreTables (case_of (lines_of log.now) opts.now) tables) }
 {
     let lines = log.lines();

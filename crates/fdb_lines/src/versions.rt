@@ -3,7 +3,6 @@
 ghost use Rattle.std.specs.Prelude.{◌≡◌, ℕ, count_by, nat_le, nat_lt};
 ghost use Rattle.std.specs.List.Sorted.{IsNonDecreasing};
 
-
 /// Versions in order, each as often as it was added.
 #[derive(Drop)]
 pub(crate) struct Versions {

@@ -64,10 +64,12 @@ fn stale_reads(alloc: Global, log: &Log, opts: &AuditOpts) -> Result<usize, Allo
     ensures { IfOk result
         (λ n. n ≡ count_by is_stale (faults_of (case_of (lines_of log.now) opts.now))) }
 {
-    Ok(faults(alloc, log, opts)?
-        .iter()
-        .filter(|found| is_stale(found))
-        .count())
+    Ok(
+        faults(alloc, log, opts)?
+            .iter()
+            .filter(|found| is_stale(found))
+            .count(),
+    )
 }
 
 /// Whether a read went back.
