@@ -2,8 +2,6 @@
 #![tactic(auto)]
 
 #[cfg(test)]
-mod ample_memory;
-#[cfg(test)]
 mod client;
 #[cfg(test)]
 mod line;

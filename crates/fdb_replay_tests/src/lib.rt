@@ -3,13 +3,9 @@
 #![tactic(auto)]
 
 #[cfg(test)]
-mod ample_memory;
-#[cfg(test)]
 mod calls;
 #[cfg(test)]
 mod gated;
-#[cfg(test)]
-mod many;
 #[cfg(test)]
 mod refused_memory;
 #[cfg(test)]

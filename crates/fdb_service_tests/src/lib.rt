@@ -3,8 +3,6 @@
 #![tactic(auto)]
 
 #[cfg(test)]
-mod ample_memory;
-#[cfg(test)]
 mod line;
 #[cfg(test)]
 mod live;
