@@ -33,7 +33,7 @@ impl<R: Wait> Workload<R> for ReadTagged {
         cluster: &Cluster<'_, J>,
         clients: &mut [Client<'_, J>],
     ) -> [Limits; 2] {
-        let [client] = clients else {
+        let Some(client) = clients.first_mut() else {
             return [None; 2];
         };
         let first = self.limits_at(rt, cluster.desk(0), client);

@@ -8,6 +8,8 @@
 #![tactic(auto)]
 
 #[cfg(test)]
+mod ample_memory;
+#[cfg(test)]
 mod audits;
 #[cfg(test)]
 mod chain;

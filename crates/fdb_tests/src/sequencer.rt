@@ -1,15 +1,18 @@
-//! The sequencer. Each line of a text is a request that goes through its lock, as in
-//! the tests of chains, but that what stands is looked at once the sequencer is closed.
+//! The sequencer. Each line of a text is a request that goes through its lock, as in the tests of
+//! chains, but that what stands is looked at once the sequencer is closed. While a request is at the
+//! gate, with the lock, another one comes, which has to wait.
+
+mod held;
 
 use crate::chain::{answer_text, ask_of};
 use crate::line::Line;
 use crate::same::same;
+use crate::sequencer::held::HoldsFirst;
 use fdb_chain::{ChainCore, ChainError, Sequencer};
-use fdb_history::{Ask, Gate, Issued, OpenGate, Place, Service};
+use fdb_history::{Ask, Issued, OpenGate, Service};
 use std::alloc::{AllocError, Global};
 use std::process::Abort;
 use std::sync::Wait;
-use std::sync::atomic::{AtomicU64, Ordering};
 use std::test::Fail;
 use std::thread;
 use std::thread::Threads;
@@ -44,68 +47,29 @@ impl Service for AtTheEnd {
     ghost reporters = { 4 };
 }
 
-/// A gate that counts how often it was passed, and notes who passed it last.
-#[derive(Drop)]
-struct Noting {
-    held: AtomicU64,
-    elsewhere: AtomicU64,
-    who: AtomicU64,
-}
-
-impl Noting {
-    fn new() -> Noting {
-        Noting {
-            held: AtomicU64::new(0),
-            elsewhere: AtomicU64::new(0),
-            who: AtomicU64::new(0),
-        }
-    }
-
-    /// That it was passed so often, always with the sequencer's lock held, and last by this proxy.
-    fn was_passed(&self, rt: &impl Abort, times: u64, proxy: u32) {
-        let held = self.held.load(Ordering::SeqCst);
-        let elsewhere = self.elsewhere.load(Ordering::SeqCst);
-        let who = self.who.load(Ordering::SeqCst);
-        same(rt, &held, &times, &"passed with the lock held");
-        same(rt, &elsewhere, &0, &"passed elsewhere");
-        same(rt, &who, &u64::from(proxy), &"passed last");
-    }
-}
-
-impl Gate for Noting {
-    fn pass(&self, place: Place, who: u32) {
-        match place {
-            Place::SequencerHeld => self.held.fetch_add(1, Ordering::SeqCst),
-            Place::ReportHeld | Place::ReadAnswered => self
-                .elsewhere
-                .fetch_add(1, Ordering::SeqCst),
-        };
-        self.who.store(who as u64, Ordering::SeqCst);
-    }
-}
+/// A commit proxy that no sequencer knows: what it asks leaves the chain as it is.
+const STRANGER: u32 = 1_000;
 
 /// Plays the lines of a text, and looks at how many answers stand at the end.
-fn play<S: Service, R: Wait + Abort>(
+fn play<S: Service + Send + Sync, R: Threads + Wait + Abort + Sync>(
     rt: &R,
     alloc: Global,
     sequencer: Sequencer<S>,
     text: &str,
     standing: usize,
 ) -> Result<(), Fail> {
-    let gate = Noting::new();
     for line in text.lines() {
-        play_line(rt, alloc, &sequencer, &gate, Line::new(line))?;
+        play_line(rt, alloc, &sequencer, Line::new(line))?;
     }
     same(rt, &sequencer.close().answers().len(), &standing, &text);
     Ok(())
 }
 
 /// Plays a line, if it is no comment. The request passes the gate once.
-fn play_line<S: Service, R: Wait + Abort>(
+fn play_line<S: Service + Send + Sync, R: Threads + Wait + Abort + Sync>(
     rt: &R,
     alloc: Global,
     sequencer: &Sequencer<S>,
-    gate: &Noting,
     mut line: Line<'_>,
 ) -> Result<(), AllocError> {
     match line.next_word() {
@@ -114,10 +78,15 @@ fn play_line<S: Service, R: Wait + Abort>(
         Some(_) => line.fails(rt, "no request"),
     }
     let ask = ask_of(rt, &mut line);
-    let before = gate.held.load(Ordering::SeqCst);
-    let found = answer_text(alloc, answered(rt, sequencer, gate, ask))?;
-    line.wants(rt, &found);
-    gate.was_passed(rt, before.saturating_add(1), ask.proxy);
+    let gate = HoldsFirst::new(ask.proxy, STRANGER);
+    let (found, behind) = thread::join(
+        rt,
+        || answered(rt, sequencer, &gate, ask),
+        || refused_behind(rt, sequencer, &gate, ask),
+    );
+    line.wants(rt, &answer_text(alloc, found)?);
+    same(rt, &behind, &Err(ChainError::UnknownProxy), &line.text);
+    gate.was_passed(rt, line.text);
     Ok(())
 }
 
@@ -125,9 +94,28 @@ fn play_line<S: Service, R: Wait + Abort>(
 fn answered<S: Service, R: Wait>(
     rt: &R,
     sequencer: &Sequencer<S>,
-    gate: &Noting,
+    gate: &HoldsFirst,
     ask: Ask,
 ) -> Result<Issued, ChainError> {
+    let found = sequencer.ask(rt, gate, ask);
+    gate.is_answered();
+    found
+}
+
+/// What it answers a stranger who comes while another request is held. It has processed something
+/// where the other has not.
+fn refused_behind<S: Service, R: Wait>(
+    rt: &R,
+    sequencer: &Sequencer<S>,
+    gate: &HoldsFirst,
+    ask: Ask,
+) -> Result<Issued, ChainError> {
+    let ask = Ask {
+        proxy: STRANGER,
+        processed: u64::from(ask.processed == 0),
+        ..ask
+    };
+    gate.comes_behind();
     sequencer.ask(rt, gate, ask)
 }
 
@@ -157,8 +145,11 @@ const OUT_OF_RANGE: &str = "
 ask 0 1 0 1000 => 0 0 1 0 0 100 1000 fresh
 ask 0 2 0 3000 => 1 0 2 0 100 2100 3000 fresh
 ask 0 5 0 4000 => the next request number is 3
+ask 0 5 2 4000 => the next request number is 3
 ask 0 0 0 4000 => the answer is not kept any more
+ask 0 0 2 4000 => the answer is not kept any more
 ask 4 1 0 4000 => there is no such commit proxy
+ask 4 1 2 4000 => there is no such commit proxy
 ";
 
 const PROCESSED_AHEAD: &str = "
@@ -188,6 +179,7 @@ const LAST: &str = "
 ask 0 1 0 0 => 0 0 1 0 0 9223372036854775806 0 fresh
 ask 0 2 0 0 => 1 0 2 0 9223372036854775806 9223372036854775807 0 fresh
 ask 0 3 0 0 => the versions are used up
+ask 0 3 2 0 => the versions are used up
 ask 0 2 0 0 => 1 0 2 0 9223372036854775806 9223372036854775807 0 kept
 ";
 
