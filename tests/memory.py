@@ -53,6 +53,8 @@ CROWD = [
     ]
     for num in (1, 2)
 ]
+# A client that reads once through each of 16 GRV proxies, and once more.
+READS = [[do("grv")] * 17]
 # The most runs of a sweep, how many end without the allocation before it is over, and the seconds
 # after which a run hangs.
 MOST_RUNS, MISSED, HANGS = 2_000, 3, 10
@@ -136,6 +138,8 @@ def refused(program):
     """A run that is refused what it needs ends with status 3 and its line, and else as ever."""
     each, further = lambda at: at + 1, lambda at: at + 1 + at // 12
     first, two, large = first_script(), written(TWO, clients=2, throttles=THROTTLES), written(LARGE)
+    reads = written(READS)
+    each_read = exactly(expected(reads, False))
     crowd = written(CROWD, clients=3, throttles=THROTTLES, room=1)
     by_arguments = ["--history", "--proxies=2", f"{EXAMPLES}/first.json"]
     of_crowd = lambda proxies: (
@@ -149,6 +153,8 @@ def refused(program):
         (ONE_PROXY, *of_crowd(1)),
         ("three clients that race for two proxies", *of_crowd(2)),
         ("three clients that race for two proxies, again", *of_crowd(2)),
+        ("reads through 9 proxies", ["--proxies", "9"], reads, each_read, each),
+        ("reads through 16 proxies", ["--proxies", "16"], reads, each_read, each),
         ("a large script", ["--history"], large, exactly(expected(large, True)), further),
         ("a file that arguments name", by_arguments, b"", exactly(expected(first, True)), each),
         ("a file that is not there", ["/none.json"], b"", exactly(READING_FAILED), each),

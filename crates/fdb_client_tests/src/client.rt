@@ -3,6 +3,7 @@
 
 ghost use Rattle.std.specs.Prelude.{◌≡◌};
 
+mod kinds;
 mod lines;
 mod noting;
 mod pair;
@@ -48,9 +49,9 @@ pub(crate) struct Stand<'a, J: Live> {
 
 /// What is done with clients.
 #[derive(Clone, Copy)]
-pub(crate) enum Case {
-    /// The lines of a text, one after another, of two clients.
-    Lines(&'static str),
+pub(crate) enum Case<'a> {
+    /// The lines of a text, one after another.
+    Lines(&'a str),
     /// Two clients report, tell each other and read, over two proxies.
     OverTwoProxies,
     /// Each of six clients begins with another call, which may be refused memory: once, or from then on.
@@ -74,7 +75,7 @@ pub(crate) fn play<R: Threads + Wait + Abort + Sync>(
     alloc: Global,
     clients: u32,
     proxies: u32,
-    case: Case,
+    case: Case<'_>,
 ) -> Result<(), AllocError> {
     assert!(rt; clients > 0 && clients <= 64, "clients in range");
     let Ok(opened) = LiveRecord::<Brand>::open(rt, alloc, unlocked(100), clients) else {
@@ -92,7 +93,7 @@ fn play_named<J: Live + Send + Sync, R: Threads + Wait + Abort + Sync>(
     alloc: Global,
     opened: Opened,
     core: ChainCore,
-    case: Case,
+    case: Case<'_>,
 ) -> Result<(), AllocError>
     requires opened { opened
         ≡ record { table = J.table; start = J.start; reporters = J.reporters } }
@@ -119,7 +120,7 @@ fn play_at<J: Live + Send + Sync, R: Threads + Wait + Abort + Sync>(
     service: &Service<J>,
     served: Seen<J>,
     tokens: Vec<Seen<J>>,
-    case: Case,
+    case: Case<'_>,
 ) -> Result<(), AllocError> {
     match case {
         Case::Lines(text) => play_lines(rt, &mut stand_of(rt, service, served, tokens)?, text),

@@ -2,6 +2,8 @@
 #![tactic(auto)]
 
 #[cfg(test)]
+mod ample_memory;
+#[cfg(test)]
 mod client;
 #[cfg(test)]
 mod line;

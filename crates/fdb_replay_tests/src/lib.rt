@@ -3,9 +3,13 @@
 #![tactic(auto)]
 
 #[cfg(test)]
+mod ample_memory;
+#[cfg(test)]
 mod calls;
 #[cfg(test)]
 mod gated;
+#[cfg(test)]
+mod many;
 #[cfg(test)]
 mod refused_memory;
 #[cfg(test)]

@@ -6,13 +6,16 @@ ghost use Rattle.std.specs.Prelude.{◌≡◌};
 mod gates;
 pub mod gathered;
 mod held;
+mod holding;
+mod kinds;
 mod minimum;
 pub mod steps;
 mod threads;
 
-use crate::live::gates::{pass_each, pass_one_by_one};
+use crate::live::gates::pass_one_by_one;
 use crate::live::gathered::gather_two;
-use crate::live::held::read_beside_report;
+use crate::live::held::{Call, Holder, call_beside};
+use crate::live::kinds::{Numbers, report_each_kind};
 use crate::live::minimum::keep_the_greatest;
 use crate::live::steps::{learn_crosswise, unlocked, work_through};
 use crate::live::threads::run_all;
@@ -35,10 +38,10 @@ pub(crate) enum Case {
     Crosswise,
     /// Reports that tell a minimum known committed version.
     Minimum,
-    /// A reader reads while a reporter holds the lock of the reports.
-    ReadBesideReport,
-    /// Each report of a reporter passes the gate.
-    PassEach,
+    /// A call with two tokens while a reporter holds the lock of the reports.
+    Beside(Call, Holder, Holder),
+    /// Reports of each kind pass the gate.
+    EachKind(Numbers),
     /// All reporters report, each in a thread of its own, and pass the gate one by one.
     PassOneByOne,
     /// All reporters report and so many readers read, each in a thread of its own.
@@ -59,6 +62,16 @@ impl<J: Live> Parts<J> {
     /// The token of the last reporter that is left.
     fn last(&mut self, rt: &impl Abort) -> Seen<J> {
         self.tokens.pop().expect(rt, "a token is left")
+    }
+
+    /// Takes out the token of a reporter. The last one takes its place.
+    fn token_of(&mut self, rt: &impl Abort, number: u32) -> Seen<J> {
+        for place in 0..self.tokens.len() {
+            if self.tokens[place].reporter() == Some(number) {
+                return self.tokens.swap_remove(place);
+            }
+        }
+        panic!(rt; "reporter {number} has no token left")
     }
 }
 
@@ -104,8 +117,10 @@ fn play_at<J: Live + Send + Sync, R: Threads + Wait + Abort + Sync>(
         Case::Worked => work_through(rt, parts),
         Case::Crosswise => learn_crosswise(rt, parts),
         Case::Minimum => keep_the_greatest(rt, parts),
-        Case::ReadBesideReport => read_beside_report(rt, parts),
-        Case::PassEach => pass_each(rt, parts),
+        Case::Beside(call, one, other) => {
+            return call_beside(rt, alloc, parts, call, (one, other));
+        }
+        Case::EachKind(numbers) => return report_each_kind(rt, alloc, parts, numbers),
         Case::PassOneByOne => pass_one_by_one(rt, parts),
         Case::Threads { readers } => return run_all(rt, alloc, parts, readers),
     }
@@ -131,13 +146,12 @@ fn refusal_of_minimum<R: Wait>(
     LiveRecord::<Brand>::open(rt, alloc, start, 2).err()
 }
 
-/// Reads and reports of one thread, tokens that learn crosswise, and a read beside a report.
+/// Reads and reports of one thread, and tokens that learn crosswise.
 #[test]
 fn reads_and_reports(rt: HostRuntime) -> Result<(), Fail> {
     play(&rt, rt.alloc(), 2, Case::Worked)?;
     play(&rt, rt.alloc(), 2, Case::Crosswise)?;
     play(&rt, rt.alloc(), 2, Case::Minimum)?;
-    play(&rt, rt.alloc(), 2, Case::ReadBesideReport)?;
     Ok(())
 }
 
@@ -150,8 +164,45 @@ fn all_that_was_seen_is_gathered(rt: HostRuntime) -> Result<(), Fail> {
 }
 
 #[test]
+fn no_call_but_a_report_waits_for_one(rt: HostRuntime) -> Result<(), Fail> {
+    let holders = [
+        Holder::Nobody,
+        Holder::NobodyAhead,
+        Holder::Reporter,
+        Holder::ReporterAhead,
+    ];
+    for call in [Call::Read, Call::Split, Call::Learn, Call::Meet] {
+        for one in holders {
+            for other in holders {
+                play(&rt, rt.alloc(), 3, Case::Beside(call, one, other))?;
+            }
+        }
+    }
+    Ok(())
+}
+
+/// The numbers of the first and the second, and under which the first passes.
+#[test]
+fn each_kind_of_report_passes_the_gate(rt: HostRuntime) -> Result<(), Fail> {
+    for (first, second, passes_as) in [
+        (0, 8, 0),
+        (8, 31, 8),
+        (31, 63, 31),
+        (63, 0, 63),
+        (8, 0, 4_294_967_295),
+    ] {
+        let numbers = Numbers {
+            first,
+            passes_as,
+            second,
+        };
+        play(&rt, rt.alloc(), 64, Case::EachKind(numbers))?;
+    }
+    Ok(())
+}
+
+#[test]
 fn each_report_passes_the_gate_alone(rt: HostRuntime) -> Result<(), Fail> {
-    play(&rt, rt.alloc(), 1, Case::PassEach)?;
     play(&rt, rt.alloc(), 2, Case::PassOneByOne)?;
     play(&rt, rt.alloc(), 4, Case::PassOneByOne)?;
     Ok(())

@@ -7,15 +7,19 @@ mod answers;
 mod crowd;
 mod late;
 mod lines;
+mod long;
 mod many;
+mod options;
 mod refused;
 mod rows;
-mod stand;
+pub mod stand;
 
 use crate::live::steps::unlocked;
 use crate::proxy::crowd::ask_all;
 use crate::proxy::late::come_late;
 use crate::proxy::lines::play_lines;
+use crate::proxy::long::answer_many;
+use crate::proxy::options::{Fate, close_each};
 use crate::proxy::refused::{run_refused, serve_refused};
 use crate::proxy::stand::Stand;
 use fdb_live::{Live, LiveRecord, Opened};
@@ -40,6 +44,10 @@ pub(crate) enum Case<'a> {
     Late {
         waiting: u64,
     },
+    /// The desk is closed while a request of each kind of options waits.
+    Closing(Fate),
+    /// One proxy answers so many requests.
+    Long(u64),
     /// A batch is served that may be refused memory, once or from then on.
     ServeRefused {
         once: bool,
@@ -94,6 +102,8 @@ fn play_at<J: Live + Send + Sync, R: Threads + Wait + Abort + Sync>(
         Case::Lines(text) => play_lines(rt, stand, text),
         Case::Crowd => ask_all(rt, stand),
         Case::Late { waiting } => come_late(rt, stand, waiting),
+        Case::Closing(fate) => close_each(rt, stand, fate),
+        Case::Long(requests) => answer_many(rt, stand, requests),
         Case::ServeRefused { once } => {
             stand.once = once;
             serve_refused(rt, stand)

@@ -1,10 +1,11 @@
 //! The lines of a text, each a call, and behind `=>` what comes of it.
 
 use crate::client::Stand;
+use crate::client::noting::Noting;
 use crate::client::served::{Reading, Way, Whom, read_served};
 use crate::line::{Line, tag};
 use fdb_client::{Client, ClientError, ReadVersion};
-use fdb_history::{Call, CallAnswer, GrvOpts, Issued, OpenGate, Priority, Sequence};
+use fdb_history::{Call, CallAnswer, GrvOpts, Issued, Place, Priority, Sequence};
 use fdb_live::{Ack, Live, Seen};
 use std::alloc::{AllocError, Global};
 use std::process::Abort;
@@ -73,6 +74,7 @@ fn client_at<'s, 'a, J: Live>(
     }
 }
 
+/// A request for a commit version, which passes the gate once, whatever it is answered.
 fn asked<J: Live, R: Wait + Abort>(
     rt: &R,
     stand: &mut Stand<'_, J>,
@@ -80,8 +82,10 @@ fn asked<J: Live, R: Wait + Abort>(
 ) -> Result<String, AllocError> {
     let service = stand.service;
     let client = client_at(rt, stand, line);
+    let gate = Noting::new(client.number(), Place::SequencerHeld);
     let (processed, at) = (line.number(rt), line.number(rt));
-    let found = client.ask(rt, &OpenGate, &service.sequencer, processed, at);
+    let found = client.ask(rt, &gate, &service.sequencer, processed, at);
+    gate.was_passed(rt, 1, line.text);
     issued_text(service.alloc, found)
 }
 
@@ -92,11 +96,14 @@ fn reasked<J: Live, R: Wait + Abort>(
 ) -> Result<String, AllocError> {
     let service = stand.service;
     let client = client_at(rt, stand, line);
+    let gate = Noting::new(client.number(), Place::SequencerHeld);
     let (num, processed, at) = (line.number(rt), line.number(rt), line.number(rt));
-    let found = client.reask(rt, &OpenGate, &service.sequencer, num, processed, at);
+    let found = client.reask(rt, &gate, &service.sequencer, num, processed, at);
+    gate.was_passed(rt, 1, line.text);
     issued_text(service.alloc, found)
 }
 
+/// A report, which passes the gate once, unless it is refused.
 fn reported<J: Live, R: Wait + Abort>(
     rt: &R,
     stand: &mut Stand<'_, J>,
@@ -105,9 +112,12 @@ fn reported<J: Live, R: Wait + Abort>(
 ) -> Result<String, AllocError> {
     let alloc = stand.service.alloc;
     let client = client_at(rt, stand, line);
+    let gate = Noting::new(client.number(), Place::ReportHeld);
     let num = line.number(rt);
     let min_known = if call == "least" { line.number(rt) } else { 0 };
-    let found = client.report(rt, &OpenGate, num, call == "lock", None, min_known);
+    let (locked, metadata) = (call == "lock", (call == "lock").then_some([8; 10]));
+    let found = client.report(rt, &gate, num, locked, metadata, min_known);
+    gate.was_passed(rt, u64::from(found.is_ok()), line.text);
     acked_text(alloc, found)
 }
 

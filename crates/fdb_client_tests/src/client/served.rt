@@ -8,7 +8,7 @@ use crate::client::noting::Noting;
 use crate::same::holds;
 use crossbeam_channel::Sender;
 use fdb_client::{Client, ClientError, ReadVersion};
-use fdb_history::{GrvOpts, Sequence};
+use fdb_history::{GrvOpts, Place, Sequence};
 use fdb_live::{Live, Seen};
 use fdb_proxy::{Answer, Cause, Desk, Refused, Reply, Request};
 use fdb_queue::QueueError;
@@ -104,7 +104,7 @@ pub(crate) fn read_served<J: Live + Send + Sync, R: Threads + Wait + Abort + Syn
         whom,
     } = reading;
     let desk = if aside { &service.other } else { &service.desk };
-    let gate = Noting::new(client.number());
+    let gate = Noting::new(client.number(), Place::ReadAnswered);
     let (answered, found) = thread::join(
         rt,
         || serve(rt, service, desk, served, &wanted, way, whom),

@@ -11,6 +11,17 @@ fn a_workload_bears_it(rt: HostRuntime) -> Result<(), Fail> {
     Ok(())
 }
 
+/// The same with more than eight GRV proxies, and with the most.
+#[test]
+fn a_workload_at_many_proxies_bears_it(rt: HostRuntime) -> Result<(), Fail> {
+    for grv_proxies in [9, 16] {
+        if commit_and_read(&rt, rt.alloc(), 1, grv_proxies).is_err() {
+            commit_and_read(&rt, rt.alloc(), 1, grv_proxies)?;
+        }
+    }
+    Ok(())
+}
+
 /// Passes also where every allocation is refused from one on.
 #[test]
 fn without_memory(rt: HostRuntime) -> Result<(), Fail> {

@@ -2,34 +2,37 @@
 
 use crossbeam_utils::Backoff;
 use fdb_history::{Gate, Place};
-use std::sync::atomic::{AtomicBool, AtomicU64, Ordering};
+use std::sync::atomic::{AtomicBool, Ordering};
 
 /// How often a thread looks whether another has come so far.
 const LOOKS: u32 = 1_000_000;
 
-/// Holds client 1 at its first answer until client 0 is in a
-/// lock, and holds that one there until the second answer.
+/// Holds client 1 at its first answer until client 0 is in a lock, and holds that one there until
+/// client 1 passes another place: where its next answer has come, or in the other lock.
 #[derive(Drop)]
 pub(crate) struct Crossing {
     /// Where client 0 is held.
     at: Place,
-    /// It is there.
+    /// Where client 1 passes meanwhile.
+    beside: Place,
+    /// Client 0 is held.
     locked: AtomicBool,
-    /// How many answers client 1 has got.
-    answers: AtomicU64,
-    /// The second one has come.
+    /// Client 1 has its first answer.
     answered: AtomicBool,
+    /// It has passed meanwhile.
+    passed: AtomicBool,
     /// Somebody looked in vain.
     failed: AtomicBool,
 }
 
 impl Crossing {
-    pub(crate) fn new(at: Place) -> Crossing {
+    pub(crate) fn new(at: Place, beside: Place) -> Crossing {
         Crossing {
             at,
+            beside,
             locked: AtomicBool::new(false),
-            answers: AtomicU64::new(0),
             answered: AtomicBool::new(false),
+            passed: AtomicBool::new(false),
             failed: AtomicBool::new(false),
         }
     }
@@ -37,7 +40,7 @@ impl Crossing {
     /// Whether both came through, and nobody looked in vain.
     pub(crate) fn is_passed(&self) -> bool {
         self.locked.load(Ordering::SeqCst)
-            && self.answered.load(Ordering::SeqCst)
+            && self.passed.load(Ordering::SeqCst)
             && !self.failed.load(Ordering::SeqCst)
     }
 
@@ -58,14 +61,15 @@ impl Gate for Crossing {
     fn pass(&self, place: Place, who: u32) {
         if place == self.at && who == 0 {
             self.locked.store(true, Ordering::SeqCst);
-            self.waits_for(&self.answered);
+            self.waits_for(&self.passed);
         }
-        if place == Place::ReadAnswered && who == 1 {
-            if self.answers.fetch_add(1, Ordering::SeqCst) == 0 {
-                self.waits_for(&self.locked);
-            } else {
-                self.answered.store(true, Ordering::SeqCst);
-            }
+        if who != 1 {
+            return;
+        }
+        if place == Place::ReadAnswered && !self.answered.swap(true, Ordering::SeqCst) {
+            self.waits_for(&self.locked);
+        } else if place == self.beside && self.answered.load(Ordering::SeqCst) {
+            self.passed.store(true, Ordering::SeqCst);
         }
     }
 }

@@ -1,10 +1,10 @@
 //! The gate of the reports: that each passes it, and that nobody else reports from there on.
 
 use crate::live::Parts;
-use crate::live::steps::{report_as, report_at};
+use crate::live::steps::report_at;
 use crate::same::{holds, same};
 use crossbeam_utils::Backoff;
-use fdb_history::{Gate, Place, Record};
+use fdb_history::{Gate, Place};
 use fdb_live::{Live, LiveRecord, Seen};
 use std::process::Abort;
 use std::sync::Wait;
@@ -96,42 +96,6 @@ impl Gate for OneByOne {
         let before = self.passed.fetch_add(1, Ordering::SeqCst);
         self.waits_for(before);
         self.glances(before);
-    }
-}
-
-/// Each report passes the gate once, be its record locked or with a metadata version, and whether
-/// it raises the record or not.
-pub(crate) fn pass_each<J: Live, R: Wait + Abort>(rt: &R, parts: &mut Parts<J>) {
-    let mut token = parts.last(rt);
-    let gate = OneByOne::new();
-    let mut version = 100u64;
-    for metadata in [None, Some([0; 10]), Some([7; 10]), None] {
-        for locked in [false, true] {
-            version = version.saturating_add(1);
-            let rec = Record {
-                version,
-                locked,
-                metadata,
-                min_known: 0,
-            };
-            pass_twice(rt, &parts.live, &gate, &mut token, rec);
-        }
-    }
-    gate.was_passed(rt, 16, "a pass for each");
-}
-
-/// Reports a record twice, of which the second report does not raise it.
-fn pass_twice<J: Live, R: Wait + Abort>(
-    rt: &R,
-    live: &LiveRecord<J>,
-    gate: &OneByOne,
-    token: &mut Seen<J>,
-    rec: Record,
-) {
-    for raises in [true, false] {
-        let raised = report_as(rt, live, gate, token, rec).is_ok_and(|ack| ack.raised);
-        gate.reports(token.reporter());
-        same(rt, &raised, &raises, &rec);
     }
 }
 

@@ -1,104 +1,126 @@
-//! A read while a reporter holds the lock of the reports.
+//! Calls while a reporter is held at the gate, with the lock of the reports: none of them waits for
+//! that. (`gather` needs the tokens of all reporters, so that none of them can be held meanwhile.)
 
 use crate::live::Parts;
-use crate::live::steps::{report_at, unlocked};
-use crate::same::{holds, same};
-use crossbeam_utils::Backoff;
-use fdb_history::{Gate, Place};
-use fdb_live::{Ack, Fetched, Live, LiveRecord, Seen};
+use crate::live::holding::HoldsFirst;
+use crate::live::steps::report_at;
+use crate::same::same;
+use fdb_history::OpenGate;
+use fdb_live::{Live, LiveRecord, Seen};
+use std::alloc::{AllocError, Global};
 use std::process::Abort;
 use std::sync::Wait;
-use std::sync::atomic::{AtomicBool, Ordering};
 use std::thread;
 use std::thread::Threads;
 
-/// How often a thread looks whether another has come so far.
-const LOOKS: u32 = 1_000_000;
-
-/// A gate that holds whoever has the lock of the reports until a read is done.
-#[derive(Drop)]
-struct HoldsReporter {
-    /// Somebody is held.
-    held: AtomicBool,
-    /// The read is done.
-    read: AtomicBool,
-    /// Somebody looked in vain, or passed another place than it should.
-    failed: AtomicBool,
+/// A call other than a report. `Split` takes one token, and so does `Read`.
+#[derive(Clone, Copy, Debug)]
+pub(crate) enum Call {
+    Read,
+    Split,
+    Learn,
+    Meet,
 }
 
-impl HoldsReporter {
-    fn new() -> HoldsReporter {
-        HoldsReporter {
-            held: AtomicBool::new(false),
-            read: AtomicBool::new(false),
-            failed: AtomicBool::new(false),
+/// Whose a token is, and whether that has seen a change.
+#[derive(Clone, Copy, Debug)]
+pub(crate) enum Holder {
+    Nobody,
+    NobodyAhead,
+    Reporter,
+    ReporterAhead,
+}
+
+impl Holder {
+    /// How many changes it has seen.
+    fn position(self) -> u64 {
+        match self {
+            Holder::Nobody | Holder::Reporter => 0,
+            Holder::NobodyAhead | Holder::ReporterAhead => 1,
         }
     }
 
-    /// Waits for a flag of its own, and notes a failure where it does not come.
-    fn waits_for(&self, flag: &AtomicBool) {
-        let pause = Backoff::new();
-        for _ in 0..LOOKS {
-            if flag.load(Ordering::SeqCst) {
-                return;
-            }
-            pause.snooze();
+    /// Its token.
+    fn token<J: Live, R: Wait + Abort>(self, rt: &R, parts: &mut Parts<J>) -> Seen<J> {
+        let mut token = match self {
+            Holder::Nobody | Holder::NobodyAhead => parts.live.split(&mut parts.first),
+            Holder::Reporter | Holder::ReporterAhead => parts.last(rt),
+        };
+        if self.position() > 0 {
+            parts.live.read(rt, &mut token);
         }
-        self.fails();
-    }
-
-    /// Notes a failure.
-    fn fails(&self) {
-        self.failed.store(true, Ordering::SeqCst);
+        same(rt, &token.position(), &self.position(), &"a token");
+        token
     }
 }
 
-impl Gate for HoldsReporter {
-    fn pass(&self, place: Place, who: u32) {
-        if place != Place::ReportHeld || who != 0 || self.held.swap(true, Ordering::SeqCst) {
-            self.fails();
-        }
-        self.waits_for(&self.read);
-    }
-}
-
-/// A reader reads while a reporter is held at the gate, with
-/// the lock of the reports. It sees nothing of the report.
-pub(crate) fn read_beside_report<J: Live + Send + Sync, R: Threads + Wait + Abort + Sync>(
+/// Makes a call with two tokens while reporter 0 is held at the gate, after one change.
+pub(crate) fn call_beside<J: Live + Send + Sync, R: Threads + Wait + Abort + Sync>(
     rt: &R,
+    alloc: Global,
     parts: &mut Parts<J>,
-) {
-    let (_one, mut zero) = (parts.last(rt), parts.last(rt));
-    let (live, first) = (&parts.live, &mut parts.first);
-    let gate = HoldsReporter::new();
-    let (acked, fetched) = thread::join(
+    call: Call,
+    (one, other): (Holder, Holder),
+) -> Result<(), AllocError> {
+    let mut zero = parts.token_of(rt, 0);
+    report_at(rt, &parts.live, &OpenGate, &mut zero, 200).ok();
+    let (mut token, mut second) = (one.token(rt, parts), other.token(rt, parts));
+    let (live, gate) = (&parts.live, HoldsFirst::new(0, 1));
+    let (acked, found) = thread::join(
         rt,
-        || report_at(rt, live, &gate, &mut zero, 200),
-        || read_while_held(rt, live, first, &gate),
+        || report_at(rt, live, &gate, &mut zero, 300).is_ok(),
+        || called(rt, live, &gate, call, &mut token, &mut second),
     );
-    holds(rt, !gate.failed.load(Ordering::SeqCst), &"waited in vain");
-    let begun = Fetched {
-        rec: unlocked(100),
-        position: 0,
-    };
-    same(rt, &fetched, &begun, &"the read");
-    let raised = Ack {
-        raised: true,
-        changed: true,
-        position: 1,
-    };
-    same(rt, &acked, &Ok(raised), &"the report");
+    let case = format!(in alloc; "{call:?} {one:?} {other:?}")?;
+    same(rt, &acked, &true, &case);
+    same(rt, &found, &position_after(call, one, other), &case);
+    gate.was_passed(rt, (1, 0), &case);
+    Ok(())
 }
 
-/// Reads once a reporter is held at the gate, and lets it go on.
-fn read_while_held<J: Live, R: Wait>(
+/// Makes a call once the reporter is held, and answers the position that this leads to.
+fn called<J: Live, R: Wait>(
     rt: &R,
     live: &LiveRecord<J>,
-    seen: &mut Seen<J>,
-    gate: &HoldsReporter,
-) -> Fetched {
-    gate.waits_for(&gate.held);
-    let fetched = live.read(rt, seen);
-    gate.read.store(true, Ordering::SeqCst);
-    fetched
+    gate: &HoldsFirst,
+    call: Call,
+    one: &mut Seen<J>,
+    other: &mut Seen<J>,
+) -> u64 {
+    gate.waits_until_held();
+    let position = position_by(rt, live, call, one, other);
+    gate.is_done_beside();
+    position
+}
+
+/// The position that a call leads to.
+fn position_by<J: Live, R: Wait>(
+    rt: &R,
+    live: &LiveRecord<J>,
+    call: Call,
+    one: &mut Seen<J>,
+    other: &mut Seen<J>,
+) -> u64 {
+    match call {
+        Call::Read => live.read(rt, one).position,
+        Call::Split => live.split(one).position(),
+        Call::Learn => {
+            let told = live.split(other);
+            live.learn(rt, one, told);
+            one.position()
+        }
+        Call::Meet => {
+            live.meet(rt, one, other);
+            one.position()
+        }
+    }
+}
+
+/// The position that a call has to lead to: it sees nothing of the report that is held.
+fn position_after(call: Call, one: Holder, other: Holder) -> u64 {
+    match call {
+        Call::Read => 1,
+        Call::Split | Call::Meet => one.position(),
+        Call::Learn => one.position().max(other.position()),
+    }
 }

@@ -24,6 +24,17 @@ pub(crate) fn awaited<J: Live, R: Wait>(
     Ok(text)
 }
 
+/// The answer that comes to one that waits.
+pub(crate) fn answer_to<J: Live, R: Wait>(
+    rt: &R,
+    alloc: Global,
+    waiter: &Waiter<J>,
+) -> Result<String, AllocError> {
+    let mut text = String::new(alloc);
+    add_awaited(rt, alloc, &mut text, waiter)?;
+    Ok(text)
+}
+
 /// Adds the answer that comes.
 fn add_awaited<J: Live, R: Wait>(
     rt: &R,

@@ -198,7 +198,7 @@ fn run<J: Live + Send + Sync, R: Threads + Wait + Abort + Sync>(
 }
 
 /// Runs a proxy in a thread of its own.
-fn run_in_thread<J: Live + Send + Sync, R: Threads + Wait + Sync>(
+pub(crate) fn run_in_thread<J: Live + Send + Sync, R: Threads + Wait + Sync>(
     rt: &R,
     proxy: GrvProxy<'_, J>,
 ) -> Ended<J> {
@@ -206,7 +206,7 @@ fn run_in_thread<J: Live + Send + Sync, R: Threads + Wait + Sync>(
 }
 
 /// A queue with the throttle.
-fn throttled_queue<J: Live>(
+pub(crate) fn throttled_queue<J: Live>(
     alloc: Global,
     normal: u64,
     batch: u64,

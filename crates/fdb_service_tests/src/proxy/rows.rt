@@ -1,5 +1,6 @@
 //! The cases that are texts.
 
+use crate::proxy::options::Fate;
 use crate::proxy::{Case, play};
 use std::alloc::{AllocError, Global};
 use std::test::Fail;
@@ -240,5 +241,27 @@ fn a_request_that_comes_while_others_wait(rt: HostRuntime) -> Result<(), Fail> {
     for waiting in [4, 64, 101, 10_001] {
         play(&rt, rt.alloc(), Case::Late { waiting })?;
     }
+    Ok(())
+}
+
+#[test]
+fn a_desk_is_closed_while_each_kind_of_options_waits(rt: HostRuntime) -> Result<(), Fail> {
+    for fate in [
+        Fate::Taken,
+        Fate::Start,
+        Fate::Starve,
+        Fate::NoBatch,
+        Fate::NoRoom,
+        Fate::Wait,
+    ] {
+        play(&rt, rt.alloc(), Case::Closing(fate))?;
+    }
+    Ok(())
+}
+
+/// One more than 2^16.
+#[test]
+fn one_proxy_answers_65_537_requests(rt: HostRuntime) -> Result<(), Fail> {
+    play(&rt, rt.alloc(), Case::Long(65_537))?;
     Ok(())
 }

@@ -1,0 +1,86 @@
+"""Each public call of a library that may be refused memory stands in a table of tests.
+
+The tables are those of `ample_memory` in the crates of tests, which make the calls with ample
+memory. No clause says that a call is not refused then.
+"""
+import os
+import re
+
+from edits import crates
+from harness import ROOT
+
+LIBRARIES = (
+    "fdb_history", "fdb_chain", "fdb_live", "fdb_queue", "fdb_proxy", "fdb_client", "fdb_script",
+    "fdb_replay",
+)
+# The errors of the standard library for memory, and those of a library that may be for memory.
+ALLOC = {"AllocError", "AllocFailed"}
+OF_MEMORY = re.compile(
+    r"^pub enum (\w+) \{\n(?:(?!\}).*\n)*? +(?:Memory,|\w+\(\w+(?:Error|Fault)\),)", re.MULTILINE
+)
+# The clause by which a call is not refused memory, though the type of its errors has one for it.
+NOT_REFUSED = {"GrvQueue::new": "bad_config", "LiveRecord::report": "no_memory"}
+# The call that answers a status.
+BY_STATUS = {"drive"}
+IMPL = re.compile(r"impl(?:<.*?>)? (?:([\w:]+)(?:<.*>)? for )?(\w+)")
+FUNCTION = re.compile(r"^ *(pub )?fn (\w+)", re.MULTILINE)
+# What ends a function's signature.
+ENDS = re.compile(r"\n *(?:requires|ensures|ghost)\b|\{")
+DERIVED = re.compile(r"^#\[derive\(([^)]*)\)\]\npub (?:struct|enum) (\w+)", re.MULTILINE)
+LINE = re.compile(r"^([\w:]+(?:, [\w:]+)*) \| [^|\n]+ \| [\w ]+$", re.MULTILINE)
+
+
+def sources(folder):
+    """The code of each file below a folder."""
+    for place, _folders, names in os.walk(f"{ROOT}/{folder}"):
+        for name in sorted(it for it in names if it.endswith(".rt")):
+            with open(f"{place}/{name}", encoding="utf-8") as it:
+                yield it.read()
+
+
+def calls_of(code):
+    """Yields the calls of a file that others may make, each with its code."""
+    for part in re.split(r"^(?=impl\b|\w.*\bfn\b)", code, flags=re.MULTILINE):
+        of_trait, of_type = made.groups() if (made := IMPL.match(part)) else (None, None)
+        found = list(FUNCTION.finditer(part))
+        ends = [it.start() for it in found[1:]] + [len(part)]
+        for it, end in zip(found, ends):
+            public, name = it.groups()
+            if public or of_trait == "Clone":
+                yield f"{of_type}::{name}" if of_type else name, part[it.start():end]
+    for derived, name in DERIVED.findall(code):
+        if "Clone" in derived and "Copy" not in derived:
+            yield f"{name}::clone", "-> Result<Self, AllocError>"
+
+
+def refusable():
+    """The calls that may be refused memory, and what is wrong with those that never are."""
+    files = [file for library in LIBRARIES for file in sources(f"crates/{library}/src")]
+    errors = ALLOC.union(*map(OF_MEMORY.findall, files))
+    found, faults = set(), []
+    for call, code in (it for file in files for it in calls_of(file)):
+        answer = ENDS.split(code)[0].partition("->")[2]
+        if call in NOT_REFUSED:
+            clause = f"ensures {NOT_REFUSED[call]} "
+            faults += [f"{call} has no {clause}"] * (clause not in code)
+        elif call in BY_STATUS or errors & set(re.findall(r"\w+", answer)):
+            found.add(call)
+    return found, faults
+
+
+def tabled():
+    """The calls in the tables of tests."""
+    tables = [
+        code for crate in crates() for code in sources(f"crates/{crate}/src")
+        if "const MANY: &str" in code
+    ]
+    return {call for code in tables for names in LINE.findall(code) for call in names.split(", ")}
+
+
+def tables(_program):
+    """The calls of the tables are those that may be refused memory."""
+    (found, faults), made = refusable(), tabled()
+    yield "calls that are never refused memory", "; ".join(faults) or None
+    for call in sorted(found | made):
+        fault = "it stands in no table of ample_memory" if call not in made else None
+        yield call, fault if call in found else "no such call may be refused memory"
