@@ -120,7 +120,7 @@ fn live_records_have_memory(rt: HostRuntime) -> Result<(), Fail> {
 #[test]
 fn desks_have_memory(rt: HostRuntime) -> Result<(), Fail> {
     for case in cases(&rt, rt.alloc(), DESKS)? {
-        let found = desks::called(&rt, rt.alloc(), case.calls, case.number);
+        let found = desks::called(&rt, rt.alloc(), case);
         case.came_to(&rt, found);
     }
     Ok(())

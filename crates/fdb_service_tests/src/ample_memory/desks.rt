@@ -2,6 +2,7 @@
 
 ghost use Rattle.std.specs.Prelude.{◌≡◌};
 
+use crate::ample_memory::Case;
 use crate::line::tag;
 use crate::live::steps::unlocked;
 use crate::proxy::stand::{Queue, Stand, Waiter, opts_of, queue_of, submit};
@@ -19,11 +20,10 @@ use std::thread::Threads;
 pub(crate) fn called<R: Threads + Wait + Sync>(
     rt: &R,
     alloc: Global,
-    calls: &str,
-    number: u64,
+    case: Case<'_>,
 ) -> Option<bool> {
     let opened = LiveRecord::<Brand>::open(rt, alloc, unlocked(100), 1).ok()?;
-    called_named::<Brand, R>(rt, alloc, opened, calls, number)
+    called_named::<Brand, R>(rt, alloc, opened, case)
 }
 
 /// The same under the name of the service.
@@ -31,24 +31,23 @@ fn called_named<J: Live + Send + Sync, R: Threads + Wait + Sync>(
     rt: &R,
     alloc: Global,
     opened: Opened,
-    calls: &str,
-    number: u64,
+    case: Case<'_>,
 ) -> Option<bool>
     requires { opened ≡ record { table = J.table; start = J.start; reporters = J.reporters } }
 {
     let (live, seen, reporters) = opened.parts::<J>().ok()?;
     let mut stand = Stand::new(alloc, live, seen, reporters);
-    called_at(rt, &mut stand, calls, number)
+    called_at(rt, &mut stand, case)
 }
 
 /// The same at a desk.
 fn called_at<J: Live + Send + Sync, R: Threads + Wait + Sync>(
     rt: &R,
     stand: &mut Stand<J>,
-    calls: &str,
-    number: u64,
+    case: Case<'_>,
 ) -> Option<bool> {
-    match calls {
+    let number = case.number;
+    match case.calls {
         "Desk::submit | system requests that wait" => left(rt, stand, Priority::System, number),
         "Desk::submit | default requests that wait" => left(rt, stand, Priority::Default, number),
         "Desk::submit | batch requests that wait" => left(rt, stand, Priority::Batch, number),

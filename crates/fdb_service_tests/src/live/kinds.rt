@@ -162,6 +162,7 @@ fn reported_behind<J: Live, R: Wait + Abort>(
     gate.waits_until_held();
     let seen = live.read(rt, reader);
     gate.is_done_beside();
+    assert!(rt; token.reporter().is_some(), "a reporter's token");
     (seen, live.report(rt, gate, who, token, rec))
 }
 
