@@ -8,7 +8,7 @@ use crate::proxy::stand::{Stand, Waiter, opts_of, request_of, submit};
 use crate::same::{holds, same, same_text};
 use crossbeam_channel::bounded;
 use fdb_history::{GrvOpts, Priority, Record, Tag};
-use fdb_live::Live;
+use fdb_live::{Live, Seen};
 use fdb_proxy::{Desk, GrvProxy, Request};
 use fdb_queue::Req;
 use std::alloc::{AllocError, Global};
@@ -153,6 +153,15 @@ pub(crate) fn close_each<J: Live + Send + Sync, R: Threads + Wait + Abort + Sync
     are_answered(rt, stand, fate)
 }
 
+/// The first of two tokens, or the second.
+fn of_two<'t, J: Live>(
+    first: &'t mut Seen<J>,
+    second: &'t mut Seen<J>,
+    is_first: bool,
+) -> &'t mut Seen<J> {
+    if is_first { first } else { second }
+}
+
 /// Leaves a request of each kind, half of them from a position after a report.
 fn leave_each<J: Live, R: Wait + Abort>(rt: &R, stand: &mut Stand<J>) -> Result<(), AllocError> {
     let mut ahead = stand.live.split(&mut stand.seen);
@@ -160,11 +169,7 @@ fn leave_each<J: Live, R: Wait + Abort>(rt: &R, stand: &mut Stand<J>) -> Result<
     same(rt, &stand.live.read(rt, &mut ahead).position, &1, &"a read");
     for serial in 0..KINDS {
         let (opts, is_ahead) = Kind::new(serial).opts(stand.alloc)?;
-        let seen = if is_ahead {
-            &mut ahead
-        } else {
-            &mut stand.seen
-        };
+        let seen = of_two(&mut ahead, &mut stand.seen, is_ahead);
         let (request, waiter) = request_of(stand.alloc, &stand.live, seen, CLIENT, serial, opts)?;
         stand.waiters.push(waiter)?;
         let left = submit(rt, &stand.desk, request).is_ok();
