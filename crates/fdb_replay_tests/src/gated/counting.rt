@@ -88,7 +88,8 @@ fn calls_of(alloc: Global, client: u32) -> Result<String, AllocError> {
     )?;
     let mut part = "";
     for call in CALLS.lines().skip(1) {
-        text.push_str(&format!(in alloc; "{part}{{\"client\":{client},{call}}}")?)?;
+        text.push_str(part)?;
+        text.push_str(&format!(in alloc; "{{\"client\":{client},{call}}}")?)?;
         part = ",\n";
     }
     text.push_str("]]}")?;
