@@ -7,7 +7,7 @@ import json
 
 import traces
 from answers import crowd_at_all_limits, do
-from harness import ROOT, done, fault_of, read, refused, run, script, written
+from harness import DONE, ROOT, Ran, done, fault_of, read, refused, run, script, written
 from help import HELP
 from judge import Lawful
 from memory import CROWD, THROTTLES
@@ -20,6 +20,7 @@ AGAIN = 3
 DEEPEST = 127
 OBJECT, LIST = ('{"":', "}"), ("[", "]")
 SHAPES = {"objects": (OBJECT,), "lists": (LIST,), "objects and lists": (OBJECT, LIST)}
+NO_FAULT = Ran(DONE, None, b"")
 NO_REPLIES = done(b"audit ok events 0 raised 0 versions 0\n")
 # What a large script may take of a crowd: bytes, that is, and the calls of a long log.
 CROWD_BYTES, LONG = 4_000_000, 20_000
@@ -59,8 +60,8 @@ def crowds():
 
 
 def long_logs():
-    """Names logs that go deep or far, and whose audit is that of the model."""
-    turns = [["learn", 1, 0], *[it for at in range(LONG) for it in (["read", 100],)]]
+    """Names logs that go deep or far, and in which no fault stands: all read what they begin with."""
+    turns = [["learn", 1, 0], *[["read", 100]] * LONG]
     yield "a long log", {"start": 100, "versions": [], "clients": [turns, [["read", 100]]]}
     chained = [[["learn", who + 1, 0]] for who in range(LONG)]
     yield "learns one behind the other", {
@@ -78,14 +79,13 @@ def under_stack(words, given, fault_of_ran):
 def small_stacks(program):
     """The documents say how large a stack is enough, and under it each input ends as ever."""
     for document, words in SAID:
-        said = words.format(ENOUGH) in read(f"{ROOT}/{document}")
+        said = words.format(ENOUGH).encode() in read(f"{ROOT}/{document}")
         yield f"{document} says how large a stack is enough", None if said else "it does not"
-    for name, given, wanted in deep_scripts():
+    for name, text, wanted in deep_scripts():
+        given = text.encode()
         yield name, under_stack([program], given, lambda ran, wanted=wanted: fault_of(ran, wanted))
     for name, words, given, fault_of_ran in crowds():
         yield name, under_stack([program, *words], given, fault_of_ran)
     for name, logs in long_logs():
         given = json.dumps(logs).encode()
-        yield name, under_stack(
-            [traces.PROGRAM], given, lambda ran, logs=logs: fault_of(ran, traces.wanted(logs))
-        )
+        yield name, under_stack([traces.PROGRAM], given, lambda ran: fault_of(ran, NO_FAULT))
