@@ -60,7 +60,7 @@ def crowds():
 
 
 def long_logs():
-    """Names logs that go deep or far, and in which no fault stands: all read what they begin with."""
+    """Names logs that go deep or far, and have no fault: all read what they begin with."""
     turns = [["learn", 1, 0], *[["read", 100]] * LONG]
     yield "a long log", {"start": 100, "versions": [], "clients": [turns, [["read", 100]]]}
     chained = [[["learn", who + 1, 0]] for who in range(LONG)]
