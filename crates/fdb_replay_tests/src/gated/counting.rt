@@ -86,11 +86,11 @@ fn calls_of(alloc: Global, client: u32) -> Result<String, AllocError> {
         alloc,
         r#"{"epoch_end":0,"recovery":100,"clients":64,"rounds":[["#,
     )?;
-    let mut part = "";
-    for call in CALLS.lines().skip(1) {
-        text.push_str(part)?;
+    for (place, call) in CALLS.lines().skip(1).enumerate() {
+        if place > 0 {
+            text.push_str(",\n")?;
+        }
         text.push_str(&format!(in alloc; "{{\"client\":{client},{call}}}")?)?;
-        part = ",\n";
     }
     text.push_str("]]}")?;
     Ok(text)
