@@ -5,36 +5,26 @@ import re
 from harness import ROOT
 
 CONSTANT = re.compile(r"^pub const (MAX_\w+|IDLE_BURST): \w+ = ([\d_]+);", re.MULTILINE)
-FORMATS, DEFINITIONS, README = "docs/FORMATS.md", "docs/DEFINITIONS.md", "README.md"
+FORMATS, README = "docs/FORMATS.md", "README.md"
 # What a document says of limits, with the names of the constants in the code.
 SAID = (
     (FORMATS, "at most {MAX_SCRIPT_BYTES:,} bytes"),
     (FORMATS, "more than {MAX_SCRIPT_BYTES:,} bytes come"),
     (FORMATS, "a whole number, at most {MAX_VERSION}: the first"),
-    (FORMATS, "would be above {MAX_VERSION} |"),
-    (FORMATS, "the version is above {MAX_VERSION} |"),
-    (FORMATS, "a whole number from 1 to {MAX_CLIENTS} |"),
+    (FORMATS, "would be above {MAX_VERSION}"),
+    (FORMATS, "the version is above {MAX_VERSION}"),
+    (FORMATS, "a whole number from 1 to {MAX_CLIENTS}"),
     (FORMATS, "at most {MAX_ROUNDS:,} rounds, each a list of commands; at most {MAX_COMMANDS:,}"
               " commands in all"),
-    (FORMATS, "rates: 1 to {MAX_RATE:,}, and 0 to {MAX_RATE:,} |"),
-    (FORMATS, "capacity of its queue: 1 to {MAX_ROOM:,} |"),
-    (FORMATS, "its windows: 1 to {MAX_ELAPSED:,} |"),
-    (FORMATS, "a list of at most {MAX_THROTTLES:,} throttles |"),
+    (FORMATS, "rates: 1 to {MAX_RATE:,}, and 0 to {MAX_RATE:,}"),
+    (FORMATS, "capacity of its queue: 1 to {MAX_ROOM:,}"),
+    (FORMATS, "its windows: 1 to {MAX_ELAPSED:,}"),
+    (FORMATS, "a list of at most {MAX_THROTTLES:,} throttles"),
     (FORMATS, "A tag is a text of 1 to {MAX_TAG} characters"),
     (FORMATS, "`tags`: none, and at most {MAX_TAGS};"),
     (FORMATS, "at least 1 and at most {MAX_STEP:,}"),
     (FORMATS, "more than {MAX_COUNT:,}, or at batch priority for more than the normal limit plus"
-              " {IDLE_BURST} |"),
-    (DEFINITIONS, "at least 1, at most {MAX_STEP:,};"),
-    (DEFINITIONS, "less than {MAX_STEP:,} below the greatest"),
-    (DEFINITIONS, "1 to {MAX_PROXIES} commit proxies"),
-    (DEFINITIONS, "1 to {MAX_CLIENTS} clients"),
-    (DEFINITIONS, "if they are at most {MAX_STARTED:,} and"),
-    (DEFINITIONS, "cut to {IDLE_BURST} transactions if nothing waits for it, and to {MAX_BURST:,}"),
-    (DEFINITIONS, "a count is 1 to {MAX_COUNT:,}, and for batch at most the normal limit plus"
-                  " {IDLE_BURST} |"),
-    (DEFINITIONS, "1 to {MAX_TAG} visible characters"),
-    (DEFINITIONS, "a read has at most {MAX_TAGS} tags"),
+              " {IDLE_BURST}"),
     ("docs/DECISIONS.md", "would be above {MAX_VERSION:,} is"),
     ("docs/COSTS.md", "at most {MAX_CLIENTS} clients, commit proxies and reporters"),
     (README, "at most {MAX_SCRIPT_BYTES:,} bytes, {MAX_ROUNDS:,} rounds, {MAX_COMMANDS:,} com"),

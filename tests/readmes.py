@@ -1,18 +1,18 @@
-"""What READMEs and docs/PROMISES.md name and show: wrong bodies, clauses, tests, links and code."""
+"""What READMEs and docs/PROMISES.md name and show: clauses, tests, files, links and code."""
 import os
 import re
 
-from edits import BESIDE, TRIED, crates, edits_in
+from edits import crates
 from harness import ROOT
 
 PROMISES = "docs/PROMISES.md"
 # The table of a library's promises begins with this row, and those of docs/PROMISES.md with these.
-PROMISED = "| Promise | Function: clause | Refused wrong bodies |"
-HEADLINES = ("| Promise | Part of `IsRunOf` |", "| Promise | Clause of `replay` |")
-TESTED = "| Wrong implementation | Why | The test |"
+PROMISED = "Promise | Function: clause"
+HEADLINES = ("Promise | Part of `IsRunOf`", "Promise | Clause of `replay`")
+TESTED = "Wrong implementation | Why | The test"
 # The table of docs/ARCHITECTURE.md that says which file has what, and where files stand by ending.
 ARCHITECTURE = "docs/ARCHITECTURE.md"
-PLACED = "| README.md | Code and definitions | Tests |"
+PLACED = "README.md | Code and definitions | Tests"
 FOLDERS = {".rt": "crates/{}/src", ".antt": "crates/{}/specs", ".py": "tests"}
 CODE = re.compile(r"`([^`\n]+)`")
 INNER = re.compile(r"\(([^)]*)\)")
@@ -70,41 +70,13 @@ def rows_of(document, head):
     return [[cell.strip() for cell in row] for row in rows]
 
 
-def home_of(crate):
-    """The document that names a crate's wrong bodies: its own, or for programs PROMISES."""
-    return readme_of(crate) if exists(readme_of(crate)) else PROMISES
-
-
-def promised(_program):
-    """Each planted wrong body is named once in the document that has its crate's promises, and in
-    bold there exactly where the gate tries it."""
-    homes = {}
-    for crate in crates():
-        home = home_of(crate)
-        for folder, form in ((TRIED, "**`{}`**"), (BESIDE, "`{}`")):
-            names = edits_in(crate, folder)[0]
-            wrong = [it for it in names if named(it, text_of(home)) != [form.format(it)]]
-            fault = f"not named once, as {form.format('it')}: {', '.join(wrong)}"
-            yield f"crates/{crate}/{folder} in {home}", fault if wrong else None
-        homes.setdefault(home, set()).update(edits_in(crate, TRIED)[0])
-    for home, names in homes.items():
-        stale = sorted(set(re.findall(r"\*\*`(\w+)`\*\*", text_of(home))) - names)
-        fault = f"the gate does not try {', '.join(stale)}" if stale else None
-        yield f"what {home} has in bold", fault
-
-
-def named(name, text):
-    """How a text names something in `code`: each time with the stars around it, if it is bold."""
-    return re.findall(rf"(?:\*\*)?`{name}`(?:\*\*)?", text)
-
-
 def clauses(_program):
     """What a row of promises names is there: functions with their clauses, definitions, tests."""
     everything = "\n".join(map(code_of, crates()))
     words = set(re.findall(r"\w+", everything)) | set(crates())
     for crate in filter(lambda it: exists(readme_of(it)), crates()):
         code = code_of(crate)
-        for promise, where, _refused in rows_of(readme_of(crate), PROMISED):
+        for promise, where in rows_of(readme_of(crate), PROMISED):
             faults = faults_of_place(where, code, words)
             yield f"{readme_of(crate)}: {promise}", "; ".join(faults) or None
     for head, cell in ((HEADLINES[0], 1), (HEADLINES[1], 1), (TESTED, 2)):

@@ -1,0 +1,102 @@
+"""The list in docs/DEFINITIONS.md, made from the comments of the definitions.
+
+    python3 tests/definitions.py [--write]
+
+First come the definitions that the headline rests on, in the order in which a reader has to believe
+them: by crate as in crates.txt, by file as in its specs/Lib.antt, and as they stand there. Each has
+the first sentence of its comment, and of a long one what stands before its colon or semicolon.
+Then come the names of the others, by file. What is in specs/private/ is left out.
+"""
+import os
+import re
+import sys
+
+sys.dont_write_bytecode = True
+
+import generated
+from believed import HEADLINE, counts, rests_on
+from harness import ROOT
+
+DOCUMENT = "docs/DEFINITIONS.md"
+DEFINED = re.compile(r"^(?:abbrev )?pub (?:record |data )?(?!(?:use|mod)\b)([^\s:({]+)")
+MODULE = re.compile(r"^pub mod (\w+)$", re.MULTILINE)
+# Where a definition comes from, which its file says.
+SOURCE = re.compile(r"\s*\([^()]*(?:FoundationDB|masterserver|GrvProxy|own|1990)[^()]*\)")
+LONG = 17
+
+
+def text_of(file):
+    with open(f"{ROOT}/{file}", encoding="utf-8") as it:
+        return it.read()
+
+
+def crates_in_order():
+    """The crates that have definitions, lowest first."""
+    lines = text_of("crates.txt").splitlines()
+    names = [line.partition(":")[0] for line in lines if line and not line.startswith("#")]
+    return [it for it in names if os.path.exists(f"{ROOT}/crates/{it}/specs/Lib.antt")]
+
+
+def files_in_order():
+    """The public files of definitions: each with its crate, and its name without the ending."""
+    for crate in crates_in_order():
+        for name in MODULE.findall(text_of(f"crates/{crate}/specs/Lib.antt")):
+            if os.path.exists(f"{ROOT}/crates/{crate}/specs/{name}.antt") and name != "private":
+                yield crate, name
+
+
+def first_words(comment):
+    """The first sentence of a comment, cut where it is long, without where it comes from."""
+    said = re.split(r"(?<=\.) (?=[A-Z])", SOURCE.sub("", " ".join(comment)).strip())[0]
+    if len(said.split()) > LONG:
+        said = re.split(r"[:;] ", said)[0]
+    return said[:1].upper() + said[1:].rstrip(".:;")
+
+
+def comments_of(crate, file):
+    """The first words of a file's own comment, and of those of its definitions by name."""
+    found, lines, comment = {}, text_of(f"crates/{crate}/specs/{file}.antt").splitlines(), []
+    for line in lines:
+        name = DEFINED.match(line)
+        if name:
+            found[name[1]] = first_words(comment)
+        comment = [*comment, line[2:].strip()] if line.startswith("--") else []
+    head = []
+    for line in lines:
+        if not line.startswith("--"):
+            break
+        head.append(line[2:].strip())
+    return first_words(head), found
+
+
+def link_of(crate, file):
+    return f"[{file}](../crates/{crate}/specs/{file}.antt)"
+
+
+def line_of(name, words):
+    return f"- `{name}`: {words}" if words else f"- `{name}`"
+
+
+def lines():
+    """The lines of the list."""
+    believed = {(it.crate, it.file, it.name) for it in rests_on(HEADLINE)[0]}
+    made, others = [], []
+    for crate, file in files_in_order():
+        about, comments = comments_of(crate, file)
+        wanted = [it for it in comments if (crate, file, it) in believed]
+        if wanted:
+            made += ["", f"**{link_of(crate, file)}** of `{crate}`: {about}", ""]
+            made += [line_of(name, comments[name]) for name in wanted]
+        rest = ", ".join(f"`{it}`" for it in comments if it not in wanted)
+        if rest:
+            others.append(f"- {link_of(crate, file)} of `{crate}`: {rest}")
+    found = counts()
+    size = f"{found['headline']} lines in {found['definitions']} definitions"
+    return [
+        "", "## What the headline rests on", "", f"These are {size}.", *made,
+        "", "## What only the libraries promise", "", *others,
+    ]
+
+
+if __name__ == "__main__":
+    generated.main(DOCUMENT, lines())
