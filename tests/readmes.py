@@ -159,17 +159,38 @@ def places_of(text):
 
 
 def shown(_program):
-    """Each line of Rust that a document shows is a line of a crate, and what it says that one of
-    them prints stands in the crate's stdout."""
-    lines = {line.strip() for crate in crates() for line in code_of(crate).split("\n")}
+    """Rust that a document shows is code of a crate: what it uses line by line, and each part
+    between blank lines whole. What it says that a crate prints stands in that crate's stdout.
+    """
+    sources = [as_lines(text_of(it)) for it in source_files()]
+    lines = {line for source in sources for line in source.split("\n")}
     for document, language, code in blocks():
-        if language == "rust":
-            missing = [it.strip() for it in code.split("\n") if it.strip() not in lines]
-            fault = f"no crate has the line: {missing[0]}" if missing else None
-            yield f"{document}: {code.strip().splitlines()[0]}", fault
+        for part in code.split("\n\n") if language == "rust" else []:
+            yield f"{document}: {part.strip().splitlines()[0]}", fault_of_code(part, sources, lines)
     outputs = filter(exists, (f"crates/{crate}/stdout" for crate in crates()))
     printed = "\n".join(map(text_of, outputs)).splitlines()
     for document in documents():
         for line in PRINTED.findall(text_of(document)):
             fault = None if line in printed else "no crate does"
             yield f"{document} says what is printed: {line}", fault
+
+
+def source_files():
+    for crate in crates():
+        for at, _folders, files in os.walk(f"{ROOT}/crates/{crate}/src"):
+            yield from (os.path.relpath(f"{at}/{it}", ROOT) for it in files if it.endswith(".rt"))
+
+
+def as_lines(text):
+    """A text without what its lines are indented by."""
+    return "\n".join(line.strip() for line in text.split("\n"))
+
+
+def fault_of_code(part, sources, lines):
+    """Why a part of the code that a document shows is no code of a crate, or None."""
+    text = as_lines(part).strip()
+    if text.startswith(("use ", "ghost use ", "#![tactic")):
+        missing = [line for line in text.split("\n") if line not in lines]
+        return f"no crate has the line: {missing[0]}" if missing else None
+    whole = any(f"\n{text}\n" in f"\n{source}\n" for source in sources)
+    return None if whole else "no crate has these lines, one after another"
