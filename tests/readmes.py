@@ -9,7 +9,7 @@ PROMISES = "docs/PROMISES.md"
 # The table of a library's promises begins with this row, and those of docs/PROMISES.md with these.
 PROMISED = "Promise | Function: clause"
 HEADLINES = ("Promise | Part of `IsRunOf`", "Promise | Clause of `replay`")
-TESTED = "Wrong implementation | Why | The test"
+TESTED = "Wrong implementation | The test"
 # The table of docs/ARCHITECTURE.md that says which file has what, and where files stand by ending.
 ARCHITECTURE = "docs/ARCHITECTURE.md"
 PLACED = "README.md | Code and definitions | Tests"
@@ -79,7 +79,7 @@ def clauses(_program):
         for promise, where in rows_of(readme_of(crate), PROMISED):
             faults = faults_of_place(where, code, words)
             yield f"{readme_of(crate)}: {promise}", "; ".join(faults) or None
-    for head, cell in ((HEADLINES[0], 1), (HEADLINES[1], 1), (TESTED, 2)):
+    for head, cell in ((HEADLINES[0], 1), (HEADLINES[1], 1), (TESTED, 1)):
         for row in rows_of(PROMISES, head):
             names = re.findall(r"`(\w+)`", row[cell])
             missing = [it for it in names if it not in words and not exists(f"examples/{it}.json")]
