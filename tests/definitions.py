@@ -5,7 +5,7 @@
 First come the definitions that the headline rests on, in the order in which a reader has to believe
 them: by crate as in crates.txt, by file as in its specs/Lib.antt, and as they stand there. Each has
 the first sentence of its comment, and of a long one what stands before its colon or semicolon.
-Then come the names of the others, by file. What is in specs/private/ is left out.
+Then come the files of the others. What is in specs/private/ is left out.
 """
 import os
 import re
@@ -22,7 +22,7 @@ DEFINED = re.compile(r"^(?:abbrev )?pub (?:record |data )?(?!(?:use|mod)\b)([^\s
 MODULE = re.compile(r"^pub mod (\w+)$", re.MULTILINE)
 # Where a definition comes from, which its file says.
 SOURCE = re.compile(r"\s*\([^()]*(?:FoundationDB|masterserver|GrvProxy|own|1990)[^()]*\)")
-LONG = 17
+LONG = 12
 
 
 def text_of(file):
@@ -80,21 +80,24 @@ def line_of(name, words):
 def lines():
     """The lines of the list."""
     believed = {(it.crate, it.file, it.name) for it in rests_on(HEADLINE)[0]}
-    made, others = [], []
+    made, others, crate_before = [], {}, ""
     for crate, file in files_in_order():
         about, comments = comments_of(crate, file)
         wanted = [it for it in comments if (crate, file, it) in believed]
+        if wanted and crate != crate_before:
+            made += ["", f"### {crate}"]
+            crate_before = crate
         if wanted:
-            made += ["", f"**{link_of(crate, file)}** of `{crate}`: {about}", ""]
+            made += ["", f"**{link_of(crate, file)}**: {about}", ""]
             made += [line_of(name, comments[name]) for name in wanted]
-        rest = ", ".join(f"`{it}`" for it in comments if it not in wanted)
-        if rest:
-            others.append(f"- {link_of(crate, file)} of `{crate}`: {rest}")
+        if not wanted or len(wanted) < len(comments):
+            others.setdefault(crate, []).append(link_of(crate, file))
     found = counts()
     size = f"{found['headline']} lines in {found['definitions']} definitions"
     return [
         "", "## What the headline rests on", "", f"These are {size}.", *made,
-        "", "## What only the libraries promise", "", *others,
+        "", "## What only the libraries promise", "",
+        *(f"- {crate}: {', '.join(links)}" for crate, links in others.items()),
     ]
 
 
