@@ -73,8 +73,10 @@ def link_of(crate, file):
     return f"[{file}](../crates/{crate}/specs/{file}.antt)"
 
 
-def line_of(name, words):
-    return f"- `{name}`: {words}" if words else f"- `{name}`"
+def lines_of(names, comments):
+    """A line for each of some definitions, which break where they are shown."""
+    said = [f"`{it}`: {comments[it]}" if comments[it] else f"`{it}`" for it in names]
+    return "\\\n".join(said).splitlines()
 
 
 def lines():
@@ -89,7 +91,7 @@ def lines():
             crate_before = crate
         if wanted:
             made += ["", f"**{link_of(crate, file)}**: {about}", ""]
-            made += [line_of(name, comments[name]) for name in wanted]
+            made += lines_of(wanted, comments)
         if not wanted or len(wanted) < len(comments):
             others.setdefault(crate, []).append(link_of(crate, file))
     found = counts()

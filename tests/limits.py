@@ -26,7 +26,6 @@ SAID = (
     (FORMATS, "more than {MAX_COUNT:,}, or at batch priority for more than the normal limit plus"
               " {IDLE_BURST}"),
     ("docs/DECISIONS.md", "would be above {MAX_VERSION:,} is"),
-    ("docs/COSTS.md", "at most {MAX_CLIENTS} clients, commit proxies and reporters"),
     (README, "at most {MAX_SCRIPT_BYTES:,} bytes, {MAX_ROUNDS:,} rounds, {MAX_COMMANDS:,} com"),
     (README, "and {MAX_THROTTLES:,} throttles; 1 to {MAX_CLIENTS} clients"),
     (README, "for a read at most {MAX_TAGS} tags, of at most {MAX_TAG} bytes"),

@@ -31,13 +31,13 @@ def by_file(crate):
 
 
 def lines():
-    """The lines of the list."""
+    """The lines of the list: for each crate a paragraph."""
     made = []
     for crate in crates():
         edits = by_file(crate)
         if edits:
-            made += ["", f"## {crate}", ""]
-        made += [f"- {file}: {', '.join(edits[file])}" for file in sorted(edits)]
+            named = [f"{file}: {', '.join(edits[file])}" for file in sorted(edits)]
+            made += ["", f"## {crate}", "", *";\n".join(named).splitlines()]
     return made
 
 
