@@ -12,7 +12,7 @@ from model import expected
 
 NAME = re.compile(r"`([a-z_]+)`")
 # A row of a table that is no head: a name or names in `code`, and the cells behind them.
-ROW = re.compile(r"^\| (`.*?) \| (.*) \|$")
+ROW = re.compile(r"^(`.*?) \| (.*)$")
 THROTTLE = re.compile(r"A throttle .* It has (.*?), all required")
 # A word of a script in the code that reads it.
 WORD = re.compile(r'"([a-z_]+)"')
@@ -46,8 +46,8 @@ def rows_of(of_commands):
     is_theirs = False
     for line in part().splitlines():
         row = ROW.match(line)
-        if line.startswith("| ") and not row or line.startswith("| `do` |"):
-            is_theirs = line.startswith("| `do` |")
+        if line.startswith("`do` |") or " | " in line and not row:
+            is_theirs = line.startswith("`do` |")
         elif row and is_theirs == of_commands:
             yield NAME.findall(row[1]), row[2].split(" | ")
 

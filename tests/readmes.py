@@ -1,18 +1,18 @@
-"""What READMEs and docs/PROMISES.md name and show: wrong bodies, clauses, tests, links and code."""
+"""What READMEs and docs/PROMISES.md name and show: clauses, tests, files, links and code."""
 import os
 import re
 
-from edits import BESIDE, TRIED, crates, edits_in
+from edits import crates
 from harness import ROOT
 
 PROMISES = "docs/PROMISES.md"
 # The table of a library's promises begins with this row, and those of docs/PROMISES.md with these.
-PROMISED = "| Promise | Function: clause | Refused wrong bodies |"
-HEADLINES = ("| Promise | Part of `IsRunOf` |", "| Promise | Clause of `replay` |")
-TESTED = "| Wrong implementation | Why | The test |"
+PROMISED = "Promise | Function: clause"
+HEADLINES = ("Promise | Part of `IsRunOf`", "Promise | Clause of `replay`")
+TESTED = "Wrong implementation | The test"
 # The table of docs/ARCHITECTURE.md that says which file has what, and where files stand by ending.
 ARCHITECTURE = "docs/ARCHITECTURE.md"
-PLACED = "| README.md | Code and definitions | Tests |"
+PLACED = "README.md | Code and definitions | Tests"
 FOLDERS = {".rt": "crates/{}/src", ".antt": "crates/{}/specs", ".py": "tests"}
 CODE = re.compile(r"`([^`\n]+)`")
 INNER = re.compile(r"\(([^)]*)\)")
@@ -70,44 +70,16 @@ def rows_of(document, head):
     return [[cell.strip() for cell in row] for row in rows]
 
 
-def home_of(crate):
-    """The document that names a crate's wrong bodies: its own, or for programs PROMISES."""
-    return readme_of(crate) if exists(readme_of(crate)) else PROMISES
-
-
-def promised(_program):
-    """Each planted wrong body is named once in the document that has its crate's promises, and in
-    bold there exactly where the gate tries it."""
-    homes = {}
-    for crate in crates():
-        home = home_of(crate)
-        for folder, form in ((TRIED, "**`{}`**"), (BESIDE, "`{}`")):
-            names = edits_in(crate, folder)[0]
-            wrong = [it for it in names if named(it, text_of(home)) != [form.format(it)]]
-            fault = f"not named once, as {form.format('it')}: {', '.join(wrong)}"
-            yield f"crates/{crate}/{folder} in {home}", fault if wrong else None
-        homes.setdefault(home, set()).update(edits_in(crate, TRIED)[0])
-    for home, names in homes.items():
-        stale = sorted(set(re.findall(r"\*\*`(\w+)`\*\*", text_of(home))) - names)
-        fault = f"the gate does not try {', '.join(stale)}" if stale else None
-        yield f"what {home} has in bold", fault
-
-
-def named(name, text):
-    """How a text names something in `code`: each time with the stars around it, if it is bold."""
-    return re.findall(rf"(?:\*\*)?`{name}`(?:\*\*)?", text)
-
-
 def clauses(_program):
     """What a row of promises names is there: functions with their clauses, definitions, tests."""
     everything = "\n".join(map(code_of, crates()))
     words = set(re.findall(r"\w+", everything)) | set(crates())
     for crate in filter(lambda it: exists(readme_of(it)), crates()):
         code = code_of(crate)
-        for promise, where, _refused in rows_of(readme_of(crate), PROMISED):
+        for promise, where in rows_of(readme_of(crate), PROMISED):
             faults = faults_of_place(where, code, words)
             yield f"{readme_of(crate)}: {promise}", "; ".join(faults) or None
-    for head, cell in ((HEADLINES[0], 1), (HEADLINES[1], 1), (TESTED, 2)):
+    for head, cell in ((HEADLINES[0], 1), (HEADLINES[1], 1), (TESTED, 1)):
         for row in rows_of(PROMISES, head):
             names = re.findall(r"`(\w+)`", row[cell])
             missing = [it for it in names if it not in words and not exists(f"examples/{it}.json")]
@@ -187,17 +159,38 @@ def places_of(text):
 
 
 def shown(_program):
-    """Each line of Rust that a document shows is a line of a crate, and what it says that one of
-    them prints stands in the crate's stdout."""
-    lines = {line.strip() for crate in crates() for line in code_of(crate).split("\n")}
+    """Rust that a document shows is code of a crate: what it uses line by line, and each part
+    between blank lines whole. What it says that a crate prints stands in that crate's stdout.
+    """
+    sources = [as_lines(text_of(it)) for it in source_files()]
+    lines = {line for source in sources for line in source.split("\n")}
     for document, language, code in blocks():
-        if language == "rust":
-            missing = [it.strip() for it in code.split("\n") if it.strip() not in lines]
-            fault = f"no crate has the line: {missing[0]}" if missing else None
-            yield f"{document}: {code.strip().splitlines()[0]}", fault
+        for part in code.split("\n\n") if language == "rust" else []:
+            yield f"{document}: {part.strip().splitlines()[0]}", fault_of_code(part, sources, lines)
     outputs = filter(exists, (f"crates/{crate}/stdout" for crate in crates()))
     printed = "\n".join(map(text_of, outputs)).splitlines()
     for document in documents():
         for line in PRINTED.findall(text_of(document)):
             fault = None if line in printed else "no crate does"
             yield f"{document} says what is printed: {line}", fault
+
+
+def source_files():
+    for crate in crates():
+        for at, _folders, files in os.walk(f"{ROOT}/crates/{crate}/src"):
+            yield from (os.path.relpath(f"{at}/{it}", ROOT) for it in files if it.endswith(".rt"))
+
+
+def as_lines(text):
+    """A text without what its lines are indented by."""
+    return "\n".join(line.strip() for line in text.split("\n"))
+
+
+def fault_of_code(part, sources, lines):
+    """Why a part of the code that a document shows is no code of a crate, or None."""
+    text = as_lines(part).strip()
+    if text.startswith(("use ", "ghost use ", "#![tactic")):
+        missing = [line for line in text.split("\n") if line not in lines]
+        return f"no crate has the line: {missing[0]}" if missing else None
+    whole = any(f"\n{text}\n" in f"\n{source}\n" for source in sources)
+    return None if whole else "no crate has these lines, one after another"

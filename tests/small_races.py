@@ -1,4 +1,7 @@
-"""Small races with what may come of them and what may not, worked out by hand."""
+"""Small races with what may come of them and what may not, worked out by hand.
+
+What may not come of any script stands in wrong_texts.py.
+"""
 
 
 def grv(client, **said):
@@ -53,10 +56,6 @@ RACES = [
      [FIRST, LATE, READ_RAISED, SECOND, RAISED, READ_RAISED]),
     (*("client 1 is the first to ask, and the last to report", BOTH, 1, "4 1 2", True),
      [SECOND, RAISED, READ_RAISED, FIRST, LATE, READ_RAISED]),
-    (*("a read goes back behind its client's report", BOTH, 1, "4 1 2", False),
-     [FIRST, LATE, READ, SECOND, RAISED, READ_RAISED]),
-    (*("both drew the same version", BOTH, 1, "4 0 2", False),
-     [FIRST, NOT_ABOVE, READ, FIRST, NOT_ABOVE, READ]),
     (*("a read before the report, a request between the two others", SEEN, 1, "2 1 3", True),
      [FIRST, THIRD, "102 raised pos 1", READ, SECOND]),
     (*("a version that is not above the one that its client has read", SEEN, 1, "2 1 3", False),
@@ -70,11 +69,6 @@ RACES = [
     ),
     (*("rounds in their order", ROUNDS, 4, "3 1 3", True),
      [FIRST, SECOND, RAISED, READ_RAISED, THIRD, READ_RAISED]),
-    (
-        *("a read of a later round that misses a report, which nobody told its client of", ROUNDS,
-          4, "3 1 3", False),
-        [FIRST, SECOND, RAISED, READ, THIRD, READ_RAISED],
-    ),
     (
         *("a request of a later round that is drawn before one of an earlier round", ROUNDS, 4,
           "3 1 3", False),
@@ -103,27 +97,6 @@ RACES = [
         [
             FIRST, "100 min raised pos 2", SECOND, "101 raised pos 1",
             "101 unlocked none min 50 used 50 pos 2",
-        ],
-    ),
-    (
-        *("a greater minimum that raises nothing", MINIMA, 1, "3 1 2", False),
-        [
-            FIRST, "100 not raised pos 1", SECOND, "101 raised pos 1",
-            "101 unlocked none min 40 used 40 pos 1",
-        ],
-    ),
-    (
-        *("the last minimum in place of the greatest", MINIMA, 1, "3 1 2", False),
-        [
-            FIRST, "100 min raised pos 1", SECOND, "101 raised pos 2",
-            "101 unlocked none min 40 used 40 pos 2",
-        ],
-    ),
-    (
-        *("two changes at one position", MINIMA, 1, "3 1 2", False),
-        [
-            FIRST, "100 min raised pos 1", SECOND, "101 raised pos 1",
-            "101 unlocked none min 50 used 50 pos 1",
         ],
     ),
     ("two of three find a queue of one full", reads("default", "default", "default", room=1), 1,
