@@ -29,8 +29,8 @@ OTHERS = {
 }
 # A goal in the code to which the prover finds no proof.
 OPEN = r"note: src/\S+\.rt:\d+:\d+: (?:it is not proved that (?!the loop ends)|`search` found no)"
-# A goal whose proof is written down, and shows something else than the goal now says. (Where a proof
-# cites what went away, the message is of the name, and not of two types.)
+# A goal whose proof is written down, and shows something else than the goal says now. Where a
+# proof cites what went away, the message is of the name, and not of two types.
 OTHER = (
     r"`\w+`: the goal does not follow|`search`: no proof of|as printed, the two (?:types|sides)"
     r"|computed as far as they go, the two types differ|expected type"
