@@ -27,7 +27,6 @@ abbrev pub Held : RattleType → Al → RattleType
 Held R E = parts.the_row R (param 1 E.row) E.g
 
 module _ (R : RattleType) (E : Al) {M : Type 1} {𝓤 : Ura M} {𝓛 : Logic 𝓤} {K : Type 0} {Γ : List (Item 𝓤)} {G : Goal 𝓤 𝓛.H} where
-
   -- the parts from [what the box owned; its allocator]
   pub shuts_parts : K → (b o : ℕ) (heap : Val) (a : E.row.Denot) (x : R.Denot)
       → Step K 𝓛 (‵ ((Held R E).own_val (record { ptr = block_ptr b o; alloc = a; value = x }) (both (vptr b o) heap ∷ [])) ∷ Γ) G

@@ -129,7 +129,11 @@ fn offer_of(priority: Option<Priority>, count: u64, payload: u64) -> Option<Op>
 pub(crate) fn offered(request: FdbRequest) -> Option<Op>
     ensures { result ≡ offered request }
 {
-    offer_of(priority_of(request.priority), request.count, request.payload)
+    offer_of(
+        priority_of(request.priority),
+        request.count,
+        request.payload,
+    )
 }
 
 /// What an operation of C is, if it is one.

@@ -70,11 +70,7 @@ fn step(queue: &mut GrvQueue<u64>, op: Op, started: &mut Vec<FdbRequest>) -> Opt
 }
 
 /// Does what C asks for, unless memory is refused.
-fn tell(
-    queue: &mut GrvQueue<u64>,
-    op: FdbOp,
-    started: &mut Vec<FdbRequest>,
-) -> Option<FdbOutcome>
+fn tell(queue: &mut GrvQueue<u64>, op: FdbOp, started: &mut Vec<FdbRequest>) -> Option<FdbOutcome>
     ensures outcome { IfSome result (λ given. given ≡ told queue.old (op_of op)) }
     ensures after { IfSome result (λ _. queue.new ≡ after queue.old (op_of op)) }
     ensures started { IfSome result

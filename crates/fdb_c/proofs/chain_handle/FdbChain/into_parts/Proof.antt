@@ -22,7 +22,6 @@ use denote.Struct.Struct.{within}
 use denote.Struct.Owning.{shape}
 use denote.Triple.Entry.{alive}
 use denote.Triple.Walked.{Stays, stay_dropped, Goes-dropped, walk_of}
-
 use Rattle.std_alloc.specs.Box.Ownership.{box_owns}
 use Rattle.std_heap.proofs.Handle.{heap_val, heap_Tells}
 use Rattle.std_heap.specs.contracts.Global as heap
