@@ -1,7 +1,7 @@
 //! The queue of a GRV proxy: its requests, operations and outcomes as C writes them.
 
 ghost use Rattle.std.specs.Prelude.{◌≡◌, map, length};
-ghost use Rattle.fdb_c.specs.Queue.{number_of, offer_of, offered, op_of, priority_of};
+ghost use Rattle.fdb_c.specs.Queue.{number_of, offer_of, op_of, priority_of};
 ghost use Rattle.fdb_c.specs.Queue.{no_request, request_of, shown};
 
 use fdb_history::Priority;
@@ -79,6 +79,7 @@ pub struct FdbOutcome {
 }
 
 /// An operation.
+#[derive(Drop)]
 pub(crate) enum Op {
     /// Offers a request.
     Offer(Req<u64>),
@@ -123,17 +124,6 @@ fn offer_of(priority: Option<Priority>, count: u64, payload: u64) -> Option<Op>
         })),
         None => None,
     }
-}
-
-/// The offer of a request that C writes.
-pub(crate) fn offered(request: FdbRequest) -> Option<Op>
-    ensures { result ≡ offered request }
-{
-    offer_of(
-        priority_of(request.priority),
-        request.count,
-        request.payload,
-    )
 }
 
 /// What an operation of C is, if it is one.

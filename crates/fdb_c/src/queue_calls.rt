@@ -8,12 +8,12 @@ ghost use Rattle.fdb_queue.specs.Waiting.{row};
 ghost use Rattle.fdb_c.specs.Queue.{after, config_of, IsDone, offered, started_by, told};
 
 use crate::parts::Parts;
-use crate::queue::{FdbOutcome, FdbQueueConfig, FdbRequest, Op, offered, shown};
+use crate::queue::{FdbOutcome, FdbQueueConfig, FdbRequest, Op, priority_of, shown};
 use crate::queue_handle::FdbQueue;
 use crate::queue_steps::{offer_shown, pop_shown};
 use crate::queue_window::{room_for, window_shown};
 use crate::status::{FDB_BAD_CONFIG, FDB_BAD_OP, FDB_MEMORY, FDB_OK, FDB_ROOM};
-use fdb_queue::{GrvQueue, QueueConfig};
+use fdb_queue::{GrvQueue, QueueConfig, Req};
 use std::alloc::Global;
 use std::mem;
 
@@ -49,9 +49,16 @@ fn offer_told(queue: &mut GrvQueue<u64>, request: FdbRequest) -> Option<FdbOutco
     ensures not_memory { IfSome result (λ given. given.status ≡ FDB_MEMORY → ⊥) }
     ensures memory { IsNone result → queue.new ≡ queue.old }
 {
-    match offered(request) {
-        Some(Op::Offer(request)) => offer_shown(queue, request),
-        _ => Some(shown(queue, FDB_BAD_OP, None, 0)),
+    match priority_of(request.priority) {
+        Some(priority) => offer_shown(
+            queue,
+            Req {
+                priority,
+                count: request.count,
+                payload: request.payload,
+            },
+        ),
+        None => Some(shown(queue, FDB_BAD_OP, None, 0)),
     }
 }
 

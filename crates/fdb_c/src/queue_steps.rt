@@ -9,9 +9,9 @@ ghost use Rattle.fdb_queue.specs.declared.config.TheConstants.{MAX_STARTED};
 ghost use Rattle.fdb_c.specs.Queue.{after, after_offer, after_op, out_at, out_of_offer, outcome};
 ghost use Rattle.fdb_c.specs.Queue.{offered, request_of, started_at, status_at, status_of, told};
 
-use crate::queue::{FdbOutcome, FdbRequest, Op, offered, request_of, shown};
+use crate::queue::{FdbOutcome, Op, shown};
 use crate::status::{
-    FDB_BAD_CONFIG, FDB_BAD_COUNT, FDB_BAD_OP, FDB_BATCH_THROTTLED, FDB_FULL, FDB_MEMORY, FDB_OK,
+    FDB_BAD_CONFIG, FDB_BAD_COUNT, FDB_BATCH_THROTTLED, FDB_FULL, FDB_MEMORY, FDB_OK,
     FDB_TAG_TOO_LONG,
 };
 use fdb_queue::{GrvQueue, QueueError, Req};
