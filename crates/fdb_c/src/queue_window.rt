@@ -18,7 +18,8 @@ pub(crate) fn room_for(queue: &GrvQueue<u64>) -> usize
     ensures may_start { result ≤ MAX_STARTED }
 {
     let lengths = queue.lengths();
-    let waiting = lengths.system + lengths.default_ + lengths.batch;
+    let unbatched = lengths.system.saturating_add(lengths.default_);
+    let waiting = unbatched.saturating_add(lengths.batch);
     if waiting < MAX_STARTED as usize {
         waiting
     } else {
