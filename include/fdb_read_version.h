@@ -9,7 +9,7 @@
  * a moment is in microseconds. Nothing here locks, keeps a global or a pointer of the caller's.
  * Memory comes from the program's malloc, realloc and free.
  *
- * Nothing checks what C passes. What a comment says of an argument ("must") is the caller's to keep:
+ * Nothing checks what C passes. What a comment says of an argument is the caller's to keep:
  *
  * - A pointer is not null, also where its length is 0, and what it points to is readable, or
  *   writable where it is not `const`. What is written overlaps with no other argument.
@@ -29,7 +29,7 @@
 extern "C" {
 #endif
 
-/* What a function answers: FDB_OK, or why it refuses. Numbers that stand here keep their meaning. */
+/* What a function answers: FDB_OK, or why it refuses. */
 enum {
     FDB_OK = 0,
     FDB_BAD_EPOCH = 1,        /* the recovery version is not above the epoch's end, or too great */
@@ -41,14 +41,14 @@ enum {
     FDB_MEMORY = 7,           /* memory was refused */
     FDB_ROOM = 8,             /* an array of the caller's is too short */
     FDB_BAD_OP = 16,          /* no such operation or priority */
-    FDB_BAD_CONFIG = 17,      /* the configuration, or the time since the last window, is out of range */
+    FDB_BAD_CONFIG = 17,      /* the configuration, or a time between windows, is out of range */
     FDB_BAD_COUNT = 18,       /* the count is out of range */
     FDB_BATCH_THROTTLED = 19, /* no batch request is let in */
     FDB_FULL = 20,            /* the queue is full of requests that this one may not push out */
     FDB_TAG_TOO_LONG = 21     /* the tag has more than 16 bytes */
 };
 
-/* ---------------------------------------------------------------- the chain of commit versions -- */
+/* -------------------------------------------------------------- the chain of commit versions -- */
 
 /* A commit proxy's request for a commit version (GetCommitVersionRequest). */
 typedef struct fdb_ask {
@@ -104,14 +104,15 @@ void fdb_chain_free(fdb_chain *chain);
  * Opens a chain as fdb_chain_new does, answers `asks` to it in their order, and frees it.
  *
  * FDB_OK, and answers[i] is the answer to asks[i]; what stands behind these is as it was. FDB_ROOM
- * where `answers` is shorter than `asks`, else as fdb_chain_new: then nothing is written. FDB_MEMORY
- * also where a request was refused for memory: of what `answers` then has, nothing is said.
+ * where `answers` is shorter than `asks`, else as fdb_chain_new: then nothing is written.
+ * FDB_MEMORY also where a request was refused for memory: of what `answers` then has, nothing is
+ * said.
  */
 uint8_t fdb_chain_answers(uint64_t epoch_end, uint64_t recovery, uint32_t proxies,
                           const fdb_ask *asks, size_t asks_length,
                           fdb_answer *answers, size_t answers_length);
 
-/* ------------------------------------------------------------------------------- the register -- */
+/* ----------------------------------------------------------------------------- the register -- */
 
 /* What the sequencer keeps of the newest commit that was reported. */
 typedef struct fdb_record {
@@ -129,7 +130,7 @@ void fdb_record_after_report(fdb_record *kept, const fdb_record *reported);
 /* The read version that a record gives: its version, or with `use_min` its minimum. */
 uint64_t fdb_record_version_for(const fdb_record *kept, bool use_min);
 
-/* ------------------------------------------------------------------- the queue of a GRV proxy -- */
+/* ----------------------------------------------------------------- the queue of a GRV proxy -- */
 
 /* Priorities (TransactionPriority): no rate holds the first, the normal rate the second, both the
  * third. */
@@ -144,7 +145,7 @@ typedef struct fdb_queue_config {
 
 /* A request for a read version. */
 typedef struct fdb_request {
-    uint64_t count;   /* how many transactions it starts: 1 to 100,000; a batch one at most normal + 10 */
+    uint64_t count;   /* how many transactions: 1 to 100,000; of a batch one at most normal + 10 */
     uint64_t payload; /* what it carries, which comes out as it went in */
     uint8_t priority; /* FDB_SYSTEM, FDB_DEFAULT or FDB_BATCH */
 } fdb_request;
@@ -188,8 +189,8 @@ uint8_t fdb_queue_offer(fdb_queue *queue, const fdb_request *request, fdb_outcom
 
 /*
  * Holds a window, `elapsed` microseconds (1 to 10,000,000) after the last one: starts the longest
- * prefix of all that wait that the budgets allow, and writes it to the start of `started`, in order.
- * This must have room for as many as wait, or for 10,000 where more do. `*queue` must be a queue.
+ * prefix of all that wait that the budgets allow, and writes it to the start of `started`, in
+ * order. This needs room for as many as wait, or for 10,000 where more do. `*queue` must be a queue.
  *
  * FDB_OK, or FDB_BAD_CONFIG for a time out of range, which leaves the queue as it was; and
  * `outcome->status` is the same. FDB_ROOM, and FDB_MEMORY, leave queue, outcome and `started` as
@@ -201,6 +202,42 @@ uint8_t fdb_queue_window(fdb_queue *queue, uint64_t elapsed, fdb_outcome *outcom
 /* Takes the first request of the row out, whatever the rates say of it: `outcome->out`. `*queue`
  * must be a queue. Constant time, and no memory. */
 void fdb_queue_pop(fdb_queue *queue, fdb_outcome *outcome);
+
+/*
+ * Whether the first of the row waits for its own rate alone; then `*windows` is how many windows of
+ * `elapsed` microseconds start nothing before one starts it, with no offer between them. It does not
+ * in an empty row, for a system request, for a batch one that the normal rate may hold or whose own
+ * limit is 0, and for a time out of range. `*queue` must be a queue. Constant time, and no memory.
+ */
+bool fdb_queue_waits(fdb_queue *queue, uint64_t elapsed, uint64_t *windows);
+
+/*
+ * Sets the throttle of a tag, of at most 16 bytes, at a priority, in the place of an older one:
+ * `rate` transactions per second, until the moment `expires`. `*queue` must be a queue.
+ *
+ * FDB_OK, else FDB_BAD_OP (no such priority), FDB_TAG_TOO_LONG or FDB_MEMORY, the first that stands;
+ * the queue is then as it was. Logarithmic time.
+ */
+uint8_t fdb_queue_set_throttle(fdb_queue *queue, uint8_t priority,
+                               const uint8_t *tag, size_t tag_length,
+                               uint64_t rate, uint64_t expires);
+
+/* The throttle of a tag at a moment: the one last set, if it expires later. Else all is 0. */
+typedef struct fdb_limit {
+    uint64_t rate;    /* transactions per second */
+    uint64_t expires; /* the moment from which on it holds no longer */
+    bool holds;       /* whether there is one */
+} fdb_limit;
+
+/*
+ * Tells the throttle of a tag at a priority and the moment `at`. `*queue` must be a queue.
+ *
+ * FDB_OK, else FDB_BAD_OP (no such priority) or FDB_MEMORY; `*limit` is then as it was. Logarithmic
+ * time.
+ */
+uint8_t fdb_queue_throttle(fdb_queue *queue, uint8_t priority,
+                           const uint8_t *tag, size_t tag_length,
+                           uint64_t at, fdb_limit *limit);
 
 /* Frees a queue; the handle is then none. `*queue` must be a queue. */
 void fdb_queue_free(fdb_queue *queue);

@@ -1,9 +1,11 @@
 -- What C is told of a queue's operations.
 use Rattle.std.specs.Prelude.{◌≡◌, ℕ, Bool, true, false, ◌&&◌, ◌==◌, nat_le, List, [], ◌∷◌, ◌++◌, map, length, Option, None, Some, if◌then◌else◌}
 use Rattle.fdb_history.specs.declared.grv.Priority.{Priority}
+use Rattle.fdb_history.specs.declared.grv.TagLimit.{TagLimit}
 use Rattle.fdb_history.specs.declared.grv.Priority.TheVariants.{System, Default, Batch}
 use Rattle.fdb_queue.specs.Admission.{refusal_of, admitted, pushed_out}
 use Rattle.fdb_queue.specs.Queue.{Queue}
+use Rattle.fdb_queue.specs.Throttles.{SameThrottles}
 use Rattle.fdb_queue.specs.Waiting.{first, row, without_first}
 use Rattle.fdb_queue.specs.Window.{window, after_window}
 use Rattle.fdb_queue.specs.declared.config.TheConstants.{MAX_ELAPSED}
@@ -16,6 +18,7 @@ use Rattle.fdb_c.specs.declared.queue.FdbQueueConfig.{FdbQueueConfig}
 use Rattle.fdb_c.specs.declared.queue.FdbRequest.{FdbRequest}
 use Rattle.fdb_c.specs.declared.queue.FdbOutcome.{FdbOutcome}
 use Rattle.fdb_c.specs.declared.queue.Op.{Op}
+use Rattle.fdb_c.specs.declared.queue_tags.FdbLimit.{FdbLimit}
 use Rattle.fdb_c.specs.declared.queue.Op.TheVariants.{Offer, Window, Pop}
 use Rattle.fdb_c.specs.declared.queue.TheConstants.{FDB_OP_OFFER, FDB_OP_WINDOW, FDB_OP_POP}
 use Rattle.fdb_c.specs.declared.status.TheConstants.{FDB_OK, FDB_MEMORY, FDB_ROOM, FDB_BAD_OP, FDB_BAD_CONFIG, FDB_BAD_COUNT, FDB_BATCH_THROTTLED, FDB_FULL, FDB_TAG_TOO_LONG}
@@ -173,3 +176,17 @@ abbrev pub started_each : Queue ℕ → List FdbOp → List FdbRequest
 started_each queue [] = []
 started_each queue (op ∷ ops) =
     started_by queue (op_of op) ++ started_each (after queue (op_of op)) ops
+
+-- A throttle was set, where there is such a priority: it counts before those that there were, and
+-- all else is as it was.
+abbrev pub IsSet : Queue ℕ → Option Priority → List ℕ → ℕ → ℕ → Queue ℕ → Type 0
+IsSet before None tag rate expires after = ⊥
+IsSet before (Some priority) tag rate expires after =
+    SameThrottles after.throttles
+    (record { priority = priority; tag = tag; rate = rate; expires = expires } ∷ before.throttles)
+    × (after ≡ record before { throttles = after.throttles })
+
+-- The limit of a tag, as C is told of it.
+abbrev pub limit_shown : List TagLimit → FdbLimit
+limit_shown [] = record { rate = 0; expires = 0; holds = false }
+limit_shown (limit ∷ _) = record { rate = limit.rate; expires = limit.expires; holds = true }

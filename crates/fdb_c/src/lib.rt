@@ -16,6 +16,7 @@ mod queue_array;
 mod queue_calls;
 mod queue_handle;
 mod queue_steps;
+mod queue_tags;
 mod queue_window;
 mod register;
 mod status;

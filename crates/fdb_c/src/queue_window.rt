@@ -7,16 +7,17 @@ ghost use Rattle.fdb_c.specs.Queue.{after_op, outcome, request_of, started_at};
 
 use crate::queue::{FdbOutcome, FdbRequest, Op, request_of, shown};
 use crate::status::{FDB_BAD_CONFIG, FDB_MEMORY, FDB_OK};
-use fdb_queue::{GrvQueue, MAX_STARTED, QueueError, Req};
+use fdb_queue::{GrvQueue, MAX_STARTED, QueueError, Req, laws};
 
 /// How much room a window's requests need at most: for all that wait, or for as many as may start.
-#[tactic(auto, using(crate::proofs::Windows::no_more_than_wait, crate::proofs::Windows::no_more_than_may))]
+#[tactic(auto, using(crate::proofs::Windows::no_longer))]
 pub(crate) fn room_for(queue: &GrvQueue<u64>) -> usize
     ensures enough { length (window queue.now) ≤ result }
     ensures no_more { result ≤ length queue.now.waiting.system
         + length queue.now.waiting.default_ + length queue.now.waiting.batch }
     ensures may_start { result ≤ MAX_STARTED }
 {
+    laws::windows_pass_over_nobody::<u64>();
     let lengths = queue.lengths();
     let unbatched = lengths.system.saturating_add(lengths.default_);
     let waiting = unbatched.saturating_add(lengths.batch);
