@@ -62,6 +62,15 @@ pub struct Outcome {
     pub out: Option<Request>,
 }
 
+/// The throttle of a tag.
+#[derive(Clone, Copy, Debug, PartialEq, Eq)]
+pub struct Limit {
+    /// Transactions per second.
+    pub rate: u64,
+    /// The moment from which on it holds no longer, in microseconds.
+    pub expires: u64,
+}
+
 /// An operation, for [`outcomes`].
 #[derive(Clone, Copy, Debug, PartialEq, Eq)]
 pub enum Op {
@@ -84,6 +93,8 @@ pub enum QueueError {
     BatchThrottled,
     /// The queue is full of requests that this one may not push out.
     Full,
+    /// The tag has more than 16 bytes.
+    TagTooLong,
     /// Memory was refused.
     Memory,
 }
@@ -95,6 +106,7 @@ impl fmt::Display for QueueError {
             QueueError::BadCount => "the request's count is out of range",
             QueueError::BatchThrottled => "batch requests are not let in",
             QueueError::Full => "the queue is full",
+            QueueError::TagTooLong => "the tag is too long",
             QueueError::Memory => "out of memory",
         })
     }
@@ -108,6 +120,7 @@ fn error_of(status: u8) -> QueueError {
         18 => QueueError::BadCount,
         19 => QueueError::BatchThrottled,
         20 => QueueError::Full,
+        21 => QueueError::TagTooLong,
         _ => QueueError::Memory,
     }
 }
@@ -213,6 +226,71 @@ impl GrvQueue {
         };
         match status {
             0 => outcome_of(&outcome, &self.started[..outcome.started as usize]),
+            status => Err(error_of(status)),
+        }
+    }
+
+    /// How many windows of this length start nothing before one starts the first of the row, if that
+    /// one waits for its own rate alone.
+    pub fn waits(&mut self, elapsed: u64) -> Option<u64> {
+        let mut windows = 0;
+        // SAFETY: the handle is a queue.
+        let told = unsafe { raw::fdb_queue_waits(&mut self.handle, elapsed, &mut windows) };
+        told.then_some(windows)
+    }
+
+    /// Sets the throttle of a tag at a priority, in the place of an older one: transactions per
+    /// second, until the moment `expires`. A refused one leaves the queue as it was.
+    ///
+    /// # Errors
+    /// `TagTooLong` or `Memory`.
+    pub fn set_throttle(
+        &mut self,
+        priority: Priority,
+        tag: &[u8],
+        limit: Limit,
+    ) -> Result<(), QueueError> {
+        // SAFETY: the handle is a queue, and the length is that of the tag.
+        let status = unsafe {
+            raw::fdb_queue_set_throttle(
+                &mut self.handle,
+                priority as u8,
+                tag.as_ptr(),
+                tag.len(),
+                limit.rate,
+                limit.expires,
+            )
+        };
+        match status {
+            0 => Ok(()),
+            status => Err(error_of(status)),
+        }
+    }
+
+    /// The throttle of a tag at a priority that holds at a moment, if there is one.
+    ///
+    /// # Errors
+    /// `Memory`.
+    pub fn throttle(
+        &mut self,
+        priority: Priority,
+        tag: &[u8],
+        at: u64,
+    ) -> Result<Option<Limit>, QueueError> {
+        let mut found = raw::Limit::default();
+        // SAFETY: the handle is a queue, and the length is that of the tag.
+        let status = unsafe {
+            raw::fdb_queue_throttle(
+                &mut self.handle,
+                priority as u8,
+                tag.as_ptr(),
+                tag.len(),
+                at,
+                &mut found,
+            )
+        };
+        match status {
+            0 => Ok(found.holds.then_some(Limit { rate: found.rate, expires: found.expires })),
             status => Err(error_of(status)),
         }
     }

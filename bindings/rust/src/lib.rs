@@ -11,6 +11,6 @@ mod record;
 
 pub use chain::{answers, Ask, Chain, ChainError, Issued};
 pub use grv_queue::{
-    outcomes, GrvQueue, Op, Outcome, Priority, QueueConfig, QueueError, Request, State,
+    outcomes, GrvQueue, Limit, Op, Outcome, Priority, QueueConfig, QueueError, Request, State,
 };
 pub use record::Record;

@@ -89,6 +89,14 @@ pub struct Op {
     pub priority: u8,
 }
 
+#[repr(C)]
+#[derive(Clone, Copy, Default)]
+pub struct Limit {
+    pub rate: u64,
+    pub expires: u64,
+    pub holds: bool,
+}
+
 extern "C" {
     pub fn fdb_chain_new(epoch_end: u64, recovery: u64, proxies: u32, chain: *mut Handle) -> u8;
     pub fn fdb_chain_ask(chain: *mut Handle, ask: *const Ask, answer: *mut Answer) -> u8;
@@ -118,6 +126,23 @@ extern "C" {
         started_length: usize,
     ) -> u8;
     pub fn fdb_queue_pop(queue: *mut Handle, outcome: *mut Outcome);
+    pub fn fdb_queue_waits(queue: *mut Handle, elapsed: u64, windows: *mut u64) -> bool;
+    pub fn fdb_queue_set_throttle(
+        queue: *mut Handle,
+        priority: u8,
+        tag: *const u8,
+        tag_length: usize,
+        rate: u64,
+        expires: u64,
+    ) -> u8;
+    pub fn fdb_queue_throttle(
+        queue: *mut Handle,
+        priority: u8,
+        tag: *const u8,
+        tag_length: usize,
+        at: u64,
+        limit: *mut Limit,
+    ) -> u8;
     pub fn fdb_queue_free(queue: *mut Handle);
     pub fn fdb_queue_outcomes(
         config: *const QueueConfig,

@@ -10,6 +10,7 @@ from ._status import Refused, Status
 from .chain import Ask, Chain, Issued, answers
 from .grv_queue import (
     GrvQueue,
+    Limit,
     Offer,
     Outcome,
     Pop,
@@ -26,6 +27,7 @@ __all__ = [
     "Chain",
     "GrvQueue",
     "Issued",
+    "Limit",
     "Offer",
     "Outcome",
     "Pop",

@@ -3,7 +3,17 @@ from __future__ import annotations
 
 import ctypes
 import os
-from ctypes import POINTER, Structure, c_bool, c_size_t, c_uint8, c_uint32, c_uint64, c_void_p
+from ctypes import (
+    POINTER,
+    Structure,
+    c_bool,
+    c_char_p,
+    c_size_t,
+    c_uint8,
+    c_uint32,
+    c_uint64,
+    c_void_p,
+)
 from pathlib import Path
 
 
@@ -90,6 +100,10 @@ class RawOutcome(Structure):
     ]
 
 
+class RawLimit(Structure):
+    _fields_ = [("rate", c_uint64), ("expires", c_uint64), ("holds", c_bool)]
+
+
 _DECLARED = {
     "fdb_chain_new": (c_uint8, [c_uint64, c_uint64, c_uint32, POINTER(RawHandle)]),
     "fdb_chain_ask": (c_uint8, [POINTER(RawHandle), POINTER(RawAsk), POINTER(RawAnswer)]),
@@ -115,6 +129,15 @@ _DECLARED = {
         [POINTER(RawHandle), c_uint64, POINTER(RawOutcome), POINTER(RawRequest), c_size_t],
     ),
     "fdb_queue_pop": (None, [POINTER(RawHandle), POINTER(RawOutcome)]),
+    "fdb_queue_waits": (c_bool, [POINTER(RawHandle), c_uint64, POINTER(c_uint64)]),
+    "fdb_queue_set_throttle": (
+        c_uint8,
+        [POINTER(RawHandle), c_uint8, c_char_p, c_size_t, c_uint64, c_uint64],
+    ),
+    "fdb_queue_throttle": (
+        c_uint8,
+        [POINTER(RawHandle), c_uint8, c_char_p, c_size_t, c_uint64, POINTER(RawLimit)],
+    ),
     "fdb_queue_free": (None, [POINTER(RawHandle)]),
     "fdb_queue_outcomes": (
         c_uint8,

@@ -6,7 +6,16 @@ from dataclasses import dataclass
 from enum import IntEnum
 from typing import Iterable, List, Optional, Tuple, Union
 
-from ._library import RawConfig, RawHandle, RawOp, RawOutcome, RawRequest, library, number
+from ._library import (
+    RawConfig,
+    RawHandle,
+    RawLimit,
+    RawOp,
+    RawOutcome,
+    RawRequest,
+    library,
+    number,
+)
 from ._status import Refused, Status
 
 _OFFER, _WINDOW, _POP = 0, 1, 2
@@ -79,6 +88,14 @@ class Outcome:
     status: Status = Status.OK
 
 
+@dataclass(frozen=True)
+class Limit:
+    """A throttle: transactions per second, and the moment from which on it holds no longer."""
+
+    rate: int
+    expires: int
+
+
 def _request(raw: RawRequest) -> Request:
     return Request(raw.count, raw.payload, Priority(raw.priority))
 
@@ -149,6 +166,42 @@ class GrvQueue:
         raw = RawOutcome()
         library.fdb_queue_pop(byref(self._open()), byref(raw))
         return _outcome(raw)
+
+    def waits(self, elapsed: int) -> Optional[int]:
+        """How many windows of this length start nothing before one starts the first of the row.
+
+        It is None where that one does not wait for its own rate alone.
+        """
+        windows = c_uint64()
+        queue = byref(self._open())
+        told = library.fdb_queue_waits(queue, number("elapsed", elapsed), byref(windows))
+        return windows.value if told else None
+
+    def set_throttle(self, priority: Priority, tag: bytes, rate: int, expires: int) -> None:
+        """Sets the throttle of a tag, in the place of an older one, until the moment `expires`.
+
+        `Refused` says TAG_TOO_LONG or MEMORY; the queue is then as it was.
+        """
+        status = library.fdb_queue_set_throttle(
+            byref(self._open()),
+            Priority(priority),
+            tag,
+            len(tag),
+            number("rate", rate),
+            number("expires", expires),
+        )
+        if status:
+            raise Refused(status)
+
+    def throttle(self, priority: Priority, tag: bytes, at: int) -> Optional[Limit]:
+        """The throttle of a tag that holds at a moment, if there is one. `Refused` says MEMORY."""
+        raw = RawLimit()
+        status = library.fdb_queue_throttle(
+            byref(self._open()), Priority(priority), tag, len(tag), number("at", at), byref(raw)
+        )
+        if status:
+            raise Refused(status)
+        return Limit(raw.rate, raw.expires) if raw.holds else None
 
     def close(self) -> None:
         """Frees the queue. A second call does nothing."""
