@@ -230,8 +230,8 @@ impl GrvQueue {
         }
     }
 
-    /// How many windows of this length start nothing before one starts the first of the row, if that
-    /// one waits for its own rate alone.
+    /// How many windows of this length start nothing before one starts the first of the row, where
+    /// that one waits for its own rate alone.
     pub fn waits(&mut self, elapsed: u64) -> Option<u64> {
         let mut windows = 0;
         // SAFETY: the handle is a queue.
