@@ -13,7 +13,7 @@ pub no_longer : (queue : Queue ℕ)
     → length (window queue) ≤ length queue.waiting.system + length queue.waiting.default_ + length queue.waiting.batch
 no_longer queue prefix =
     let lists : length (row queue.waiting)
-    ≡ length queue.waiting.system + (length queue.waiting.default_ + length queue.waiting.batch)
+    ≡ length queue.waiting.system + length queue.waiting.default_ + length queue.waiting.batch
     = simp length-append in
     let cut : length (window queue) ≡ min (length (window queue)) (length (row queue.waiting))
     = ap (λ some. length some) prefix ∙ length-take (length (window queue)) (row queue.waiting) in

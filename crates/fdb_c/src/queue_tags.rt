@@ -1,6 +1,7 @@
 //! How long the head of a queue waits, and the throttles of tags, by the queue's handle.
 
-ghost use Rattle.std.specs.Prelude.{◌≡◌, ◌<◌, ◌≤◌, ◌∷◌, ◌⊎◌, ◌↔◌, length, None, Some, true, false};
+ghost use Rattle.std.specs.Prelude.{◌≡◌, ◌<◌, ◌≤◌, [], ◌∷◌, ◌⊎◌, ◌↔◌, length, None, Some};
+ghost use Rattle.std.specs.Prelude.{true, false};
 ghost use Rattle.std.specs.Prelude.{IsNone, IsSome, IfSome, IsSomeAnd, IsTrue, IfOk, OnOk, OnErr};
 ghost use Rattle.fdb_queue.specs.Config.{IsElapsed};
 ghost use Rattle.fdb_queue.specs.Throttles.{last_set, limits_of, SameThrottles, unexpired};
