@@ -27,7 +27,7 @@ WRAPPED = ["-Wl,--wrap=malloc,--wrap=realloc"]
 COMPILERS = ["gcc", "clang"]
 SECONDS = 300
 
-FIRST_OF_C = b"version 200 after 100\n7 is early: 1 is next\n"
+FIRST_OF_C = b"version 200 after 100\n7 is early: 2 is next\n"
 FIRST_OF_PYTHON = b"""\
 Issued(ordinal=0, proxy=0, num=1, processed=0, prev=100, version=200, at=5, fresh=True)
 refused: EARLY, expected 1
