@@ -2,7 +2,7 @@
 
 `Chain` issues commit versions as the sequencer does, `Record` is the live committed version with
 what belongs to it, and `GrvQueue` says which requests for a read version wait at a GRV proxy and
-which start. `answers` and `outcomes` take all requests at once and are ten times as fast.
+which start. `answers` and `outcomes` take all requests of a run at once.
 
 A handle is used by one thread at a time, and by the one that made it.
 """
