@@ -16,7 +16,7 @@ PLACED = "README.md | Code and definitions | Tests"
 FOLDERS = {".rt": "crates/{}/src", ".antt": "crates/{}/specs", ".py": "tests"}
 CODE = re.compile(r"`([^`\n]+)`")
 INNER = re.compile(r"\(([^)]*)\)")
-FN = r"(?:pub(?:\(crate\))? )?fn"
+FN = r"(?:pub(?:\(crate\))? )?(?:extern \"C\" )?fn"
 BLOCK = re.compile(r"^```(\w*)\n(.*?)^```$", re.MULTILINE | re.DOTALL)
 LINK = re.compile(r"\]\(([^)\s]+)\)")
 # Where a link may lead to in a document: its headings and its anchors.

@@ -1,0 +1,43 @@
+"""The part of FoundationDB's read-version path that one thread runs, proved, from Python.
+
+`Chain` issues commit versions as the sequencer does, `Record` is the live committed version with
+what belongs to it, and `GrvQueue` says which requests for a read version wait at a GRV proxy and
+which start. `answers` and `outcomes` take all requests of a run at once.
+
+A handle is used by one thread at a time, and by the one that made it.
+"""
+from ._status import Refused, Status
+from .chain import Ask, Chain, Issued, answers
+from .grv_queue import (
+    GrvQueue,
+    Limit,
+    Offer,
+    Outcome,
+    Pop,
+    Priority,
+    QueueConfig,
+    Request,
+    Window,
+    outcomes,
+)
+from .register import Record
+
+__all__ = [
+    "Ask",
+    "Chain",
+    "GrvQueue",
+    "Issued",
+    "Limit",
+    "Offer",
+    "Outcome",
+    "Pop",
+    "Priority",
+    "QueueConfig",
+    "Record",
+    "Refused",
+    "Request",
+    "Status",
+    "Window",
+    "answers",
+    "outcomes",
+]

@@ -1,0 +1,24 @@
+//! Finds the library: `FDB_READ_VERSION_LIB` names its folder, else it is `../../crates/fdb_c/out`.
+
+use std::env;
+use std::path::PathBuf;
+
+fn main() {
+    println!("cargo:rerun-if-env-changed=FDB_READ_VERSION_LIB");
+    let here = PathBuf::from(env::var_os("CARGO_MANIFEST_DIR").expect("cargo sets it"));
+    let folder = env::var_os("FDB_READ_VERSION_LIB")
+        .map_or_else(|| here.join("../../crates/fdb_c/out"), PathBuf::from);
+    for name in ["libfdb_c.a", "liblibc_c.a"] {
+        let file = folder.join(name);
+        if !file.is_file() {
+            panic!(
+                "{} is missing: make it with tools/bindings, or set FDB_READ_VERSION_LIB to its folder",
+                file.display()
+            );
+        }
+        println!("cargo:rerun-if-changed={}", file.display());
+    }
+    println!("cargo:rustc-link-search=native={}", folder.display());
+    println!("cargo:rustc-link-lib=static=fdb_c");
+    println!("cargo:rustc-link-lib=static=libc_c");
+}

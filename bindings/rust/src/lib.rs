@@ -1,0 +1,16 @@
+//! The part of FoundationDB's read-version path that one thread runs, proved, from Rust.
+//!
+//! [`Chain`] issues commit versions as the sequencer does, [`Record`] is the live committed version
+//! with what belongs to it, and [`GrvQueue`] says which requests for a read version wait at a GRV
+//! proxy and which start. What each answers is proved; this crate, which calls them, is tested.
+
+mod chain;
+mod grv_queue;
+mod raw;
+mod record;
+
+pub use chain::{answers, Ask, Chain, ChainError, Issued};
+pub use grv_queue::{
+    outcomes, GrvQueue, Limit, Op, Outcome, Priority, QueueConfig, QueueError, Request, State,
+};
+pub use record::Record;

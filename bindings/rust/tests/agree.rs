@@ -1,0 +1,115 @@
+//! Handles and arrays answer the same, and what was worked out by hand, at random and at the edges.
+
+use fdb_read_version::{
+    answers, outcomes, Ask, Chain, ChainError, GrvQueue, Limit, Op, Priority, QueueConfig,
+    QueueError, Record, Request,
+};
+
+/// The same numbers on each machine (xorshift).
+struct Drawn(u64);
+
+impl Drawn {
+    fn below(&mut self, limit: u64) -> u64 {
+        self.0 ^= self.0 << 13;
+        self.0 ^= self.0 >> 7;
+        self.0 ^= self.0 << 17;
+        self.0 % limit
+    }
+}
+
+#[test]
+fn chains_agree() {
+    let (mut drawn, mut latest, mut at) = (Drawn(7), [0; 3], 0);
+    let mut asks = Vec::new();
+    for _ in 0..5000 {
+        let proxy = drawn.below(3) as usize;
+        let mut num = latest[proxy] + 1;
+        match drawn.below(10) {
+            0 => num += 1 + drawn.below(3),
+            1 | 2 => num = drawn.below(num + 1),
+            _ => {}
+        }
+        latest[proxy] = if num == latest[proxy] + 1 { num } else { latest[proxy] };
+        at += drawn.below(6_000_000);
+        let processed = latest[proxy].saturating_sub(1 + drawn.below(4));
+        asks.push(Ask { proxy: proxy as u32, num, processed, at });
+    }
+    let all = answers(100, 200, 3, &asks).unwrap();
+    let mut chain = Chain::new(100, 200, 3).unwrap();
+    for (ask, answer) in asks.iter().zip(&all) {
+        assert_eq!(chain.ask(*ask), *answer);
+    }
+    assert!(all.iter().any(|it| matches!(it, Err(ChainError::Early { .. }))));
+    assert!(all.contains(&Err(ChainError::Forgotten)));
+}
+
+#[test]
+fn refusals_of_a_chain() {
+    assert_eq!(Chain::new(100, 100, 1).err(), Some(ChainError::BadEpoch));
+    assert_eq!(Chain::new(100, 200, 65).err(), Some(ChainError::NoProxy));
+    let mut chain = Chain::new(100, 200, 2).unwrap();
+    let ask = Ask { proxy: 0, num: 1, processed: 0, at: 5 };
+    let first = chain.ask(ask).unwrap();
+    assert_eq!((first.prev, first.version, first.fresh), (100, 200, true));
+    assert!(!chain.ask(ask).unwrap().fresh);
+    assert_eq!(chain.ask(Ask { num: 3, ..ask }), Err(ChainError::Early { expected: 2 }));
+    assert_eq!(chain.ask(Ask { proxy: 2, ..ask }), Err(ChainError::UnknownProxy));
+}
+
+#[test]
+fn queues_agree() {
+    let (mut drawn, config) = (Drawn(3), QueueConfig { normal: 100, batch: 20, room: 40 });
+    let priorities = [Priority::System, Priority::Default, Priority::Batch];
+    let ops: Vec<Op> = (0..5000)
+        .map(|payload| match drawn.below(10) {
+            0 => Op::Window(drawn.below(10_000_002)),
+            1 if drawn.below(5) == 0 => Op::Pop,
+            _ => Op::Offer(Request {
+                priority: priorities[drawn.below(3) as usize],
+                count: drawn.below(13),
+                payload,
+            }),
+        })
+        .collect();
+    let all = outcomes(config, &ops).unwrap();
+    let mut queue = GrvQueue::new(config).unwrap();
+    for (op, outcome) in ops.iter().zip(&all) {
+        match op {
+            Op::Offer(request) => assert_eq!(queue.offer(*request), *outcome),
+            Op::Window(elapsed) => assert_eq!(queue.window(*elapsed), *outcome),
+            Op::Pop => assert_eq!(queue.pop(), outcome.clone().unwrap().out),
+        }
+    }
+    assert!(all.contains(&Err(QueueError::Full)));
+    assert!(all.iter().flatten().any(|it| it.started.len() > 1));
+}
+
+#[test]
+fn the_queue_by_hand() {
+    let bad = QueueConfig { normal: 0, batch: 0, room: 1 };
+    assert_eq!(GrvQueue::new(bad).err(), Some(QueueError::BadConfig));
+    let mut queue = GrvQueue::new(QueueConfig { normal: 10, batch: 0, room: 2 }).unwrap();
+    let request = Request { priority: Priority::Default, count: 30, payload: 1 };
+    assert_eq!(queue.waits(1_000_000), None);
+    queue.offer(request).unwrap();
+    // It needs 30 transactions. A window grants 10 by its limit, and 5 each second to the budget.
+    assert_eq!(queue.waits(1_000_000), Some(4));
+    let limit = Limit { rate: 9, expires: 50 };
+    queue.set_throttle(Priority::Default, b"tag", limit).unwrap();
+    assert_eq!(queue.throttle(Priority::Default, b"tag", 49), Ok(Some(limit)));
+    assert_eq!(queue.throttle(Priority::Default, b"tag", 50), Ok(None));
+    assert_eq!(queue.throttle(Priority::Batch, b"tag", 49), Ok(None));
+    let long = queue.set_throttle(Priority::Default, &[b't'; 17], limit);
+    assert_eq!(long, Err(QueueError::TagTooLong));
+}
+
+#[test]
+fn the_register_by_hand() {
+    let kept = Record { version: 100, ..Record::default() };
+    let metadata = Some([1, 2, 3, 4, 5, 6, 7, 8, 9, 10]);
+    let second = Record { version: 200, locked: true, metadata, min_known: 150 };
+    assert_eq!(kept.after_report(&second), second);
+    let third = Record { version: 150, min_known: 180, ..Record::default() };
+    assert_eq!(second.after_report(&third), Record { min_known: 180, ..second });
+    assert_eq!((second.version_for(false), second.version_for(true)), (200, 150));
+}

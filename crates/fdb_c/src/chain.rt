@@ -1,0 +1,171 @@
+//! The chain of commit versions: requests and answers as C writes them, and all of them at once.
+
+ghost use Rattle.std.specs.Prelude.{◌≡◌, ◌+◌, ◌<◌, ◌≤◌, ◌⊎◌, ◌↔◌, ◌++◌, length, drop, IfSome};
+ghost use Rattle.std.specs.Prelude.{IsNone, IsSome, IsOkAnd, IfOk, Ok, OnOk, true};
+ghost use Rattle.std.specs.Bool.{OnTrue};
+ghost use Rattle.fdb_history.specs.Issuing.{answer_to, chain_after};
+ghost use Rattle.fdb_chain.specs.ChainCore.{IsEpoch, IsProxyCount, new_chain};
+ghost use Rattle.fdb_history.specs.declared.register.TheConstants.{MAX_VERSION};
+ghost use Rattle.fdb_chain.specs.declared.chain_core.TheConstants.{MAX_PROXIES};
+ghost use Rattle.fdb_c.specs.Chain.{ask_of, refused, told, told_each};
+
+use crate::status::{
+    FDB_BAD_EPOCH, FDB_EARLY, FDB_EXHAUSTED, FDB_FORGOTTEN, FDB_MEMORY, FDB_NO_PROXY, FDB_OK,
+    FDB_ROOM, FDB_UNKNOWN_PROXY,
+};
+use fdb_chain::{ChainCore, ChainError};
+use fdb_history::{Ask, Issued};
+use std::alloc::Global;
+
+/// A request for a commit version.
+#[repr(C)]
+#[derive(Clone, Copy)]
+pub struct FdbAsk {
+    /// The number of the request among those of its proxy, from 1 on.
+    pub num: u64,
+    /// The number up to which the proxy has processed its answers.
+    pub processed: u64,
+    /// The moment of the request, in microseconds.
+    pub at: u64,
+    /// The commit proxy that asks.
+    pub proxy: u32,
+}
+
+/// The answer to a request for a commit version, or its refusal. Of a refusal there is the status,
+/// and of an early request the number that is expected; all else is 0.
+#[repr(C)]
+#[derive(Clone, Copy)]
+pub struct FdbAnswer {
+    /// The place of the version in the chain, from 0 on.
+    pub ordinal: u64,
+    /// The number of the request, or the one that is expected.
+    pub num: u64,
+    /// What the request that drew the version said is processed.
+    pub processed: u64,
+    /// The version before.
+    pub prev: u64,
+    /// The commit version.
+    pub version: u64,
+    /// The moment of the request that drew it, in microseconds.
+    pub at: u64,
+    /// The commit proxy that it was issued to.
+    pub proxy: u32,
+    /// `FDB_OK`, or the number of the refusal.
+    pub status: u8,
+    /// Whether this request drew it.
+    pub fresh: bool,
+}
+
+/// A refusal, by its number.
+fn refused(status: u8, expected: u64) -> FdbAnswer
+    ensures { result ≡ refused status expected }
+{
+    FdbAnswer {
+        ordinal: 0,
+        num: expected,
+        processed: 0,
+        prev: 0,
+        version: 0,
+        at: 0,
+        proxy: 0,
+        status,
+        fresh: false,
+    }
+}
+
+/// An answer, as C is told of it.
+fn told(issued: Issued) -> FdbAnswer
+    ensures { result ≡ told (Ok issued) }
+{
+    FdbAnswer {
+        ordinal: issued.ordinal,
+        num: issued.num,
+        processed: issued.processed,
+        prev: issued.prev,
+        version: issued.version,
+        at: issued.at,
+        proxy: issued.proxy,
+        status: FDB_OK,
+        fresh: issued.fresh,
+    }
+}
+
+/// Answers one request, unless memory is refused.
+pub(crate) fn step(core: &mut ChainCore, ask: FdbAsk) -> Option<FdbAnswer>
+    ensures answer { IfSome result (λ answer. answer ≡ told (answer_to core.old (ask_of ask))) }
+    ensures after { IfSome result
+        (λ _. core.new ≡ chain_after core.old (answer_to core.old (ask_of ask))) }
+    ensures not_memory { IfSome result (λ answer. answer.status ≡ FDB_MEMORY → ⊥) }
+    ensures memory { IsNone result → core.new ≡ core.old }
+    ensures due { IsNone result
+        → IsOkAnd (answer_to core.old (ask_of ask)) (λ issued. issued.fresh ≡ true) }
+{
+    let asked = Ask {
+        proxy: ask.proxy,
+        num: ask.num,
+        processed: ask.processed,
+        at: ask.at,
+    };
+    match core.ask(asked) {
+        Ok(issued) => Some(told(issued)),
+        Err(ChainError::UnknownProxy) => Some(refused(FDB_UNKNOWN_PROXY, 0)),
+        Err(ChainError::Early { expected }) => Some(refused(FDB_EARLY, expected)),
+        Err(ChainError::Forgotten) => Some(refused(FDB_FORGOTTEN, 0)),
+        Err(ChainError::Exhausted) => Some(refused(FDB_EXHAUSTED, 0)),
+        Err(_) => None,
+    }
+}
+
+/// Answers each request in its turn, unless memory is refused.
+fn answer_each(core: &mut ChainCore, asks: &[FdbAsk], answers: &mut [FdbAnswer]) -> bool
+    requires { length asks.now ≤ length answers.old }
+    ensures answers { OnTrue result
+        (answers.new ≡ told_each core.old asks.now ++ drop (length asks.now) answers.old) }
+{
+    for (place, ask) in asks.iter().enumerate() {
+        let Some(answer) = step(core, *ask) else {
+            return false;
+        };
+        answers[place] = answer;
+    }
+    true
+}
+
+/// Answers requests to a new chain, each in its turn. `answers` has room for them all, or is left
+/// as it was.
+#[unsafe(no_mangle)]
+pub extern "C" fn fdb_chain_answers(
+    alloc: Global,
+    epoch_end: u64,
+    recovery: u64,
+    proxies: u32,
+    asks: &[FdbAsk],
+    answers: &mut [FdbAnswer],
+) -> u8
+    ensures ok { (result ≡ FDB_OK) → answers.new
+        ≡ told_each (new_chain epoch_end recovery proxies) asks.now
+        ++ drop (length asks.now) answers.old }
+    ensures untouched { (result ≡ FDB_OK → ⊥) → (result ≡ FDB_MEMORY → ⊥)
+        → answers.new ≡ answers.old }
+    ensures room { (result ≡ FDB_ROOM) ↔ (length answers.old < length asks.now) }
+    ensures bad_epoch { (result ≡ FDB_BAD_EPOCH) ↔ ((length asks.now ≤ length answers.old)
+        × ((recovery ≤ epoch_end) ⊎ (MAX_VERSION < recovery))) }
+    ensures no_proxy { (result ≡ FDB_NO_PROXY) ↔ ((length asks.now ≤ length answers.old)
+        × IsEpoch epoch_end recovery × ((proxies ≡ 0) ⊎ (MAX_PROXIES < proxies))) }
+{
+    if answers.len() < asks.len() {
+        return FDB_ROOM;
+    }
+    match ChainCore::new(alloc, epoch_end, recovery, proxies) {
+        Ok(mut core) => {
+            if answer_each(&mut core, asks, answers) {
+                FDB_OK
+            } else {
+                FDB_MEMORY
+            }
+        }
+        Err(ChainError::BadEpoch) => FDB_BAD_EPOCH,
+        Err(ChainError::NoProxy) => FDB_NO_PROXY,
+        Err(_) => FDB_MEMORY,
+    }
+}

@@ -1,0 +1,22 @@
+//! The part of the read-version path that one thread runs, for C: the chain of commit versions, the
+//! register and the queue of a GRV proxy.
+//!
+//! `include/fdb_read_version.h` declares what is exported here. A chain and a queue are used by a
+//! *handle*, a struct of the caller's that has one pointer and owns what it points to, or by arrays:
+//! all requests in, all answers out. The clauses say what those of `fdb_chain`, `fdb_history` and
+//! `fdb_queue` say, over the structs that cross.
+#![tactic(auto)]
+
+mod chain;
+mod chain_calls;
+mod chain_handle;
+mod parts;
+mod queue;
+mod queue_array;
+mod queue_calls;
+mod queue_handle;
+mod queue_steps;
+mod queue_tags;
+mod queue_window;
+mod register;
+mod status;

@@ -1,0 +1,181 @@
+//! The queue by its handle.
+
+ghost use Rattle.std.specs.Prelude.{◌≡◌, ◌+◌, ◌<◌, ◌≤◌, ◌⊎◌, ◌↔◌, ◌++◌, length, drop, None, Some};
+ghost use Rattle.std.specs.Prelude.{IsNone, IsSome, IfSome, Err, OnOk, OnErr, IfOk, IfErr};
+ghost use Rattle.fdb_queue.specs.Config.{IsConfig};
+ghost use Rattle.fdb_queue.specs.Queue.{new_queue};
+ghost use Rattle.fdb_queue.specs.Waiting.{row};
+ghost use Rattle.fdb_c.specs.Queue.{after, config_of, IsDone, offered, started_by, told};
+
+use crate::parts::Parts;
+use crate::queue::{FdbOutcome, FdbQueueConfig, FdbRequest, Op, priority_of, shown};
+use crate::queue_handle::FdbQueue;
+use crate::queue_steps::{offer_shown, pop_shown};
+use crate::queue_window::{room_for, window_shown};
+use crate::status::{FDB_BAD_CONFIG, FDB_BAD_OP, FDB_MEMORY, FDB_OK, FDB_ROOM};
+use fdb_queue::{GrvQueue, QueueConfig, Req};
+use std::alloc::Global;
+use std::mem;
+
+/// Opens a queue in which nothing waits. Refused, it leaves the handle none.
+#[unsafe(no_mangle)]
+pub extern "C" fn fdb_queue_new(alloc: Global, config: &FdbQueueConfig, queue: &mut FdbQueue) -> u8
+    requires { IsNone queue.old.queue }
+    ensures ok { (result ≡ FDB_OK) → queue.new.queue ≡ Some (new_queue (config_of config.now)) }
+    ensures refused { (result ≡ FDB_OK → ⊥) → queue.new.queue ≡ None }
+    ensures bad_config { (result ≡ FDB_BAD_CONFIG) ↔ ¬ IsConfig (config_of config.now) }
+{
+    let config = QueueConfig {
+        normal: config.normal,
+        batch: config.batch,
+        room: config.room,
+    };
+    let Ok(made) = GrvQueue::new(alloc, config) else {
+        return FDB_BAD_CONFIG;
+    };
+    match Box::new(alloc, made) {
+        Ok(made) => {
+            mem::replace(queue, FdbQueue::of(Parts::of(made))).gone();
+            FDB_OK
+        }
+        Err(_) => FDB_MEMORY,
+    }
+}
+
+/// Offers what C writes, unless memory is refused.
+fn offer_told(queue: &mut GrvQueue<u64>, request: FdbRequest) -> Option<FdbOutcome>
+    ensures outcome { IfSome result (λ given. given ≡ told queue.old (offered request)) }
+    ensures after { IfSome result (λ _. queue.new ≡ after queue.old (offered request)) }
+    ensures not_memory { IfSome result (λ given. given.status ≡ FDB_MEMORY → ⊥) }
+    ensures memory { IsNone result → queue.new ≡ queue.old }
+{
+    match priority_of(request.priority) {
+        Some(priority) => offer_shown(
+            queue,
+            Req {
+                priority,
+                count: request.count,
+                payload: request.payload,
+            },
+        ),
+        None => Some(shown(queue, FDB_BAD_OP, None, 0)),
+    }
+}
+
+/// Offers a request. Where memory is refused, nothing has changed.
+#[unsafe(no_mangle)]
+pub extern "C" fn fdb_queue_offer(
+    alloc: Global,
+    queue: &mut FdbQueue,
+    request: &FdbRequest,
+    outcome: &mut FdbOutcome,
+) -> u8
+    requires { IsSome queue.old.queue }
+    ensures outcome { (result ≡ FDB_MEMORY → ⊥) → IfSome queue.old.queue
+        (λ before. outcome.new ≡ told before (offered request.now)) }
+    ensures status { (result ≡ FDB_MEMORY → ⊥) → result ≡ outcome.new.status }
+    ensures after { (result ≡ FDB_MEMORY → ⊥) → IfSome queue.old.queue
+        (λ before. queue.new.queue ≡ Some (after before (offered request.now))) }
+    ensures memory { (result ≡ FDB_MEMORY)
+        → (queue.new.queue ≡ queue.old.queue) × (outcome.new ≡ outcome.old) }
+    ensures held { IsSome queue.new.queue }
+{
+    let held = mem::replace(queue, FdbQueue::none());
+    let mut core = held.into_parts(alloc).into_box();
+    let carried = offer_told(&mut core, *request);
+    mem::replace(queue, FdbQueue::of(Parts::of(core))).gone();
+    match carried {
+        Some(given) => {
+            *outcome = given;
+            given.status
+        }
+        None => FDB_MEMORY,
+    }
+}
+
+/// Takes the first request out, whatever the rates say of it. It takes no memory.
+#[unsafe(no_mangle)]
+pub extern "C" fn fdb_queue_pop(alloc: Global, queue: &mut FdbQueue, outcome: &mut FdbOutcome)
+    requires { IsSome queue.old.queue }
+    ensures outcome { IfSome queue.old.queue (λ before. outcome.new ≡ told before (Some Op.Pop)) }
+    ensures after { IfSome queue.old.queue
+        (λ before. queue.new.queue ≡ Some (after before (Some Op.Pop))) }
+{
+    let held = mem::replace(queue, FdbQueue::none());
+    let mut core = held.into_parts(alloc).into_box();
+    *outcome = pop_shown(&mut core);
+    mem::replace(queue, FdbQueue::of(Parts::of(core))).gone();
+}
+
+/// Holds a window, if there is room for what it may start.
+fn window_told(
+    queue: &mut GrvQueue<u64>,
+    elapsed: u64,
+    started: &mut [FdbRequest],
+) -> Result<FdbOutcome, u8>
+    ensures outcome { IfOk result (λ given. given ≡ told queue.old (Some (Op.Window elapsed))) }
+    ensures after { OnOk result (queue.new ≡ after queue.old (Some (Op.Window elapsed))) }
+    ensures started { OnOk result (started.new ≡ started_by queue.old (Some (Op.Window elapsed))
+        ++ drop (length (started_by queue.old (Some (Op.Window elapsed)))) started.old) }
+    ensures done { IfOk result (λ given. IsDone given.status) }
+    ensures not_done { IfErr result (λ status. ¬ IsDone status) }
+    ensures unchanged { OnErr result ((queue.new ≡ queue.old) × (started.new ≡ started.old)) }
+    ensures room { (result ≡ Err FDB_ROOM) → length started.old < length (row queue.old.waiting) }
+{
+    if started.len() < room_for(queue) {
+        return Err(FDB_ROOM);
+    }
+    match window_shown(queue, elapsed, started) {
+        Some(given) => Ok(given),
+        None => Err(FDB_MEMORY),
+    }
+}
+
+/// Holds a window, and writes the requests that it starts to the start of `started`. This needs
+/// room for all that wait, or for 10,000 requests where more do: else nothing is done. Where memory
+/// is refused, nothing has changed.
+#[unsafe(no_mangle)]
+pub extern "C" fn fdb_queue_window(
+    alloc: Global,
+    queue: &mut FdbQueue,
+    elapsed: u64,
+    outcome: &mut FdbOutcome,
+    started: &mut [FdbRequest],
+) -> u8
+    requires { IsSome queue.old.queue }
+    ensures outcome { IsDone result → IfSome queue.old.queue
+        (λ before. outcome.new ≡ told before (Some (Op.Window elapsed))) }
+    ensures status { IsDone result → result ≡ outcome.new.status }
+    ensures after { IsDone result → IfSome queue.old.queue
+        (λ before. queue.new.queue ≡ Some (after before (Some (Op.Window elapsed)))) }
+    ensures started { IsDone result → IfSome queue.old.queue
+        (λ before. started.new ≡ started_by before (Some (Op.Window elapsed))
+        ++ drop (length (started_by before (Some (Op.Window elapsed)))) started.old) }
+    ensures not_done { ¬ IsDone result → (queue.new.queue ≡ queue.old.queue)
+        × (outcome.new ≡ outcome.old) × (started.new ≡ started.old) }
+    ensures room { (result ≡ FDB_ROOM) → IfSome queue.old.queue
+        (λ before. length started.old < length (row before.waiting)) }
+    ensures held { IsSome queue.new.queue }
+{
+    let held = mem::replace(queue, FdbQueue::none());
+    let mut core = held.into_parts(alloc).into_box();
+    let carried = window_told(&mut core, elapsed, started);
+    mem::replace(queue, FdbQueue::of(Parts::of(core))).gone();
+    match carried {
+        Ok(given) => {
+            *outcome = given;
+            given.status
+        }
+        Err(status) => status,
+    }
+}
+
+/// Frees a queue. The handle is then none.
+#[unsafe(no_mangle)]
+pub extern "C" fn fdb_queue_free(alloc: Global, queue: &mut FdbQueue)
+    requires { IsSome queue.old.queue }
+    ensures { queue.new.queue ≡ None }
+{
+    let held = mem::replace(queue, FdbQueue::none());
+    let _core = held.into_parts(alloc).into_box();
+}

@@ -1,0 +1,46 @@
+//! What a call answers: 0, or the number of a refusal.
+
+/// Done.
+pub const FDB_OK: u8 = 0;
+
+/// The recovery version is not above the end of the epoch before, or above the greatest version.
+pub const FDB_BAD_EPOCH: u8 = 1;
+
+/// The number of commit proxies is out of range.
+pub const FDB_NO_PROXY: u8 = 2;
+
+/// There is no such commit proxy.
+pub const FDB_UNKNOWN_PROXY: u8 = 3;
+
+/// The request's number is beyond the next one of its proxy.
+pub const FDB_EARLY: u8 = 4;
+
+/// The answer is not kept any more.
+pub const FDB_FORGOTTEN: u8 = 5;
+
+/// The versions are used up.
+pub const FDB_EXHAUSTED: u8 = 6;
+
+/// Memory was refused.
+pub const FDB_MEMORY: u8 = 7;
+
+/// There is no room for the answers.
+pub const FDB_ROOM: u8 = 8;
+
+/// There is no such operation, or no such priority.
+pub const FDB_BAD_OP: u8 = 16;
+
+/// The configuration, or the time since the last window, is out of range.
+pub const FDB_BAD_CONFIG: u8 = 17;
+
+/// The request's count is out of range.
+pub const FDB_BAD_COUNT: u8 = 18;
+
+/// No batch request is let in.
+pub const FDB_BATCH_THROTTLED: u8 = 19;
+
+/// The queue is full of requests that this one may not push out.
+pub const FDB_FULL: u8 = 20;
+
+/// The tag is too long.
+pub const FDB_TAG_TOO_LONG: u8 = 21;

@@ -1,0 +1,271 @@
+/*
+ * The part of FoundationDB's read-version path that one thread runs: the chain of commit versions,
+ * the register and the queue of a GRV proxy (FoundationDB 7.1). Each function answers what the
+ * library's answers; that is proved, but for this header, which a person wrote.
+ *
+ *     cc prog.c libfdb_c.a liblibc_c.a
+ *
+ * Versions and moments are numbers of 64 bits; a version is at most 9,223,372,036,854,775,807, and
+ * a moment is in microseconds. Nothing here locks, keeps a global or a pointer of the caller's.
+ * Memory comes from the program's malloc, realloc and free.
+ *
+ * Nothing checks what C passes. What a comment says of an argument is the caller's to keep:
+ *
+ * - A pointer is not null, also where its length is 0, and what it points to is readable, or
+ *   writable where it is not `const`. What is written overlaps with no other argument.
+ * - A `bool` is 0 or 1.
+ * - A handle is one that stands here, written by these functions alone. It is copied nowhere, is
+ *   used by one call at a time, and stays on the thread that made it. One that is not freed leaks.
+ * - No function is called from a signal handler, nor in the forked child of a program with threads.
+ */
+#ifndef FDB_READ_VERSION_H
+#define FDB_READ_VERSION_H
+
+#include <stdbool.h>
+#include <stddef.h>
+#include <stdint.h>
+
+#ifdef __cplusplus
+extern "C" {
+#endif
+
+/* What a function answers: FDB_OK, or why it refuses. */
+enum {
+    FDB_OK = 0,
+    FDB_BAD_EPOCH = 1,        /* the recovery version is not above the epoch's end, or too great */
+    FDB_NO_PROXY = 2,         /* not 1 to 64 commit proxies */
+    FDB_UNKNOWN_PROXY = 3,    /* no such commit proxy */
+    FDB_EARLY = 4,            /* the number is beyond the proxy's next one */
+    FDB_FORGOTTEN = 5,        /* the answer is not kept any more */
+    FDB_EXHAUSTED = 6,        /* the versions are used up */
+    FDB_MEMORY = 7,           /* memory was refused */
+    FDB_ROOM = 8,             /* an array of the caller's is too short */
+    FDB_BAD_OP = 16,          /* no such operation or priority */
+    FDB_BAD_CONFIG = 17,      /* the configuration, or a time between windows, is out of range */
+    FDB_BAD_COUNT = 18,       /* the count is out of range */
+    FDB_BATCH_THROTTLED = 19, /* no batch request is let in */
+    FDB_FULL = 20,            /* the queue is full of requests that this one may not push out */
+    FDB_TAG_TOO_LONG = 21     /* the tag has more than 16 bytes */
+};
+
+/* -------------------------------------------------------------- the chain of commit versions -- */
+
+/* A commit proxy's request for a commit version (GetCommitVersionRequest). */
+typedef struct fdb_ask {
+    uint64_t num;       /* its number among those of its proxy, from 1 on */
+    uint64_t processed; /* the number up to which the proxy has processed its answers */
+    uint64_t at;        /* the moment, in microseconds */
+    uint32_t proxy;     /* the commit proxy, from 0 on */
+} fdb_ask;
+
+/* The answer. On FDB_EARLY `num` is the number that is expected; else on a refusal all but `status`
+ * is 0. */
+typedef struct fdb_answer {
+    uint64_t ordinal;   /* the version's place in the chain, from 0 on */
+    uint64_t num;       /* the request's number */
+    uint64_t processed; /* what the request that drew the version said is processed */
+    uint64_t prev;      /* the version before this one */
+    uint64_t version;   /* the commit version */
+    uint64_t at;        /* the moment of the request that drew it */
+    uint32_t proxy;     /* the commit proxy that it was issued to */
+    uint8_t status;     /* FDB_OK, or the refusal */
+    bool fresh;         /* whether this request drew it, or its kept answer came again */
+} fdb_answer;
+
+/* A chain, or none. */
+typedef struct fdb_chain {
+    void *at;
+} fdb_chain;
+#define FDB_CHAIN_NONE {NULL}
+
+/*
+ * Opens a chain with no answers yet, for an epoch that begins with version `recovery`, after one
+ * that ended with `epoch_end`, and for this many commit proxies. `*chain` must be FDB_CHAIN_NONE.
+ *
+ * FDB_OK, else FDB_BAD_EPOCH, FDB_NO_PROXY or FDB_MEMORY, the first that stands; `*chain` is then
+ * still none.
+ */
+uint8_t fdb_chain_new(uint64_t epoch_end, uint64_t recovery, uint32_t proxies, fdb_chain *chain);
+
+/*
+ * Answers a request. One with its proxy's next number draws the next version; one whose answer is
+ * kept gets it again, with `fresh` false. `*chain` must be a chain.
+ *
+ * FDB_OK, else FDB_UNKNOWN_PROXY, FDB_EARLY, FDB_FORGOTTEN, FDB_EXHAUSTED, the first that stands;
+ * `answer->status` is the same, and a refusal leaves the chain as it was. FDB_MEMORY comes only
+ * where a version would be drawn, and leaves chain and answer as they were. Constant time.
+ */
+uint8_t fdb_chain_ask(fdb_chain *chain, const fdb_ask *ask, fdb_answer *answer);
+
+/* Frees a chain; the handle is then none. `*chain` must be a chain. */
+void fdb_chain_free(fdb_chain *chain);
+
+/*
+ * Opens a chain as fdb_chain_new does, answers `asks` to it in their order, and frees it.
+ *
+ * FDB_OK, and answers[i] is the answer to asks[i]; what stands behind these is as it was. FDB_ROOM
+ * where `answers` is shorter than `asks`, else as fdb_chain_new: then nothing is written.
+ * FDB_MEMORY also where a request was refused for memory: of what `answers` then has, nothing is
+ * said.
+ */
+uint8_t fdb_chain_answers(uint64_t epoch_end, uint64_t recovery, uint32_t proxies,
+                          const fdb_ask *asks, size_t asks_length,
+                          fdb_answer *answers, size_t answers_length);
+
+/* ----------------------------------------------------------------------------- the register -- */
+
+/* What the sequencer keeps of the newest commit that was reported. */
+typedef struct fdb_record {
+    uint64_t version;     /* the live committed version */
+    uint64_t min_known;   /* the minimum known committed version */
+    uint8_t metadata[10]; /* the metadata version; 0 where there is none */
+    bool has_metadata;    /* whether there is one */
+    bool locked;          /* whether the database is locked */
+} fdb_record;
+
+/* `*kept` becomes the record after a report (updateLiveCommittedVersion): one of a greater version
+ * replaces version, lock and metadata version, and the greater minimum stays. */
+void fdb_record_after_report(fdb_record *kept, const fdb_record *reported);
+
+/* The read version that a record gives: its version, or with `use_min` its minimum. */
+uint64_t fdb_record_version_for(const fdb_record *kept, bool use_min);
+
+/* ----------------------------------------------------------------- the queue of a GRV proxy -- */
+
+/* Priorities (TransactionPriority): no rate holds the first, the normal rate the second, both the
+ * third. */
+enum { FDB_SYSTEM = 0, FDB_DEFAULT = 1, FDB_BATCH = 2 };
+
+/* The rates, in transactions for each two seconds, and the capacity. */
+typedef struct fdb_queue_config {
+    uint64_t normal; /* 1 to 100,000 */
+    uint64_t batch;  /* 0 to 100,000; with 0 no batch request is let in */
+    uint64_t room;   /* the most requests that wait: 1 to 100,000 */
+} fdb_queue_config;
+
+/* A request for a read version. */
+typedef struct fdb_request {
+    uint64_t count;   /* how many transactions: 1 to 100,000; of a batch one at most normal + 10 */
+    uint64_t payload; /* what it carries, which comes out as it went in */
+    uint8_t priority; /* FDB_SYSTEM, FDB_DEFAULT or FDB_BATCH */
+} fdb_request;
+
+/* The outcome of an operation, and what the queue then is. */
+typedef struct fdb_outcome {
+    uint64_t normal;        /* the budget of the normal rate: 2,000,000 are a transaction */
+    uint64_t batch;         /* the budget of the batch rate */
+    uint64_t system_waits;  /* how many system requests wait */
+    uint64_t default_waits; /* how many default requests */
+    uint64_t batch_waits;   /* how many batch requests */
+    uint64_t started;       /* how many requests the operation started */
+    fdb_request out;        /* the request that was pushed out or taken out, or 0 */
+    bool has_out;           /* whether there is one */
+    uint8_t status;         /* FDB_OK, or the refusal */
+} fdb_outcome;
+
+/* A queue, or none. */
+typedef struct fdb_queue {
+    void *at;
+} fdb_queue;
+#define FDB_QUEUE_NONE {NULL}
+
+/*
+ * Opens a queue in which nothing waits, with budgets of 0. `*queue` must be FDB_QUEUE_NONE.
+ *
+ * FDB_OK, else FDB_BAD_CONFIG or FDB_MEMORY; `*queue` is then still none.
+ */
+uint8_t fdb_queue_new(const fdb_queue_config *config, fdb_queue *queue);
+
+/*
+ * Lets a request in, at the end of the list of its priority. Where the queue is full, the oldest
+ * request of a lower priority is pushed out, batch requests first: it is then in `outcome->out`.
+ * `*queue` must be a queue.
+ *
+ * FDB_OK, else FDB_BAD_OP (no such priority), FDB_BAD_COUNT, FDB_BATCH_THROTTLED or FDB_FULL, the
+ * first that stands; `outcome->status` is the same, and a refusal leaves the queue as it was.
+ * FDB_MEMORY, else, leaves queue and outcome as they were. Constant time.
+ */
+uint8_t fdb_queue_offer(fdb_queue *queue, const fdb_request *request, fdb_outcome *outcome);
+
+/*
+ * Holds a window, `elapsed` microseconds (1 to 10,000,000) after the last one: starts the longest
+ * prefix of all that wait that the budgets allow, and writes it to the start of `started`, in
+ * order. This needs room for as many as wait, or for 10,000 where more do. `*queue` must be a queue.
+ *
+ * FDB_OK, or FDB_BAD_CONFIG for a time out of range, which leaves the queue as it was; and
+ * `outcome->status` is the same. FDB_ROOM, and FDB_MEMORY, leave queue, outcome and `started` as
+ * they were. Linear in what it starts.
+ */
+uint8_t fdb_queue_window(fdb_queue *queue, uint64_t elapsed, fdb_outcome *outcome,
+                         fdb_request *started, size_t started_length);
+
+/* Takes the first request of the row out, whatever the rates say of it: `outcome->out`. `*queue`
+ * must be a queue. Constant time, and no memory. */
+void fdb_queue_pop(fdb_queue *queue, fdb_outcome *outcome);
+
+/*
+ * Whether the first of the row waits for its own rate alone; then `*windows` is how many windows of
+ * `elapsed` microseconds start nothing before one starts it, with no offer between them. It does not
+ * in an empty row, for a system request, for a batch one that the normal rate may hold or whose own
+ * limit is 0, and for a time out of range. `*queue` must be a queue. Constant time, and no memory.
+ */
+bool fdb_queue_waits(fdb_queue *queue, uint64_t elapsed, uint64_t *windows);
+
+/*
+ * Sets the throttle of a tag, of at most 16 bytes, at a priority, in the place of an older one:
+ * `rate` transactions per second, until the moment `expires`. `*queue` must be a queue.
+ *
+ * FDB_OK, else FDB_BAD_OP (no such priority), FDB_TAG_TOO_LONG or FDB_MEMORY, the first that stands;
+ * the queue is then as it was. Logarithmic time.
+ */
+uint8_t fdb_queue_set_throttle(fdb_queue *queue, uint8_t priority,
+                               const uint8_t *tag, size_t tag_length,
+                               uint64_t rate, uint64_t expires);
+
+/* The throttle of a tag at a moment: the one last set, if it expires later. Else all is 0. */
+typedef struct fdb_limit {
+    uint64_t rate;    /* transactions per second */
+    uint64_t expires; /* the moment from which on it holds no longer */
+    bool holds;       /* whether there is one */
+} fdb_limit;
+
+/*
+ * Tells the throttle of a tag at a priority and the moment `at`. `*queue` must be a queue.
+ *
+ * FDB_OK, else FDB_BAD_OP (no such priority) or FDB_MEMORY; `*limit` is then as it was. Logarithmic
+ * time.
+ */
+uint8_t fdb_queue_throttle(fdb_queue *queue, uint8_t priority,
+                           const uint8_t *tag, size_t tag_length,
+                           uint64_t at, fdb_limit *limit);
+
+/* Frees a queue; the handle is then none. `*queue` must be a queue. */
+void fdb_queue_free(fdb_queue *queue);
+
+/* An operation, for fdb_queue_outcomes. */
+enum { FDB_OP_OFFER = 0, FDB_OP_WINDOW = 1, FDB_OP_POP = 2 };
+typedef struct fdb_op {
+    uint64_t amount;  /* of an offer the count, of a window the microseconds since the last one */
+    uint64_t payload; /* of an offer */
+    uint8_t kind;     /* FDB_OP_OFFER, FDB_OP_WINDOW or FDB_OP_POP */
+    uint8_t priority; /* of an offer */
+} fdb_op;
+
+/*
+ * Opens a queue as fdb_queue_new does, carries out `ops` on it in their order, and frees it.
+ *
+ * FDB_OK, and outcomes[i] is the outcome of ops[i] (FDB_BAD_OP for one that is none); `started` has
+ * at its start all requests that were started, in order, and `*size` is how many. FDB_BAD_CONFIG
+ * where the configuration is out of range, or FDB_ROOM where `outcomes` is shorter than `ops`:
+ * then nothing is written. FDB_ROOM also where `started` is too short: `*size` is then the length
+ * that it needs, and nothing is written to it. FDB_MEMORY: nothing is said of what was written.
+ */
+uint8_t fdb_queue_outcomes(const fdb_queue_config *config,
+                           const fdb_op *ops, size_t ops_length,
+                           fdb_outcome *outcomes, size_t outcomes_length,
+                           fdb_request *started, size_t started_length, uint64_t *size);
+
+#ifdef __cplusplus
+}
+#endif
+#endif

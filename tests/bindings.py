@@ -1,0 +1,230 @@
+"""The library for C, its header and its packages: C, Python and Rust programs over what was built.
+
+tools/bindings builds the library. A compiler, or cargo, that is not there leaves out its cases.
+"""
+import os
+import random
+import shutil
+import subprocess
+import sys
+import tempfile
+import types
+
+import header
+import model
+from harness import ROOT, Ran, done, fault_of, run
+
+OUT = f"{ROOT}/crates/fdb_c/out"
+SHARED, STATIC, OF_C = (f"{OUT}/{it}" for it in ("libfdb_c.so", "libfdb_c.a", "liblibc_c.a"))
+# (tools/bindings makes it last)
+NEEDED = [SHARED]
+PACKAGE = f"{ROOT}/bindings/python/src"
+CRATE = f"{ROOT}/bindings/rust"
+DIFFERENTIAL = f"{ROOT}/examples/differential/run.py"
+STRICT = ["-std=c11", "-O1", "-g", "-Wall", "-Wextra", "-Wpedantic", "-Werror"]
+SANITIZED = ["-fsanitize=address,undefined", "-fno-sanitize-recover=all"]
+WRAPPED = ["-Wl,--wrap=malloc,--wrap=realloc"]
+COMPILERS = ["gcc", "clang"]
+SECONDS = 300
+
+FIRST_OF_C = b"version 200 after 100\n7 is early: 2 is next\n"
+FIRST_OF_PYTHON = b"""\
+Issued(ordinal=0, proxy=0, num=1, processed=0, prev=100, version=200, at=5, fresh=True)
+refused: EARLY, expected 1
+[17]
+"""
+FIRST_OF_RUST = b"""\
+Issued { ordinal: 0, proxy: 0, num: 1, processed: 0, prev: 100, version: 200, at: 5, fresh: true }
+Err(Early { expected: 1 })
+[Request { priority: Default, count: 3, payload: 17 }]
+"""
+
+
+# ---- C
+
+
+def compiled(compiler, source, to, flags=()):
+    """How a program of C is built over the library."""
+    words = [compiler, *STRICT, *flags, f"-I{ROOT}/include", f"{ROOT}/{source}", STATIC, OF_C]
+    return run([*words, "-o", to], seconds=SECONDS)
+
+
+def fault_of_program(compiler, source, flags, wanted):
+    with tempfile.TemporaryDirectory() as room:
+        built = compiled(compiler, source, f"{room}/program", flags)
+        if built.status:
+            return f"it does not compile: {built.err[-300:].decode(errors='replace')}"
+        return fault_of(run([f"{room}/program"], seconds=SECONDS), done(wanted))
+
+
+def of_c(_program):
+    """Programs of C, by each compiler, with its sanitizers and with memory that is refused."""
+    found = [it for it in COMPILERS if shutil.which(it)]
+    yield "a compiler of C", None if found else "there is none"
+    for compiler in found:
+        for source, flags, wanted in (
+            ("examples/c/first.c", [], FIRST_OF_C),
+            ("tests/c/calls.c", [], b"ok\n"),
+            ("tests/c/calls.c", SANITIZED, b"ok\n"),
+            ("tests/c/memory.c", WRAPPED, b"ok\n"),
+        ):
+            case = f"{source} by {compiler} {' '.join(flags)}"
+            yield case, fault_of_program(compiler, source, flags, wanted)
+    if shutil.which("g++"):
+        words = ["g++", "-fsyntax-only", "-Wall", "-Werror", "-x", "c++", header.HEADER]
+        yield "the header by g++", fault_of(run(words), done(b""))
+
+
+def linked(_program):
+    """What the built library exports is what the header declares."""
+    ran = run(["nm", "--defined-only", "--extern-only", STATIC])
+    names = {it.split()[-1] for it in ran.out.decode().splitlines() if " T fdb_" in it}
+    # (functions of Rattle are named with their paths)
+    exports = {it for it in names if it.isidentifier()}
+    for name in sorted({*header.declared(), *exports}):
+        fault = "the library does not export it" if name not in exports else None
+        yield name, fault or (None if name in header.declared() else "it is not declared")
+
+
+# ---- Python
+
+
+def package():
+    if PACKAGE not in sys.path:
+        sys.path.insert(0, PACKAGE)
+    import fdb_read_version
+
+    return fdb_read_version
+
+
+def python(words):
+    return run([sys.executable, *words], seconds=SECONDS, env={**os.environ, "PYTHONPATH": PACKAGE})
+
+
+def of_python(_program):
+    """The first example of Python, the differential example, and a library that is missing."""
+    yield "first.py", fault_of(python([f"{ROOT}/bindings/python/first.py"]), done(FIRST_OF_PYTHON))
+    found = python([DIFFERENTIAL, "1000", "5"])
+    yield "the differential example", fault_of(found, Ran(0, None, b""))
+    lines = found.out.decode().splitlines()
+    for kind, has_bug in (
+        ("Sequencer", False),
+        ("Grv", False),
+        ("LosesAReply", True),
+        ("DrawsTwice", True),
+        ("LetsBatchIn", True),
+    ):
+        line = next((it for it in lines if it.startswith(f"{kind}: ")), "")
+        fault = None if line and ("step " in line) == has_bug else f"it says {line!r}"
+        yield f"the differential example at {kind}", fault
+    env = {**os.environ, "PYTHONPATH": PACKAGE, "FDB_READ_VERSION_LIB": "/nowhere.so"}
+    ran = run([sys.executable, "-c", "import fdb_read_version"], env=env)
+    said = b"/nowhere.so is missing: make it with tools/bindings" in ran.err
+    yield "a library that is missing", None if ran.status == 1 and said else f"{ran.err[-200:]!r}"
+
+
+def said_of(call):
+    """What the model says of an answer, in the words of its line."""
+    library = package()
+    try:
+        issued = call()
+    except library.Refused as refused:
+        name = refused.status.name.title()
+        return f"refused {name} {refused.expected}" if refused.expected else f"refused {name}"
+    place = f"prev {issued.prev} version {issued.version} ordinal {issued.ordinal}"
+    return f"{place} {'fresh' if issued.fresh else 'kept'}"
+
+
+def chains(_program):
+    """Random requests to a chain against the model of the scripts."""
+    for seed in range(20):
+        rng = random.Random(seed)
+        proxies = rng.randint(1, 64)
+        made = types.SimpleNamespace(
+            epoch_end=rng.randrange(1000), recovery=rng.choice([1000, model.LAST_VERSION - 20])
+        )
+        members = {"rounds": [], "normal": 1, "batch": 0, "throttles": [], "clients": proxies}
+        theirs = model.Run(types.SimpleNamespace(**vars(made), **members))
+        with package().Chain(made.epoch_end, made.recovery, proxies) as chain:
+            yield f"seed {seed}", fault_of_chain(rng, theirs, chain, proxies)
+
+
+def fault_of_chain(rng, theirs, chain, proxies):
+    moment = 0
+    for step in range(300):
+        moment = rng.choice([moment, moment + 1, moment + rng.randrange(6_000_000), moment // 2])
+        proxy = rng.randrange(min(proxies, 3))
+        latest = theirs.latest(proxy)
+        num = max(0, latest + rng.choice([1, 1, 1, 0, -1, -3, 2]))
+        processed = max(0, latest - rng.randrange(4))
+        it = types.SimpleNamespace(at=moment, processed=processed)
+        wanted = theirs.drawn(proxy, num, it)
+        got = said_of(lambda: chain.ask(proxy, num, moment, processed))
+        if got != wanted:
+            return f"step {step}: {got!r} in place of {wanted!r}"
+    return None
+
+
+def records(_program):
+    """Random reports to a record against the model of the scripts."""
+    rng, library = random.Random(5), package()
+    for case in range(50):
+        ours, theirs = library.Record(100), model.Record(100, False, None)
+        fault = None
+        for _ in range(20):
+            metadata = rng.choice([None, bytes(rng.randrange(256) for _ in range(10))])
+            members = (rng.randrange(1 << 40), rng.random() < 0.5, metadata, rng.randrange(1 << 40))
+            ours = ours.after_report(library.Record(*members))
+            theirs = theirs.after(model.Record(*members))
+            same = (ours.version, ours.locked, ours.metadata, ours.min_known) == tuple(theirs)
+            read = (ours.version_for(), ours.version_for(True)) == (theirs[0], theirs[3])
+            fault = fault or (None if same and read else f"{ours} in place of {theirs}")
+        yield f"case {case}", fault
+
+
+def refused_numbers(_program):
+    """Numbers that do not fit, and handles that are closed, are refused by the package."""
+    library = package()
+    chain = library.Chain(100, 200, 1)
+    for name, call in (
+        ("below 0", lambda: chain.ask(0, -1, 0)),
+        ("above 64 bits", lambda: chain.ask(0, 1 << 64, 0)),
+        ("a proxy above 32 bits", lambda: chain.ask(1 << 32, 1, 0)),
+        ("a short metadata version", lambda: library.Record(1, False, b"1")._raw()),
+        ("no such priority", lambda: library.GrvQueue(library.QueueConfig(1, 0, 1)).offer(1, 0, 3)),
+        ("a chain that is closed", lambda: (chain.close(), chain.ask(0, 1, 0))),
+    ):
+        try:
+            call()
+            yield name, "it is let in"
+        except ValueError:
+            yield name, None
+
+
+# ---- Rust
+
+
+def of_rust(_program):
+    """The crate's tests and its first example, built offline in a folder of their own."""
+    if not shutil.which("cargo"):
+        yield "there is no cargo: left out", None
+        return
+    with tempfile.TemporaryDirectory() as room:
+        env = {**os.environ, "CARGO_TARGET_DIR": room, "CARGO_TERM_COLOR": "never"}
+        for case, words, out in (
+            ("its tests", ["test", "--quiet"], None),
+            ("its first example", ["run", "--quiet", "--example", "first"], FIRST_OF_RUST),
+        ):
+            ran = cargo(words, env)
+            said = (ran.err or ran.out)[-300:].decode(errors="replace")
+            wrong = ran.status != 0 or out not in (None, ran.out)
+            yield case, said if wrong else None
+        env["FDB_READ_VERSION_LIB"] = "/nowhere"
+        said = b"/nowhere/libfdb_c.a is missing: make it with tools/bindings"
+        ran = cargo(["check"], env)
+        yield "a library that is missing", None if said in ran.err else "it is not said"
+
+
+def cargo(words, env):
+    words = ["cargo", *words, "--offline"]
+    return run(words, seconds=SECONDS, cwd=CRATE, env=env, stdin=subprocess.DEVNULL)

@@ -1,0 +1,229 @@
+/* What handles and arrays answer, one against the other, on many random calls: ./calls [CALLS] [SEED].
+ * Expected values that stand here were worked out by hand. The last line is 'ok'. */
+#undef NDEBUG
+#include "fdb_read_version.h"
+#include <assert.h>
+#include <stdio.h>
+#include <stdlib.h>
+#include <string.h>
+
+#define PROXIES 3
+#define ROOM 50
+
+static uint64_t state;
+
+/* (xorshift: the same numbers on each machine) */
+static uint64_t drawn(uint64_t below) {
+    state ^= state << 13;
+    state ^= state >> 7;
+    state ^= state << 17;
+    return state % below;
+}
+
+static void *some(size_t count, size_t size) {
+    void *at = calloc(count + 1, size);
+    assert(at);
+    return at;
+}
+
+static bool same_answer(const fdb_answer *a, const fdb_answer *b) {
+    return a->ordinal == b->ordinal && a->num == b->num && a->processed == b->processed
+        && a->prev == b->prev && a->version == b->version && a->at == b->at && a->proxy == b->proxy
+        && a->status == b->status && a->fresh == b->fresh;
+}
+
+static bool same_request(const fdb_request *a, const fdb_request *b) {
+    return a->count == b->count && a->payload == b->payload && a->priority == b->priority;
+}
+
+static bool same_outcome(const fdb_outcome *a, const fdb_outcome *b) {
+    return a->normal == b->normal && a->batch == b->batch && a->system_waits == b->system_waits
+        && a->default_waits == b->default_waits && a->batch_waits == b->batch_waits
+        && a->started == b->started && same_request(&a->out, &b->out) && a->has_out == b->has_out
+        && a->status == b->status;
+}
+
+static fdb_ask random_ask(uint64_t *latest, uint64_t moment) {
+    uint32_t proxy = (uint32_t)drawn(PROXIES);
+    uint64_t num = latest[proxy] + 1, kind = drawn(12);
+    if (kind == 0) num += 1 + drawn(3);
+    else if (kind < 4) num = drawn(num + 1);
+    if (num == latest[proxy] + 1) latest[proxy]++;
+    uint64_t processed = latest[proxy] > 4 ? latest[proxy] - 4 + drawn(4) : 0;
+    if (drawn(40) == 0) proxy += PROXIES;
+    return (fdb_ask){.num = num, .processed = processed, .at = moment, .proxy = proxy};
+}
+
+static void chains_agree(size_t calls) {
+    fdb_ask *asks = some(calls, sizeof *asks);
+    fdb_answer *all = some(calls, sizeof *all), one;
+    uint64_t latest[PROXIES] = {0}, counts[FDB_ROOM] = {0}, moment = 0;
+    for (size_t i = 0; i < calls; i++) {
+        moment = drawn(20) ? moment + drawn(6000000) : moment / 2;
+        asks[i] = random_ask(latest, moment);
+    }
+    all[calls].version = 17;
+    assert(fdb_chain_answers(100, 200, PROXIES, asks, calls, all, calls + 1) == FDB_OK);
+    assert(all[calls].version == 17);
+    fdb_chain chain = FDB_CHAIN_NONE;
+    assert(fdb_chain_new(100, 200, PROXIES, &chain) == FDB_OK && chain.at != NULL);
+    for (size_t i = 0; i < calls; i++) {
+        assert(fdb_chain_ask(&chain, &asks[i], &one) == one.status);
+        assert(same_answer(&one, &all[i]));
+        counts[one.status]++;
+    }
+    fdb_chain_free(&chain);
+    assert(chain.at == NULL);
+    if (calls >= 1000)
+        assert(counts[FDB_OK] && counts[FDB_UNKNOWN_PROXY] && counts[FDB_EARLY] && counts[FDB_FORGOTTEN]);
+    free(asks);
+    free(all);
+}
+
+static void chain_by_hand(void) {
+    fdb_chain chain = FDB_CHAIN_NONE;
+    fdb_answer answer;
+    assert(fdb_chain_new(100, 100, 1, &chain) == FDB_BAD_EPOCH && chain.at == NULL);
+    assert(fdb_chain_new(0, UINT64_C(1) << 63, 1, &chain) == FDB_BAD_EPOCH);
+    assert(fdb_chain_new(100, 200, 0, &chain) == FDB_NO_PROXY);
+    assert(fdb_chain_new(100, 200, 65, &chain) == FDB_NO_PROXY && chain.at == NULL);
+    assert(fdb_chain_new(100, 200, 64, &chain) == FDB_OK);
+    fdb_ask ask = {.num = 1, .processed = 0, .at = 50, .proxy = 63};
+    assert(fdb_chain_ask(&chain, &ask, &answer) == FDB_OK);
+    assert(answer.ordinal == 0 && answer.prev == 100 && answer.version == 200 && answer.fresh);
+    /* again: the same, not fresh */
+    assert(fdb_chain_ask(&chain, &ask, &answer) == FDB_OK && answer.version == 200 && !answer.fresh);
+    /* 30 microseconds later, and then 10,000,000, of which 5,000,000 count */
+    ask = (fdb_ask){.num = 2, .processed = 1, .at = 80, .proxy = 63};
+    assert(fdb_chain_ask(&chain, &ask, &answer) == FDB_OK);
+    assert(answer.prev == 200 && answer.version == 230 && answer.ordinal == 1);
+    ask = (fdb_ask){.num = 1, .processed = 0, .at = 10000080, .proxy = 0};
+    assert(fdb_chain_ask(&chain, &ask, &answer) == FDB_OK);
+    assert(answer.prev == 230 && answer.version == 5000230);
+    /* the first is processed */
+    ask = (fdb_ask){.num = 1, .processed = 0, .at = 90, .proxy = 63};
+    assert(fdb_chain_ask(&chain, &ask, &answer) == FDB_FORGOTTEN && answer.version == 0);
+    ask.num = 9;
+    assert(fdb_chain_ask(&chain, &ask, &answer) == FDB_EARLY && answer.num == 3);
+    ask.proxy = 64;
+    assert(fdb_chain_ask(&chain, &ask, &answer) == FDB_UNKNOWN_PROXY && answer.num == 0);
+    fdb_chain_free(&chain);
+    /* the greatest version is the last */
+    uint64_t greatest = (UINT64_C(1) << 63) - 1;
+    assert(fdb_chain_new(0, greatest, 1, &chain) == FDB_OK);
+    ask = (fdb_ask){.num = 1, .processed = 0, .at = 0, .proxy = 0};
+    assert(fdb_chain_ask(&chain, &ask, &answer) == FDB_OK && answer.version == greatest);
+    ask.num = 2;
+    assert(fdb_chain_ask(&chain, &ask, &answer) == FDB_EXHAUSTED && answer.status == FDB_EXHAUSTED);
+    fdb_chain_free(&chain);
+    assert(fdb_chain_answers(100, 200, 1, &ask, 1, &answer, 0) == FDB_ROOM);
+    assert(fdb_chain_answers(100, 200, 1, &ask, 0, &answer, 0) == FDB_OK);
+}
+
+static void register_by_hand(void) {
+    fdb_record kept = {.version = 100};
+    fdb_record second = {.version = 200, .min_known = 150, .metadata = {1, 2, 3}, .has_metadata = true, .locked = true};
+    fdb_record third = {.version = 150, .min_known = 180};
+    fdb_record_after_report(&kept, &second);
+    fdb_record_after_report(&kept, &third);
+    assert(kept.version == 200 && kept.min_known == 180 && kept.locked && kept.has_metadata);
+    assert(kept.metadata[2] == 3 && kept.metadata[9] == 0);
+    assert(fdb_record_version_for(&kept, false) == 200 && fdb_record_version_for(&kept, true) == 180);
+    fdb_record fourth = {.version = 201, .metadata = {9}, .has_metadata = false};
+    fdb_record_after_report(&kept, &fourth);
+    assert(kept.version == 201 && !kept.locked && !kept.has_metadata && kept.metadata[0] == 0);
+    assert(kept.min_known == 180);
+}
+
+static fdb_op random_op(uint64_t number) {
+    if (drawn(30) == 0) return (fdb_op){.kind = FDB_OP_POP};
+    if (drawn(8) == 0) return (fdb_op){.kind = FDB_OP_WINDOW, .amount = drawn(12000000)};
+    uint64_t count = drawn(10) ? 1 + drawn(30) : drawn(200002);
+    return (fdb_op){.kind = FDB_OP_OFFER, .amount = count, .payload = number, .priority = (uint8_t)drawn(4)};
+}
+
+static uint8_t done(fdb_queue *queue, const fdb_op *op, fdb_outcome *outcome, fdb_request *started) {
+    if (op->kind == FDB_OP_OFFER) {
+        fdb_request request = {.count = op->amount, .payload = op->payload, .priority = op->priority};
+        return fdb_queue_offer(queue, &request, outcome);
+    }
+    if (op->kind == FDB_OP_WINDOW) return fdb_queue_window(queue, op->amount, outcome, started, ROOM);
+    fdb_queue_pop(queue, outcome);
+    return FDB_OK;
+}
+
+static void queues_agree(size_t calls) {
+    fdb_queue_config config = {.normal = 100, .batch = 30, .room = ROOM};
+    fdb_op *ops = some(calls, sizeof *ops);
+    fdb_outcome *all = some(calls, sizeof *all), one;
+    fdb_request *started = some(calls, sizeof *started), mine[ROOM];
+    uint64_t size = 0, at = 0, counts[FDB_TAG_TOO_LONG + 1] = {0}, pushed = 0;
+    for (size_t i = 0; i < calls; i++) ops[i] = random_op(i);
+    assert(fdb_queue_outcomes(&config, ops, calls, all, calls, started, calls, &size) == FDB_OK);
+    fdb_queue queue = FDB_QUEUE_NONE;
+    assert(fdb_queue_new(&config, &queue) == FDB_OK && queue.at != NULL);
+    for (size_t i = 0; i < calls; i++) {
+        assert(done(&queue, &ops[i], &one, mine) == one.status);
+        assert(same_outcome(&one, &all[i]));
+        counts[one.status]++;
+        pushed += one.has_out && ops[i].kind == FDB_OP_OFFER;
+        for (uint64_t k = 0; ops[i].kind == FDB_OP_WINDOW && k < one.started; k++, at++)
+            assert(same_request(&mine[k], &started[at]));
+    }
+    assert(at == size);
+    fdb_queue_free(&queue);
+    assert(queue.at == NULL);
+    if (calls >= 1000) {
+        assert(counts[FDB_OK] && counts[FDB_BAD_OP] && counts[FDB_BAD_CONFIG] && counts[FDB_BAD_COUNT]);
+        assert(counts[FDB_FULL] && pushed && size > 1);
+        uint64_t needed = 0;
+        assert(fdb_queue_outcomes(&config, ops, calls, all, calls, started, size - 1, &needed) == FDB_ROOM);
+        assert(needed == size);
+    }
+    free(ops);
+    free(all);
+    free(started);
+}
+
+static void queue_by_hand(void) {
+    fdb_queue_config bad = {.normal = 0, .batch = 0, .room = 1}, config = {.normal = 10, .batch = 0, .room = 2};
+    fdb_queue queue = FDB_QUEUE_NONE;
+    fdb_outcome outcome;
+    fdb_request started[2];
+    assert(fdb_queue_new(&bad, &queue) == FDB_BAD_CONFIG && queue.at == NULL);
+    assert(fdb_queue_new(&config, &queue) == FDB_OK);
+    fdb_request first = {.count = 5, .payload = 1, .priority = FDB_DEFAULT}, second = first, batch = first;
+    second.payload = 2;
+    batch.priority = FDB_BATCH;
+    assert(fdb_queue_offer(&queue, &batch, &outcome) == FDB_BATCH_THROTTLED);
+    assert(fdb_queue_offer(&queue, &first, &outcome) == FDB_OK && outcome.default_waits == 1);
+    assert(fdb_queue_offer(&queue, &second, &outcome) == FDB_OK && outcome.default_waits == 2);
+    assert(fdb_queue_offer(&queue, &first, &outcome) == FDB_FULL && outcome.status == FDB_FULL);
+    /* a system request pushes the oldest out */
+    fdb_request system = {.count = 1, .payload = 3, .priority = FDB_SYSTEM};
+    assert(fdb_queue_offer(&queue, &system, &outcome) == FDB_OK);
+    assert(outcome.has_out && outcome.out.payload == 1 && outcome.system_waits == 1);
+    memset(started, 0xff, sizeof started);
+    assert(fdb_queue_window(&queue, 1000, &outcome, started, 1) == FDB_ROOM);
+    assert(started[0].payload == UINT64_MAX);
+    assert(fdb_queue_window(&queue, 0, &outcome, started, 2) == FDB_BAD_CONFIG);
+    assert(fdb_queue_window(&queue, 1000, &outcome, started, 2) == FDB_OK);
+    assert(outcome.started >= 1 && started[0].payload == 3);
+    fdb_queue_pop(&queue, &outcome);
+    fdb_queue_pop(&queue, &outcome);
+    assert(outcome.status == FDB_OK && !outcome.has_out);
+    fdb_queue_free(&queue);
+}
+
+int main(int count, char **words) {
+    size_t calls = count > 1 ? strtoull(words[1], NULL, 10) : 20000;
+    state = count > 2 ? strtoull(words[2], NULL, 10) : 7;
+    assert(state != 0);
+    chain_by_hand();
+    chains_agree(calls);
+    register_by_hand();
+    queue_by_hand();
+    queues_agree(calls);
+    puts("ok");
+    return 0;
+}

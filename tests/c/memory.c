@@ -1,0 +1,117 @@
+/* Each allocation fails in turn. It is linked with -Wl,--wrap=malloc,--wrap=realloc, so that all
+ * that the library asks for comes here. The last line is 'ok'. */
+#undef NDEBUG
+#include "fdb_read_version.h"
+#include <assert.h>
+#include <stdio.h>
+#include <stdlib.h>
+
+#define ASKS 40
+#define OFFERS 40
+
+/* how many allocations succeed before one fails, or -1: all do */
+static long left = -1;
+static long refusals = 0;
+
+void *__real_malloc(size_t size);
+void *__real_realloc(void *at, size_t size);
+
+static int refused(void) {
+    if (left == 0) return 1;
+    if (left > 0) left--;
+    return 0;
+}
+
+void *__wrap_malloc(size_t size) { return refused() ? NULL : __real_malloc(size); }
+
+void *__wrap_realloc(void *at, size_t size) { return refused() ? NULL : __real_realloc(at, size); }
+
+/* A request that is refused for memory, made once more, is answered as if nothing had been. */
+static uint8_t chain_bears(long allowed) {
+    fdb_chain chain = FDB_CHAIN_NONE;
+    fdb_answer answer = {.version = 17};
+    left = allowed;
+    uint8_t status = fdb_chain_new(100, 200, 64, &chain);
+    if (status != FDB_OK) {
+        assert(status == FDB_MEMORY && chain.at == NULL);
+        return status;
+    }
+    uint8_t worst = FDB_OK;
+    for (uint64_t i = 0; i < ASKS; i++) {
+        fdb_ask ask = {.num = i + 1, .processed = 0, .at = 10 * i, .proxy = 1};
+        uint64_t before = answer.version;
+        status = fdb_chain_ask(&chain, &ask, &answer);
+        if (status == FDB_MEMORY) {
+            assert(answer.version == before);
+            worst = status;
+            left = -1;
+            status = fdb_chain_ask(&chain, &ask, &answer);
+        }
+        assert(status == FDB_OK && answer.fresh && answer.ordinal == i && answer.version == 200 + 10 * i);
+    }
+    left = -1;
+    fdb_chain_free(&chain);
+    return worst;
+}
+
+static uint8_t queue_bears(long allowed) {
+    fdb_queue_config config = {.normal = 100000, .batch = 1, .room = OFFERS};
+    fdb_queue queue = FDB_QUEUE_NONE;
+    fdb_outcome outcome;
+    fdb_request started[OFFERS];
+    left = allowed;
+    uint8_t status = fdb_queue_new(&config, &queue);
+    if (status != FDB_OK) {
+        assert(status == FDB_MEMORY && queue.at == NULL);
+        return status;
+    }
+    uint8_t worst = FDB_OK;
+    for (uint64_t i = 0; i < OFFERS; i++) {
+        fdb_request request = {.count = 1, .payload = i, .priority = (uint8_t)(i % 2)};
+        status = fdb_queue_offer(&queue, &request, &outcome);
+        if (status == FDB_MEMORY) {
+            worst = status;
+            left = -1;
+            status = fdb_queue_offer(&queue, &request, &outcome);
+        }
+        assert(status == FDB_OK && outcome.system_waits + outcome.default_waits == i + 1);
+    }
+    status = fdb_queue_window(&queue, 1000000, &outcome, started, OFFERS);
+    if (status == FDB_MEMORY) {
+        worst = status;
+        left = -1;
+        status = fdb_queue_window(&queue, 1000000, &outcome, started, OFFERS);
+    }
+    assert(status == FDB_OK && outcome.started == OFFERS);
+    for (uint64_t i = 0; i < OFFERS; i++) assert(started[i].payload == (i < OFFERS / 2 ? 2 * i : 2 * (i - OFFERS / 2) + 1));
+    left = -1;
+    fdb_queue_free(&queue);
+    return worst;
+}
+
+static uint8_t arrays_bear(long allowed) {
+    fdb_ask asks[ASKS];
+    fdb_answer answers[ASKS];
+    for (uint64_t i = 0; i < ASKS; i++) asks[i] = (fdb_ask){.num = i + 1, .processed = i, .at = i, .proxy = 0};
+    left = allowed;
+    uint8_t status = fdb_chain_answers(100, 200, 1, asks, ASKS, answers, ASKS);
+    left = -1;
+    assert(status == FDB_MEMORY || (status == FDB_OK && answers[ASKS - 1].version == 200 + ASKS - 1));
+    return status;
+}
+
+static void sweep(uint8_t (*bears)(long allowed)) {
+    for (long allowed = 0; bears(allowed) != FDB_OK; allowed++) {
+        assert(allowed < 10000);
+        refusals++;
+    }
+}
+
+int main(void) {
+    sweep(chain_bears);
+    sweep(queue_bears);
+    sweep(arrays_bear);
+    assert(refusals > 10);
+    puts("ok");
+    return 0;
+}
