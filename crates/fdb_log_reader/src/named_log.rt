@@ -1,7 +1,7 @@
 //! A log, and the names of its clients.
 
-ghost use Rattle.std.specs.Prelude.{◌≡◌, ◌⊎◌, ◌≤◌, ◌<◌, Err, Ok, Some, MatchResult, OnErr, OnOk, length};
-ghost use Rattle.std.specs.Prelude.{option_map};
+ghost use Rattle.std.specs.Prelude.{◌≡◌, ◌⊎◌, ◌≤◌, ◌<◌, Err, Ok, MatchResult, OnErr, OnOk};
+ghost use Rattle.std.specs.Prelude.{length, option_map};
 ghost use Rattle.serde_json.specs.View.{view};
 ghost use Rattle.fdb_lines.specs.Log.{lines_of};
 ghost use Rattle.fdb_log_reader.specs.Names.{client_in, names_of, with_client};
