@@ -1,9 +1,9 @@
 //! Logs of JSON Lines. Each line of a table is a text, in which `|` stands for a line feed, and
 //! behind `=>` what is read of it: the error, or the names, and each line. Each text is read as a
-//! whole, and byte by byte.
+//! whole, and byte by byte. Then the orders that explain some, by hand and by another program.
 
 use crate::same::same_text;
-use fdb_lines::{Call, Line};
+use fdb_lines::{Act, AuditOpts, Call, Line, Turn, order};
 use fdb_log_reader::{LogReader, NamedLog, ReadError, read_log};
 use std::alloc::{AllocError, Global};
 use std::process::Abort;
@@ -122,6 +122,66 @@ fn each_text_stands_for_its_log(rt: HostRuntime) -> Result<(), Fail> {
     let alloc = rt.alloc();
     plays(&rt, alloc, WHOLE)?;
     plays(&rt, alloc, REFUSED)
+}
+
+/// A turn: its act, its line, and a plus where it shares the act above.
+fn turn_text(alloc: Global, turn: &Turn) -> Result<String, AllocError> {
+    let (word, version) = match turn.act {
+        Act::Asks(version) => ("ask", version),
+        Act::Reports(version) => ("report", version),
+        Act::Reads(version) => ("read", version),
+    };
+    let mut text = format!(in alloc; " {word}{version}:")?;
+    match turn.line {
+        Some(line) => text.push_str(&format!(in alloc; "{line}")?)?,
+        None => text.push_str("others")?,
+    }
+    if turn.shared {
+        text.push_str("+")?;
+    }
+    Ok(text)
+}
+
+/// The order that explains the lines of a text, if one does, and nothing where it is refused.
+fn order_text(alloc: Global, bytes: &[u8]) -> Result<String, AllocError> {
+    let mut text = String::new(alloc);
+    let opts = AuditOpts {
+        complete: None,
+        margin: 0,
+    };
+    let Ok(named) = read_log(alloc, bytes) else {
+        return Ok(text);
+    };
+    match order(alloc, &named.log, &opts)? {
+        Some(turns) => {
+            for turn in &turns {
+                text.push_str(&turn_text(alloc, turn)?)?;
+            }
+        }
+        None => text.push_str(" none")?,
+    }
+    Ok(text)
+}
+
+const ORDERS: &str = r#"{"client":"a","commit":200,"began":10,"ended":14}|{"read":200,"began":15,"ended":16}|{"client":"c","commit":200,"began":11,"ended":13} =>  ask200:0 ask200:2+ report200:0 report200:2+ read200:1
+{"client":"a","commit":200,"began":10,"ended":14}|{"read":100,"began":1,"ended":2}|{"read":100,"began":1,"ended":1} =>  ask100:others report100:others read100:1 read100:2 ask200:0 report200:0
+{"client":"a","ask":5,"began":0,"ended":1}|{"client":"b","ask":7,"began":2,"ended":3}|{"client":"b","report":7,"began":4,"ended":5}|{"client":"a","report":5,"began":8,"ended":null}|{"read":7,"began":6,"ended":7} =>  ask5:0 ask7:1 report7:2 read7:4 report5:3
+{"client":"a","commit":200,"began":10,"ended":14}|{"read":100,"began":15,"ended":16} =>  none
+{"client":"a","commit":8}|{"client":"b","read":6}|{"client":"b","learn":"a"}|{"client":"b","read":8} =>  ask6:others report6:others read6:1 ask8:0 report8:0 read8:3
+ => "#;
+
+#[test]
+fn orders_explain_lines(rt: HostRuntime) -> Result<(), Fail> {
+    let alloc = rt.alloc();
+    for case in ORDERS.lines() {
+        let (text, wanted) = case
+            .split_once(" => ")
+            .unwrap_or((case, "a line with an arrow"));
+        let text = with_line_feeds(alloc, text)?;
+        let found = order_text(alloc, text.as_bytes())?;
+        same_text(&rt, found.as_str(), wanted, case);
+    }
+    Ok(())
 }
 
 /// A text that is doubled so many times.
