@@ -1,12 +1,13 @@
 //! An order that explains the lines of a log.
 
-ghost use Rattle.std.specs.Prelude.{◌≡◌, ◌<◌, ◌++◌, ◌≤◌, None, Some, IfOk, MatchOption, OnOk};
+ghost use Rattle.std.specs.Prelude.{◌≡◌, ◌<◌, ◌++◌, ◌≤◌, None, Some, IfOk, IfSome, MatchOption};
+ghost use Rattle.std.specs.Prelude.{OnOk};
 ghost use Rattle.std.specs.Prelude.{length, map, option_map, option_to_list, slice_index_or};
 ghost use Rattle.fdb_lines.specs.Audit.{AreExplained, case_of};
 ghost use Rattle.fdb_lines.specs.Explained.{Explains};
 ghost use Rattle.fdb_lines.specs.Log.{lines_of};
-ghost use Rattle.fdb_lines.specs.Turns.{acts_of};
-ghost use Rattle.fdb_lines.specs.private.Spots.{follows, item_of, items_at, items_below};
+ghost use Rattle.fdb_lines.specs.Turns.{acts_of, AreTurnsOf};
+ghost use Rattle.fdb_lines.specs.private.Spots.{AreSpotsOf, follows, item_of, items_at, items_below};
 ghost use Rattle.fdb_lines.specs.private.Spots.{above_at, turn_by, turns_from};
 ghost use Rattle.fdb_lines.specs.declared.spot.Spot.{Spot};
 ghost use Rattle.fdb_lines.specs.private.Tables.{AreTables};
@@ -24,9 +25,11 @@ use std::alloc::{AllocError, Global};
 ///
 /// `n log n` in how many lines there are.
 pub fn order(alloc: Global, log: &Log, opts: &AuditOpts) -> Result<Option<Vec<Turn>>, AllocError>
-    ensures { IfOk result (λ found. MatchOption found
+    ensures explains { IfOk result (λ found. MatchOption found
         (¬ (AreExplained (case_of (lines_of log.now) opts.now)))
         (λ turns. Explains (case_of (lines_of log.now) opts.now) (acts_of turns.items))) }
+    ensures lines { IfOk result (λ found. IfSome found
+        (λ turns. AreTurnsOf (case_of (lines_of log.now) opts.now) turns.items)) }
 {
     if first_fault(alloc, log, opts)?.is_some() {
         return Ok(None);
@@ -37,8 +40,10 @@ pub fn order(alloc: Global, log: &Log, opts: &AuditOpts) -> Result<Option<Vec<Tu
 
 /// The turns of a log, in the order by version.
 fn turns_of(alloc: Global, log: &Log, opts: &AuditOpts) -> Result<Vec<Turn>, AllocError>
-    ensures { IfOk result (λ turns. AreExplained (case_of (lines_of log.now) opts.now)
+    ensures explains { IfOk result (λ turns. AreExplained (case_of (lines_of log.now) opts.now)
         → Explains (case_of (lines_of log.now) opts.now) (acts_of turns.items)) }
+    ensures lines { IfOk result
+        (λ turns. AreTurnsOf (case_of (lines_of log.now) opts.now) turns.items) }
 {
     let mut spots = spots_of(alloc, log, opts)?;
     spots.sort_unstable_by(|a, b| a.order(b));
@@ -47,7 +52,9 @@ fn turns_of(alloc: Global, log: &Log, opts: &AuditOpts) -> Result<Vec<Turn>, All
 
 /// The spots of all lines.
 fn spots_of(alloc: Global, log: &Log, opts: &AuditOpts) -> Result<Vec<Spot>, AllocError>
-    ensures { IfOk result (λ spots. map item_of spots.items
+    ensures lines { IfOk result
+        (λ spots. AreSpotsOf (case_of (lines_of log.now) opts.now) spots.items) }
+    ensures items { IfOk result (λ spots. map item_of spots.items
         ≡ items_below (case_of (lines_of log.now) opts.now) (length (lines_of log.now).lines)) }
 {
     let tables = tables_of(alloc, log, opts)?;
@@ -68,7 +75,9 @@ fn add_spots(
 ) -> Result<(), AllocError>
     requires tables { AreTables (case_of (lines_of log.now) opts.now) tables.now }
     requires place { place < length (lines_of log.now).lines }
-    ensures { OnOk result (map item_of spots.new.items
+    ensures lines { OnOk result (AreSpotsOf (case_of (lines_of log.now) opts.now) spots.old.items
+        → AreSpotsOf (case_of (lines_of log.now) opts.now) spots.new.items) }
+    ensures items { OnOk result (map item_of spots.new.items
         ≡ map item_of spots.old.items ++ items_at (case_of (lines_of log.now) opts.now) place) }
 {
     let line = &log.lines()[place];
@@ -82,7 +91,8 @@ fn add_spots(
 
 /// Adds a spot, if there is one.
 fn add_spot(spots: &mut Vec<Spot>, spot: Option<Spot>) -> Result<(), AllocError>
-    ensures { OnOk result (map item_of spots.new.items
+    ensures spots { OnOk result (spots.new.items ≡ spots.old.items ++ option_to_list spot) }
+    ensures items { OnOk result (map item_of spots.new.items
         ≡ map item_of spots.old.items ++ option_to_list (option_map item_of spot)) }
 {
     if let Some(spot) = spot {

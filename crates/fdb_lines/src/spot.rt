@@ -1,7 +1,7 @@
 //! Where an act stands in an order.
 
 ghost use Rattle.std.specs.Prelude.{◌≡◌, ◌+◌, ◌*◌, ◌^◌, ◌<◌, ℕ, cond, nat_lt, not, ◌&&◌, ◌==◌};
-ghost use Rattle.std.specs.Prelude.{option_map, None, Some};
+ghost use Rattle.std.specs.Prelude.{option_map, IfSome, None, Some};
 ghost use Rattle.std.specs.Ordering.{nat_cmp};
 ghost use Rattle.fdb_lines.specs.Before.{began};
 ghost use Rattle.fdb_lines.specs.Lines.{draws, is_learn, is_read, kind_of, shows, version_of};
@@ -62,7 +62,7 @@ impl Stage {
 }
 
 impl Spot {
-    ghost use Rattle.fdb_lines.specs.private.Spots.{is_one, item_of, level_of, spot_key};
+    ghost use Rattle.fdb_lines.specs.private.Spots.{is_one, item_of, level_of, spot_key, IsActBy};
 
     /// An act that may be of several lines, or of none.
     fn sharing(level: u64, stage: Stage, line: Option<u32>, act: Act) -> Self
@@ -101,7 +101,8 @@ impl Spot {
 
     /// The ask of a line, if it needs one.
     pub(crate) fn ask(line: &Line, place: u32, start: u64) -> Option<Self>
-        ensures { option_map item_of result ≡ cond
+        ensures line { IfSome result (λ spot. IsActBy line.now place spot.act spot.line) }
+        ensures item { option_map item_of result ≡ cond
             (not (is_learn (kind_of line.now.call))
             && not (is_read (kind_of line.now.call) && (version_of line.now.call == start)))
             (Some (ask_item (version_of line.now.call))) None }
@@ -117,7 +118,8 @@ impl Spot {
 
     /// The read or report of a line, if it has one.
     pub(crate) fn take(line: &Line, place: u32, known: u64) -> Option<Self>
-        ensures { option_map item_of result ≡ cond (shows (kind_of line.now.call))
+        ensures line { IfSome result (λ spot. IsActBy line.now place spot.act spot.line) }
+        ensures item { option_map item_of result ≡ cond (shows (kind_of line.now.call))
             (Some (take_by (kind_of line.now.call) (began line.now * 2 ^ 33 + place) known
             (version_of line.now.call))) None }
     {
@@ -142,7 +144,8 @@ impl Spot {
 
     /// The report by others of what a line read, if it needs one.
     pub(crate) fn report(line: &Line, start: u64, reported: bool) -> Option<Self>
-        ensures { option_map item_of result ≡ cond
+        ensures line { IfSome result (λ spot. spot.line ≡ None) }
+        ensures item { option_map item_of result ≡ cond
             (is_read (kind_of line.now.call)
             && (not (version_of line.now.call == start) && not reported))
             (Some (shared_item (version_of line.now.call))) None }

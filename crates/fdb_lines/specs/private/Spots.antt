@@ -1,13 +1,16 @@
 -- Spots: acts, and where they stand in an order.
-use Rattle.std.specs.Prelude.{◌≡◌, ℕ, zero, suc, ◌+◌, ◌*◌, ◌^◌, ◌<◌, ◌==◌, ◌&&◌, ◌||◌, Bool, true, false, cond, List, [], ◌∷◌, ◌++◌, map, Option, None, Some, is_some, length, ◌-◌, nat_lt, slice_get}
+use Rattle.std.specs.Prelude.{◌≡◌, ℕ, zero, suc, ◌+◌, ◌*◌, ◌^◌, ◌<◌, ◌==◌, ◌&&◌, ◌||◌, Bool, true, false, cond, List, [], ◌∷◌, ◌++◌, map, Option, None, Some, is_some, length, ◌-◌, nat_lt, slice_get, All, IsTrue, ◌⊎◌}
 use Rattle.fdb_lines.specs.declared.act.Act.{Act}
+use Rattle.fdb_lines.specs.declared.act.Act.TheVariants.{Asks}
 use Rattle.fdb_lines.specs.declared.line.Line.{Line}
 use Rattle.fdb_lines.specs.declared.spot.Spot.{Spot}
 use Rattle.fdb_lines.specs.declared.spot.Stage.{Stage}
 use Rattle.fdb_lines.specs.declared.spot.Stage.TheVariants.{Asked, Shared, Raising, Shown}
 use Rattle.fdb_lines.specs.declared.turn.Turn.{Turn}
 use Rattle.fdb_lines.specs.Before.{began}
-use Rattle.fdb_lines.specs.Lines.{Case, kind_at, version_at, line_at, shows}
+use Rattle.fdb_lines.specs.Lines.{Case, kind_at, version_at, line_at, shows, draws, kind_of, version_of}
+use Rattle.fdb_lines.specs.Explained.{taken_by}
+use Rattle.fdb_lines.specs.Turns.{IsActOf}
 use Rattle.fdb_lines.specs.Order.{Item, ask_item, shared_item, take_item, needs_ask, needs_report}
 use Rattle.fdb_lines.specs.private.Late.{late}
 
@@ -46,6 +49,18 @@ spot_rank lines k = began (line_at lines k) * 2 ^ 33 + k
 abbrev pub is_one : Spot → Spot → Bool
 is_one x y =
     level_of x == level_of y && (may_share x.stage || (x.began == y.began && late x.line == late y.line))
+
+-- an act of a line at a place
+abbrev pub IsActBy : Line → ℕ → Act → Option ℕ → Type 0
+IsActBy line place act None = Unit {0}
+IsActBy line place act (Some k) =
+    (k ≡ place)
+    × ((IsTrue (draws (kind_of line.call)) × (act ≡ Asks (version_of line.call)))
+    ⊎ (IsTrue (shows (kind_of line.call)) × (act ≡ taken_by (kind_of line.call) (version_of line.call))))
+
+-- each spot has an act of its line
+abbrev pub AreSpotsOf : Case → List Spot → Type 0
+AreSpotsOf c spots = All (λ spot. IsActOf c spot.act spot.line) spots
 
 -- ---- the items of lines
 
