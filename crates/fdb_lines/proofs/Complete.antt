@@ -67,7 +67,7 @@ by_others c none k lk need =
     )
 
 -- the origin of a line's read or report
-origin_take : (c : Case) (rank : ℕ → ℕ) (k : ℕ) → k < length c.lines → shows (kind_at c k) ≡ true → Origin c rank (take_item c rank k)
+pub origin_take : (c : Case) (rank : ℕ → ℕ) (k : ℕ) → k < length c.lines → shows (kind_at c k) ≡ true → Origin c rank (take_item c rank k)
 origin_take c rank k lk s = by (kind_at c k) refl s
   where
     by : (kind : Kind) → kind_at c k ≡ kind → shows kind ≡ true → Origin c rank (take_item c rank k)
@@ -77,12 +77,12 @@ origin_take c rank k lk s = by (kind_at c k) refl s
     by Report is s = Taken k lk (inr is) refl
     by Learn is s = absurd (both_ways false refl s)
 
-origin_report : (c : Case) (rank : ℕ → ℕ) → HasNone c → (k : ℕ) → k < length c.lines → needs_report c k ≡ true → Origin c rank (shared_item (version_at c k))
+pub origin_report : (c : Case) (rank : ℕ → ℕ) → HasNone c → (k : ℕ) → k < length c.lines → needs_report c k ≡ true → Origin c rank (shared_item (version_at c k))
 origin_report c rank none k lk need = let h = by_others c none k lk need in Shared k lk h.0 refl (inr (h.1, h.2))
 
 -- ---- one item for a key
 
-same_items : (c : Case) (rank : ℕ → ℕ) → IsRanked c rank → (x y : Item) → Origin c rank x → Origin c rank y → SameKey x y → x ≡ y
+pub same_items : (c : Case) (rank : ℕ → ℕ) → IsRanked c rank → (x y : Item) → Origin c rank x → Origin c rank y → SameKey x y → x ≡ y
 same_items c rank ranked x y (Asked j lj nj ex) (Asked k lk nk ey) s =
     let a = ap (λ z. z.stage) ex in let b = ap (λ z. z.stage) ey in let t = s.0 in
     let same : version_at c j ≡ version_at c k = omega arith in

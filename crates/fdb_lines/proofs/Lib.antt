@@ -8,6 +8,7 @@ pub mod Steps
 pub mod Clocks
 pub mod Told
 pub mod Ranked
+pub mod Arranged
 pub mod Search
 pub mod Newest
 pub mod Knowing

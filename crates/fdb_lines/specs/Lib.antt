@@ -7,4 +7,5 @@ pub mod Order
 pub mod Steps
 pub mod Audit
 pub mod Listing
+pub mod Turns
 pub mod private

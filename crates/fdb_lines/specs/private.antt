@@ -6,3 +6,5 @@ pub mod Versions
 pub mod Code
 pub mod Owners
 pub mod Tables
+pub mod Late
+pub mod Spots

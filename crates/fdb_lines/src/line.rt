@@ -1,6 +1,7 @@
 //! The lines of a log.
 
-ghost use Rattle.std.specs.Prelude.{◌≡◌, ◌≤◌, ◌<◌, None, Some, IfSome, MatchOption};
+ghost use Rattle.std.specs.Prelude.{◌≡◌, ◌≤◌, ◌<◌, None, Some, IfSome};
+ghost use Rattle.std.specs.Prelude.{IsSomeAnd, MatchOption};
 ghost use Rattle.std.proofs.Props.{props};
 
 /// What a line says that was done.
@@ -98,7 +99,7 @@ pub struct Times {
 impl Times {
     /// These times, unless the call ended before it began.
     pub fn new(began: u64, ended: Option<u64>) -> Option<Self>
-        ensures taken { MatchOption result (IfSome ended (λ end. end < began))
+        ensures taken { MatchOption result (IsSomeAnd ended (λ end. end < began))
             (λ times. (times.began ≡ began) × (times.ended ≡ ended)) }
     {
         match ended {

@@ -1,7 +1,7 @@
 //! A log: its lines, which all have times or all have none.
 
-ghost use Rattle.std.specs.Prelude.{◌≡◌, ℕ, ◌<◌, ◌≤◌, ◌⊎◌, [], None, Some, IfErr, OnErr, OnOk};
-ghost use Rattle.std.specs.Prelude.{length};
+ghost use Rattle.std.specs.Prelude.{◌≡◌, ℕ, ◌<◌, ◌≤◌, ◌⊎◌, [], false, None, Some, IfErr, OnErr};
+ghost use Rattle.std.specs.Prelude.{OnOk, length};
 ghost use Rattle.fdb_lines.specs.Lines.{has_times, line_at};
 
 use crate::line::{Call, Line};
@@ -46,7 +46,8 @@ impl Log {
 
     /// A log without lines.
     pub fn new(alloc: Global) -> Self
-        ensures { (lines_of result).lines ≡ [] }
+        ensures empty { (lines_of result).lines ≡ [] }
+        ensures untimed { (lines_of result).timed ≡ false }
     {
         Log {
             lines: Vec::new(alloc),

@@ -90,6 +90,13 @@ impl Tables {
         self.drawn[place]
     }
 
+    /// Whether a line reports a version.
+    pub(crate) fn is_reported(&self, version: u64) -> bool
+        ensures { result ≡ nat_lt 0 (times_in version self.now.reported.rising.items) }
+    {
+        self.reported.has(version)
+    }
+
     /// Whether a read is of a version that is not there.
     pub(crate) fn is_wrong(&self, call: Call, opts: &AuditOpts) -> bool
         ensures { result ≡ (is_read (kind_of call)

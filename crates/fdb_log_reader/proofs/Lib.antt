@@ -1,0 +1,4 @@
+pub mod Naming
+pub mod GoingOn
+pub mod Splitting
+pub mod Values

@@ -1,0 +1,6 @@
+pub mod Names
+pub mod Members
+pub mod Reading
+pub mod Text
+pub mod Reader
+pub mod private

@@ -1,0 +1,105 @@
+-- What a line says by its members, over the JSON value that `serde_json` reads. (this product's own)
+use Rattle.std.specs.Prelude.{◌≡◌, ℕ, ◌==◌, ◌||◌, Bool, true, false, nat_le, nat_lt, List, [], ◌∷◌, count_by, Option, None, Some, is_some, option_and_then, option_map, Result, Ok, Err, codes, if◌then◌else◌}
+use Rattle.std.proofs.Common.{leb-true}
+use Rattle.serde_json.specs.Data.{Data}
+use Rattle.serde_json.specs.Find.{get, as_number, as_u64, as_null, as_str}
+use Rattle.fdb_lines.specs.declared.line.Call.{Call}
+use Rattle.fdb_lines.specs.declared.line.Call.TheVariants as call
+use Rattle.fdb_lines.specs.declared.line.Times.{Times}
+use Rattle.fdb_log_reader.specs.declared.error.Why.{Why}
+use Rattle.fdb_log_reader.specs.declared.error.Why.TheVariants.{NoCall, TwoCalls, BadMember}
+use Rattle.fdb_log_reader.specs.declared.member.Member.{Member}
+use Rattle.fdb_log_reader.specs.declared.member.Member.TheVariants.{Client, Read, Commit, Ask, Report, Learn, Began, Ended}
+use Rattle.fdb_log_reader.specs.Names.{number_in}
+
+abbrev pub name_of : Member → List ℕ
+name_of Client = codes "client"
+name_of Read = codes "read"
+name_of Commit = codes "commit"
+name_of Ask = codes "ask"
+name_of Report = codes "report"
+name_of Learn = codes "learn"
+name_of Began = codes "began"
+name_of Ended = codes "ended"
+
+-- a member of a line, where it is there
+abbrev pub member_of : Data → Member → Option Data
+member_of value member = get (name_of member) value
+
+abbrev pub has : Data → Member → Bool
+has value member = is_some (member_of value member)
+
+-- what a member says, or that it is bad
+abbrev pub or_bad : {T : Type 0} → Member → Option T → Result T Why
+or_bad member None = Err (BadMember member)
+or_bad member (Some said) = Ok said
+
+-- what comes of what was said, or what is wrong
+abbrev pub and_then : {S T : Type 0} → Result S Why → (S → Result T Why) → Result T Why
+and_then (Ok said) next = next said
+and_then (Err why) next = Err why
+
+-- a whole number: digits alone, below 2^64
+abbrev pub whole : Data → Option ℕ
+whole value = option_and_then as_u64 (as_number value)
+
+-- a member that has to be there, and is a whole number
+abbrev pub number_of : Data → Member → Result ℕ Why
+number_of value member = or_bad member (option_and_then whole (member_of value member))
+
+-- ---- whose call it was: a text, which may be left out
+
+abbrev pub client_with : Option Data → Result (Option (List ℕ)) Why
+client_with None = Ok None
+client_with (Some name) = or_bad Client (option_map Some (as_str name))
+
+abbrev pub client_of : Data → Result (Option (List ℕ)) Why
+client_of value = client_with (member_of value Client)
+
+-- ---- what was done: just one of five members
+
+abbrev pub call_count : Data → ℕ
+call_count value = count_by (has value) (Read ∷ Commit ∷ Ask ∷ Report ∷ Learn ∷ [])
+
+-- from whom a line has learnt: a client whose name a line above has
+abbrev pub teller_of : List (List ℕ) → Data → Result ℕ Why
+teller_of names value =
+    or_bad Learn (option_and_then (number_in names) (option_and_then as_str (member_of value Learn)))
+
+abbrev pub call_named : List (List ℕ) → Data → Result Call Why
+call_named names value =
+    if has value Read then and_then (number_of value Read) (λ version. Ok (call.Read version))
+    else (if has value Commit then and_then (number_of value Commit) (λ version. Ok (call.Commit version))
+    else (if has value Ask then and_then (number_of value Ask) (λ version. Ok (call.Ask version))
+    else (if has value Report then and_then (number_of value Report) (λ version. Ok (call.Report version))
+    else and_then (teller_of names value) (λ teller. Ok (call.Learn teller)))))
+
+abbrev pub call_of : List (List ℕ) → Data → Result Call Why
+call_of names value =
+    if call_count value == 0 then Err NoCall
+    else (if nat_lt 1 (call_count value) then Err TwoCalls
+    else call_named names value)
+
+-- ---- when: both members, or none
+
+-- when a call ended: a whole number, or null where that is not known
+abbrev pub end_of : Data → Option (Option ℕ)
+end_of value = if is_some (as_null value) then Some None else option_map Some (whole value)
+
+-- no call ended before it began
+abbrev pub times_if : (began end : ℕ) (in_order : Bool) → nat_le began end ≡ in_order → Option Times
+times_if began end true is = Some (record { began = began; ended = Some end; in_order = leb-true began end is })
+times_if began end false is = None
+
+abbrev pub times_with : ℕ → Option ℕ → Option Times
+times_with began None = Some (record { began = began; ended = None; in_order = tt })
+times_with began (Some end) = times_if began end (nat_le began end) (λ _. nat_le began end)
+
+abbrev pub some_times : Data → Result (Option Times) Why
+some_times value =
+    and_then (number_of value Began) (λ began.
+    and_then (or_bad Ended (option_and_then end_of (member_of value Ended))) (λ ended.
+    or_bad Ended (option_map Some (times_with began ended))))
+
+abbrev pub times_of : Data → Result (Option Times) Why
+times_of value = if has value Began || has value Ended then some_times value else Ok None

@@ -1,0 +1,114 @@
+-- The log that a text of JSON Lines stands for. (this product's own)
+use Rattle.std.specs.Prelude.{◌≡◌, ◌⊎◌, ℕ, ◌+◌, ◌==◌, Bool, false, nat_le, nat_lt, List, [], ◌∷◌, length, Option, None, Some, Result, Ok, Err, if◌then◌else◌}
+use Rattle.std.specs.List.{slice_split}
+use Rattle.std.specs.Str.{is_utf8}
+use Rattle.serde_json.specs.Data.{Data}
+use Rattle.serde_json.specs.Read.{read}
+use Rattle.fdb_lines.specs.declared.line.Line.{Line}
+use Rattle.fdb_lines.specs.declared.log.LineError.{LineError}
+use Rattle.fdb_lines.specs.declared.log.LineError.TheVariants as refused
+use Rattle.fdb_lines.specs.declared.log.TheConstants.{MAX_LINES}
+use Rattle.fdb_lines.specs.Lines.{Lines}
+use Rattle.fdb_lines.specs.Log.{added, lines_of, refusal_of}
+use Rattle.fdb_log_reader.specs.declared.error.ReadError.{ReadError}
+use Rattle.fdb_log_reader.specs.declared.error.Why.{Why}
+use Rattle.fdb_log_reader.specs.declared.error.Why.TheVariants.{TooLong, TooMany, NotJson, SomeTimes, BadMember, Memory}
+use Rattle.fdb_log_reader.specs.declared.member.Member.TheVariants.{Client, Learn}
+use Rattle.fdb_log_reader.specs.declared.named_log.NamedLog.{NamedLog}
+use Rattle.fdb_log_reader.specs.declared.reader.TheConstants.{MAX_LINE_BYTES}
+use Rattle.fdb_log_reader.specs.Members.{and_then, call_of, client_of, times_of}
+use Rattle.fdb_log_reader.specs.Names.{client_in, names_of, with_client}
+
+-- ---- the lines of a text
+
+abbrev pub is_line_feed : ℕ → Bool
+is_line_feed byte = byte == 10
+
+-- what stands after the last line feed is a line, unless it is empty
+abbrev pub without_empty_end : List (List ℕ) → List (List ℕ)
+without_empty_end [] = []
+without_empty_end (line ∷ []) = if length line == 0 then [] else line ∷ []
+without_empty_end (line ∷ next ∷ lines) = line ∷ without_empty_end (next ∷ lines)
+
+abbrev pub lines_in : List ℕ → List (List ℕ)
+lines_in bytes = without_empty_end (slice_split is_line_feed bytes)
+
+-- ---- a line
+
+-- what has been read: the lines of a log, and the names of its clients
+pub record Reading : Type 0 where
+  pub log : Lines
+  pub names : List (List ℕ)
+
+-- why a line is refused that the log does not take
+abbrev pub why_of : LineError → Why
+why_of refused.TooMany = TooMany
+why_of refused.SomeTimes = SomeTimes
+why_of refused.TimedLearn = BadMember Learn
+why_of refused.NoClient = BadMember Client
+why_of refused.Memory = Memory
+
+abbrev pub added_unless : Option LineError → Lines → Line → Result Lines Why
+added_unless None log line = Ok (added log line)
+added_unless (Some error) log line = Err (why_of error)
+
+abbrev pub pushed : Lines → Line → Result Lines Why
+pushed log line = added_unless (refusal_of log line) log line
+
+-- what has been read with a line more, by its JSON value
+abbrev pub with_value : Reading → Data → Result Reading Why
+with_value reading value =
+    and_then (client_of value) (λ client.
+    and_then (call_of reading.names value) (λ call.
+    and_then (times_of value) (λ times.
+    let names = with_client reading.names client in
+    and_then (pushed reading.log (record { client = client_in names client; call = call; times = times })) (λ log.
+    Ok (record { log = log; names = names })))))
+
+abbrev pub or_not_json : Option Data → Result Data Why
+or_not_json None = Err NotJson
+or_not_json (Some value) = Ok value
+
+-- The value of a line, which `serde_json` reads by itself. Bytes that are no UTF-8 have none.
+abbrev pub value_of : List ℕ → Result Data Why
+value_of bytes = or_not_json (if is_utf8 bytes then read bytes else None)
+
+-- what has been read with a line more, by its bytes
+abbrev pub with_line : Reading → List ℕ → Result Reading Why
+with_line reading bytes =
+    if nat_lt MAX_LINE_BYTES (length bytes) then Err TooLong
+    else (if nat_le MAX_LINES (length reading.log.lines) then Err TooMany
+    else and_then (value_of bytes) (with_value reading))
+
+-- ---- a text
+
+-- what comes of a line that was read, or that it is refused
+abbrev pub or_refused : ℕ → Result Reading Why → (Reading → Result Reading ReadError) → Result Reading ReadError
+or_refused line (Ok reading) next = next reading
+or_refused line (Err why) next = Err (record { line = line; why = why })
+
+-- what has been read with these lines more, or the first that is refused, counted from 1
+abbrev pub with_lines : Reading → List (List ℕ) → Result Reading ReadError
+with_lines reading [] = Ok reading
+with_lines reading (line ∷ lines) =
+    or_refused (length reading.log.lines + 1) (with_line reading line) (λ more. with_lines more lines)
+
+abbrev pub nothing : Reading
+nothing = record { log = record { timed = false; lines = [] }; names = [] }
+
+-- what a text stands for
+abbrev pub reading_in : List ℕ → Result Reading ReadError
+reading_in bytes = with_lines nothing (lines_in bytes)
+
+-- what a log with names stands for
+abbrev pub reading_of : NamedLog → Reading
+reading_of named = record { log = lines_of named.log; names = names_of named.names }
+
+-- the result stands for this, unless memory was refused
+abbrev pub StandsFor : Result NamedLog ReadError → Result Reading ReadError → Type 0
+StandsFor (Ok named) exact = exact ≡ Ok (reading_of named)
+StandsFor (Err error) exact = (error.why ≡ Memory) ⊎ (exact ≡ Err error)
+
+-- what was read of these bytes is what they stand for, unless memory was refused
+abbrev pub ReadsAs : List ℕ → Result NamedLog ReadError → Type 0
+ReadsAs bytes result = StandsFor result (reading_in bytes)

@@ -1,0 +1,19 @@
+-- What is printed of a text that is refused. (this product's own)
+use Rattle.std.specs.Prelude.{ℕ, List, ◌++◌, codes, decimal}
+use Rattle.fdb_log_reader.specs.declared.error.ReadError.{ReadError}
+use Rattle.fdb_log_reader.specs.declared.error.Why.{Why}
+use Rattle.fdb_log_reader.specs.declared.error.Why.TheVariants.{TooLong, TooMany, NotJson, NoCall, TwoCalls, SomeTimes, BadMember, Memory}
+use Rattle.fdb_log_reader.specs.Members.{name_of}
+
+abbrev pub why_text : Why → ℕ → List ℕ
+why_text TooLong line = codes "TooLong " ++ decimal line
+why_text TooMany line = codes "TooMany " ++ decimal line
+why_text NotJson line = codes "NotJson " ++ decimal line
+why_text NoCall line = codes "NoCall " ++ decimal line
+why_text TwoCalls line = codes "TwoCalls " ++ decimal line
+why_text SomeTimes line = codes "SomeTimes " ++ decimal line
+why_text (BadMember member) line = codes "BadMember " ++ decimal line ++ codes " " ++ name_of member
+why_text Memory line = codes "want of memory"
+
+abbrev pub error_text : ReadError → List ℕ
+error_text error = why_text error.why error.line

@@ -1,0 +1,98 @@
+//! Why a text is refused.
+
+ghost use Rattle.std.specs.Prelude.{◌≡◌};
+
+use crate::member::Member;
+use fdb_lines::LineError;
+use std::alloc::{AllocError, AllocFailed};
+use std::fmt;
+
+/// What is wrong with a line.
+#[derive(Clone, Copy, Debug, PartialEq, Eq)]
+pub enum Why {
+    /// It has more than [`crate::MAX_LINE_BYTES`] bytes.
+    TooLong,
+    /// There are as many lines above it as a log may have.
+    TooMany,
+    /// It is no JSON text that `serde_json` reads.
+    NotJson,
+    /// It has none of the members that name a call.
+    NoCall,
+    /// It has more than one of them.
+    TwoCalls,
+    /// It has times and the lines above have none, or the other way round.
+    SomeTimes,
+    /// A member is missing, of another kind, or not one that may stand there.
+    BadMember(Member),
+    /// Memory was refused.
+    Memory,
+}
+
+impl From<LineError> for Why {
+    ghost use Rattle.std.specs.Prelude.{◌≡◌};
+    ghost use Rattle.fdb_log_reader.specs.Reading.{why_of};
+
+    ghost from_gives = { λ error why. why ≡ why_of error };
+
+    fn from(error: LineError) -> Self {
+        match error {
+            LineError::TooMany => Why::TooMany,
+            LineError::SomeTimes => Why::SomeTimes,
+            LineError::TimedLearn => Why::BadMember(Member::Learn),
+            LineError::NoClient => Why::BadMember(Member::Client),
+            LineError::Memory => Why::Memory,
+        }
+    }
+}
+
+impl From<AllocError> for Why {
+    ghost use Rattle.std.specs.Prelude.{◌≡◌};
+    ghost use Rattle.fdb_log_reader.specs.declared.error.Why.TheVariants.{Memory};
+
+    ghost from_gives = { λ _ why. why ≡ Memory };
+
+    fn from(_error: AllocError) -> Self {
+        Why::Memory
+    }
+}
+
+impl<T: Drop> From<AllocFailed<T>> for Why {
+    ghost use Rattle.std.specs.Prelude.{◌≡◌};
+    ghost use Rattle.fdb_log_reader.specs.declared.error.Why.TheVariants.{Memory};
+
+    ghost from_gives = { λ _ why. why ≡ Memory };
+
+    fn from(_error: AllocFailed<T>) -> Self {
+        Why::Memory
+    }
+}
+
+/// Why a text is refused: the first line with which something is wrong, counted from 1.
+#[derive(Clone, Copy, Debug, PartialEq, Eq)]
+pub struct ReadError {
+    /// The line.
+    pub line: u64,
+    /// What is wrong with it.
+    pub why: Why,
+}
+
+impl fmt::Display for ReadError {
+    ghost use Rattle.std.specs.Prelude.{Some};
+    ghost use Rattle.fdb_log_reader.specs.Text.{error_text};
+
+    ghost output = { λ error. Some (error_text error) };
+
+    fn fmt<W: fmt::Write>(&self, f: &mut fmt::Formatter<W>) -> fmt::Result {
+        let line = self.line;
+        match self.why {
+            Why::TooLong => write!(f, "TooLong {line}"),
+            Why::TooMany => write!(f, "TooMany {line}"),
+            Why::NotJson => write!(f, "NotJson {line}"),
+            Why::NoCall => write!(f, "NoCall {line}"),
+            Why::TwoCalls => write!(f, "TwoCalls {line}"),
+            Why::SomeTimes => write!(f, "SomeTimes {line}"),
+            Why::BadMember(member) => write!(f, "BadMember {line} {member}"),
+            Why::Memory => write!(f, "want of memory"),
+        }
+    }
+}

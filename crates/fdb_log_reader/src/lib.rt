@@ -1,0 +1,21 @@
+//! Logs of read and commit versions, read from JSON Lines: an object for each call, a line each.
+//!
+//! A [`LogReader`] takes the bytes of a text as they come, and keeps of them the lines of a
+//! [`fdb_lines::Log`], the names of the clients, and the line that has not ended yet. [`read_log`]
+//! reads a text that is there as a whole. What a text stands for is said in `specs/`.
+#![tactic(auto)]
+
+mod error;
+mod member;
+mod named_log;
+mod names;
+mod parsing;
+mod reader;
+mod reading;
+
+pub use error::{ReadError, Why};
+pub use member::Member;
+pub use named_log::NamedLog;
+pub use names::Names;
+pub use reader::{LogReader, MAX_LINE_BYTES};
+pub use reading::read_log;

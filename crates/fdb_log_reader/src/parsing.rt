@@ -1,0 +1,185 @@
+//! What a line says, by the members of its JSON value.
+
+ghost use Rattle.std.specs.Prelude.{◌≡◌, ◌⊎◌, ◌<◌, ◌≤◌, IfSome, MatchResult, length, option_map};
+ghost use Rattle.std.specs.Prelude.{option_and_then};
+ghost use Rattle.serde_json.specs.Find.{as_str};
+ghost use Rattle.serde_json.specs.View.{view};
+ghost use Rattle.fdb_log_reader.specs.Members.{call_count, call_named, call_of, client_of};
+ghost use Rattle.fdb_log_reader.specs.Members.{end_of, has, member_of, number_of, some_times};
+ghost use Rattle.fdb_log_reader.specs.Members.{teller_of, times_of, whole};
+ghost use Rattle.fdb_log_reader.specs.Names.{names_of, number_in};
+ghost use Rattle.fdb_log_reader.specs.Reading.{value_of};
+
+use crate::error::Why;
+use crate::member::Member;
+use crate::names::Names;
+use fdb_lines::{Call, MAX_LINES, Times};
+use serde_json::Value;
+use std::alloc::Global;
+
+/// The members that name a call.
+const CALLS: [Member; 5] = [
+    Member::Read,
+    Member::Commit,
+    Member::Ask,
+    Member::Report,
+    Member::Learn,
+];
+
+/// The JSON value of a line.
+pub(crate) fn value_of(alloc: Global, bytes: &[u8]) -> Result<Value, Why>
+    ensures { MatchResult result (λ value. value_of bytes.now ≡ Ok (view value))
+        (λ why. (why ≡ Why.Memory) ⊎ (value_of bytes.now ≡ Err why)) }
+{
+    match Value::from_slice(alloc, bytes) {
+        Ok(value) => Ok(value),
+        Err(error) if error.is_memory() => Err(Why::Memory),
+        Err(_) => Err(Why::NotJson),
+    }
+}
+
+/// A member, where it is there.
+fn member_of(value: &Value, member: Member) -> Option<&Value>
+    ensures { option_map (λ said. view said.now) result ≡ member_of (view value.now) member }
+{
+    value.get(member.name())
+}
+
+/// Whether a member is there.
+fn has(value: &Value, member: Member) -> bool
+    ensures { result ≡ has (view value.now) member }
+{
+    member_of(value, member).is_some()
+}
+
+/// A member that has to be there, and is a whole number.
+fn number_of(value: &Value, member: Member) -> Result<u64, Why>
+    ensures { result ≡ number_of (view value.now) member }
+{
+    match whole_of(value, member) {
+        Some(number) => Ok(number),
+        None => Err(Why::BadMember(member)),
+    }
+}
+
+/// A member that is a whole number.
+fn whole_of(value: &Value, member: Member) -> Option<u64>
+    ensures { result ≡ option_and_then whole (member_of (view value.now) member) }
+{
+    member_of(value, member)?.as_u64()
+}
+
+/// Whose call it was.
+pub(crate) fn client_of(value: &Value) -> Result<Option<&str>, Why>
+    ensures { MatchResult result
+        (λ client. client_of (view value.now) ≡ Ok (option_map (λ name. name.now) client))
+        (λ why. client_of (view value.now) ≡ Err why) }
+{
+    let Some(name) = member_of(value, Member::Client) else {
+        return Ok(None);
+    };
+    match name.as_str() {
+        Some(name) => Ok(Some(name)),
+        None => Err(Why::BadMember(Member::Client)),
+    }
+}
+
+/// What was done.
+pub(crate) fn call_of(value: &Value, names: &Names) -> Result<Call, Why>
+    requires { length (names_of names.now) ≤ MAX_LINES }
+    ensures { result ≡ call_of (names_of names.now) (view value.now) }
+{
+    match call_count(value) {
+        0 => Err(Why::NoCall),
+        1 => call_named(value, names),
+        _ => Err(Why::TwoCalls),
+    }
+}
+
+/// How many calls a line names.
+fn call_count(value: &Value) -> usize
+    ensures { result ≡ call_count (view value.now) }
+{
+    CALLS.iter().filter(|member| has(value, **member)).count()
+}
+
+/// What was done, by the first member that names a call.
+fn call_named(value: &Value, names: &Names) -> Result<Call, Why>
+    requires { length (names_of names.now) ≤ MAX_LINES }
+    ensures { result ≡ call_named (names_of names.now) (view value.now) }
+{
+    if has(value, Member::Read) {
+        let version = number_of(value, Member::Read)?;
+        Ok(Call::Read(version))
+    } else if has(value, Member::Commit) {
+        let version = number_of(value, Member::Commit)?;
+        Ok(Call::Commit(version))
+    } else if has(value, Member::Ask) {
+        let version = number_of(value, Member::Ask)?;
+        Ok(Call::Ask(version))
+    } else if has(value, Member::Report) {
+        let version = number_of(value, Member::Report)?;
+        Ok(Call::Report(version))
+    } else {
+        let teller = teller_of(value, names)?;
+        Ok(Call::Learn(teller))
+    }
+}
+
+/// From whom it was learnt.
+fn teller_of(value: &Value, names: &Names) -> Result<u32, Why>
+    requires { length (names_of names.now) ≤ MAX_LINES }
+    ensures { result ≡ teller_of (names_of names.now) (view value.now) }
+{
+    match teller_number(value, names) {
+        Some(teller) => Ok(teller as u32),
+        None => Err(Why::BadMember(Member::Learn)),
+    }
+}
+
+/// The number of the client from whom it was learnt.
+fn teller_number(value: &Value, names: &Names) -> Option<usize>
+    ensures number { result ≡ option_and_then (number_in (names_of names.now))
+        (option_and_then as_str (member_of (view value.now) Member.Learn)) }
+    ensures within { IfSome result (λ number. number < length (names_of names.now)) }
+{
+    let name = member_of(value, Member::Learn)?.as_str()?;
+    names.number(name)
+}
+
+/// When it was done.
+pub(crate) fn times_of(value: &Value) -> Result<Option<Times>, Why>
+    ensures { result ≡ times_of (view value.now) }
+{
+    if has(value, Member::Began) || has(value, Member::Ended) {
+        some_times(value)
+    } else {
+        Ok(None)
+    }
+}
+
+/// When it was done, in a log with times.
+fn some_times(value: &Value) -> Result<Option<Times>, Why>
+    ensures { result ≡ some_times (view value.now) }
+{
+    let began = number_of(value, Member::Began)?;
+    let Some(ended) = end_of(value) else {
+        return Err(Why::BadMember(Member::Ended));
+    };
+    match Times::new(began, ended) {
+        Some(times) => Ok(Some(times)),
+        None => Err(Why::BadMember(Member::Ended)),
+    }
+}
+
+/// When it ended, or that this is not known.
+fn end_of(value: &Value) -> Option<Option<u64>>
+    ensures { result ≡ option_and_then end_of (member_of (view value.now) Member.Ended) }
+{
+    let end = member_of(value, Member::Ended)?;
+    if end.is_null() {
+        return Some(None);
+    }
+    let end = end.as_u64()?;
+    Some(Some(end))
+}

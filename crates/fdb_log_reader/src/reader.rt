@@ -1,0 +1,137 @@
+//! A log that is read piece by piece.
+
+ghost use Rattle.std.specs.Prelude.{◌≡◌, ◌⊎◌, ◌++◌, ◌∷◌, ◌+◌, ◌≤◌, ℕ, List, [], false, Err, Ok};
+ghost use Rattle.std.specs.Prelude.{All, IfErr, IfOk, MatchOption, MatchResult, OnOk, length};
+ghost use Rattle.fdb_lines.specs.Log.{lines_of};
+ghost use Rattle.fdb_log_reader.specs.Reading.{StandsFor, is_line_feed, reading_in, reading_of};
+ghost use Rattle.fdb_log_reader.specs.Reading.{with_line};
+ghost use Rattle.fdb_log_reader.specs.private.{HasRoom, IsOneLine};
+
+use crate::error::{ReadError, Why};
+use crate::named_log::{NamedLog, add_line};
+use crate::names::Names;
+use fdb_lines::Log;
+use memchr::memchr;
+use std::alloc::Global;
+
+/// The most bytes of a line, without its line feed.
+pub const MAX_LINE_BYTES: usize = 1_048_576;
+
+/// A log of which a part has been read, and the front of a line that has not ended yet.
+#[derive(Drop)]
+pub struct LogReader {
+    alloc: Global,
+    named: NamedLog,
+    front: Vec<u8>,
+    ghost has_room: { HasRoom named },
+    ghost one_line: { IsOneLine front.items },
+    ghost short: { length front.items ≤ 1048576 },
+}
+
+impl LogReader {
+    ghost use Rattle.fdb_log_reader.specs.Reader.{reads_on};
+
+    /// A log of which nothing has been read.
+    pub fn new(alloc: Global) -> Self
+        ensures { (text : List ℕ) → reads_on result text ≡ reading_in text }
+    {
+        LogReader {
+            alloc,
+            named: NamedLog {
+                log: Log::new(alloc),
+                names: Names::new(alloc),
+            },
+            front: Vec::new(alloc),
+        }
+    }
+
+    /// How many lines have been read.
+    pub fn line_count(&self) -> usize
+        ensures { result ≡ length (reading_of self.now.named).log.lines }
+    {
+        self.named.log.lines().len()
+    }
+
+    /// Reads on. An error names the first line that is refused, or says that memory was refused.
+    pub fn feed(mut self, bytes: &[u8]) -> Result<Self, ReadError>
+        ensures { MatchResult result
+            (λ reader. (text : List ℕ) → reads_on reader text ≡ reads_on self (bytes.now ++ text))
+            (λ error. (error.why ≡ Why.Memory)
+            ⊎ ((text : List ℕ) → reads_on self (bytes.now ++ text) ≡ Err error)) }
+    {
+        let mut rest = bytes;
+        while let Some((line, after)) = split_line(rest) {
+            self.keep(line)?;
+            self.end_line()?;
+            rest = after;
+        }
+        self.keep(rest)?;
+        Ok(self)
+    }
+
+    /// The log, where the text ends here.
+    pub fn finish(mut self) -> Result<NamedLog, ReadError>
+        ensures { StandsFor result (reads_on self []) }
+    {
+        if self.front.is_empty() {
+            return Ok(self.named);
+        }
+        self.end_line()?;
+        Ok(self.named)
+    }
+
+    /// Keeps what has come of a line.
+    fn keep(&mut self, bytes: &[u8]) -> Result<(), ReadError>
+        requires { IsOneLine bytes.now }
+        ensures kept { OnOk result ((self.new.front.items ≡ self.old.front.items ++ bytes.now)
+            × (reading_of self.new.named ≡ reading_of self.old.named)) }
+        ensures refused { IfErr result (λ error. (error.why ≡ Why.Memory)
+            ⊎ ((text : List ℕ) → reads_on self.old (bytes.now ++ text) ≡ Err error)) }
+    {
+        if bytes.len() > MAX_LINE_BYTES - self.front.len() {
+            return Err(self.error(Why::TooLong));
+        }
+        match self.front.extend_from_slice(bytes) {
+            Ok(()) => Ok(()),
+            Err(_) => Err(self.error(Why::Memory)),
+        }
+    }
+
+    /// Reads the line that has been kept, which ends here.
+    fn end_line(&mut self) -> Result<(), ReadError>
+        ensures empty { OnOk result (self.new.front.items ≡ []) }
+        ensures read { IfOk result (λ _.
+            with_line (reading_of self.old.named) self.old.front.items
+            ≡ Ok (reading_of self.new.named)) }
+        ensures refused { IfErr result (λ error. (error.why ≡ Why.Memory)
+            ⊎ ((with_line (reading_of self.old.named) self.old.front.items ≡ Err error.why)
+            × (error.line ≡ length (reading_of self.old.named).log.lines + 1))) }
+    {
+        let refused = self.error(Why::Memory);
+        match add_line(&mut self.named, self.alloc, &self.front) {
+            Ok(()) => {
+                self.front.clear();
+                Ok(())
+            }
+            Err(why) => Err(ReadError { why, ..refused }),
+        }
+    }
+
+    /// What is wrong with the line that has been begun.
+    fn error(&self, why: Why) -> ReadError
+        ensures line { result.line ≡ length (reading_of self.now.named).log.lines + 1 }
+        ensures why { result.why ≡ why }
+    {
+        let line = self.line_count() as u64 + 1;
+        ReadError { line, why }
+    }
+}
+
+/// The first line of some bytes, and what comes after its line feed, if there is one.
+fn split_line(bytes: &[u8]) -> Option<(&[u8], &[u8])>
+    ensures { MatchOption result (IsOneLine bytes.now)
+        (λ parts. (bytes.now ≡ parts.0.now ++ 10 ∷ parts.1.now) × IsOneLine parts.0.now) }
+{
+    let end = memchr(b'\n', bytes)?;
+    Some((&bytes[..end], &bytes[end + 1..]))
+}
