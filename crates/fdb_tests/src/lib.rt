@@ -16,8 +16,6 @@ mod chain;
 #[cfg(test)]
 mod line;
 #[cfg(test)]
-mod logs;
-#[cfg(test)]
 mod queue;
 #[cfg(test)]
 mod refused_memory;
