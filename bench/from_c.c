@@ -80,7 +80,7 @@ static double queue_by_handle(void) {
         if (ops[i].kind == FDB_OP_WINDOW) {
             sink += fdb_queue_window(&queue, ops[i].amount, &outcome, started, ROOM);
         } else {
-            fdb_request request = {.count = ops[i].amount, .payload = i, .priority = ops[i].priority};
+            fdb_request request = {ops[i].amount, i, ops[i].priority};
             sink += fdb_queue_offer(&queue, &request, &outcome);
         }
     }
@@ -112,9 +112,9 @@ int main(void) {
     memset(outcomes, 1, sizeof outcomes);
     memset(started, 1, sizeof started);
     for (uint64_t i = 0; i < COUNT; i++) {
-        asks[i] = (fdb_ask){.num = i / 4 + 1, .processed = i / 4, .at = i, .proxy = (uint32_t)(i % 4)};
-        ops[i] = (fdb_op){.amount = 1 + i % 12, .payload = i, .kind = FDB_OP_OFFER, .priority = i % 3};
-        if (i % 10 == 9) ops[i] = (fdb_op){.amount = 1000 + i % 50000, .kind = FDB_OP_WINDOW};
+        asks[i] = (fdb_ask){i / 4 + 1, i / 4, i, (uint32_t)(i % 4)};
+        ops[i] = (fdb_op){1 + i % 12, i, FDB_OP_OFFER, (uint8_t)(i % 3)};
+        if (i % 10 == 9) ops[i] = (fdb_op){1000 + i % 50000, 0, FDB_OP_WINDOW, 0};
     }
     told("a fresh ask, by handle", fresh_by_handle);
     told("a kept ask, by handle", kept_by_handle);

@@ -190,7 +190,8 @@ uint8_t fdb_queue_offer(fdb_queue *queue, const fdb_request *request, fdb_outcom
 /*
  * Holds a window, `elapsed` microseconds (1 to 10,000,000) after the last one: starts the longest
  * prefix of all that wait that the budgets allow, and writes it to the start of `started`, in
- * order. This needs room for as many as wait, or for 10,000 where more do. `*queue` must be a queue.
+ * order. This needs room for as many as wait, or for 10,000 where more do. `*queue` must be a
+ * queue.
  *
  * FDB_OK, or FDB_BAD_CONFIG for a time out of range, which leaves the queue as it was; and
  * `outcome->status` is the same. FDB_ROOM, and FDB_MEMORY, leave queue, outcome and `started` as
@@ -205,9 +206,9 @@ void fdb_queue_pop(fdb_queue *queue, fdb_outcome *outcome);
 
 /*
  * Whether the first of the row waits for its own rate alone; then `*windows` is how many windows of
- * `elapsed` microseconds start nothing before one starts it, with no offer between them. It does not
- * in an empty row, for a system request, for a batch one that the normal rate may hold or whose own
- * limit is 0, and for a time out of range. `*queue` must be a queue. Constant time, and no memory.
+ * `elapsed` microseconds start nothing before one starts it, with no offer between them. It does
+ * not in an empty row, for a system request, for a batch one that the normal rate may hold or whose
+ * own limit is 0, and for a time out of range. `*queue` must be a queue. Constant time, no memory.
  */
 bool fdb_queue_waits(fdb_queue *queue, uint64_t elapsed, uint64_t *windows);
 
@@ -215,8 +216,8 @@ bool fdb_queue_waits(fdb_queue *queue, uint64_t elapsed, uint64_t *windows);
  * Sets the throttle of a tag, of at most 16 bytes, at a priority, in the place of an older one:
  * `rate` transactions per second, until the moment `expires`. `*queue` must be a queue.
  *
- * FDB_OK, else FDB_BAD_OP (no such priority), FDB_TAG_TOO_LONG or FDB_MEMORY, the first that stands;
- * the queue is then as it was. Logarithmic time.
+ * FDB_OK, else FDB_BAD_OP (no such priority), FDB_TAG_TOO_LONG or FDB_MEMORY, the first that
+ * stands; the queue is then as it was. Logarithmic time.
  */
 uint8_t fdb_queue_set_throttle(fdb_queue *queue, uint8_t priority,
                                const uint8_t *tag, size_t tag_length,

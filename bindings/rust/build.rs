@@ -11,10 +11,8 @@ fn main() {
     for name in ["libfdb_c.a", "liblibc_c.a"] {
         let file = folder.join(name);
         if !file.is_file() {
-            panic!(
-                "{} is missing: make it with tools/bindings, or set FDB_READ_VERSION_LIB to its folder",
-                file.display()
-            );
+            let how = "make it with tools/bindings, or set FDB_READ_VERSION_LIB to its folder";
+            panic!("{} is missing: {how}", file.display());
         }
         println!("cargo:rerun-if-changed={}", file.display());
     }

@@ -1,4 +1,5 @@
-/* What handles and arrays answer, one against the other, on many random calls: ./calls [CALLS] [SEED].
+/* What handles and arrays answer, one against the other, on many random calls:
+ *     ./calls [CALLS] [SEED]
  * Expected values that stand here were worked out by hand. The last line is 'ok'. */
 #undef NDEBUG
 #include "fdb_read_version.h"
@@ -74,8 +75,10 @@ static void chains_agree(size_t calls) {
     }
     fdb_chain_free(&chain);
     assert(chain.at == NULL);
-    if (calls >= 1000)
-        assert(counts[FDB_OK] && counts[FDB_UNKNOWN_PROXY] && counts[FDB_EARLY] && counts[FDB_FORGOTTEN]);
+    if (calls >= 1000) {
+        assert(counts[FDB_OK] && counts[FDB_UNKNOWN_PROXY]);
+        assert(counts[FDB_EARLY] && counts[FDB_FORGOTTEN]);
+    }
     free(asks);
     free(all);
 }
@@ -92,7 +95,8 @@ static void chain_by_hand(void) {
     assert(fdb_chain_ask(&chain, &ask, &answer) == FDB_OK);
     assert(answer.ordinal == 0 && answer.prev == 100 && answer.version == 200 && answer.fresh);
     /* again: the same, not fresh */
-    assert(fdb_chain_ask(&chain, &ask, &answer) == FDB_OK && answer.version == 200 && !answer.fresh);
+    assert(fdb_chain_ask(&chain, &ask, &answer) == FDB_OK);
+    assert(answer.version == 200 && !answer.fresh);
     /* 30 microseconds later, and then 10,000,000, of which 5,000,000 count */
     ask = (fdb_ask){.num = 2, .processed = 1, .at = 80, .proxy = 63};
     assert(fdb_chain_ask(&chain, &ask, &answer) == FDB_OK);
@@ -114,7 +118,8 @@ static void chain_by_hand(void) {
     ask = (fdb_ask){.num = 1, .processed = 0, .at = 0, .proxy = 0};
     assert(fdb_chain_ask(&chain, &ask, &answer) == FDB_OK && answer.version == greatest);
     ask.num = 2;
-    assert(fdb_chain_ask(&chain, &ask, &answer) == FDB_EXHAUSTED && answer.status == FDB_EXHAUSTED);
+    assert(fdb_chain_ask(&chain, &ask, &answer) == FDB_EXHAUSTED);
+    assert(answer.status == FDB_EXHAUSTED);
     fdb_chain_free(&chain);
     assert(fdb_chain_answers(100, 200, 1, &ask, 1, &answer, 0) == FDB_ROOM);
     assert(fdb_chain_answers(100, 200, 1, &ask, 0, &answer, 0) == FDB_OK);
@@ -122,13 +127,20 @@ static void chain_by_hand(void) {
 
 static void register_by_hand(void) {
     fdb_record kept = {.version = 100};
-    fdb_record second = {.version = 200, .min_known = 150, .metadata = {1, 2, 3}, .has_metadata = true, .locked = true};
+    fdb_record second = {
+        .version = 200,
+        .min_known = 150,
+        .metadata = {1, 2, 3},
+        .has_metadata = true,
+        .locked = true,
+    };
     fdb_record third = {.version = 150, .min_known = 180};
     fdb_record_after_report(&kept, &second);
     fdb_record_after_report(&kept, &third);
     assert(kept.version == 200 && kept.min_known == 180 && kept.locked && kept.has_metadata);
     assert(kept.metadata[2] == 3 && kept.metadata[9] == 0);
-    assert(fdb_record_version_for(&kept, false) == 200 && fdb_record_version_for(&kept, true) == 180);
+    assert(fdb_record_version_for(&kept, false) == 200);
+    assert(fdb_record_version_for(&kept, true) == 180);
     fdb_record fourth = {.version = 201, .metadata = {9}, .has_metadata = false};
     fdb_record_after_report(&kept, &fourth);
     assert(kept.version == 201 && !kept.locked && !kept.has_metadata && kept.metadata[0] == 0);
@@ -139,15 +151,17 @@ static fdb_op random_op(uint64_t number) {
     if (drawn(30) == 0) return (fdb_op){.kind = FDB_OP_POP};
     if (drawn(8) == 0) return (fdb_op){.kind = FDB_OP_WINDOW, .amount = drawn(12000000)};
     uint64_t count = drawn(10) ? 1 + drawn(30) : drawn(200002);
-    return (fdb_op){.kind = FDB_OP_OFFER, .amount = count, .payload = number, .priority = (uint8_t)drawn(4)};
+    uint8_t priority = (uint8_t)drawn(4);
+    return (fdb_op){count, number, FDB_OP_OFFER, priority};
 }
 
 static uint8_t done(fdb_queue *queue, const fdb_op *op, fdb_outcome *outcome, fdb_request *started) {
     if (op->kind == FDB_OP_OFFER) {
-        fdb_request request = {.count = op->amount, .payload = op->payload, .priority = op->priority};
+        fdb_request request = {op->amount, op->payload, op->priority};
         return fdb_queue_offer(queue, &request, outcome);
     }
-    if (op->kind == FDB_OP_WINDOW) return fdb_queue_window(queue, op->amount, outcome, started, ROOM);
+    if (op->kind == FDB_OP_WINDOW)
+        return fdb_queue_window(queue, op->amount, outcome, started, ROOM);
     fdb_queue_pop(queue, outcome);
     return FDB_OK;
 }
@@ -174,10 +188,12 @@ static void queues_agree(size_t calls) {
     fdb_queue_free(&queue);
     assert(queue.at == NULL);
     if (calls >= 1000) {
-        assert(counts[FDB_OK] && counts[FDB_BAD_OP] && counts[FDB_BAD_CONFIG] && counts[FDB_BAD_COUNT]);
-        assert(counts[FDB_FULL] && pushed && size > 1);
+        assert(counts[FDB_OK] && counts[FDB_BAD_OP] && counts[FDB_BAD_CONFIG]);
+        assert(counts[FDB_BAD_COUNT] && counts[FDB_FULL] && pushed && size > 1);
         uint64_t needed = 0;
-        assert(fdb_queue_outcomes(&config, ops, calls, all, calls, started, size - 1, &needed) == FDB_ROOM);
+        uint8_t status =
+            fdb_queue_outcomes(&config, ops, calls, all, calls, started, size - 1, &needed);
+        assert(status == FDB_ROOM);
         assert(needed == size);
     }
     free(ops);
@@ -186,13 +202,15 @@ static void queues_agree(size_t calls) {
 }
 
 static void queue_by_hand(void) {
-    fdb_queue_config bad = {.normal = 0, .batch = 0, .room = 1}, config = {.normal = 10, .batch = 0, .room = 2};
+    fdb_queue_config bad = {.normal = 0, .batch = 0, .room = 1};
+    fdb_queue_config config = {.normal = 10, .batch = 0, .room = 2};
     fdb_queue queue = FDB_QUEUE_NONE;
     fdb_outcome outcome;
     fdb_request started[2];
     assert(fdb_queue_new(&bad, &queue) == FDB_BAD_CONFIG && queue.at == NULL);
     assert(fdb_queue_new(&config, &queue) == FDB_OK);
-    fdb_request first = {.count = 5, .payload = 1, .priority = FDB_DEFAULT}, second = first, batch = first;
+    fdb_request first = {.count = 5, .payload = 1, .priority = FDB_DEFAULT};
+    fdb_request second = first, batch = first;
     second.payload = 2;
     batch.priority = FDB_BATCH;
     assert(fdb_queue_offer(&queue, &batch, &outcome) == FDB_BATCH_THROTTLED);
@@ -215,6 +233,32 @@ static void queue_by_hand(void) {
     fdb_queue_free(&queue);
 }
 
+static void waits_and_throttles_by_hand(void) {
+    fdb_queue_config config = {.normal = 10, .batch = 0, .room = 2};
+    fdb_queue queue = FDB_QUEUE_NONE;
+    fdb_outcome outcome;
+    fdb_request request = {.count = 30, .payload = 1, .priority = FDB_DEFAULT};
+    uint64_t windows = 17;
+    assert(fdb_queue_new(&config, &queue) == FDB_OK);
+    assert(!fdb_queue_waits(&queue, 1000000, &windows) && windows == 17);
+    assert(fdb_queue_offer(&queue, &request, &outcome) == FDB_OK);
+    /* 20 transactions more than a window lets start; it grants 5 in each second */
+    assert(fdb_queue_waits(&queue, 1000000, &windows) && windows == 4);
+    assert(!fdb_queue_waits(&queue, 0, &windows));
+    const uint8_t tag[17] = "a long tag of 17";
+    fdb_limit limit = {.rate = 17};
+    assert(fdb_queue_set_throttle(&queue, FDB_DEFAULT, tag, 16, 9, 50) == FDB_OK);
+    assert(fdb_queue_set_throttle(&queue, FDB_DEFAULT, tag, 17, 9, 50) == FDB_TAG_TOO_LONG);
+    assert(fdb_queue_set_throttle(&queue, 3, tag, 17, 9, 50) == FDB_BAD_OP);
+    assert(fdb_queue_throttle(&queue, 3, tag, 16, 49, &limit) == FDB_BAD_OP && limit.rate == 17);
+    assert(fdb_queue_throttle(&queue, FDB_DEFAULT, tag, 16, 49, &limit) == FDB_OK);
+    assert(limit.holds && limit.rate == 9 && limit.expires == 50);
+    assert(fdb_queue_throttle(&queue, FDB_DEFAULT, tag, 16, 50, &limit) == FDB_OK && !limit.holds);
+    assert(fdb_queue_throttle(&queue, FDB_BATCH, tag, 16, 49, &limit) == FDB_OK && !limit.holds);
+    assert(fdb_queue_throttle(&queue, FDB_DEFAULT, tag, 15, 49, &limit) == FDB_OK && !limit.rate);
+    fdb_queue_free(&queue);
+}
+
 int main(int count, char **words) {
     size_t calls = count > 1 ? strtoull(words[1], NULL, 10) : 20000;
     state = count > 2 ? strtoull(words[2], NULL, 10) : 7;
@@ -223,6 +267,7 @@ int main(int count, char **words) {
     chains_agree(calls);
     register_by_hand();
     queue_by_hand();
+    waits_and_throttles_by_hand();
     queues_agree(calls);
     puts("ok");
     return 0;

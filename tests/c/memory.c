@@ -47,7 +47,8 @@ static uint8_t chain_bears(long allowed) {
             left = -1;
             status = fdb_chain_ask(&chain, &ask, &answer);
         }
-        assert(status == FDB_OK && answer.fresh && answer.ordinal == i && answer.version == 200 + 10 * i);
+        assert(status == FDB_OK && answer.fresh && answer.ordinal == i);
+        assert(answer.version == 200 + 10 * i);
     }
     left = -1;
     fdb_chain_free(&chain);
@@ -83,7 +84,11 @@ static uint8_t queue_bears(long allowed) {
         status = fdb_queue_window(&queue, 1000000, &outcome, started, OFFERS);
     }
     assert(status == FDB_OK && outcome.started == OFFERS);
-    for (uint64_t i = 0; i < OFFERS; i++) assert(started[i].payload == (i < OFFERS / 2 ? 2 * i : 2 * (i - OFFERS / 2) + 1));
+    /* system requests first, whose payloads are even */
+    for (uint64_t i = 0; i < OFFERS / 2; i++) {
+        assert(started[i].payload == 2 * i);
+        assert(started[OFFERS / 2 + i].payload == 2 * i + 1);
+    }
     left = -1;
     fdb_queue_free(&queue);
     return worst;
@@ -92,11 +97,13 @@ static uint8_t queue_bears(long allowed) {
 static uint8_t arrays_bear(long allowed) {
     fdb_ask asks[ASKS];
     fdb_answer answers[ASKS];
-    for (uint64_t i = 0; i < ASKS; i++) asks[i] = (fdb_ask){.num = i + 1, .processed = i, .at = i, .proxy = 0};
+    for (uint64_t i = 0; i < ASKS; i++)
+        asks[i] = (fdb_ask){.num = i + 1, .processed = i, .at = i, .proxy = 0};
     left = allowed;
     uint8_t status = fdb_chain_answers(100, 200, 1, asks, ASKS, answers, ASKS);
     left = -1;
-    assert(status == FDB_MEMORY || (status == FDB_OK && answers[ASKS - 1].version == 200 + ASKS - 1));
+    assert(status == FDB_MEMORY || status == FDB_OK);
+    assert(status == FDB_MEMORY || answers[ASKS - 1].version == 200 + ASKS - 1);
     return status;
 }
 

@@ -2,9 +2,9 @@
 //! register and the queue of a GRV proxy.
 //!
 //! `include/fdb_read_version.h` declares what is exported here. A chain and a queue are used by a
-//! *handle*, a struct of the caller's that has one pointer and owns what it points to, or by arrays:
-//! all requests in, all answers out. The clauses say what those of `fdb_chain`, `fdb_history` and
-//! `fdb_queue` say, over the structs that cross.
+//! *handle*, a struct of the caller's that has one pointer and owns what it points to, or by
+//! arrays: all requests in, all answers out. The clauses say what those of `fdb_chain`,
+//! `fdb_history` and `fdb_queue` say, over the structs that cross.
 #![tactic(auto)]
 
 mod chain;

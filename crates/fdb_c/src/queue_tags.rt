@@ -172,7 +172,8 @@ pub extern "C" fn fdb_queue_throttle(
     limit: &mut FdbLimit,
 ) -> u8
     requires { IsSome queue.old.queue }
-    ensures found { (result ≡ FDB_OK) → IfSome queue.old.queue (λ before. IfSome (priority_of priority)
+    ensures found { (result ≡ FDB_OK) → IfSome queue.old.queue
+        (λ before. IfSome (priority_of priority)
         (λ it. limit.new ≡ limit_shown (limits_of before.throttles it at (tag.now ∷ [])))) }
     ensures bad_op { (result ≡ FDB_BAD_OP) ↔ IsNone (priority_of priority) }
     ensures untouched { (result ≡ FDB_OK → ⊥) → limit.new ≡ limit.old }

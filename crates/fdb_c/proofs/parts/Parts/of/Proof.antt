@@ -26,7 +26,7 @@ use denote.Triple.Spec.{triple_of}
 use denote.Triple.Call.{calls_at}
 use denote.Triple.Table.{framed}
 use denote.Triple.Walked.{Stays, stay_dropped, walk_of}
-use Rattle.core.proofs.alloc.Calls.{Al, Goes-blank, handle_tells}
+use Rattle.core.proofs.alloc.Calls.{Goes-blank, handle_tells}
 use Rattle.std_alloc.specs.Box.Ownership.{box_owns}
 use Rattle.std_alloc.proofs.BoxSteps.Form as box
 use Rattle.std_alloc.proofs.BoxSteps.Steps.{box_out, box_in}
