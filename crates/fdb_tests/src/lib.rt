@@ -16,6 +16,8 @@ mod chain;
 #[cfg(test)]
 mod line;
 #[cfg(test)]
+mod logs;
+#[cfg(test)]
 mod queue;
 #[cfg(test)]
 mod refused_memory;
