@@ -6,6 +6,7 @@ use Rattle.fdb_live.specs.Seen.{Origin}
 use Rattle.fdb_queue.specs.Config.{IsConfig, IsElapsed}
 use Rattle.fdb_queue.specs.Throttles.{is_throttle}
 use Rattle.fdb_client.specs.declared.cluster.ClusterConfig.{ClusterConfig}
+use Rattle.fdb_client.specs.declared.cluster.TheConstants.{MAX_GRV_PROXIES}
 
 -- Each member is within its limits.
 pub record IsClusterConfig (config : ClusterConfig) : Type 0 where
@@ -13,7 +14,7 @@ pub record IsClusterConfig (config : ClusterConfig) : Type 0 where
   pub start : config.start.min_known ≤ config.start.version
   pub clients : IsProxyCount config.clients
   pub some_proxy : 0 < config.grv_proxies
-  pub few_proxies : config.grv_proxies ≤ 16
+  pub few_proxies : config.grv_proxies ≤ MAX_GRV_PROXIES
   pub queue : IsConfig config.queue
   pub throttles : IsTrue (list_all is_throttle config.throttles.now)
   pub elapsed : IsElapsed config.elapsed

@@ -12,7 +12,7 @@ ghost use Rattle.fdb_history.specs.Strays.{issued_under};
 ghost use Rattle.fdb_live.specs.Seen.{IsBounded, IsNotBehind, last_record, own_positions};
 
 use crate::error::ClientError;
-use crate::exchange::Mark;
+use crate::exchange::RequestId;
 use crate::journal::Journal;
 use crate::read::ReadVersion;
 use crate::{exchange, reply};
@@ -148,11 +148,11 @@ impl<'a, J: Live> Client<'a, J> {
         self.journal.reserve()?;
         let logged = opts.clone()?;
         let (reply, answers) = crossbeam_channel::bounded(self.alloc, 1)?;
-        let own = Mark::next(self.id, &self.journal, &self.seen);
+        let own = RequestId::next(self.id, &self.journal, &self.seen);
         let told = self.live.split(&mut self.seen);
         let request = own.request(told, opts, reply);
         let answer = exchange::answer_to(rt, gate, desk, request, answers);
-        match answer.and_then(|answer| exchange::judge(own, answer)) {
+        match answer.and_then(|answer| exchange::reply_to(own, answer)) {
             Ok(reply) => reply::take_reply(
                 rt,
                 self.live,

@@ -15,6 +15,9 @@ use fdb_queue::{GrvQueue, QueueConfig, QueueError, Throttle};
 use std::alloc::{AllocError, Global};
 use std::sync::Wait;
 
+/// The most GRV proxies that a cluster may have.
+pub const MAX_GRV_PROXIES: u32 = 16;
+
 /// What a cluster is made with.
 #[derive(Clone, Copy, Debug, PartialEq, Eq)]
 pub struct ClusterConfig<'c> {
@@ -23,9 +26,10 @@ pub struct ClusterConfig<'c> {
     /// The live committed version before any report. Its version is the first commit version, and
     /// its minimum known committed version is not above that.
     pub start: Record,
-    /// The number of clients, 1 to 64. There is a commit proxy for each.
+    /// The number of clients, 1 to [`MAX_REPORTERS`](fdb_live::MAX_REPORTERS). There is a commit
+    /// proxy for each.
     pub clients: u32,
-    /// The number of GRV proxies, 1 to 16.
+    /// The number of GRV proxies, 1 to [`MAX_GRV_PROXIES`].
     pub grv_proxies: u32,
     /// What the queue of each GRV proxy is made with.
     pub queue: QueueConfig,

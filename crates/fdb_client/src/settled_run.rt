@@ -6,6 +6,7 @@ ghost use Rattle.fdb_history.specs.Chain.{IsChain};
 ghost use Rattle.fdb_history.specs.Faults.{IsFaultless, changes_in};
 ghost use Rattle.fdb_history.specs.Laws.{HaveMinimaWithin};
 ghost use Rattle.fdb_history.specs.Linear.{IsLinear};
+ghost use Rattle.fdb_live.specs.declared.opened.TheConstants.{MAX_REPORTERS};
 
 use crate::cluster::Cluster;
 use crate::finishing::Finished;
@@ -29,7 +30,7 @@ pub struct SettledRun {
     pub chain: Vec<Issued>,
     /// How many reports changed the record.
     pub changes: u64,
-    pub ghost few: { length logs.items ≤ 64 },
+    pub ghost few: { length logs.items ≤ MAX_REPORTERS },
     pub ghost faultless: { IsFaultless start logs.items },
     pub ghost counted: { changes ≡ length (changes_in logs.items) },
 }

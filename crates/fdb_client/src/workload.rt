@@ -6,6 +6,7 @@ ghost use Rattle.fdb_client.specs.Cluster.{IsClusterConfig};
 ghost use Rattle.fdb_client.specs.Settling.{AreNew};
 ghost use Rattle.fdb_history.specs.Chain.{IsChain};
 ghost use Rattle.fdb_history.specs.Laws.{HaveMinimaWithin};
+ghost use Rattle.fdb_live.specs.declared.opened.TheConstants.{MAX_REPORTERS};
 
 use crate::client::Client;
 use crate::cluster::{Cluster, ClusterConfig};
@@ -176,7 +177,7 @@ pub fn clients_of<'a, J: Live>(
     live: &'a LiveRecord<J>,
     tokens: Vec<Seen<J>>,
 ) -> Result<Vec<Client<'a, J>>, AllocError>
-    requires few { vec_len tokens ≤ 64 }
+    requires few { vec_len tokens ≤ MAX_REPORTERS }
     requires tokens { (k : ℕ) → k < vec_len tokens
         → slice_get tokens.items k ≡ Some (record { reporter = Some k; changes = [] }) }
     ensures count { IfOk result (λ clients. vec_len clients ≡ vec_len tokens) }

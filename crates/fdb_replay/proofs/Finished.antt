@@ -74,7 +74,3 @@ numbers_kept before after same have k client is =
     sym was.2 ∙ have k was.0 was.1
 
 -- ---- what they leave
-
-pub all_yielded : {X : Type 0} (yielded rest all : List X) → length rest ≡ 0 → yielded ++ rest ≡ all → yielded ≡ all
-all_yielded yielded [] all none whole = sym (append-nil yielded) ∙ whole
-all_yielded yielded (x ∷ rest) all none whole = absurd (omega (arith, none))

@@ -13,16 +13,6 @@ use Rattle.fdb_replay.specs.declared.replaying.ReplayFault.TheVariants.{Write}
 use Rattle.fdb_script.specs.Plan.{Plan}
 use Rattle.fdb_script.specs.Reading.{ReadsAs}
 
--- writing fails only where there is a script
-pub write_refused : {T : Type 0} (written : Result T ReplayFault) (bytes : List ℕ) (plan : Plan) → ReadsAs bytes (Ok plan) → IfErr written (λ fault. fault ≡ Write) → IfErr written (Refuses bytes)
-write_refused (Ok done) bytes plan read is = tt
-write_refused (Err fault) bytes plan read is = subst (Refuses bytes) (sym is) (plan, read)
-
--- what holds of a failed writing holds where writing failed
-pub where_write_fails : {T : Type 0} (written : Result T ReplayFault) (P : Type 0) → OnErr written P → IfErr written (λ fault. fault ≡ Write → P)
-where_write_fails (Ok done) P fact = tt
-where_write_fails (Err fault) P fact = λ is. fact
-
 pub replayed_whole : (script : Option Text) (with_history : Bool) (remaining before between after : Option (List ℕ)) (bytes : List ℕ) → length bytes ≤ MAX_SCRIPT_BYTES → MayBeRead script remaining bytes
     → (written : List ℕ) → Replays bytes with_history written → Appends before between written → Keeps between after → Replayed script with_history remaining before after
 replayed_whole script with_history remaining before between after bytes few read written replays appended kept = record {
