@@ -181,6 +181,12 @@ register_after-known start (Report client call rec raised changed ∷ events) =
 abbrev newer : Record → Record → Record
 newer current rec = cond (raises current rec) rec current
 
+-- the newest record, of a first one and the reports
+abbrev newest : Record → List Event → Record
+newest start [] = start
+newest start (Read client call rec ∷ events) = newest start events
+newest start (Report client call rec raised changed ∷ events) = newest (newer start rec) events
+
 newer-at_least : (current rec : Record) → current.version ≤ (newer current rec).version
 newer-at_least current rec = (version-at_least current rec).0
 
