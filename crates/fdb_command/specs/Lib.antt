@@ -1,5 +1,5 @@
 pub mod Arguments
 pub mod Input
 pub mod Output
-pub mod Program
+pub mod Driving
 pub mod private

@@ -7,8 +7,9 @@ ghost use Rattle.clap.specs.Faults.{is_simple_and_free};
 ghost use Rattle.clap.specs.Words.{Text, app_of};
 ghost use Rattle.fdb_command.specs.Arguments.{AreMatches, AreTaken, AreWrong, ReadsInput};
 ghost use Rattle.fdb_command.specs.Input.{TakesAtMost};
-ghost use Rattle.fdb_command.specs.Program.{IsBegun, IsDone, IsWritten, MayFind, MayRefuse};
-ghost use Rattle.fdb_command.specs.Program.{IsPrinted};
+ghost use Rattle.fdb_command.specs.private.Asked.{Ask};
+ghost use Rattle.fdb_command.specs.Driving.{IsBegun, IsDone, IsWritten, MayFind, MayRefuse};
+ghost use Rattle.fdb_command.specs.Driving.{IsPrinted};
 ghost use Rattle.fdb_command.specs.Output.{TakesSome};
 ghost use Rattle.std.specs.Io.KnownBytes.{Appends};
 
@@ -129,15 +130,67 @@ fn carry_out<R: Files, P: Program<R>, I: Read, O: Write>(
         Ok(arguments) => arguments,
         Err(error) => return Err(Fault::from(ArgumentsFault::from(error))),
     };
-    let Ok(command) = program.command(alloc) else {
-        return Err(Fault::Memory);
-    };
-    match parse(command, &arguments)? {
+    match asked::<R, P>(program, alloc, &arguments)? {
         Invocation::Help(help) => match show(&help, out) {
             Ok(()) => Ok(()),
             Err(_) => Err(Fault::Writing),
         },
-        Invocation::Input(matches) => put(answer_of(program, rt, alloc, &matches, input)?, out),
+        Invocation::Input(matches) => run_on(program, rt, alloc, &matches, input, out),
+    }
+}
+
+/// What the arguments of the program's command ask for.
+fn asked<'a, R, P: Program<R>>(
+    program: &P,
+    alloc: Global,
+    arguments: &'a [String],
+) -> Result<Invocation<'a>, ArgumentsFault>
+    ensures ok { IfOk result (Ask P.promise.app (map string_bytes arguments.entry.now)) }
+    ensures err { IfErr result (λ fault. fault ≡ ArgumentsFault.Refused
+        → AreWrong P.promise.app (map string_bytes arguments.entry.now)) }
+{
+    match program.command(alloc) {
+        Ok(command) => parse(command, arguments),
+        Err(_) => Err(ArgumentsFault::Memory),
+    }
+}
+
+/// Has the program run on what the arguments name, and writes its text.
+fn run_on<R: Files, P: Program<R>, I: Read, O: Write>(
+    program: &P,
+    rt: &R,
+    alloc: Global,
+    matches: &ArgMatches<'_>,
+    input: &mut I,
+    out: &mut O,
+) -> Result<(), Fault<P::Refusal, P::Finding>>
+    requires { (arguments : List Text) × AreMatches P.promise.app arguments matches.now }
+    ensures done { (arguments : List Text) → AreMatches P.promise.app arguments matches.now
+        → OnOk result (IsWritten P.promise arguments (I.remaining input.old) None
+        (O.contents out.old) (O.contents out.new)) }
+    ensures refused { (arguments : List Text) → AreMatches P.promise.app arguments matches.now
+        → IfErr result (λ fault. (name : _) (error : P.Refusal) → fault ≡ Fault.Refused name error
+        → MayRefuse P.promise arguments (I.remaining input.old)) }
+    ensures faulty { (arguments : List Text) → AreMatches P.promise.app arguments matches.now
+        → IfErr result (λ fault. (found : P.Finding) → fault ≡ Fault.Found found
+        → ((out.new ≡ out.old) × MayFind P.promise arguments (I.remaining input.old))
+        ⊎ ((found : P.Finding) × IsWritten P.promise arguments (I.remaining input.old) (Some found)
+        (O.contents out.old) (O.contents out.new))) }
+    ensures own { IfErr result (λ fault. fault ≢ Fault.Arguments) }
+    ensures unwritten { IfErr result (λ fault.
+        ((name : _) × (error : P.Refusal) × (fault ≡ Fault.Refused name error))
+        ⊎ (fault ≡ Fault.Memory) → out.new ≡ out.old) }
+    ensures begun { (arguments : List Text) → AreMatches P.promise.app arguments matches.now
+        → OnErr result ((out.new ≡ out.old) ⊎ IsBegun P.promise arguments (I.remaining input.old)
+        (O.contents out.old) (O.contents out.new)) }
+    ensures left { (arguments : List Text) → AreMatches P.promise.app arguments matches.now
+        → (ReadsInput P.promise.app arguments → ⊥) → input.new ≡ input.old }
+    ensures few { TakesAtMost (P.promise.most + 1)
+        (I.remaining input.old) (I.remaining input.new) }
+{
+    match answer_of(program, rt, alloc, matches, input) {
+        Ok(answer) => put(answer, out),
+        Err(fault) => Err(fault),
     }
 }
 
@@ -179,8 +232,7 @@ fn put<E: Debug + Display + Drop, F: Debug + Display + Drop, W: Write>(
     ensures found { IfErr result (λ fault. (found : F) → fault ≡ Fault.Found found
         → (answer.found ≡ Some found)
         × Appends (W.contents out.old) (W.contents out.new) answer.text.items) }
-    ensures begun { IfErr result (λ fault. fault ≡ Fault.Writing
-        → Appends (W.contents out.old) (W.contents out.new) answer.text.items
+    ensures begun { OnErr result (Appends (W.contents out.old) (W.contents out.new) answer.text.items
         ⊎ TakesSome answer.text.items (W.contents out.old) (W.contents out.new)) }
     ensures kinds { IfErr result (λ fault. (fault ≡ Fault.Writing)
         ⊎ ((found : F) × (fault ≡ Fault.Found found))) }

@@ -10,8 +10,9 @@ mod input;
 mod output;
 mod program;
 
-pub use arguments::{command_line, file_argument, flag_argument, is_given, new_command, number};
-pub use arguments::number_argument;
+pub use arguments::{
+    command_line, file_argument, flag_argument, is_given, new_command, number, number_argument,
+};
 pub use driving::drive;
 pub use fault::Fault;
 pub use output::{OutputFault, write_whole};

@@ -4,7 +4,7 @@ ghost use Rattle.std.specs.Prelude.{◌≡◌, List, IfOk, IfErr, true};
 ghost use Rattle.clap.specs.Faults.{is_simple_and_free};
 ghost use Rattle.clap.specs.Words.{Text, app_of};
 ghost use Rattle.fdb_command.specs.Arguments.{AreMatches};
-ghost use Rattle.fdb_command.specs.Program.{Promise, Stops};
+ghost use Rattle.fdb_command.specs.Driving.{Promise, Stops};
 
 use crate::fault::Fault;
 use clap::{ArgMatches, Command};
