@@ -19,7 +19,7 @@ use std::{env, io};
 
 /// Why arguments ask for nothing.
 #[derive(Clone, Copy, Debug, PartialEq, Eq)]
-pub enum ArgumentsFault {
+pub(crate) enum ArgumentsFault {
     /// They are refused, or could not be had.
     Refused,
     /// There was no memory to read them.
