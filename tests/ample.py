@@ -10,8 +10,8 @@ from edits import crates
 from harness import ROOT
 
 LIBRARIES = (
-    "fdb_history", "fdb_chain", "fdb_live", "fdb_queue", "fdb_proxy", "fdb_client", "fdb_script",
-    "fdb_replay",
+    "fdb_history", "fdb_chain", "fdb_live", "fdb_queue", "fdb_proxy", "fdb_client", "fdb_command",
+    "fdb_script", "fdb_replay",
 )
 # The errors of the standard library for memory, and those of a library that may be for memory.
 ALLOC = {"AllocError", "AllocFailed"}

@@ -7,7 +7,10 @@ pub mod Reasons
 pub mod Findings
 pub mod Text
 pub mod Judged
-pub mod Arguments
-pub mod Faulty
+pub mod Program
 pub mod private
+pub use Rattle.fdb_command.specs.Arguments
+pub use Rattle.fdb_command.specs.Driving
+pub use Rattle.fdb_command.specs.Input
+pub use Rattle.fdb_command.specs.Output
 pub use Rattle.fdb_history.specs.Audit

@@ -2,4 +2,3 @@ pub mod Seen
 pub mod Reasons
 pub mod Findings
 pub mod Strays
-pub mod Asked

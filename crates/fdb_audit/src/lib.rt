@@ -6,29 +6,28 @@
 //! `specs/WorkedOut.antt` says, and [`fdb_history::audit`] judges the logs that come of it.
 #![tactic(auto)]
 
-mod arguments;
 mod chain;
 mod changers;
-mod driving;
 mod error;
 mod explaining;
 mod finding;
 mod judging;
 pub mod laws;
 mod listing;
+mod program;
 mod reading;
 mod reason;
 mod seen;
 mod trace;
 mod worked_out;
 
-pub use driving::{Fault, drive};
 pub use error::TraceError;
 pub use explaining::explain;
-pub use fdb_command::command_line;
+pub use fdb_command::{Fault, command_line, drive};
 pub use finding::Finding;
 pub use judging::{Judgement, Wanted, judge};
 pub use listing::register_faults;
+pub use program::Audit;
 pub use reading::read_trace;
 pub use reason::{CallPlace, Live, Reason};
 pub use trace::{Drawn, MAX_TRACE_BYTES, MAX_TRACE_CLIENTS, Step, Trace};

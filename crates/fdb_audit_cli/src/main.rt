@@ -5,6 +5,7 @@ use std::process::ExitCode;
 
 fn main(rt: HostRuntime) -> ExitCode {
     ExitCode::from(fdb_audit::drive(
+        &fdb_audit::Audit,
         &rt,
         rt.alloc(),
         fdb_audit::command_line(&rt),

@@ -17,7 +17,7 @@ const PIECE: usize = 65_536;
 
 /// Why the bytes of an input could not be had.
 #[derive(Clone, Copy, Debug, PartialEq, Eq)]
-pub enum InputFault {
+pub(crate) enum InputFault {
     /// They could not be read, or are too many.
     Reading,
     /// Memory was refused.
@@ -50,7 +50,7 @@ impl From<io::Error> for InputFault {
 
 /// All bytes of the file that is named, or else of the input, if there are no more than `most`.
 /// One byte more is taken from the input at the most, and none where a file is named.
-pub fn input_bytes<R: Files, I: Read>(
+pub(crate) fn input_bytes<R: Files, I: Read>(
     rt: &R,
     alloc: Global,
     file: Option<&str>,

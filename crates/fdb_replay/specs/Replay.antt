@@ -26,10 +26,6 @@ Refuses bytes (Script error) = ReadsAs bytes (Err error)
 Refuses bytes (Run fault) = (plan : Plan) × ReadsAs bytes (Ok plan) × Fails plan fault
 Refuses bytes Write = (plan : Plan) × ReadsAs bytes (Ok plan)
 
--- These bytes stand for no script. (that memory was refused says nothing of them)
-abbrev pub IsRefused : List ℕ → Type 0
-IsRefused bytes = (error : ScriptError) × (error ≢ Memory) × ReadsAs bytes (Err error)
-
 -- A writer took some of the text of a run of the script that
 -- these bytes stand for, and not all of it.
 pub record IsCut

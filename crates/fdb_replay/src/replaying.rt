@@ -63,7 +63,7 @@ pub fn replay<R: Threads + Wait + Sync, G: Gate, W: Write>(
 }
 
 /// The text of a run of the script that these bytes stand for.
-fn replayed_text<R: Threads + Wait + Sync, G: Gate>(
+pub(crate) fn replayed_text<R: Threads + Wait + Sync, G: Gate>(
     rt: &R,
     alloc: Global,
     bytes: &[u8],

@@ -5,7 +5,7 @@ ghost use Rattle.std.specs.Prelude.{◌<◌, ◌≤◌, IfOk};
 ghost use Rattle.fdb_script.specs.Answering.{Answers};
 
 use fdb_history::{Gate, OpenGate};
-use fdb_replay::{ReplayFault, RunFault, drive, replay, run};
+use fdb_replay::{Replay, ReplayFault, RunFault, drive, replay, run};
 use fdb_script::{Outcome, Script, ScriptError, read_script, text};
 use std::alloc::Global;
 use std::fs::Files;
@@ -82,7 +82,7 @@ pub(crate) fn drives<R: Threads + Wait + Sync + Files, I: Read, O: Write, E: Wri
     out: &mut O,
     err: &mut E,
 ) -> u8 {
-    drive(rt, alloc, arguments, input, out, err)
+    drive(&Replay, rt, alloc, arguments, input, out, err)
 }
 
 /// Whether a run through a gate leaves an outcome.
