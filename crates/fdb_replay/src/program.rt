@@ -2,6 +2,7 @@
 
 ghost use Rattle.std.specs.Prelude.{◌≡◌, ◌≢◌, ◌≤◌, List, IfOk, codes};
 ghost use Rattle.clap.specs.Words.{Text, app_of};
+ghost use Rattle.fdb_client.specs.declared.cluster.TheConstants.{MAX_GRV_PROXIES};
 ghost use Rattle.fdb_command.specs.Arguments.{AreMatches, is_set};
 ghost use Rattle.fdb_command.specs.Driving.{Stops};
 ghost use Rattle.fdb_replay.specs.Program.{command, replay};
@@ -104,7 +105,7 @@ fn proxies_of(matches: &ArgMatches) -> u32
     ensures named { (arguments : List Text) → AreMatches command arguments matches.now
         → result ≡ proxies_named arguments }
     ensures some_proxy { 1 ≤ result }
-    ensures few_proxies { result ≤ 16 }
+    ensures few_proxies { result ≤ MAX_GRV_PROXIES }
 {
     number(matches, "proxies").unwrap_or(1) as u32
 }
