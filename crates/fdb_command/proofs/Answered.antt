@@ -56,13 +56,13 @@ begun program arguments remaining told text before after printed (inl appended) 
 begun program arguments remaining told text before after printed (inr cut) = inr (told, inr (record { text = text; printed = printed; cut = cut }))
 
 -- a fault of writing or one that was found is no refusal, and no memory that ran out
+pub two_kinds : {E F : Type 0} (fault : Fault E F) → (fault ≡ Writing) ⊎ ((found : F) × (fault ≡ Found found))
+    → ((name : Bor (List ℕ)) × (error : E) × (fault ≡ Refused name error)) ⊎ (fault ≡ Memory) → ⊥
+two_kinds fault (inl writing) (inl (name, error, refused)) = cc
+two_kinds fault (inl writing) (inr memory) = cc
+two_kinds fault (inr (found, is)) (inl (name, error, refused)) = cc
+two_kinds fault (inr (found, is)) (inr memory) = cc
+
 pub no_stop : {E F T : Type 0} (r : Result T (Fault E F)) (P : Type 0) → IfErr r (λ fault. (fault ≡ Writing) ⊎ ((found : F) × (fault ≡ Found found)))
     → IfErr r (λ fault. ((name : Bor (List ℕ)) × (error : E) × (fault ≡ Refused name error)) ⊎ (fault ≡ Memory) → P)
 no_stop r P kinds = IfErr-weaker r _ _ (λ fault kind stop. absurd (two_kinds fault kind stop)) kinds
-  where
-    two_kinds : {E F : Type 0} (fault : Fault E F) → (fault ≡ Writing) ⊎ ((found : F) × (fault ≡ Found found))
-        → ((name : Bor (List ℕ)) × (error : E) × (fault ≡ Refused name error)) ⊎ (fault ≡ Memory) → ⊥
-    two_kinds fault (inl writing) (inl (name, error, refused)) = cc
-    two_kinds fault (inl writing) (inr memory) = cc
-    two_kinds fault (inr (found, is)) (inl (name, error, refused)) = cc
-    two_kinds fault (inr (found, is)) (inr memory) = cc

@@ -10,9 +10,9 @@ of_each (Ok value) P Q is = tt
 of_each (Err e) P Q is = λ q. is
 
 -- what holds in any case holds in both
-in_both : {T E : Type 0} (r : Result T E) (P : Type 0) (Q : E → Type 0) → P → MatchResult r (λ _. P) (λ e. Q e → P)
-in_both (Ok value) P Q is = is
-in_both (Err e) P Q is = λ q. is
+in_both : {T E : Type 0} (r : Result T E) (P : Type 0) (Q S : E → Type 0) → P → MatchResult r (λ _. P) (λ e. Q e → S e → P)
+in_both (Ok value) P Q S is = is
+in_both (Err e) P Q S is = λ q s. is
 
 pub returns-clause-done : goal.returns-clause-done
 returns-clause-done g c =
@@ -47,4 +47,5 @@ returns-clause-begun g c =
 pub returns-clause-asked : goal.returns-clause-asked
 returns-clause-asked g c =
     let arguments = map string_bytes c.in-Ok.arguments.items in
-    let matches : AreMatches g.P.Program.promise.app arguments c.in-Input.matches = rw (c.in-Input.is, c.deref.ensures.value) at c.in_ok-help.ensures.ok in ?
+    let matches : AreMatches g.P.Program.promise.app arguments c.in-Input.matches = rw (c.in-Input.is, c.deref.ensures.value) at c.in_ok-help.ensures.ok in
+    rw c.in-Ok.is (in_both c.run_on.result _ _ _ (inl matches.taken))
