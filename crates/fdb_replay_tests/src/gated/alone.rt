@@ -1,6 +1,6 @@
 //! A gate at which whoever has a lock looks for another in it.
 
-use crossbeam_utils::Backoff;
+use fdb_checks::stays_away;
 use fdb_history::{Gate, Place};
 use std::sync::atomic::{AtomicBool, Ordering};
 
@@ -58,12 +58,8 @@ impl Alone {
     fn look(&self, pair: &Pair, who: u32) {
         let (own, other) = pair.of(who);
         own.store(true, Ordering::SeqCst);
-        let pause = Backoff::new();
-        for _ in 0..LOOKS {
-            if other.load(Ordering::SeqCst) {
-                self.met.store(true, Ordering::SeqCst);
-            }
-            pause.snooze();
+        if !stays_away(LOOKS, || other.load(Ordering::SeqCst)) {
+            self.met.store(true, Ordering::SeqCst);
         }
         own.store(false, Ordering::SeqCst);
     }

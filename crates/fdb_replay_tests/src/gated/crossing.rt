@@ -1,11 +1,8 @@
 //! A gate where two clients have to cross.
 
-use crossbeam_utils::Backoff;
+use fdb_checks::comes;
 use fdb_history::{Gate, Place};
 use std::sync::atomic::{AtomicBool, Ordering};
-
-/// How often a thread looks whether another has come so far.
-const LOOKS: u32 = 1_000_000;
 
 /// Holds client 1 at its first answer until client 0 is in a lock, and holds that one there until
 /// client 1 passes another place: where its next answer has come, or in the other lock.
@@ -46,14 +43,9 @@ impl Crossing {
 
     /// Waits for a flag of its own, and notes a failure where it does not come.
     fn waits_for(&self, flag: &AtomicBool) {
-        let pause = Backoff::new();
-        for _ in 0..LOOKS {
-            if flag.load(Ordering::SeqCst) {
-                return;
-            }
-            pause.snooze();
+        if !comes(|| flag.load(Ordering::SeqCst)) {
+            self.failed.store(true, Ordering::SeqCst);
         }
-        self.failed.store(true, Ordering::SeqCst);
     }
 }
 

@@ -1,0 +1,15 @@
+//! What the crates of tests share: comparisons, lines of texts, tables of cases and gates. Where
+//! something is not as it should be, each answers a failure, which the test returns.
+#![tactic(auto)]
+
+mod compare;
+mod holding;
+mod line;
+mod table;
+mod waiting;
+
+pub use compare::{holds, same, same_text, says};
+pub use holding::HoldsFirst;
+pub use line::{Line, tag};
+pub use table::{Case, cases};
+pub use waiting::{comes, stays_away};
