@@ -2,12 +2,14 @@
 //! something is not as it should be, each answers a failure, which the test returns.
 #![tactic(auto)]
 
+mod case_error;
 mod compare;
 mod holding;
 mod line;
 mod table;
 mod waiting;
 
+pub use case_error::{CaseError, unless_refused};
 pub use compare::{holds, same, same_text, says};
 pub use holding::HoldsFirst;
 pub use line::{Line, tag};

@@ -1,7 +1,7 @@
 //! Calls of clients at a cluster. At moment 0 each version is one above the one before it.
 
 use crate::ample_memory::clusters::at_throttled;
-use crate::line::tag;
+use fdb_checks::tag;
 use fdb_client::{Client, Cluster, Workload};
 use fdb_history::{Ask, GrvOpts, OpenGate, Priority, Sequence, Tag};
 use fdb_live::Live;

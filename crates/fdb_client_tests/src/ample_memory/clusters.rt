@@ -5,7 +5,7 @@ ghost use Rattle.std.specs.List.{list_all};
 ghost use Rattle.fdb_queue.specs.Throttles.{is_throttle};
 
 use crate::ample_memory::calls::Calls;
-use crate::line::tag;
+use fdb_checks::tag;
 use fdb_client::{ClusterConfig, run_workload};
 use fdb_history::{AuditFault, MAX_VERSION, Priority, Record, Tag};
 use fdb_queue::{QueueConfig, Throttle};

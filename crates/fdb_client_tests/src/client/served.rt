@@ -5,16 +5,16 @@ ghost use Rattle.fdb_proxy.specs.Cause.{may_be_refused_for};
 
 use crate::client::Service;
 use crate::client::noting::Noting;
-use crate::same::holds;
 use crossbeam_channel::Sender;
+use fdb_checks::{CaseError, holds};
 use fdb_client::{Client, ClientError, ReadVersion};
 use fdb_history::{GrvOpts, Place, Sequence};
 use fdb_live::{Live, Seen};
 use fdb_proxy::{Answer, Cause, Desk, Refused, Reply, Request};
 use fdb_queue::QueueError;
 use std::alloc::AllocError;
-use std::process::Abort;
 use std::sync::Wait;
+use std::test::Fail;
 use std::thread;
 use std::thread::Threads;
 
@@ -89,13 +89,13 @@ impl Wanted {
 /// A client's read, while its desk is served in another thread. It leaves one request
 /// there, under the number of the calls before it, and with what the client has seen and
 /// was told to ask. It passes the gate once where an answer came, and else not at all.
-pub(crate) fn read_served<J: Live + Send + Sync, R: Threads + Wait + Abort + Sync>(
+pub(crate) fn read_served<J: Live + Send + Sync, R: Threads + Wait + Sync>(
     rt: &R,
     service: &Service<J>,
     served: &mut Seen<J>,
     client: &mut Client<'_, J>,
     reading: Reading,
-) -> Result<ReadVersion, ClientError> {
+) -> Result<Result<ReadVersion, ClientError>, CaseError> {
     let wanted = Wanted::of(client, &reading.opts)?;
     let Reading {
         aside,
@@ -110,14 +110,15 @@ pub(crate) fn read_served<J: Live + Send + Sync, R: Threads + Wait + Abort + Syn
         || serve(rt, service, desk, served, &wanted, way, whom),
         || client.read_version(rt, &gate, desk, opts),
     );
+    let answered = answered?;
     let left = desk.take(rt, false);
-    holds(rt, left.requests.is_empty(), &"one request is left");
-    gate.was_passed(rt, u64::from(answered), "passes of the gate");
-    found
+    holds(left.requests.is_empty(), &"one request is left")?;
+    gate.was_passed(u64::from(answered), "passes of the gate")?;
+    Ok(found)
 }
 
 /// Takes what comes to the desk first, and answers it. Says whether an answer was sent.
-fn serve<J: Live, R: Wait + Abort>(
+fn serve<J: Live, R: Wait>(
     rt: &R,
     service: &Service<J>,
     desk: &Desk<J>,
@@ -125,14 +126,14 @@ fn serve<J: Live, R: Wait + Abort>(
     wanted: &Wanted,
     way: Way,
     whom: Whom,
-) -> bool {
+) -> Result<bool, Fail> {
     let mut taken = desk.take(rt, true);
     let Some(request) = taken.requests.pop() else {
-        return false;
+        return Ok(false);
     };
-    holds(rt, wanted.is_met(&request.payload), &"the request");
-    holds(rt, taken.requests.is_empty(), &"one request");
-    answer(rt, service, served, addressed(request.payload, whom), way)
+    holds(wanted.is_met(&request.payload), &"the request")?;
+    holds(taken.requests.is_empty(), &"one request")?;
+    Ok(answer(rt, service, served, addressed(request.payload, whom), way))
 }
 
 /// A request as its answer has it.
