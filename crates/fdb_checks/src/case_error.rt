@@ -12,6 +12,16 @@ pub enum CaseError {
     Failed(Fail),
 }
 
+impl CaseError {
+    /// Passes a refusal of memory, and hands on a failure.
+    pub fn was_refusal(self) -> Result<(), Fail> {
+        match self {
+            CaseError::Memory => Ok(()),
+            CaseError::Failed(fail) => Err(fail),
+        }
+    }
+}
+
 impl From<AllocError> for CaseError {
     fn from(_error: AllocError) -> CaseError {
         CaseError::Memory
@@ -42,13 +52,5 @@ impl From<CaseError> for Fail {
             CaseError::Memory => Fail::new("want of memory"),
             CaseError::Failed(fail) => fail,
         }
-    }
-}
-
-/// Passes a case that came to its end or was refused memory.
-pub fn unless_refused(ended: Result<(), CaseError>) -> Result<(), Fail> {
-    match ended {
-        Err(CaseError::Failed(fail)) => Err(fail),
-        Ok(()) | Err(CaseError::Memory) => Ok(()),
     }
 }

@@ -9,7 +9,7 @@ mod line;
 mod table;
 mod waiting;
 
-pub use case_error::{CaseError, unless_refused};
+pub use case_error::CaseError;
 pub use compare::{holds, same, same_text, says};
 pub use holding::HoldsFirst;
 pub use line::{Line, tag};

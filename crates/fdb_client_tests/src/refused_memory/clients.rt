@@ -4,7 +4,7 @@ ghost use Rattle.std.specs.Prelude.{◌≡◌};
 
 use crate::client::{Case, Service, client_of, play, unlocked};
 use fdb_chain::ChainError;
-use fdb_checks::{CaseError, holds, same, tag, unless_refused};
+use fdb_checks::{CaseError, holds, same, tag};
 use fdb_client::{Client, ClientError, ReadVersion};
 use fdb_history::{GrvOpts, OpenGate, Priority, Sequence};
 use fdb_live::{Ack, Fetched, Live, Seen};
@@ -346,9 +346,9 @@ fn throttled_queue<J: Live>(alloc: Global) -> Result<GrvQueue<Request<J>>, Alloc
 #[test]
 fn a_client_bears_it(rt: HostRuntime) -> Result<(), Fail> {
     let once = Case::BeginEach { once: true };
-    match play(&rt, rt.alloc(), 6, 6, once) {
-        Err(CaseError::Memory) => play(&rt, rt.alloc(), 6, 6, once)?,
-        ended => ended?,
+    if let Err(error) = play(&rt, rt.alloc(), 6, 6, once) {
+        error.was_refusal()?;
+        play(&rt, rt.alloc(), 6, 6, once)?;
     }
     Ok(())
 }
@@ -357,5 +357,8 @@ fn a_client_bears_it(rt: HostRuntime) -> Result<(), Fail> {
 /// memory, or as ever.
 #[test]
 fn without_memory(rt: HostRuntime) -> Result<(), Fail> {
-    unless_refused(play(&rt, rt.alloc(), 6, 6, Case::BeginEach { once: false }))
+    if let Err(error) = play(&rt, rt.alloc(), 6, 6, Case::BeginEach { once: false }) {
+        error.was_refusal()?;
+    }
+    Ok(())
 }

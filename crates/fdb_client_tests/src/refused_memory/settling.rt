@@ -5,7 +5,7 @@ ghost use Rattle.std.specs.Prelude.{◌≡◌};
 use crate::client::{Service, unlocked};
 use crate::refused_memory::clients::Caller;
 use fdb_chain::{ChainCore, Sequencer};
-use fdb_checks::{CaseError, same, unless_refused};
+use fdb_checks::{CaseError, same};
 use fdb_client::{Client, settle};
 use fdb_live::{Ack, Live, LiveRecord, Opened, Seen};
 use fdb_proxy::Desk;
@@ -132,9 +132,9 @@ fn settled<J: Live, R: Wait>(
 /// Logs that are settled take no memory.
 #[test]
 fn settling_bears_it(rt: HostRuntime) -> Result<(), Fail> {
-    match settle_two(&rt, rt.alloc(), true) {
-        Err(CaseError::Memory) => settle_two(&rt, rt.alloc(), true)?,
-        ended => ended?,
+    if let Err(error) = settle_two(&rt, rt.alloc(), true) {
+        error.was_refusal()?;
+        settle_two(&rt, rt.alloc(), true)?;
     }
     Ok(())
 }
@@ -143,5 +143,8 @@ fn settling_bears_it(rt: HostRuntime) -> Result<(), Fail> {
 /// of memory, or the logs are settled as ever.
 #[test]
 fn without_memory(rt: HostRuntime) -> Result<(), Fail> {
-    unless_refused(settle_two(&rt, rt.alloc(), false))
+    if let Err(error) = settle_two(&rt, rt.alloc(), false) {
+        error.was_refusal()?;
+    }
+    Ok(())
 }

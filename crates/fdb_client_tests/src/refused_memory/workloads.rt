@@ -1,7 +1,6 @@
 //! A workload, and the cluster that it runs at.
 
 use crate::workload::commit_and_read;
-use fdb_checks::{CaseError, unless_refused};
 use std::alloc::Global;
 use std::sync::Wait;
 use std::test::Fail;
@@ -14,9 +13,9 @@ fn bears_it<R: Threads + Wait + Sync>(
     clients: u32,
     grv_proxies: u32,
 ) -> Result<(), Fail> {
-    match commit_and_read(rt, alloc, clients, grv_proxies) {
-        Err(CaseError::Memory) => commit_and_read(rt, alloc, clients, grv_proxies)?,
-        ended => ended?,
+    if let Err(error) = commit_and_read(rt, alloc, clients, grv_proxies) {
+        error.was_refusal()?;
+        commit_and_read(rt, alloc, clients, grv_proxies)?;
     }
     Ok(())
 }
@@ -38,5 +37,8 @@ fn a_workload_at_many_proxies_bears_it(rt: HostRuntime) -> Result<(), Fail> {
 /// Passes also where every allocation is refused from one on.
 #[test]
 fn without_memory(rt: HostRuntime) -> Result<(), Fail> {
-    unless_refused(commit_and_read(&rt, rt.alloc(), 2, 2))
+    if let Err(error) = commit_and_read(&rt, rt.alloc(), 2, 2) {
+        error.was_refusal()?;
+    }
+    Ok(())
 }
