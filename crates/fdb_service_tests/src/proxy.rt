@@ -22,10 +22,10 @@ use crate::proxy::long::answer_many;
 use crate::proxy::options::{Fate, close_each};
 use crate::proxy::refused::{run_refused, serve_refused};
 use crate::proxy::stand::Stand;
+use fdb_checks::CaseError;
 use fdb_live::{Live, LiveRecord, Opened};
-use std::alloc::{AllocError, Global};
+use std::alloc::Global;
 use std::marker::Brand;
-use std::process::Abort;
 use std::sync::Wait;
 use std::sync::atomic::AtomicU64;
 use std::thread::Threads;
@@ -65,39 +65,39 @@ pub(crate) enum Case<'a> {
 }
 
 /// Plays a case. It fails where memory is refused, and passes else.
-pub(crate) fn play<R: Threads + Wait + Abort + Sync>(
+pub(crate) fn play<R: Threads + Wait + Sync>(
     rt: &R,
     alloc: Global,
     case: Case<'_>,
-) -> Result<(), AllocError> {
+) -> Result<(), CaseError> {
     match LiveRecord::<Brand>::open(rt, alloc, unlocked(100), REPORTERS) {
         Ok(opened) => play_named::<Brand, R>(rt, alloc, opened, case),
-        Err(_) => Err(AllocError),
+        Err(_) => Err(CaseError::Memory),
     }
 }
 
 /// Plays a case under the name of the service.
-fn play_named<J: Live + Send + Sync, R: Threads + Wait + Abort + Sync>(
+fn play_named<J: Live + Send + Sync, R: Threads + Wait + Sync>(
     rt: &R,
     alloc: Global,
     opened: Opened,
     case: Case<'_>,
-) -> Result<(), AllocError>
+) -> Result<(), CaseError>
     requires { opened ≡ record { table = J.table; start = J.start; reporters = J.reporters } }
 {
     let Ok((live, seen, reporters)) = opened.parts::<J>() else {
-        return Err(AllocError);
+        return Err(CaseError::Memory);
     };
     let mut stand = Stand::new(alloc, live, seen, reporters);
     play_at(rt, &mut stand, case)
 }
 
 /// Plays a case at a desk.
-fn play_at<J: Live + Send + Sync, R: Threads + Wait + Abort + Sync>(
+fn play_at<J: Live + Send + Sync, R: Threads + Wait + Sync>(
     rt: &R,
     stand: &mut Stand<J>,
     case: Case<'_>,
-) -> Result<(), AllocError> {
+) -> Result<(), CaseError> {
     match case {
         Case::Lines(text) => play_lines(rt, stand, text),
         Case::Crowd => ask_all(rt, stand),

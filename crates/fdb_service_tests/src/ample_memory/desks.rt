@@ -2,10 +2,9 @@
 
 ghost use Rattle.std.specs.Prelude.{◌≡◌};
 
-use crate::ample_memory::Case;
-use crate::line::tag;
 use crate::live::steps::unlocked;
 use crate::proxy::stand::{Queue, Stand, Waiter, opts_of, queue_of, submit};
+use fdb_checks::{Case, tag};
 use fdb_history::{Priority, Tag};
 use fdb_live::{Live, LiveRecord, Opened};
 use fdb_proxy::{Answer, Cause, Desk, GrvProxy, serve_batch};

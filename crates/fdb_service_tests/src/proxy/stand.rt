@@ -6,8 +6,8 @@ use fdb_live::{Live, LiveRecord, Seen};
 use fdb_proxy::{Answer, Desk, GrvProxy, ProxyError, Request};
 use fdb_queue::{GrvQueue, QueueConfig, Req};
 use std::alloc::{AllocError, Global};
-use std::process::Abort;
 use std::sync::Wait;
+use std::test::Fail;
 
 /// The queue of a proxy.
 pub(crate) type Queue<J> = GrvQueue<Request<J>>;
@@ -77,12 +77,12 @@ impl<J: Live> Stand<J> {
     }
 
     /// A report by one of the reporters, and the position after it.
-    pub(crate) fn report<R: Wait + Abort>(&mut self, rt: &R, rec: Record) -> u64 {
-        let mut token = self.reporters.pop().expect(rt, "a reporter is left");
-        let who = token.reporter().expect(rt, "a reporter's token");
+    pub(crate) fn report<R: Wait>(&mut self, rt: &R, rec: Record) -> Result<u64, Fail> {
+        let mut token = self.reporters.pop().ok_or("no reporter is left")?;
+        let who = token.reporter().ok_or("a reporter's token is wanted")?;
         match self.live.report(rt, &OpenGate, who, &mut token, rec) {
-            Ok(ack) => ack.position,
-            Err(_) => 0,
+            Ok(ack) => Ok(ack.position),
+            Err(_) => Ok(0),
         }
     }
 }
