@@ -14,15 +14,11 @@ mod audits;
 #[cfg(test)]
 mod chain;
 #[cfg(test)]
-mod line;
-#[cfg(test)]
 mod queue;
 #[cfg(test)]
 mod refused_memory;
 #[cfg(test)]
 mod register;
-#[cfg(test)]
-mod same;
 #[cfg(test)]
 mod script;
 #[cfg(test)]

@@ -1,10 +1,9 @@
 //! Traces. Each line of a table is a text, or a part of one, and behind `=>` what is read of it: the
 //! error, or the version at the start, the issued versions with their clients, and the logs.
 
-use crate::same::same_text;
 use fdb_audit::{Trace, TraceError, read_trace};
+use fdb_checks::same_text;
 use std::alloc::{AllocError, Global};
-use std::process::Abort;
 use std::test::Fail;
 
 /// A trace, by a second call where memory is refused to the first.
@@ -36,20 +35,14 @@ fn read_text(alloc: Global, bytes: &[u8]) -> Result<String, AllocError> {
 }
 
 /// Reads the texts of a table, each with what stands before it and behind it.
-fn plays(
-    rt: &impl Abort,
-    alloc: Global,
-    before: &str,
-    table: &str,
-    behind: &str,
-) -> Result<(), Fail> {
+fn plays(alloc: Global, before: &str, table: &str, behind: &str) -> Result<(), Fail> {
     for line in table.lines() {
         let (text, wanted) = line
             .split_once(" => ")
             .unwrap_or((line, "a line with an arrow"));
         let text = format!(in alloc; "{before}{text}{behind}")?;
         let found = read_text(alloc, text.as_bytes())?;
-        same_text(rt, found.as_str(), wanted, line);
+        same_text(found.as_str(), wanted, line)?;
     }
     Ok(())
 }
@@ -111,22 +104,19 @@ const CALLS: &str =
 #[test]
 fn texts_and_their_traces(rt: HostRuntime) -> Result<(), Fail> {
     let alloc = rt.alloc();
-    plays(&rt, alloc, "", WHOLE, "")?;
+    plays(alloc, "", WHOLE, "")?;
     plays(
-        &rt,
         alloc,
         r#"{"start":7,"versions":["#,
         VERSIONS,
         r#"],"clients":[[],[]]}"#,
     )?;
     plays(
-        &rt,
         alloc,
         r#"{"start":0,"versions":[],"clients":["#,
         CALLS,
         "]}",
     )?;
     let no_text = read_text(alloc, b"\"\xff\"")?;
-    same_text(&rt, no_text.as_str(), "NotJson", "bytes that are no UTF-8");
-    Ok(())
+    same_text(no_text.as_str(), "NotJson", "bytes that are no UTF-8")
 }

@@ -49,5 +49,5 @@ event 0 none
 
 #[test]
 fn histories(rt: HostRuntime) -> Result<(), Fail> {
-    audits(&rt, rt.alloc(), "", HISTORIES)
+    audits(rt.alloc(), "", HISTORIES)
 }

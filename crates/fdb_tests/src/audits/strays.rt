@@ -188,6 +188,6 @@ const TEXTS: &[&str] = &[
 
 #[test]
 fn answers_that_are_not_justified(rt: HostRuntime) -> Result<(), Fail> {
-    audits_each(&rt, rt.alloc(), TEXTS)?;
-    audits(&rt, rt.alloc(), DRAWN, REPORTS)
+    audits_each(rt.alloc(), TEXTS)?;
+    audits(rt.alloc(), DRAWN, REPORTS)
 }

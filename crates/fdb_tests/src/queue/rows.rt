@@ -105,7 +105,7 @@ const TEXTS: &[&str] = &[RATES, HEAD, BURST, OFFERS, RANGES];
 #[test]
 fn offers_and_windows(rt: HostRuntime) -> Result<(), Fail> {
     for text in TEXTS {
-        play(&rt, rt.alloc(), text)?;
+        play(rt.alloc(), text)?;
     }
     Ok(())
 }

@@ -29,6 +29,6 @@ limits batch 0 abcdefghijklmnop abcdefghijklmnopq => 1, abcdefghijklmnop 1 1
 
 #[test]
 fn throttles_and_their_tags(rt: HostRuntime) -> Result<(), Fail> {
-    play(&rt, rt.alloc(), LIMITS)?;
-    play(&rt, rt.alloc(), TAGS)
+    play(rt.alloc(), LIMITS)?;
+    play(rt.alloc(), TAGS)
 }

@@ -1,7 +1,7 @@
 //! Traces.
 
-use crate::same::same;
 use crate::traces::trace_of;
+use fdb_checks::same;
 use std::test::Fail;
 
 /// A trace with each kind of call.
@@ -11,7 +11,6 @@ const TRACE: &[u8] = br#"{"start":100,"versions":[[100,0],[2100,0]],"clients":[
 #[test]
 fn a_trace_bears_it(rt: HostRuntime) -> Result<(), Fail> {
     let trace = trace_of(rt.alloc(), TRACE)?;
-    same(&rt, &trace.versions().len(), &2, &"the versions");
-    same(&rt, &trace.clients().len(), &2, &"the clients");
-    Ok(())
+    same(&trace.versions().len(), &2, &"the versions")?;
+    same(&trace.clients().len(), &2, &"the clients")
 }
