@@ -72,7 +72,7 @@ def tabled():
     """The calls in the tables of tests."""
     tables = [
         code for crate in crates() for code in sources(f"crates/{crate}/src")
-        if "const MANY: &str" in code
+        if "use fdb_checks::cases;" in code
     ]
     return {call for code in tables for names in LINE.findall(code) for call in names.split(", ")}
 
