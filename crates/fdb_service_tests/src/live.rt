@@ -66,7 +66,7 @@ impl<J: Live> Parts<J> {
     fn token_of(&mut self, number: u32) -> Result<Seen<J>, Fail> {
         for place in 0..self.tokens.len() {
             if self.tokens[place].reporter() == Some(number) {
-                return self.tokens.swap_remove(place);
+                return Ok(self.tokens.swap_remove(place));
             }
         }
         Err(Fail::new(format_args!("reporter {number} has no token left")))

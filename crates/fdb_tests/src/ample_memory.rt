@@ -95,7 +95,7 @@ GrvQueue::throttles | a moment before the last one | 0 few many 1844674407370955
 #[test]
 fn lists_have_memory(rt: HostRuntime) -> Result<(), Fail> {
     for case in cases(rt.alloc(), LISTS)? {
-        case.came_to(lists::called(.alloc(), case.calls, case.number))?;
+        case.came_to(lists::called(rt.alloc(), case.calls, case.number))?;
     }
     Ok(())
 }
@@ -103,7 +103,7 @@ fn lists_have_memory(rt: HostRuntime) -> Result<(), Fail> {
 #[test]
 fn audits_have_memory(rt: HostRuntime) -> Result<(), Fail> {
     for case in cases(rt.alloc(), AUDITS)? {
-        case.came_to(audits::called(.alloc(), case.of, case.number))?;
+        case.came_to(audits::called(rt.alloc(), case.of, case.number))?;
     }
     Ok(())
 }
@@ -111,7 +111,7 @@ fn audits_have_memory(rt: HostRuntime) -> Result<(), Fail> {
 #[test]
 fn chains_have_memory(rt: HostRuntime) -> Result<(), Fail> {
     for case in cases(rt.alloc(), CHAINS)? {
-        let found = chains::called(rt.alloc(), case.calls, case.number);
+        let found = chains::called(&rt, rt.alloc(), case.calls, case.number);
         case.came_to(found)?;
     }
     Ok(())
@@ -120,7 +120,7 @@ fn chains_have_memory(rt: HostRuntime) -> Result<(), Fail> {
 #[test]
 fn queues_have_memory(rt: HostRuntime) -> Result<(), Fail> {
     for case in cases(rt.alloc(), QUEUES)? {
-        case.came_to(queues::called(.alloc(), case.calls, case.number))?;
+        case.came_to(queues::called(rt.alloc(), case.calls, case.number))?;
     }
     Ok(())
 }
@@ -128,7 +128,7 @@ fn queues_have_memory(rt: HostRuntime) -> Result<(), Fail> {
 #[test]
 fn windows_have_memory(rt: HostRuntime) -> Result<(), Fail> {
     for case in cases(rt.alloc(), WINDOWS)? {
-        case.came_to(windows::called(.alloc(), case.calls, case.number))?;
+        case.came_to(windows::called(rt.alloc(), case.calls, case.number))?;
     }
     Ok(())
 }
@@ -136,7 +136,7 @@ fn windows_have_memory(rt: HostRuntime) -> Result<(), Fail> {
 #[test]
 fn throttles_have_memory(rt: HostRuntime) -> Result<(), Fail> {
     for case in cases(rt.alloc(), THROTTLES)? {
-        case.came_to(throttles::called(.alloc(), case.calls, case.number))?;
+        case.came_to(throttles::called(rt.alloc(), case.calls, case.number))?;
     }
     Ok(())
 }

@@ -3,7 +3,7 @@
 use super::queue;
 use fdb_checks::{holds, same};
 use fdb_history::Priority;
-use fdb_queue::{Budgets, GrvQueue, QueueError, Req};
+use fdb_queue::{Budgets, GrvQueue, Req};
 use std::test::Fail;
 
 /// Offers a request that is let in.
