@@ -1,9 +1,10 @@
 //! Where an act stands in an order.
 
 ghost use Rattle.std.specs.Prelude.{◌≡◌, ◌+◌, ◌*◌, ◌^◌, ◌<◌, ℕ, cond, nat_lt, not, ◌&&◌, ◌==◌};
-ghost use Rattle.std.specs.Prelude.{option_map, IfSome, None, Some};
+ghost use Rattle.std.specs.Prelude.{option_map, IfSome, IsSomeAnd, IsTrue, None, Some};
 ghost use Rattle.std.specs.Ordering.{nat_cmp};
 ghost use Rattle.fdb_lines.specs.Before.{began};
+ghost use Rattle.fdb_lines.specs.Explained.{taken_by};
 ghost use Rattle.fdb_lines.specs.Lines.{draws, is_learn, is_read, kind_of, shows, version_of};
 ghost use Rattle.fdb_lines.specs.Order.{ask_item, shared_item, take_by};
 
@@ -102,6 +103,8 @@ impl Spot {
     /// The ask of a line, if it needs one.
     pub(crate) fn ask(line: &Line, place: u32, start: u64) -> Option<Self>
         ensures line { IfSome result (λ spot. IsActBy line.now place spot.act spot.line) }
+        ensures own { IsTrue (draws (kind_of line.now.call)) → IsSomeAnd result (λ spot.
+            (spot.line ≡ Some place) × (spot.act ≡ Act.Asks (version_of line.now.call))) }
         ensures item { option_map item_of result ≡ cond
             (not (is_learn (kind_of line.now.call))
             && not (is_read (kind_of line.now.call) && (version_of line.now.call == start)))
@@ -119,6 +122,9 @@ impl Spot {
     /// The read or report of a line, if it has one.
     pub(crate) fn take(line: &Line, place: u32, known: u64) -> Option<Self>
         ensures line { IfSome result (λ spot. IsActBy line.now place spot.act spot.line) }
+        ensures own { IsTrue (shows (kind_of line.now.call)) → IsSomeAnd result (λ spot.
+            (spot.line ≡ Some place)
+            × (spot.act ≡ taken_by (kind_of line.now.call) (version_of line.now.call))) }
         ensures item { option_map item_of result ≡ cond (shows (kind_of line.now.call))
             (Some (take_by (kind_of line.now.call) (began line.now * 2 ^ 33 + place) known
             (version_of line.now.call))) None }

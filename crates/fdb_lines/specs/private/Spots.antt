@@ -9,7 +9,7 @@ use Rattle.fdb_lines.specs.declared.spot.Stage.TheVariants.{Asked, Shared, Raisi
 use Rattle.fdb_lines.specs.declared.turn.Turn.{Turn}
 use Rattle.fdb_lines.specs.Before.{began}
 use Rattle.fdb_lines.specs.Lines.{Case, kind_at, version_at, line_at, shows, draws, kind_of, version_of}
-use Rattle.fdb_lines.specs.Explained.{taken_by}
+use Rattle.fdb_lines.specs.Explained.{taken, taken_by}
 use Rattle.fdb_lines.specs.Turns.{IsActOf}
 use Rattle.fdb_lines.specs.Order.{Item, ask_item, shared_item, take_item, needs_ask, needs_report}
 use Rattle.fdb_lines.specs.private.Late.{late}
@@ -61,6 +61,17 @@ IsActBy line place act (Some k) =
 -- each spot has an act of its line
 abbrev pub AreSpotsOf : Case → List Spot → Type 0
 AreSpotsOf c spots = All (λ spot. IsActOf c spot.act spot.line) spots
+
+-- a spot of a line with this act
+abbrev pub HasSpot : List Spot → ℕ → Act → Type 0
+HasSpot [] k act = ⊥
+HasSpot (spot ∷ spots) k act = ((spot.line ≡ Some k) × (spot.act ≡ act)) ⊎ HasSpot spots k act
+
+-- the line at a place has its spots
+abbrev pub HasSpots : Case → List Spot → ℕ → Type 0
+HasSpots c spots k =
+    (IsTrue (draws (kind_at c k)) → HasSpot spots k (Asks (version_at c k)))
+    × (IsTrue (shows (kind_at c k)) → HasSpot spots k (taken c k))
 
 -- ---- the items of lines
 
