@@ -1,0 +1,210 @@
+"use strict";
+// The page: what is typed, dragged and touched becomes a view, and Scene draws it.
+
+const drawing = JSON.parse(document.getElementById("drawing").textContent);
+const index = Scene.indexed(drawing);
+const at = (id) => document.getElementById(id);
+const [figure, picture, band, space] = ["figure", "picture", "overview", "space"].map(at);
+const BAND = 44, LEAST_LANES = 120;
+let view = null, finds = [], isDue = false;
+
+function open(fault) {
+  change(Scene.opened(drawing, fault));
+  figure.scrollTop = 0;
+  if (drawing.faults[fault]) tell(fault);
+}
+
+// What is said of a fault, once.
+function tell(fault) {
+  const { said, means, reason } = drawing.faults[fault];
+  at("said").textContent = said;
+  at("means").textContent = means;
+  at("why").textContent = reason;
+  at("count").textContent = `fault ${fault + 1} of ${drawing.faults.length}`;
+  document.querySelectorAll("#faults a").forEach((it, place) =>
+    place === fault ? it.setAttribute("aria-current", "true") : it.removeAttribute("aria-current"));
+}
+
+function change(changed) {
+  view = { ...view, ...changed };
+  if (!isDue) requestAnimationFrame(draw);
+  isDue = true;
+}
+
+function draw() {
+  isDue = false;
+  const width = Math.max(200, figure.clientWidth);
+  const height = Math.max(LEAST_LANES, Math.round(window.innerHeight * 0.6));
+  view = { ...view, width, height };
+  const { shapes, height: seen, inner } = Scene.scene(index, view);
+  show(picture, shapes, width, seen);
+  show(band, Scene.overview(index, view, BAND), width, BAND);
+  figure.style.height = `${seen}px`;
+  space.style.height = `${Math.max(0, inner - view.height)}px`;
+  at("all").textContent = view.lanes.length < drawing.lanes.length ? "all clients" : "fold clients";
+}
+
+function show(svg, shapes, width, height) {
+  svg.setAttribute("viewBox", `0 0 ${width} ${height}`);
+  svg.setAttribute("width", width);
+  svg.setAttribute("height", height);
+  svg.querySelector("g").innerHTML = Scene.markup(shapes);
+}
+
+function zoom(factor, about = (view.from + view.to) / 2) {
+  change(Scene.zoomed(drawing, view, factor, about));
+}
+
+function move(share) {
+  change(Scene.moved(drawing, view, share * (view.to - view.from)));
+}
+
+function say(call) {
+  at("words").textContent = call === null ? "" : drawing.words[call];
+}
+
+// Chooses a call, and shows its lane and its part of the axis where they are not in view.
+function choose(call) {
+  const lane = drawing.lane[call], size = view.to - view.from;
+  const lanes = view.lanes.includes(lane) ? view.lanes : [...view.lanes, lane].sort((a, b) => a - b);
+  const left = drawing.left[call], isSeen = left >= view.from && left <= view.to;
+  change({ ...(isSeen ? {} : Scene.kept(drawing, left - size / 2, size)), lanes, chosen: call });
+  reveal(lane, lanes);
+  say(call);
+}
+
+function reveal(lane, lanes) {
+  const place = Scene.laidOut(index, lanes).places.find((it) => it.lane === lane);
+  const height = view.height || 0;
+  if (place.top < figure.scrollTop || place.top + 60 > figure.scrollTop + height) {
+    requestAnimationFrame(() => { figure.scrollTop = place.top; });
+  }
+}
+
+// The call before or after the chosen one, of the lanes in view.
+function step(by) {
+  const shown = new Set(view.lanes);
+  const calls = Scene.within(drawing, index.all, view.from, view.to)
+    .filter((it) => shown.has(drawing.lane[it]));
+  const place = calls.indexOf(view.chosen);
+  const next = calls[place < 0 ? (by > 0 ? 0 : calls.length - 1) : place + by];
+  if (next !== undefined) choose(next);
+}
+
+function turn(by) {
+  const count = drawing.faults.length;
+  if (count) location.hash = `#fault-${(((view.fault || 0) + by + count) % count) + 1}`;
+}
+
+function unfold() {
+  const isFolded = view.lanes.length < drawing.lanes.length;
+  const all = drawing.lanes.map((_, lane) => lane);
+  change({ lanes: isFolded ? all : Scene.opened(drawing, view.fault).lanes });
+}
+
+const KEYS = {
+  ArrowLeft: () => move(-0.2), ArrowRight: () => move(0.2), "+": () => zoom(0.5), "=": () => zoom(0.5),
+  "-": () => zoom(2), 0: () => change({ from: drawing.from, to: drawing.to }),
+  n: () => step(1), p: () => step(-1), f: () => turn(1), F: () => turn(-1), a: unfold,
+  Home: () => open(view.fault),
+};
+
+function moment(event, svg, from, to) {
+  const box = svg.getBoundingClientRect();
+  return from + ((event.clientX - box.left) / box.width) * (to - from);
+}
+
+document.addEventListener("keydown", (event) => {
+  const isTyped = event.target.tagName === "INPUT" || event.ctrlKey || event.metaKey || event.altKey;
+  if (isTyped || !KEYS[event.key]) return;
+  event.preventDefault();
+  KEYS[event.key]();
+});
+
+for (const [svg, ends] of [[picture, () => view], [band, () => drawing]]) {
+  svg.addEventListener("wheel", (event) => {
+    if (event.shiftKey) return;
+    event.preventDefault();
+    if (Math.abs(event.deltaX) > Math.abs(event.deltaY)) return move(event.deltaX / view.width);
+    const about = moment(event, svg, ends().from, ends().to);
+    zoom(Math.exp(Math.max(-1, Math.min(1, event.deltaY / 300))), about);
+  }, { passive: false });
+}
+
+// One pointer drags, two zoom. On the overview a drag takes the window along.
+const pointers = new Map();
+function down(event) {
+  pointers.set(event.pointerId, event);
+  if (event.currentTarget === band) centre(event);
+}
+
+function drag(event) {
+  const before = pointers.get(event.pointerId);
+  if (!before) return;
+  pointers.set(event.pointerId, event);
+  if (event.currentTarget === band) return centre(event);
+  event.currentTarget.setPointerCapture(event.pointerId);
+  const others = [...pointers.values()].filter((it) => it.pointerId !== event.pointerId);
+  if (!others.length) return move((before.clientX - event.clientX) / view.width);
+  const gap = (it) => Math.max(8, Math.abs(it.clientX - others[0].clientX));
+  zoom(gap(before) / gap(event), moment(others[0], picture, view.from, view.to));
+}
+
+function centre(event) {
+  const size = view.to - view.from, middle = moment(event, band, drawing.from, drawing.to);
+  change(Scene.kept(drawing, middle - size / 2, size));
+}
+
+for (const svg of [picture, band]) {
+  svg.addEventListener("pointerdown", down);
+  svg.addEventListener("pointermove", drag);
+  for (const name of ["pointerup", "pointercancel", "pointerleave"]) {
+    svg.addEventListener(name, (event) => pointers.delete(event.pointerId));
+  }
+}
+
+picture.addEventListener("click", (event) => {
+  const call = event.target.dataset.call;
+  if (event.target.classList.contains("unfold")) unfold();
+  else if (call !== undefined) choose(Number(call));
+});
+picture.addEventListener("pointerover", (event) => {
+  const call = event.target.dataset.call;
+  if (call !== undefined) say(Number(call));
+});
+figure.addEventListener("scroll", () => change({ top: figure.scrollTop }));
+window.addEventListener("resize", () => change({}));
+window.addEventListener("hashchange", follow);
+
+const BUTTONS = {
+  in: () => zoom(0.5), out: () => zoom(2), whole: KEYS[0], back: () => open(view.fault), all: unfold,
+  next: () => turn(1), last: () => turn(-1),
+};
+for (const [id, press] of Object.entries(BUTTONS)) {
+  if (at(id)) at(id).addEventListener("click", press);
+}
+
+at("find").addEventListener("submit", (event) => {
+  event.preventDefault();
+  const text = at("wanted").value;
+  if (!finds.length || finds.text !== text) {
+    finds = Scene.found(drawing, text);
+    Object.assign(finds, { text, next: 0 });
+  }
+  if (!finds.length) {
+    at("words").textContent = `There is no client and no version ${text}.`;
+    return;
+  }
+  const { call, lane } = finds[finds.next++ % finds.length];
+  if (call !== undefined) return choose(call);
+  const calls = Scene.within(drawing, index.calls[lane], view.from, view.to);
+  choose((calls.length ? calls : index.calls[lane].list)[0]);
+});
+
+function follow() {
+  const named = /^#fault-(\d+)$/.exec(location.hash);
+  open(drawing.faults.length ? (named ? Number(named[1]) - 1 : 0) : null);
+}
+
+document.body.classList.add("alive");
+follow();
