@@ -1,24 +1,48 @@
-"""The pages of tools/picture: what is in them, which texts are refused, what a large one takes."""
+"""The pages of tools/picture: where each call, band and arrow stands, and which texts are refused.
+
+Most of it looks at what the tool works out before a page is written, in this process; what the page's
+code makes of it is looked at with node, where there is one.
+"""
+import importlib.machinery
+import importlib.util
+import json
 import os
+import random
 import re
 import resource
-from collections import Counter
+import shutil
+import sys
 from html.parser import HTMLParser
 
 import judging
-from harness import DONE, EXAMPLES, NO_STREAM, REFUSED, ROOT, Ran, done, fault_of, read, run
+from harness import DONE, EXAMPLES, NO_STREAM, REFUSED, ROOT, Ran, fault_of, read, run
 
-PICTURE = f"{ROOT}/tools/picture"
+TOOLS = f"{ROOT}/tools"
+PICTURE = f"{TOOLS}/picture"
+sys.path.append(TOOLS)
+
+import drawing as drawings
+import log_drawing
+import run_drawing
+from run_text import Text
+
+
+def loaded(name, path):
+    """A module whose file has no ending."""
+    loader = importlib.machinery.SourceFileLoader(name, path)
+    module = importlib.util.module_from_spec(importlib.util.spec_from_loader(name, loader))
+    loader.exec_module(module)
+    return module
+
+
+page_of = loaded("picture_page", PICTURE)
 RACES = range(0, 60, 5)
-EMPTY_ELEMENTS = ("meta", "br")
-# What of a page could ask for another file, beside links to its own marks.
-OUTSIDE = re.compile(r"https?:|//|\bsrc=|@import|<link|<script|url\((?!#)|href=\"(?!#)")
-AUDIT = re.compile(r"^audit ok events (\d+) raised (\d+) ", re.MULTILINE)
-# The widths of letters that are as wide as any, in the picture's units.
-LETTER, BOLD = 7, 8
-# What a picture of 10,000 events may take: of processor time some ten times what it does, since
-# machines differ.
-SECONDS, BYTES = 15, 8_000_000
+EMPTY_ELEMENTS = ("meta", "br", "input")
+# What of a page could ask for another file.
+OUTSIDE = re.compile(r"https?:|\bsrc=|@import|<link|url\((?!#)|href=\"(?!#)|\bfetch\(|import\(")
+# What the largest log may take: of processor time some ten times what it does, since machines
+# differ; and what its page may do in node.
+CALLS, SECONDS, BYTES, OPENS = 100_000, 20, 25_000_000, 2.0
 
 STALE = """0 0 0 ask prev 0 version 100 ordinal 0 fresh
 0 0 1 ask prev 100 version 200 ordinal 1 fresh
@@ -31,15 +55,159 @@ HISTORY = (
     "history 0 client 0 call 2 report 200 unlocked none raised\n"
     "history 1 client 1 call 1 read 100 unlocked none\n"
 )
-# A fault that a line names, and the calls that stand out: client and place in its log.
+
+# A run in which client 1 learns of position 1 and reads at position 0. Client 2 may do so.
+RUN = """0 0 0 ask prev 0 version 100 ordinal 0 fresh
+0 0 1 ask prev 100 version 200 ordinal 1 fresh
+0 0 2 report 200 raised pos 1
+0 0 3 tell 1 pos 1
+1 1 0 grv 100 unlocked none pos 0
+1 1 1 grv 200 unlocked none pos 1
+1 2 0 grv 100 unlocked none pos 0
+1 2 1 report refused NotIssued
+1 2 2 report 100 not raised pos 1
+audit fault: Order 1 1
+"""
+# Its calls by client and number: lane, from and to (ten units a column, of which one at each side is
+# free), kind, label, and how the words begin.
+RUN_CALLS = {
+    "client 0 call 0": (0, 1, 9, "fresh", "100", "Client 0 drew the commit version 100, the one "
+                        "after 0; its place in the chain is 0. Round 0, command 0; call 0 of the "
+                        "client's log."),
+    "client 0 call 1": (0, 11, 19, "fresh", "200", "Client 0 drew the commit version 200, the one "
+                        "after 100; its place in the chain is 1. Round 0, command 1; call 1 of the "
+                        "client's log."),
+    "client 2 call 0": (2, 21, 29, "read", "100", "Client 2 read 100 at position 0; the record is "
+                        "unlocked, with no metadata version. Round 1, command 0; call 0 of the "
+                        "client's log; event 1."),
+    "client 2 call 1": (2, 31, 39, "refused", "report NotIssued", "Client 2 called report, which "
+                        "was refused: NotIssued, it has got no commit version under this number. "
+                        "Round 1, command 1; call 1 of the client's log."),
+    "client 0 call 2": (0, 41, 49, "raised", "200", "Client 0 reported 200 as committed, which "
+                        "raised the live committed version and made position 1. Round 0, command 2; "
+                        "call 2 of the client's log; event 2."),
+    "client 0 call 3": (0, 51, 59, "tell", "to 1", "Client 0 told client 1 that it had seen "
+                        "position 1. Round 0, command 3; call 3 of the client's log."),
+    "client 1 call 0": (1, 61, 69, "learn", "from 0", "Client 1 learnt from client 0 of position 1."
+                        " Round 0, once it is over; call 0 of the client's log."),
+    "client 1 call 1": (1, 71, 79, "read", "100", "Client 1 read 100 at position 0; the record is "
+                        "unlocked, with no metadata version. Round 1, command 0; call 1 of the "
+                        "client's log; event 0."),
+    "client 1 call 2": (1, 81, 89, "read", "200", "Client 1 read 200 at position 1; the record is "
+                        "unlocked, with no metadata version. Round 1, command 1; call 2 of the "
+                        "client's log; event 3."),
+    "client 2 call 2": (2, 91, 99, "not raised", "100", "Client 2 reported 100 as committed, which "
+                        "changed nothing at position 1. Round 1, command 2; call 2 of the client's "
+                        "log; event 4."),
+}
+RUN_BANDS = [(0, "100"), (40, "200")]
+RUN_ARROWS = [("client 0 call 3", "client 1 call 0")]
+RUN_LINKS = [
+    ("client 0 call 2", "client 0 call 3", 49, 51, True),
+    ("client 0 call 3", "client 1 call 0", 59, 61, True),
+    ("client 1 call 0", "client 1 call 1", 69, 71, True),
+]
+# From one column before the report to one behind the stale read; client 2 is folded away.
+RUN_VIEW = (31, 89, [0, 1])
+RUN_REASON = (
+    "Client 1 read 100 at position 0; the record is unlocked, with no metadata version (call 1). "
+    "Its client had come to position 1 before, where 200 was live: client 0 reported 200 as "
+    "committed, which raised the live committed version and made position 1 (call 2); client 0 told"
+    " client 1 that it had seen position 1 (call 3); client 1 learnt from client 0 of position 1 "
+    "(call 0)."
+)
+
+LOG = """{"client":"a","commit":200,"began":10,"ended":14}
+{"client":"a","ask":300,"began":12,"ended":20}
+{"client":"c","read":200,"began":13,"ended":30}
+{"client":"b","read":100,"began":49,"ended":52}
+{"client":"a","report":300,"began":20,"ended":null}
+{"read":100,"began":5,"ended":14}
+{"client":"c","read":300,"began":41,"ended":61}
+"""
+LOG_ORDER = (
+    "audit fault: Order 4: client b read 100, but 200 was known: line 1 (client a, commit 200) had "
+    "ended 35 before this began"
+)
+# Its calls, from 5 on: lane, row in it, from and to, kind, label and words.
+LOG_CALLS = {
+    "line 1": (0, 0, 5, 9, "commit", "200", "Line 1: client a committed 200, from 10 to 14."),
+    "line 2": (0, 1, 7, 15, "ask", "300",
+               "Line 2: client a got the commit version 300, from 12 to 20."),
+    "line 3": (1, 0, 8, 25, "read", "200", "Line 3: client c read 200, from 13 to 30."),
+    "line 4": (2, 0, 44, 47, "read", "100", "Line 4: client b read 100, from 49 to 52."),
+    "line 5": (0, 0, 15, None, "open", "300",
+               "Line 5: client a reported 300 as committed, from 20; its end is not known."),
+    "line 6": (3, 0, 0, 9, "read", "100",
+               "Line 6: a client without a name read 100, from 5 to 14."),
+    "line 7": (1, 0, 36, 56, "read", "300", "Line 7: client c read 300, from 41 to 61."),
+}
+LOG_LANES = ["client a", "client c", "client b", "a client without a name"]
+LOG_BANDS = [(9, "200"), (56, "300")]
+LOG_LINKS = [("line 1", "line 4", 9, 44, True)]
+# 12 % of what is between 5 and 47 is free at each side.
+LOG_VIEW = (-0.04, 52.04, [0, 2])
+
+TOLD = """{"client":"a","commit":200}
+{"client":"b","read":100}
+{"client":"c","learn":"a"}
+{"client":"b","learn":"c"}
+{"client":"b","read":100}
+{"client":"d","read":100}
+{"client":"b","ask":300}
+"""
+TOLD_ORDER = (
+    "audit fault: Order 5: client b read 100, but 200 was known, which it had learnt by line 4: "
+    "line 1 (client a, commit 200)"
+)
+TOLD_CALLS = {
+    "line 1": (0, 0, 21, 29, "commit", "200", "Line 1: client a committed 200."),
+    "line 2": (1, 0, 1, 9, "read", "100", "Line 2: client b read 100."),
+    "line 3": (2, 0, 31, 39, "learn", "from a", "Line 3: client c learnt what client a had seen."),
+    "line 4": (1, 0, 41, 49, "learn", "from c", "Line 4: client b learnt what client c had seen."),
+    "line 5": (1, 0, 51, 59, "read", "100", "Line 5: client b read 100."),
+    "line 6": (3, 0, 11, 19, "read", "100", "Line 6: client d read 100."),
+    "line 7": (1, 0, 61, 69, "ask", "300", "Line 7: client b got the commit version 300."),
+}
+TOLD_LANES = ["client a", "client b", "client c", "client d"]
+TOLD_BANDS = [(0, "100"), (20, "200")]
+TOLD_ARROWS = [("line 1", "line 3"), ("line 3", "line 4")]
+TOLD_LINKS = [("line 1", "line 4", 29, 41, True), ("line 4", "line 5", 49, 51, True)]
+TOLD_VIEW = (11, 69, [0, 1])
+
+# Faults of a run with the calls that stand out and the whole path, as client and place in its log.
 FAULTS = {
-    "fdb_replay: audit fault: Wrong 1 1": ["1-1"],
-    "fault: Wrong 1 1": ["1-1"],
-    "Order 0 2": ["0-2"],
-    "Clash 1": ["0-2"],
-    "Gap 1": ["0-2"],
-    "Stray 0 4": [],
-    "NotAbove 0 1: the version <i>200 & more": ["0-1"],
+    "fdb_replay: audit fault: Wrong 1 1": (["1-1"], ["0-2", "1-1"]),
+    "fault: Wrong 1 1": (["1-1"], ["0-2", "1-1"]),
+    "Order 1 1": (["1-1"], ["0-2", "0-3", "1-0", "1-1"]),
+    "Order 0 2": (["0-2"], ["0-2"]),
+    "Clash 1": (["0-2"], ["0-2"]),
+    "Gap 1": (["0-2"], ["0-2"]),
+    "Stray 0 4": ([], []),
+    "Stray 1 1": (["1-1"], ["1-1"]),
+    "NotAbove 0 1: the version <i>200 & more": (["0-1"], ["0-1"]),
+}
+# Faults of LOG with the lines that stand out, the path, and what joins it.
+LOG_FAULTS = {
+    LOG_ORDER: (4, ["line 1", "line 4"], LOG_LINKS),
+    "audit fault: Wrong 4: client b read 100, which nobody reported": (4, ["line 4"], []),
+    "audit fault: Wrong 3: client c read 200: reported after this had ended, line 5": (
+        3, ["line 3", "line 5"], [("line 3", "line 5", 15, 15, False)]
+    ),
+    "audit fault: Wrong 6: client x read 100, which line 7 and line 4 knew better": (
+        6, ["line 6", "line 7", "line 4"],
+        [("line 6", "line 7", 9, 36, True), ("line 7", "line 4", 44, 44, False)],
+    ),
+    "audit fault: NotAbove 2: client a got 300: line 5 knew it": (
+        2, ["line 2", "line 5"], [("line 2", "line 5", 15, 15, True)]
+    ),
+    "audit fault: Twice 2: line 1 got it, too": (
+        2, ["line 1", "line 2"], [("line 1", "line 2", 7, 7, False)]
+    ),
+    "audit fault: Stray 5: line 7 got 300 before line 2": (
+        5, ["line 2", "line 5", "line 7"],
+        [("line 2", "line 5", 15, 15, True), ("line 5", "line 7", 15, 36, False)],
+    ),
 }
 # Lines in the place of those of STALE with its audit and history, by number, and the refusal with
 # the number of its line.
@@ -91,46 +259,72 @@ REFUSED_TEXTS = {
     "a fault without a call": ({9: "Wrong 1"}, "BadFault 9"),
     "a position with a call": ({9: "Gap 1 1"}, "BadFault 9"),
 }
+# Lines of a log, or what was said of LOG, and the refusal with the number of the line.
+REFUSED_LOGS = {
+    "no JSON": ("{}{", None, "BadLog 1"),
+    "a list": ("[]", None, "BadLog 1"),
+    "no call": ('{"client":"a"}', None, "BadLog 1"),
+    "two calls": ('{"client":"a","read":1,"ask":2}', None, "BadLog 1"),
+    "a version that is a text": ('{"client":"a","read":"1"}', None, "BadLog 1"),
+    "a version that is true": ('{"client":"a","read":true}', None, "BadLog 1"),
+    "a version below 0": ('{"client":"a","read":-1}', None, "BadLog 1"),
+    "a client that is a number": ('{"client":1,"read":1}', None, "BadLog 1"),
+    "no client without times": ('{"read":1}', None, "BadLog 1"),
+    "an end before its begin": ('{"read":1,"began":3,"ended":2}', None, "BadLog 1"),
+    "a read without an end": ('{"read":1,"began":3,"ended":null}', None, "BadLog 1"),
+    "no end": ('{"report":1,"began":3}', None, "BadLog 1"),
+    "a learn with times": ('{"client":"a","learn":"a","began":3,"ended":4}', None, "BadLog 1"),
+    "times on some lines": (
+        '{"client":"a","read":1}\n{"client":"a","read":1,"began":3,"ended":4}', None, "BadLog 2"
+    ),
+    "a learn from nobody": ('{"client":"a","read":1}\n{"client":"a","learn":"b"}', None, "BadLog 2"),
+    "no verdict": (LOG, "lines 7\n", "Cut 1"),
+    "nothing said": (LOG, "", "Cut 0"),
+    "two verdicts": (LOG, f"audit ok\n{LOG_ORDER}\n", "Cut 2"),
+    "a fault that is none": (LOG, "audit fault: Orders 4: x\n", "BadFault 1"),
+    "a fault without a line": (LOG, f"{LOG_ORDER}\naudit fault: Order\n", "BadFault 2"),
+    "a fault beyond the log": (LOG, "audit fault: Order 8: x\n", "BadFault 1"),
+    "a fault that names a line beyond it": (LOG, "audit fault: Order 4: line 8\n", "BadFault 1"),
+    "a commit that is stale": (LOG, "audit fault: Order 1: x\n", "BadFault 1"),
+    "a read that is not above": (LOG, "audit fault: NotAbove 4: x\n", "BadFault 1"),
+    "a stray ask": (LOG, "audit fault: Stray 2: x\n", "BadFault 1"),
+}
 
 
 class Page(HTMLParser):
-    """A page's elements, each with its row, counted from 1, and its attributes.
-
-    `fault` says what is not closed.
-    """
+    """A page's elements by id, and the text of its data. `fault` says what is not closed."""
 
     def __init__(self, page):
         super().__init__()
-        self.found, self.open, self.row, self.fault = [], [], 0, None
-        self.feed(page.decode())
-        if self.open and not self.fault:
-            self.fault = f"{self.open[-1]['tag']} is not closed"
-
-    def handle_startendtag(self, tag, attributes):
-        self.found.append(
-            {"tag": tag, "row": self.row, "text": "", "class": "", **dict(attributes)}
-        )
+        self.open, self.texts, self.links, self.fault = [], {}, [], None
+        self.feed(page)
+        left = [tag for tag, _ in self.open if tag not in ("html", "body", "p", "li")]
+        self.fault = self.fault or (f"{left[0]} is not closed" if left else None)
 
     def handle_starttag(self, tag, attributes):
-        self.row += tag == "figure"
-        self.handle_startendtag(tag, attributes)
-        self.open += self.found[-1:] * (tag not in EMPTY_ELEMENTS)
+        said = dict(attributes)
+        self.links += [said.get("href")] * (tag == "a")
+        if tag not in EMPTY_ELEMENTS:
+            self.open.append((tag, said.get("id")))
 
     def handle_endtag(self, tag):
-        if not self.open or self.open.pop()["tag"] != tag:
+        if not self.open or self.open.pop()[0] != tag:
             self.fault = self.fault or f"{tag} is closed where it is not open"
 
     def handle_data(self, text):
-        if self.open:
-            self.open[-1]["text"] += text
+        for _, name in self.open:
+            self.texts[name] = self.texts.get(name, "") + text
 
-    def all(self, tag, look=""):
-        """The elements of the rows that have this tag, and this word in their class."""
-        return [
-            it
-            for it in self.found
-            if it["row"] and it["tag"] == tag and look in ["", *it["class"].split()]
-        ]
+
+def drawn(text, *faults):
+    """The drawing of a text of a run."""
+    return run_drawing.run_drawing(Text([*text.splitlines(), *faults]))
+
+
+def logged(text, said, margin=0):
+    """The drawing of a log with what was said of it."""
+    lines = log_drawing.lines_of(text.splitlines())
+    return log_drawing.log_drawing(lines, log_drawing.said_of(said.splitlines(), lines), None, margin)
 
 
 def pictured(text, *arguments):
@@ -141,216 +335,476 @@ def texts():
     """Worked texts and those of clients that race, by name."""
     for name in sorted(os.listdir(EXAMPLES)):
         if name.endswith(".out"):
-            yield f"examples/{name}", read(f"{EXAMPLES}/{name}")
+            yield f"examples/{name}", read(f"{EXAMPLES}/{name}").decode()
     for case in read(f"{ROOT}/tests/worked.txt").decode().split("# ")[1:]:
         name, _, rest = case.partition("\n")
-        yield name, (rest.partition("=>")[2].partition("\n")[2].strip() + "\n").encode()
-    yield from ((f"the race of seed {seed}", judging.right_text(seed)) for seed in RACES)
+        yield name, rest.partition("=>")[2].partition("\n")[2].strip() + "\n"
+    yield from (
+        (f"the race of seed {seed}", judging.right_text(seed).decode()) for seed in RACES
+    )
+
+
+def differing(what, found, wanted):
+    return None if found == wanted else f"{what}: {found} in place of {wanted}"
+
+
+def by_hand(_program):
+    """Where all stands in a run and in two logs: each is compared with values worked out by hand."""
+    run_of, log, told = drawn(RUN), logged(LOG, LOG_ORDER), logged(TOLD, TOLD_ORDER)
+    calls = {it.name: (it.lane, it.left, it.right, it.kind, it.label, it.words) for it in run_of.bars}
+    yield "the calls of a run", differing("calls", calls, RUN_CALLS)
+    yield "the lanes of a run", differing("lanes", run_of.lanes, [f"client {it}" for it in range(3)])
+    yield "the reason of a run", differing("reason", run_of.faults[0].reason, RUN_REASON)
+    yield from drawing_faults("a run", run_of, RUN_BANDS, RUN_ARROWS, RUN_LINKS, RUN_VIEW)
+    for name, it, wanted, lanes in (
+        ("a log", log, LOG_CALLS, LOG_LANES), ("a log without times", told, TOLD_CALLS, TOLD_LANES)
+    ):
+        calls = {
+            bar.name: (bar.lane, row, bar.left, bar.right, bar.kind, bar.label, bar.words)
+            for bar, row in zip(it.bars, drawings.rows_of(it.bars))
+        }
+        yield f"the calls of {name}", differing("calls", calls, wanted)
+        yield f"the lanes of {name}", differing("lanes", it.lanes, lanes)
+    yield from drawing_faults("a log", log, LOG_BANDS, [], LOG_LINKS, LOG_VIEW)
+    yield from drawing_faults(
+        "a log without times", told, TOLD_BANDS, TOLD_ARROWS, TOLD_LINKS, TOLD_VIEW
+    )
+    yield "the reason of a log", differing(
+        "reason", log.faults[0].reason, LOG_ORDER.partition("Order 4: ")[2]
+    )
+    with_margin = [(it.left, it.label) for it in logged(LOG, LOG_ORDER, 7).bands]
+    yield "bands with a margin", differing("bands", with_margin, [(16, "200"), (63, "300")])
+
+
+def drawing_faults(name, drawing, bands, arrows, links, view):
+    """Compares what is above the calls of a drawing: bands, arrows, and its first fault's path."""
+    named = [it.name for it in drawing.bars]
+    found = [(it.left, it.label) for it in drawing.bands]
+    yield f"the bands of {name}", differing("bands", found, bands)
+    found = [(named[it.start], named[it.end]) for it in drawing.arrows]
+    yield f"the arrows of {name}", differing("arrows", found, arrows)
+    yield f"the path of {name}", differing("path", links_in(drawing, drawing.faults[0]), links)
+    columns = page_of.fault_columns(drawing, drawing.faults[0])
+    found = (round(columns["from"], 2), round(columns["to"], 2), columns["lanes"])
+    yield f"what {name} opens with", differing("view", found, view)
+
+
+def links_in(drawing, fault):
+    named = [it.name for it in drawing.bars]
+    found = drawings.links_of(drawing, fault)
+    return [(named[it.start], named[it.end], it.left, it.right, it.has_tip) for it in found]
 
 
 def pages(_program):
     """The page of a text is whole, has each thing of it once, and needs nothing from outside."""
     for name, text in texts():
-        ran = pictured(text)
-        yield name, fault_of(ran, Ran(DONE, None, b"")) or page_fault(text.decode(), ran.out)
+        drawing = drawn(text)
+        yield name, text_fault(text, drawing) or page_fault(page_of.page(drawing), drawing)
 
 
-def page_fault(text, written):
-    """Returns what is wrong with the page of a text, or None."""
+def page_fault(written, drawing):
+    """Returns what is wrong with a page, or None."""
     page = Page(written)
-    wrong = [f"it asks for {it}" for it in OUTSIDE.findall(written.decode())] + [page.fault] * bool(
-        page.fault
-    )
-    for what, wanted in wanted_of(text).items():
-        found = FOUND[what](page)
-        wrong += [f"{what}: {found} in place of {wanted}"] * (found != wanted)
-    return "; ".join(wrong + [it for it in (order_fault(page), label_fault(page)) if it]) or None
+    outside = OUTSIDE.findall(written)
+    if outside or page.fault:
+        return page.fault or f"it asks for {outside}"
+    data = json.loads(page.texts["drawing"])
+    wanted = json.loads(json.dumps(page_of.columns_of(drawing)))
+    for name in wanted:
+        if data[name] != wanted[name]:
+            return f"{name}: {str(data[name])[:80]} in place of {str(wanted[name])[:80]}"
+    first = drawing.faults[0] if drawing.faults else None
+    said = (page.texts.get("said"), page.texts.get("means"), page.texts.get("why"))
+    return first and differing("fault", said, (first.said, first.means, first.reason))
 
 
-def wanted_of(text):
-    """What a text has, of each thing that a page is to show."""
+def text_fault(text, drawing):
+    """Says what of a lawful text is not in its drawing or does not go from left to right."""
     replies = [it.split() for it in text.split("\n") if it[:1].isdigit()]
-    events, raised = map(int, AUDIT.search(text).groups())
-    clients = [int(it[1]) for it in replies] + [int(it[4]) for it in replies if it[3] == "tell"]
-    return {
-        "lanes": max(clients, default=-1) + 1,
-        "calls": len(replies) + sum(it[3] == "tell" for it in replies),
-        "titles": len(replies) + sum(it[3] == "tell" for it in replies),
-        "events": list(range(events)),
-        "raises": raised,
-        "minima": sum(it[3] == "report" and it[5] == "min" for it in replies),
-        "tells": sum(it[3] == "tell" for it in replies),
-        "tips": sum(it[3] == "tell" for it in replies),
-        "refusals": sum(it[4] == "refused" for it in replies),
-        "history": "\nhistory " in text,
-    }
+    tells = [it for it in replies if it[3] == "tell"]
+    clients = [int(it[1]) for it in replies] + [int(it[4]) for it in tells]
+    made = sum(it[3] == "report" and it[-3] == "raised" and "not" not in it for it in replies)
+    wanted = (max(clients, default=-1) + 1, len(replies) + len(tells), len(tells), made)
+    kinds = [it.kind for it in drawing.bars]
+    found = (len(drawing.lanes), len(kinds), len(drawing.arrows),
+             kinds.count("raised") + kinds.count("min raised"))
+    return differing("lanes, calls, arrows, raises", found, wanted) or order_fault(drawing, set())
 
 
-FOUND = {
-    "lanes": lambda page: len(
-        {it["text"] for it in page.all("text", "name") if it["text"].startswith("client ")}
-    ),
-    "calls": lambda page: len({it["id"] for it in page.all("use")}),
-    "titles": lambda page: sum(
-        one["tag"] == "use" and two["tag"] == "title"
-        for one, two in zip(page.found, page.found[1:])
-    ),
-    "events": lambda page: sorted(
-        int(it["data-event"]) for it in page.all("use") if "data-event" in it
-    ),
-    "raises": lambda page: len(page.all("path", "raise")),
-    "minima": lambda page: len(page.all("path", "minimum")),
-    "tells": lambda page: len(page.all("path", "tell")),
-    "tips": lambda page: sum("marker-end" in it for it in page.all("path")),
-    "refusals": lambda page: sum(it["href"] in ("#refused", "#locked") for it in page.all("use")),
-    "history": lambda page: not any("from the replies alone" in it["text"] for it in page.found),
-}
-
-
-def order_fault(page):
-    """Says what does not go from left to right: an arrow, a client's calls, or raised versions."""
-    ways = [
-        re.findall(r"[\d.]+", it["d"])
-        for look in ("tell", "learn")
-        for it in page.all("path", look)
-    ]
-    if any(float(it[0]) >= float(it[2]) for it in ways):
-        return "an arrow goes back"
-    numbers = {}
-    for it in sorted(page.all("use"), key=column):
-        numbers.setdefault(it["id"].split("-")[1], []).append(int(it["id"].split("-")[2]))
-    if any(found != list(range(len(found))) for found in numbers.values()):
-        return "a client's calls are not in order"
-    versions = [int(it["text"]) for it in sorted(page.all("text", "raised"), key=column)]
-    columns = Counter(map(column, page.all("use")))
-    shared = max(columns.values(), default=1) > 1
-    return (
-        "versions fall"
-        if versions != sorted(versions)
-        else "calls share a column"
-        if shared
-        else None
-    )
-
-
-def column(it):
-    return it["row"], float(it["x"])
-
-
-def label_fault(page):
-    """Names two labels that overlap where each letter takes its widest."""
-    lines = {}
-    for it in page.all("text"):
-        if "name" not in it["class"]:
-            half = len(it["text"]) * (BOLD if "raised" in it["class"] else LETTER) / 2
-            lines.setdefault((it["row"], it["y"]), []).append((float(it["x"]), half, it["text"]))
-    for line in map(sorted, lines.values()):
-        for (left, half, one), (right, other_half, other) in zip(line, line[1:]):
-            if right - left < half + other_half:
-                return f"{one} and {other} overlap"
+def order_fault(drawing, faulty):
+    """Says what goes back: bands, an arrow, a client's calls, or one outside of its band."""
+    bands = [it.left for it in drawing.bands], [int(it.label) for it in drawing.bands
+                                                 if it.label != "?"]
+    if any(it != sorted(it) for it in bands):
+        return f"bands go back: {bands}"
+    for it in drawing.arrows:
+        if drawing.bars[it.start].right >= drawing.bars[it.end].left:
+            return f"an arrow goes back: {it}"
+    last = {}
+    for it in drawing.bars if drawing.axis == "order" else []:
+        if it.left < last.get(it.lane, 0):
+            return f"{it.name} stands before a call that was earlier"
+        last[it.lane] = it.right
+    for at, it in enumerate(drawing.bars):
+        if at not in faulty and not stands(drawing, it):
+            return f"{it.name} stands outside of its band: {it}"
     return None
 
 
+def stands(drawing, bar):
+    """Whether a read or report stands in its band: that of its version, or with times none newer."""
+    before = [it for it in drawing.bands if it.left < bar.left]
+    if bar.kind not in ("read", "locked", "raised") or not before:
+        return True
+    if drawing.axis == "time":
+        return bar.kind != "read" or int(bar.label) >= int(before[-1].label)
+    return before[-1].label in ("?", bar.label)
+
+
 def faults(_program):
-    """The calls of a fault stand out, and it is named, be it given in the text or beside it."""
+    """The calls of a fault stand out, be it given in the text or beside it, with what joins them."""
     for line, wanted in FAULTS.items():
-        in_text, beside = pictured(f"{STALE}{line}\n".encode()), pictured(
-            STALE.encode(), "--fault", line
-        )
-        yield f"{line} in a text", fault_of(in_text, Ran(DONE, None, b"")) or fault_fault(
-            in_text.out, line, wanted
-        )
-        yield f"{line} beside it", fault_of(beside, done(in_text.out))
-
-
-def fault_fault(written, line, wanted):
-    page = Page(written)
-    rings = {(it["cx"], it["cy"]) for it in page.all("circle", "fault")}
-    found = [
-        it["id"].removeprefix("call-") for it in page.all("use") if (it["x"], it["y"]) in rings
-    ]
-    linked = [it["href"].removeprefix("#call-") for it in page.found if it["tag"] == "a"]
-    is_named = any(it["tag"] == "b" and it["text"] == line for it in page.found)
-    return page.fault or (
-        None
-        if found == linked == wanted and is_named
-        else f"{found} and {linked} stand out, named: {is_named}"
-    )
+        drawing = drawn(STALE, line)
+        fault, named = drawing.faults[0], [it.name for it in drawing.bars]
+        short = lambda places: [re.sub(r"client (\d+) call (\d+)", r"\1-\2", named[it]) for it in places]
+        found = (short(fault.faulty), short(fault.path))
+        yield f"{line} in a text", differing("calls", found, wanted) or page_fault(
+            page_of.page(drawing), drawing)
+    for line, (at, path, links) in LOG_FAULTS.items():
+        drawing = logged(LOG, line)
+        fault, named = drawing.faults[0], [it.name for it in drawing.bars]
+        found = ([named[it] for it in fault.faulty], [named[it] for it in fault.path])
+        fault_of_links = differing("joined", links_in(drawing, fault), links)
+        yield f"{line} of a log", (
+            differing("calls", found, ([f"line {at}"], path)) or fault_of_links
+            or differing("reason", f"audit fault: {fault.said}: {fault.reason}", line))
+    every = "\n".join(LOG_FAULTS)
+    drawing = logged(LOG, every)
+    found = [it.faulty for it in drawing.faults]
+    yield "all of them", differing("faults", found, [[at - 1] for at, _, _ in LOG_FAULTS.values()])
+    page = Page(page_of.page(drawing))
+    links = [f"#fault-{at}" for at in range(1, len(LOG_FAULTS) + 1)]
+    yield "a link to each", differing("links", page.links, links)
+    beside = pictured(RUN.rpartition("audit")[0].encode(), "--fault", "Order 1 1")
+    yield "beside a text", fault_of(beside, Ran(DONE, page_of.page(drawn(RUN)).encode(), b""))
 
 
 def refused_texts(_program):
     """Another text is refused with the name and line of what is wrong, and nothing is written."""
     for name, (changes, refusal) in REFUSED_TEXTS.items():
         lines = dict(enumerate((STALE + AUDITED + HISTORY).splitlines(), 1))
-        given = "".join(f"{it}\n" for it in {**lines, **changes}.values() if it is not None)
-        yield name, refusal_fault(pictured(given.encode()), refusal)
-    yield "bytes that are no text", refusal_fault(pictured(STALE.encode() + b"\xff\n"), "NotText 6")
-    ran = run([PICTURE, f"{ROOT}/examples/none.out"])
+        given = [it for it in {**lines, **changes}.values() if it is not None]
+        yield name, refusal_fault(lambda: Text(given or [""]), refusal)
+    for name, (text, said, refusal) in REFUSED_LOGS.items():
+        yield name, refusal_fault(lambda: logged(text, "audit ok" if said is None else said), refusal)
+    for name, given, arguments, refusal in (
+        ("a text", STALE.encode(), [], b"Cut 5"),
+        ("bytes that are no text", STALE.encode() + b"\xff\n", [], b"NotText 6"),
+        ("a log", b"{}\n", ["/dev/stdin", f"{EXAMPLES}/first.out"], b"BadLog 1"),
+    ):
+        ran = pictured(given, *arguments)
+        is_said = ran.err.startswith(b"picture: text refused: %s: " % refusal)
+        is_said = is_said and ran.err.count(b"\n") == 1
+        fault = None if is_said else f"it said {ran.err!r}"
+        yield f"{name}, by the command", fault_of(ran, Ran(REFUSED, b"", None)) or fault
+    ran = pictured(b"", f"{ROOT}/examples/none.out")
     is_told = (ran.status, ran.out) == (NO_STREAM, b"") and b"failed" in ran.err
     yield "a file that is not there", None if is_told else str(ran)
 
 
-def refusal_fault(ran, refusal):
-    is_said = (
-        ran.err.startswith(f"picture: text refused: {refusal}: ".encode())
-        and ran.err.count(b"\n") == 1
-    )
-    return fault_of(ran, Ran(REFUSED, b"", None)) or (None if is_said else f"it said {ran.err!r}")
+def refusal_fault(draw, refusal):
+    try:
+        draw()
+    except drawings.Refused as why:
+        return None if str(why).startswith(f"{refusal}: ") else f"it is refused by {why}"
+    return "it is not refused"
+
+
+def random_log(seed):
+    """Lines of a log at random, with times or without, in which some reads are stale."""
+    dice = random.Random(f"picture {seed}")
+    has_times, now, live = seed % 2, 0, 100
+    lines, told = [], []
+    for at in range(dice.randint(2, 40)):
+        client = f"c{dice.randrange(4)}"
+        now += dice.randint(0, 6)
+        kind = dice.choice(["read", "read", "read", "commit", "ask", "report", "learn"])
+        live += dice.randint(1, 9) * (kind in ("commit", "ask", "report"))
+        line = {"client": client, kind: live}
+        if kind == "read":
+            line[kind] = dice.choice([live, live, live, max(100, live - dice.randint(1, 30))])
+        if kind == "learn":
+            line = {"client": client, "learn": dice.choice(told)} if told and not has_times else {
+                "client": client, "read": live}
+        if has_times:
+            ended = None if kind == "report" and dice.random() < 0.3 else now + dice.randint(0, 9)
+            line.update(began=now, ended=ended)
+        told.append(client)
+        lines.append(line)
+    return lines
+
+
+def known_of(lines, at, margin):
+    """The lines that come before a line, by its client, by time, or by what was learnt."""
+    line = lines[at]
+    if "began" in line:
+        has_ended = lambda it: lines[it]["ended"] is not None
+        is_before = lambda it: lines[it]["ended"] + margin < line["began"] or (
+            lines[it]["client"] == line["client"]
+            and (lines[it]["ended"], it) < (line["began"], at))
+        return [it for it in range(len(lines)) if has_ended(it) and is_before(it)]
+    found, open_lines = set(), [at]
+    while open_lines:
+        here = open_lines.pop()
+        of = {lines[here]["client"], lines[here].get("learn")}
+        before = {max((it for it in range(here) if lines[it]["client"] == who), default=None)
+                  for who in of} - {None} - found
+        found |= before
+        open_lines += before
+    return sorted(found)
+
+
+def stale_reads(lines, margin):
+    """What an audit says of each read below what it knew, worked out slowly."""
+    for at, line in enumerate(lines):
+        shown = [(lines[it][kind], it) for it in known_of(lines, at, margin)
+                 for kind in ("read", "commit", "report") if kind in lines[it]]
+        newest = max(shown, default=(0, 0))
+        if "read" in line and line["read"] < newest[0]:
+            yield f"audit fault: Order {at + 1}: it read {line['read']}: line {newest[1] + 1} has more"
+
+
+def random_logs(_program):
+    """In faulty logs bands never fall, only faulty reads leave theirs, the path has what is named."""
+    met = 0
+    for seed in range(300):
+        lines, margin = random_log(seed), (seed // 2) % 3
+        said = list(stale_reads(lines, margin))
+        met += len(said)
+        drawing = logged("\n".join(map(json.dumps, lines)), "\n".join(said) or "audit ok", margin)
+        yield f"seed {seed}", random_fault(drawing, said)
+    yield "enough that are stale", None if met > 300 else f"{met} of them"
+
+
+def random_fault(drawing, said):
+    faulty = {it for fault in drawing.faults for it in fault.faulty}
+    for line, fault in zip(said, drawing.faults):
+        named = {int(it) - 1 for it in re.findall(r"(?:line|Order) (\d+)", line)}
+        if named != set(fault.path) or len(fault.path) != len(named):
+            return f"{line}: the path has {fault.path}"
+        if drawing.axis == "order" and all(stands(drawing, drawing.bars[it]) for it in fault.faulty):
+            return f"{line}: it does not stand out of its band"
+        for link in drawings.links_of(drawing, fault):
+            one, two = drawing.bars[link.start], drawing.bars[link.end]
+            if link.has_tip and (link.left, link.right) != (one.right, two.left):
+                return f"{line}: an arrow has wrong ends: {link}"
+            if link.left > link.right:
+                return f"{line}: it goes back: {link}"
+        left, right = drawings.window(drawing, fault)
+        if any(drawing.bars[it].left < left or drawings.end_of(drawing.bars[it]) > right
+               for it in fault.path):
+            return f"{line}: its view has not all of its path"
+    if len(said) != len(drawing.faults):
+        return f"{len(drawing.faults)} faults in place of {len(said)}"
+    return order_fault(drawing, faulty)
+
+
+def random_runs(_program):
+    """The same of runs in which a read is put back to before what its client had seen."""
+    for seed in range(40):
+        name, text = f"seed {seed}", judging.right_text(seed).decode().partition("audit ok")[0]
+        spoilt, dice = text.splitlines(), random.Random(f"runs {seed}")
+        reads = [at for at, it in enumerate(spoilt)
+                 if " grv " in it and "pos 0" not in it and "refused" not in it]
+        for at in dice.sample(reads, min(3, len(reads))):
+            before = dice.choice([it for it in spoilt if " grv " in it and "refused" not in it])
+            spoilt[at] = " ".join([*spoilt[at].split()[:4], *before.split()[4:]])
+        log = Text([*spoilt, "Gap 0"]).lanes if " grv " in text else {}
+        said = [f"Order {it.client} {it.number}" for calls in log.values()
+                for last, it in zip(calls, calls[1:])
+                if it.kind in ("read", "locked") and it.position < last.seen]
+        if not said:
+            continue
+        drawing = drawn("\n".join(spoilt), *said)
+        faulty = {it for fault in drawing.faults for it in fault.faulty}
+        wrong = [f"{fault.said}: it is not at the end of its path {fault.path}"
+                 for fault in drawing.faults
+                 if fault.path[-1:] != fault.faulty or len(fault.path) < 2]
+        wrong += [f"{fault.said}: {it} goes back" for fault in drawing.faults
+                  for it in drawings.links_of(drawing, fault) if not it.has_tip]
+        yield name, wrong[0] if wrong else order_fault(drawing, faulty)
 
 
 def large(_program):
-    """A text of 10,000 events is drawn at once, without a label at a mark."""
-    replies = []
-    for at in range(5_000):
-        who, version = at % 7, 100 + at
-        replies.append(
-            f"{at} {who} 0 ask prev {version - 1 if at else 0} version {version} ordinal {at} fresh"
-        )
-        replies.append(f"{at} {who} 1 report {version} {'raised' if at else 'not raised'} pos {at}")
-        replies.append(f"{at} 7 2 grv {version} unlocked none pos {at}")
-    text = "\n".join([*replies, "audit ok events 10000 raised 4999 versions 5000", ""])
-    before = resource.getrusage(resource.RUSAGE_CHILDREN)
-    ran = pictured(text.encode())
-    after = resource.getrusage(resource.RUSAGE_CHILDREN)
-    took = after.ru_utime + after.ru_stime - before.ru_utime - before.ru_stime
-    labels = len(Page(ran.out).all("text", "label"))
-    yield "what it is", fault_of(ran, Ran(DONE, None, b"")) or page_fault(text, ran.out)
+    """A log of 100,000 calls of 1,000 clients is drawn at once."""
+    lines = [
+        f'{{"client":"c{at % 1000}","{"read" if at % 3 else "commit"}":{100 + at // 3},'
+        f'"began":{10 * at},"ended":{10 * at + 9}}}'
+        for at in range(CALLS)
+    ]
+    lines[-1] = f'{{"client":"c1","read":100,"began":{10 * CALLS},"ended":{10 * CALLS + 9}}}'
+    said = f"audit fault: Order {CALLS}: it read 100, and line {CALLS - 3} had ended"
+    before = resource.getrusage(resource.RUSAGE_SELF).ru_utime
+    drawing = logged("\n".join(lines), said)
+    written = page_of.page(drawing)
+    took = resource.getrusage(resource.RUSAGE_SELF).ru_utime - before
+    data = json.loads(written.partition('id="drawing">')[2].partition("</script>")[0])
+    yield "its calls", differing("calls", len(data["words"]), CALLS)
     yield "its time", None if took < SECONDS else f"{took:.1f} seconds"
-    yield "its size", None if len(ran.out) < BYTES else f"{len(ran.out)} bytes"
-    yield "its labels", None if labels == 0 else f"there are {labels}"
+    yield "its size", None if len(written) < BYTES else f"{len(written)} bytes"
+    if NODE:
+        yield from opened_fast(drawing)
 
 
-LOGS = f"{EXAMPLES}/logs"
-TOLD = (
-    b"audit ok events 2 raised 1 versions 2\n"
-    b"history 0 client 0 call 2 report 2100 unlocked none raised\n"
-    b"history 1 client 1 call 1 read 2100 unlocked none\n"
-)
-BEHIND = (
-    b"audit fault: Order 1 1: it got 100, but by its call 0 its client had seen 200, "
-    b"which client 0 reported by its call 1\n"
-)
-OTHER = b"audit fault: Wrong 0 1: it reported 200\n"
+# What the page's code makes of a drawing, where there is node.
+NODE = shutil.which("node")
 
 
-def logs(_program):
-    """The pages of logs that fdb_audit judges have each call once, the learns, and the fault."""
-    for name, text, calls, concerned in (
-        ("told", TOLD, ["0-0", "0-1", "0-2", "1-0", "1-1"], []),
-        ("stale", BEHIND, ["0-0", "0-1", "1-0", "1-1"], ["1-1"]),
-        ("stale, two faults", BEHIND + OTHER, ["0-0", "0-1", "1-0", "1-1"], ["1-1", "0-1"]),
-    ):
-        ran = pictured(text, "--logs", f"{LOGS}/{name.split(',')[0]}.json")
-        written = ran.out.decode()
-        found = sorted(re.findall(r'id="call-([0-9-]+)"', written))
-        yield f"{name}: its calls", None if found == calls else f"{found}; it said {ran.err!r}"
-        arrows = written.count('marker-end="url(#tip)"')
-        yield f"{name}: its learn", None if arrows == 1 else f"{arrows} arrows"
-        links = re.findall(r'href="#call-([0-9-]+)"', written)
-        yield f"{name}: its fault", None if links == concerned else f"it names {links}"
-    ran = pictured(BEHIND, "--logs", f"{LOGS}/told.json")
-    yield "the fault of other logs", None if ran.status == DONE else f"it said {ran.err!r}"
-    ran = pictured(TOLD, "--logs", f"{LOGS}/stale.json")
-    yield "the audit of other logs", refusal_fault(ran, "BadAudit 1")
-    ran = pictured(TOLD, "--logs", f"{EXAMPLES}/first.json")
-    yield "a script for logs", refusal_fault(ran, "BadLogs 0")
+def scenes_of(*asked):
+    """What the page's code answers: for each drawing with calls what they return, and the time."""
+    given = [[json.dumps(page_of.columns_of(drawing)), calls] for drawing, calls in asked]
+    words = [NODE, f"{ROOT}/tests/scenes.js", f"{TOOLS}/picture_scene.js"]
+    ran = run(words, json.dumps(given).encode(), 300)
+    if ran.status != DONE:
+        raise ValueError(f"node ended with {ran.status}: {ran.err[-300:]!r}")
+    return json.loads(ran.out)
+
+
+def view(drawing, width, **changed):
+    """The view that a drawing opens with."""
+    columns = page_of.columns_of(drawing)
+    fault = columns["faults"][0]
+    return {"from": fault["from"], "to": fault["to"], "lanes": fault["lanes"], "fault": 0,
+            "chosen": None, "top": 0, "width": width, "height": 500, **changed}
+
+
+# What stands where, at ten pixels a unit: tag and class, and x, y and width, a way, or a text.
+LOG_SCENE = """rect band turn0 90.4 24 430.4
+path raise M90.4 24V224
+text version 93.4 19 200
+path lane M0 34H520.8
+text name 4 47 client a
+rect bar ask 70.4 92 80
+rect bar open 150.4 52 14
+rect bar commit on-path 50.4 52 40
+text label on-path 70.4 81 line 1: commit 200
+text label 157.4 81 300
+text label 110.4 121 ask 300
+path lane M0 132H520.8
+text name 4 145 client b
+rect bar read faulty 440.4 150 30
+text label on-path 455.4 179 line 4: read 100
+rect unfold 0 190 520.8
+path others M0.4 210H250.4M360.4 210H560.4
+text name 4 203 2 other clients: show
+path path M90.4 60L440.4 158 url(#tip-path)
+path lane M0 224H520.8"""
+RUN_SCENE = """rect band turn0 0 24 90
+rect band turn1 90 24 490
+path raise M90 24V184
+text version 3 19 100
+text version 93 19 200
+path lane M0 34H580
+text name 4 47 client 0
+rect bar raised on-path 100 52 80
+rect bar tell on-path 200 52 80
+text label on-path 240 48 call 3: tell to 1
+text label on-path 140 81 call 2: report 200
+path lane M0 92H580
+text name 4 105 client 1
+rect bar read 500 110 80
+rect bar learn on-path 300 110 80
+rect bar read faulty 400 110 80
+text label on-path 440 106 call 1: read 100
+text label on-path 340 139 call 0: learn from 0
+text label 540 139 read 200
+rect unfold 0 150 580
+path others M0 170H80
+text name 4 163 1 other client: show
+path arrow M280 60L300 118 url(#tip-arrow)
+path path M180 60L200 60 url(#tip-path)
+path path M280 60L300 118 url(#tip-path)
+path path M380 118L400 118 url(#tip-path)
+path lane M0 184H580
+text tick first 4 200 in order →"""
+TICKS = [("10", 50.4), ("15", 100.4), ("20", 150.4)]
+
+
+def shape_line(shape):
+    """A shape in a line, as the scenes worked out by hand have it."""
+    tag = "rect" if shape["tag"] == "bar" else shape["tag"]
+    names = ("d", "x", "y", "width", "text", "marker-end")
+    return " ".join([tag, shape["class"], *(str(shape[it]) for it in names if it in shape)])
+
+
+def scenes(_program):
+    """Where the page's code draws all of this, in pixels: compared with values worked out by hand."""
+    if not NODE:
+        print("(no node here: what the page's code draws is not looked at) ", end="")
+        yield "without node", None
+        return
+    log, run_of = logged(LOG, LOG_ORDER), drawn(RUN)
+    part = {**view(log, 100), "from": 20, "to": 30}
+    (of_log, _), (of_run, _) = scenes_of(
+        (log, [
+            ["scene", view(log, 520.8)], ["opened", 0], ["found", "300"], ["found", "Client B"],
+            ["found", "zzz"], ["zoomed", part, 0.5, 22], ["zoomed", part, 100, 22],
+            ["moved", part, -100], ["overview", view(log, 100), 44],
+            ["scene", view(log, 520.8, lanes=[0, 1, 2, 3])],
+            ["scene", view(log, 10)],
+        ]),
+        (run_of, [["scene", view(run_of, 580)], ["opened", None]]),
+    )
+    yield "a log", scene_fault(of_log[0], LOG_SCENE)
+    ticks = [(it["text"], it["x"]) for it in of_log[0]["shapes"] if it["class"].startswith("tick")]
+    yield "its ticks", differing("ticks", ticks[:3], TICKS)
+    words = {it["call"] + 1: it["words"] for it in of_log[0]["shapes"] if it["tag"] == "bar"}
+    wanted = {it: LOG_CALLS[f"line {it}"][6] for it in (1, 2, 4, 5)}
+    yield "its words", differing("words", words, wanted)
+    opened = of_log[1]
+    yield "what it opens with", differing(
+        "view", (opened["lanes"], opened["fault"], opened["from"], opened["to"]),
+        ([0, 2], 0, *drawings.window(log, log.faults[0])))
+    yield "a version found", differing("found", of_log[2], [{"call": it} for it in (1, 4, 6)])
+    yield "a client found", differing("found", of_log[3], [{"lane": 2}])
+    yield "nothing found", differing("found", of_log[4], [])
+    yield "zoomed in", differing("window", of_log[5], {"from": 21, "to": 26})
+    columns = page_of.columns_of(log)
+    whole = {name: columns[name] for name in ("from", "to")}
+    yield "zoomed out", differing(
+        "window", [round(it, 6) for it in of_log[6].values()],
+        [round(it, 6) for it in whole.values()])
+    left = {"from": whole["from"], "to": whole["from"] + 10}
+    yield "moved to the left", differing("window", of_log[7], left)
+    marks = [it["d"].count("M") for it in of_log[8] if it["class"] == "mark"]
+    yield "marks of faults", differing("marks", marks, [1])
+    bars = sorted(it["call"] for it in of_log[9]["shapes"] if it["tag"] == "bar")
+    yield "all unfolded", differing("bars", bars, list(range(7)))
+    far = [it["class"] for it in of_log[10]["shapes"] if it["tag"] == "bar"]
+    yield "seen from afar", differing("bars", "bar read faulty" in far, True)
+    yield "a run", scene_fault(of_run[0], RUN_SCENE)
+    yield "without a fault", differing("lanes", of_run[1]["lanes"], [0, 1, 2])
+
+
+def scene_fault(scene, wanted):
+    found = [shape_line(it) for it in scene["shapes"]]
+    missing = [it for it in wanted.split("\n") if it not in found]
+    other = [it for it in found if it not in wanted.split("\n") and "tick" not in it and "v4" not in it]
+    return f"missing: {missing}, other: {other}" if missing or other else None
+
+
+def opened_fast(drawing):
+    """A page of the largest log opens in time, and each view of it has few shapes and no overlap."""
+    whole = {"from": 0, "to": 10 * CALLS, "lanes": list(range(200)), "top": 0, "width": 1000,
+             "height": 600, "fault": None, "chosen": None}
+    views = [view(drawing, 1000), whole, {**whole, "from": 5_000, "to": 9_000}]
+    answers, took = scenes_of((drawing, [["scene", it] for it in views]))[0]
+    yield "how long it takes to open", None if took < OPENS * 3 else f"{took:.1f} seconds"
+    for at, scene in enumerate(answers):
+        count = len(scene["shapes"])
+        yield f"view {at}: shapes", None if count < 5_000 else f"{count} shapes"
+        labels = [(it["x"], int(it["text"])) for it in scene["shapes"] if it["class"] == "version"]
+        fault = None if labels == sorted(labels) and labels else f"{labels}"
+        yield f"view {at}: versions rise", fault
+        room = min((two[0] - one[0] for one, two in zip(labels, labels[1:])), default=99)
+        yield f"view {at}: versions are apart", None if room > 20 else f"{room} pixels"

@@ -111,8 +111,9 @@ def padded(drawing, left, right):
 
 
 def lanes_of(drawing, fault):
-    """The lanes that a fault is about; all other clients are folded away."""
-    return sorted({drawing.bars[it].lane for it in fault.path})
+    """The lanes that a fault is about, or all where it is about no call; others are folded away."""
+    named = {drawing.bars[it].lane for it in fault.path}
+    return sorted(named or range(len(drawing.lanes)))
 
 
 def rows_of(bars):

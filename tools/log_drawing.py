@@ -29,7 +29,7 @@ FAULTS = {
     "Stray": ("a report of a version that its client had not got", ("report",)),
 }
 FAULT = re.compile(rf"(?:fdb_audit: )?audit fault: ({'|'.join(FAULTS)}) ([1-9]\d*): (.+)")
-SAID = re.compile(r"(?:fdb_audit: )?audit (?:ok|fault)\b")
+SAID = re.compile(r"(?:fdb_audit: )?audit (ok|fault)\b")
 NAMED = re.compile(r"\bline ([1-9]\d*)\b")
 MOST_VERSION = 2**63 - 1
 BY_TIME = """Time goes from left to right: a bar goes from where a call began to where it ended. A
@@ -106,17 +106,19 @@ class Said(NamedTuple):
 
 def said_of(texts, lines):
     """The faults that were said of some lines; all but the verdict is passed over."""
-    faults, is_judged = [], False
+    faults, verdicts = [], set()
     for number, text in enumerate(texts, 1):
-        if not SAID.match(text):
+        verdict = SAID.match(text)
+        if not verdict:
             continue
-        is_judged, found = True, FAULT.fullmatch(text)
-        if "audit fault" in text.split(":")[0] + text[:24] and not found:
+        verdicts.add(verdict[1])
+        found = FAULT.fullmatch(text)
+        if verdict[1] == "fault" and not found:
             raise Refused(f"BadFault {number}: no fault of a line: {text[:80]!r}")
-        if found:
-            faults.append(fault_of(number, text, lines, found))
-    if not is_judged:
-        raise Refused(f"Cut {len(texts)}: no line says 'audit ok' or 'audit fault'")
+        faults += [fault_of(number, text, lines, found)] if found else []
+    if len(verdicts) != 1:
+        what = "both of 'audit ok' and 'audit fault'" if verdicts else "no line of a verdict"
+        raise Refused(f"Cut {len(texts)}: there is {what}")
     return faults
 
 

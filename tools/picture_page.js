@@ -131,23 +131,40 @@ for (const [svg, ends] of [[picture, () => view], [band, () => drawing]]) {
   }, { passive: false });
 }
 
-// One pointer drags, two zoom. On the overview a drag takes the window along.
-const pointers = new Map();
+// One pointer drags, two zoom; one that stays where it is chooses. On the overview the window comes
+// along.
+const pointers = new Map(), STILL = 4;
+
 function down(event) {
-  pointers.set(event.pointerId, event);
-  if (event.currentTarget === band) centre(event);
+  const { clientX, target, currentTarget, pointerId } = event;
+  pointers.set(pointerId, { clientX, begun: clientX, target });
+  currentTarget.setPointerCapture(pointerId);
+  if (currentTarget === band) centre(event);
 }
 
 function drag(event) {
-  const before = pointers.get(event.pointerId);
-  if (!before) return;
-  pointers.set(event.pointerId, event);
+  const before = pointers.get(event.pointerId), clientX = event.clientX;
+  if (!before) return hover(event);
+  pointers.set(event.pointerId, { ...before, clientX });
   if (event.currentTarget === band) return centre(event);
-  event.currentTarget.setPointerCapture(event.pointerId);
-  const others = [...pointers.values()].filter((it) => it.pointerId !== event.pointerId);
-  if (!others.length) return move((before.clientX - event.clientX) / view.width);
-  const gap = (it) => Math.max(8, Math.abs(it.clientX - others[0].clientX));
-  zoom(gap(before) / gap(event), moment(others[0], picture, view.from, view.to));
+  const other = [...pointers].find(([it]) => it !== event.pointerId);
+  if (!other) return move((before.clientX - clientX) / view.width);
+  const gap = (it) => Math.max(8, Math.abs(it.clientX - other[1].clientX));
+  zoom(gap(before) / gap(event), moment(other[1], picture, view.from, view.to));
+}
+
+function up(event) {
+  const { begun, target } = pointers.get(event.pointerId) || {};
+  pointers.delete(event.pointerId);
+  if (event.currentTarget !== picture || !target) return;
+  if (Math.abs(event.clientX - begun) >= STILL) return;
+  if (target.classList.contains("unfold")) unfold();
+  else if (target.dataset.call !== undefined) choose(Number(target.dataset.call));
+}
+
+function hover(event) {
+  const call = event.target.dataset.call;
+  if (call !== undefined) say(Number(call));
 }
 
 function centre(event) {
@@ -158,20 +175,10 @@ function centre(event) {
 for (const svg of [picture, band]) {
   svg.addEventListener("pointerdown", down);
   svg.addEventListener("pointermove", drag);
-  for (const name of ["pointerup", "pointercancel", "pointerleave"]) {
-    svg.addEventListener(name, (event) => pointers.delete(event.pointerId));
-  }
+  svg.addEventListener("pointerup", up);
+  svg.addEventListener("pointercancel", (event) => pointers.delete(event.pointerId));
 }
 
-picture.addEventListener("click", (event) => {
-  const call = event.target.dataset.call;
-  if (event.target.classList.contains("unfold")) unfold();
-  else if (call !== undefined) choose(Number(call));
-});
-picture.addEventListener("pointerover", (event) => {
-  const call = event.target.dataset.call;
-  if (call !== undefined) say(Number(call));
-});
 figure.addEventListener("scroll", () => change({ top: figure.scrollTop }));
 window.addEventListener("resize", () => change({}));
 window.addEventListener("hashchange", follow);

@@ -156,7 +156,7 @@ function bandShapes(drawing, view, x, bottom) {
 
 // A lane: its name, its bars, and labels where they do not run into one another.
 function laneShapes(index, view, x, lane, top, isMarked, path, faulty) {
-  const { drawing } = index, shapes = [], labels = [], open = [];
+  const { drawing } = index, shapes = [], first = [], labels = [], open = [];
   shapes.push({ tag: "path", class: "lane", d: `M0 ${top}H${view.width}` });
   const said = cut(drawing.lanes[lane], view.width);
   shapes.push({ tag: "text", class: "name", x: 4, y: top + 13, text: said, words: drawing.lanes[lane] });
@@ -188,9 +188,9 @@ function laneShapes(index, view, x, lane, top, isMarked, path, faulty) {
     const look = (faulty.has(it) ? " faulty" : path.has(it) ? " on-path" : "") +
       (it === view.chosen ? " chosen" : "");
     shapes.push(barShape(drawing, it, { left, right, row: drawing.row[it] }, top, look));
-    labels.unshift([it, { left, right, row: drawing.row[it] }]);
+    first.push([it, { left, right, row: drawing.row[it] }]);
   }
-  return shapes.concat(labelShapes(drawing, view, labels, top, path));
+  return shapes.concat(labelShapes(drawing, view, [...first, ...labels], top, path));
 }
 
 // A name, as much of it as there is room for.
@@ -235,7 +235,8 @@ function labelShapes(drawing, view, labels, top, path) {
 
 function labelsOf(drawing, it, isOnPath) {
   const long = `${drawing.kinds[drawing.kind[it]].short} ${drawing.label[it]}`.trim();
-  return isOnPath ? [`${drawing.name[it]}: ${long}`] : [long, drawing.label[it]].filter((text) => text);
+  if (!isOnPath) return [long, drawing.label[it]].filter((text) => text);
+  return [`${drawing.name[it].replace(`${drawing.lanes[drawing.lane[it]]} `, "")}: ${long}`];
 }
 
 // The clients that are folded away: one strip in which their calls are.
