@@ -175,6 +175,73 @@ TOLD_ARROWS = [("line 1", "line 3"), ("line 3", "line 4")]
 TOLD_LINKS = [("line 1", "line 4", 29, 41, True), ("line 4", "line 5", 49, 51, True)]
 TOLD_VIEW = (11, 69, [0, 1])
 
+# A run with two faults: client 1 learns from client 2, which had read what client 0 reported.
+TWO_FAULTS = """0 0 0 ask prev 0 version 100 ordinal 0 fresh
+0 0 1 ask prev 100 version 200 ordinal 1 fresh
+0 0 2 ask prev 200 version 300 ordinal 2 fresh
+0 0 3 report 200 raised pos 1
+0 0 4 report 300 raised pos 2
+1 2 0 grv 300 unlocked none pos 2
+1 2 1 tell 1 pos 2
+2 1 0 grv 200 unlocked none pos 1
+2 1 1 grv 200 unlocked none pos 2
+audit fault: Order 1 1
+audit fault: Wrong 1 2
+"""
+# Of each of its faults: its name, the end of its reason, the call at fault, the path, and the lanes.
+TWO_FAULTS_FOUND = [
+    ("Order 1 1", "client 1 learnt from client 2 of position 2 (call 0).", ["client 1 call 1"],
+     ["client 0 call 4", "client 2 call 0", "client 2 call 1", "client 1 call 0",
+      "client 1 call 1"], [0, 1, 2]),
+    ("Wrong 1 2", "(call 2). At position 2 the live committed version was 300.",
+     ["client 1 call 2"], ["client 0 call 4", "client 1 call 2"], [0, 1]),
+]
+# How the words of replies begin, by reply.
+WORDS = {
+    "grv refused Early 3": "Client 0 called grv, which was refused: Early 3, it asked for a number "
+                           "beyond its next one. Round 0",
+    "reask refused Forgotten": "Client 0 called reask, which was refused: Forgotten, it had given up"
+                               " the answer under this number. Round 0",
+    "ask refused Exhausted": "Client 0 called ask, which was refused: Exhausted, the next version "
+                             "would be above the last one. Round 0",
+    "report refused NotIssued": "Client 0 called report, which was refused: NotIssued, it has got no"
+                                " commit version under this number. Round 0",
+    "report refused MinAbove": "Client 0 called report, which was refused: MinAbove, the minimum "
+                               "that it tells is above the version. Round 0",
+    "grv refused BadCount": "Client 0 called grv, which was refused: BadCount, it is for no "
+                            "transaction, or for too many. Round 0",
+    "grv refused BatchThrottled": "Client 0 called grv, which was refused: BatchThrottled, the batch"
+                                  " limit is 0. Round 0",
+    "grv refused Full": "Client 0 called grv, which was refused: Full, the queue of the GRV proxy "
+                        "was full. Round 0",
+    "ask refused UnknownProxy": "Client 0 called ask, which was refused: UnknownProxy, there is no "
+                                "commit proxy of its number. Round 0",
+    "grv refused ProxyClosed": "Client 0 called grv, which was refused: ProxyClosed, the GRV proxy "
+                               "was closed. Round 0",
+    "grv refused Stranger": "Client 0 called grv, which was refused: Stranger, the answer that came "
+                            "was another call's. Round 0",
+    "grv refused Locked 100 pos 0": "Client 0 read 100 at position 0, which was refused: the "
+                                    "database is locked, and the read is not lock-aware. Round 0",
+    "ask prev 100 version 200 ordinal 1 kept": "Client 0 got its earlier answer again, the commit "
+                                               "version 200. Round 0",
+    "report 200 min raised pos 1": "Client 0 reported 200 as committed, which raised the minimum "
+                                   "known committed version alone and made position 1. Round 0",
+    "grv 100 locked none min 60 used 50 pos 0 limit a 3 4": "Client 0 read 100 at position 0; the "
+        "record is locked, with no metadata version, and the minimum known committed version 60; "
+        "the read uses 50; for its tags: limit a 3 4. Round 0",
+}
+# A log in which the audit found a version that was never there, and a client with two calls.
+NEVER = """{"client":"a","commit":200}
+{"client":"b","read":900}
+{"client":"a","commit":300}
+{"client":"b","learn":"a"}
+{"client":"b","read":900}
+"""
+NEVER_SAID = (
+    "audit fault: Wrong 2: client b read 900, which nobody reported\n"
+    "audit fault: Wrong 5: client b read 900, which nobody reported\n"
+)
+
 # Faults of a run with the calls that stand out and the whole path, as client and place in its log.
 FAULTS = {
     "fdb_replay: audit fault: Wrong 1 1": (["1-1"], ["0-2", "1-1"]),
@@ -376,6 +443,51 @@ def by_hand(_program):
     yield "bands with a margin", differing("bands", with_margin, [(16, "200"), (63, "300")])
 
 
+    two, never = drawn(TWO_FAULTS), logged(NEVER, NEVER_SAID)
+    yield "two faults of a run", differing("faults", found_in(two), TWO_FAULTS_FOUND)
+    bands = [(it.left, it.label) for it in two.bands]
+    yield "its bands", differing("bands", bands, [(0, "100"), (30, "200"), (40, "300")])
+    bands = [(it.left, it.label) for it in never.bands]
+    yield "what was never there", differing("bands", bands, [(10, "200"), (20, "300")])
+    yield "the last call is learnt", differing("arrows", never.arrows, [(2, 3)])
+    timed = "\n".join(f'{it[:-1]},"began":{at},"ended":{at}}}'
+                      for at, it in enumerate(NEVER.splitlines()) if "learn" not in it)
+    bands = [(it.left, it.label) for it in logged(timed, NEVER_SAID.replace("5:", "4:")).bands]
+    yield "what was never there, with times", differing("bands", bands, [(0, "200"), (2, "300")])
+    for reply, wanted in WORDS.items():
+        do = "report" if reply.startswith("report") else reply.split()[0]
+        words = drawn(f"0 0 0 {reply}\naudit fault: Gap 0" if "pos" in reply else
+                      f"0 0 0 {reply}\n0 1 0 grv 1 unlocked none pos 0\nGap 0").bars[0].words
+        yield f"{do}: {reply}", None if words.startswith(wanted) else f"it says {words!r}"
+    for what, it in (("a run", run_of), ("a log", log), ("a log without times", told)):
+        yield f"the page's calls of {what}", columns_fault(it)
+
+
+def found_in(drawing):
+    """What a drawing has of each fault."""
+    named, found = [it.name for it in drawing.bars], []
+    for at, fault in enumerate(drawing.faults):
+        end = TWO_FAULTS_FOUND[at][1] if at < len(TWO_FAULTS_FOUND) else ""
+        columns = page_of.columns_of(drawing)["faults"][at]
+        calls = [[named[it] for it in list] for list in (columns["faulty"], columns["path"])]
+        reason = end if columns["reason"].endswith(end) else columns["reason"]
+        found.append((fault.said, reason, *calls, columns["lanes"]))
+    return found
+
+
+def columns_fault(drawing):
+    """Says which call is another one in the data of a page."""
+    data = page_of.columns_of(drawing)
+    for at, bar in enumerate(drawing.bars):
+        kind = data["kinds"][data["kind"][at]]["id"].replace("-", " ")
+        found = (data["lane"][at], data["left"][at], data["right"][at], kind, data["label"][at],
+                 data["name"][at], data["words"][at])
+        if found != tuple(bar):
+            return f"{found} in place of {tuple(bar)}"
+    bands = list(zip(*(data["bands"][it] for it in ("left", "label", "words"))))
+    return differing("bands", bands, [tuple(it) for it in drawing.bands])
+
+
 def drawing_faults(name, drawing, bands, arrows, links, view):
     """Compares what is above the calls of a drawing: bands, arrows, and its first fault's path."""
     named = [it.name for it in drawing.bars]
@@ -482,6 +594,8 @@ def faults(_program):
     drawing = logged(LOG, every)
     found = [it.faulty for it in drawing.faults]
     yield "all of them", differing("faults", found, [[at - 1] for at, _, _ in LOG_FAULTS.values()])
+    found = [f"audit fault: {it.said}: {it.reason}" for it in drawing.faults]
+    yield "their reasons", differing("reasons", found, list(LOG_FAULTS))
     page = Page(page_of.page(drawing))
     links = [f"#fault-{at}" for at in range(1, len(LOG_FAULTS) + 1)]
     yield "a link to each", differing("links", page.links, links)
@@ -582,8 +696,15 @@ def random_logs(_program):
         said = list(stale_reads(lines, margin))
         met += len(said)
         drawing = logged("\n".join(map(json.dumps, lines)), "\n".join(said) or "audit ok", margin)
-        yield f"seed {seed}", random_fault(drawing, said)
+        yield f"seed {seed}", random_fault(drawing, said) or arrow_fault(drawing, lines)
     yield "enough that are stale", None if met > 300 else f"{met} of them"
+
+
+def arrow_fault(drawing, lines):
+    """Says which learn is not from the last line above of the client that it names."""
+    wanted = [(max(it for it in range(at) if lines[it]["client"] == line["learn"]), at)
+              for at, line in enumerate(lines) if "learn" in line]
+    return differing("arrows", drawing.arrows, wanted)
 
 
 def random_fault(drawing, said):
@@ -675,7 +796,7 @@ def view(drawing, width, **changed):
     columns = page_of.columns_of(drawing)
     fault = columns["faults"][0]
     return {"from": fault["from"], "to": fault["to"], "lanes": fault["lanes"], "fault": 0,
-            "chosen": None, "top": 0, "width": width, "height": 500, **changed}
+            "chosen": None, "top": 0, "few": True, "width": width, "height": 500, **changed}
 
 
 # What stands where, at ten pixels a unit: tag and class, and x, y and width, a way, or a text.
@@ -796,7 +917,7 @@ def scene_fault(scene, wanted):
 def opened_fast(drawing):
     """A page of the largest log opens in time, and each view of it has few shapes and no overlap."""
     whole = {"from": 0, "to": 10 * CALLS, "lanes": list(range(200)), "top": 0, "width": 1000,
-             "height": 600, "fault": None, "chosen": None}
+             "height": 600, "fault": None, "chosen": None, "few": False}
     views = [view(drawing, 1000), whole, {**whole, "from": 5_000, "to": 9_000}]
     answers, took = scenes_of((drawing, [["scene", it] for it in views]))[0]
     yield "how long it takes to open", None if took < OPENS * 3 else f"{took:.1f} seconds"

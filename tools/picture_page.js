@@ -41,7 +41,7 @@ function draw() {
   show(band, Scene.overview(index, view, BAND), width, BAND);
   figure.style.height = `${seen}px`;
   space.style.height = `${Math.max(0, inner - view.height)}px`;
-  at("all").textContent = view.lanes.length < drawing.lanes.length ? "all clients" : "fold clients";
+  at("all").textContent = isFolded() ? "all clients" : "fold clients";
 }
 
 function show(svg, shapes, width, height) {
@@ -74,7 +74,7 @@ function choose(call) {
 }
 
 function reveal(lane, lanes) {
-  const place = Scene.laidOut(index, lanes).places.find((it) => it.lane === lane);
+  const place = Scene.laidOut(index, { ...view, lanes }).places.find((it) => it.lane === lane);
   const height = view.height || 0;
   if (place.top < figure.scrollTop || place.top + 60 > figure.scrollTop + height) {
     requestAnimationFrame(() => { figure.scrollTop = place.top; });
@@ -96,10 +96,14 @@ function turn(by) {
   if (count) location.hash = `#fault-${(((view.fault || 0) + by + count) % count) + 1}`;
 }
 
+function isFolded() {
+  return view.few || view.lanes.length < drawing.lanes.length;
+}
+
 function unfold() {
-  const isFolded = view.lanes.length < drawing.lanes.length;
+  const { lanes, few } = Scene.opened(drawing, view.fault);
   const all = drawing.lanes.map((_, lane) => lane);
-  change({ lanes: isFolded ? all : Scene.opened(drawing, view.fault).lanes });
+  change(isFolded() ? { lanes: all, few: false } : { lanes, few });
 }
 
 const KEYS = {

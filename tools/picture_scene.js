@@ -5,6 +5,10 @@ const HEAD = 34, NAME = 18, ROW = 40, BAR = 16, FOOT = 24, OTHERS = 34;
 // Letters are taken as wide as any. A bar of fewer pixels than NARROW may be drawn with others.
 const LETTER = 7.2, LEAST = 5, NARROW = 7, OPEN = 14;
 const MOST_ARROWS = 400, MOST_SHARE = 0.9;
+// Of a client that does more than so many things at once, a fault's view shows so many rows.
+const FEW = 4;
+// Pixels beyond which nothing needs to be told apart.
+const FAR = 1e6;
 
 // Adds to a drawing what its views need: the calls of each lane and of all, by their begins.
 function indexed(drawing) {
@@ -48,22 +52,39 @@ function within(drawing, { list, until }, from, to) {
   return list.slice(first, end).filter((it) => endOf(drawing, it) >= from);
 }
 
-// Where each lane that is shown stands, and how high all of it is.
-function laidOut(index, lanes) {
+// Where each lane that is shown stands, and how high all of it is. A lane has its rows, or, where the
+// view is of a fault, the first few of those that are in use there: the rows of its path come first.
+function laidOut(index, view) {
+  const { drawing } = index;
   let top = 0;
-  const places = lanes.map((lane) => {
-    const place = { lane, top, rows: index.rows[lane] };
+  const places = view.lanes.map((lane) => {
+    const calls = within(drawing, index.calls[lane], view.from, view.to);
+    const place = { lane, top, calls, ...rowsOf(index, view, lane, calls) };
     top += NAME + ROW * place.rows;
     return place;
   });
-  const folded = index.drawing.lanes.length - lanes.length;
+  const folded = drawing.lanes.length - view.lanes.length;
   return { places, folded, height: top + (folded ? OTHERS : 0), othersTop: top };
+}
+
+// Which row of a lane stands at which of its slots, how many slots there are, and rows that have none.
+function rowsOf(index, view, lane, calls) {
+  const { drawing } = index;
+  if (!view.few) return { slot: (row) => row, rows: index.rows[lane], hidden: 0 };
+  const path = view.fault === null ? [] : drawing.faults[view.fault].path;
+  const named = path.filter((it) => drawing.lane[it] === lane).map((it) => drawing.row[it]);
+  const others = calls.map((it) => drawing.row[it]).sort((a, b) => a - b);
+  const used = [...new Set([...named, ...others])];
+  const kept = used.slice(0, Math.max(FEW, new Set(named).size)).sort((a, b) => a - b);
+  const slots = new Map(kept.map((row, at) => [row, at]));
+  const hidden = used.length - kept.length;
+  return { slot: (row) => slots.get(row), rows: Math.max(1, kept.length), hidden };
 }
 
 // A view's window in pixels.
 function scaleOf(view) {
   const scale = view.width / (view.to - view.from);
-  return (at) => Math.max(-4000, Math.min(view.width + 4000, (at - view.from) * scale));
+  return (at) => Math.max(-FAR, Math.min(FAR, (at - view.from) * scale));
 }
 
 function round(it) {
@@ -81,7 +102,7 @@ function extent(drawing, x, it) {
 // chosen or null, and which part of the lanes is seen: so many pixels high, from a top on.
 function scene(index, view) {
   const { drawing } = index, x = scaleOf(view);
-  const layout = laidOut(index, view.lanes);
+  const layout = laidOut(index, view);
   const seen = Math.min(view.height, layout.height);
   const fault = view.fault === null ? null : drawing.faults[view.fault];
   const path = new Set(fault ? fault.path : []);
@@ -92,10 +113,10 @@ function scene(index, view) {
   for (const place of layout.places) {
     const top = HEAD + place.top - view.top;
     for (const it of fault ? fault.path : []) {
-      if (drawing.lane[it] === place.lane) middle.set(it, middleOf(drawing, it, top));
+      if (drawing.lane[it] === place.lane) middle.set(it, middleOf(drawing, place, it, top));
     }
     if (top > HEAD + seen || top + NAME + ROW * place.rows < HEAD) continue;
-    shapes.push(...laneShapes(index, view, x, place.lane, top, isMarked, path, faulty));
+    shapes.push(...laneShapes(index, view, x, place, top, isMarked, path, faulty));
   }
   if (layout.folded) shapes.push(...otherShapes(index, view, x, HEAD + layout.othersTop - view.top));
   shapes.push(...arrowShapes(index, view, x, layout));
@@ -109,8 +130,8 @@ function scene(index, view) {
   return { shapes, height: HEAD + seen + FOOT, inner: layout.height };
 }
 
-function middleOf(drawing, it, top) {
-  return top + NAME + drawing.row[it] * ROW + BAR / 2;
+function middleOf(drawing, place, it, top) {
+  return top + NAME + place.slot(drawing.row[it]) * ROW + BAR / 2;
 }
 
 function lineShape(look, left, top, right, bottom, hasTip) {
@@ -155,11 +176,12 @@ function bandShapes(drawing, view, x, bottom) {
 }
 
 // A lane: its name, its bars, and labels where they do not run into one another.
-function laneShapes(index, view, x, lane, top, isMarked, path, faulty) {
-  const { drawing } = index, shapes = [], first = [], labels = [], open = [];
+function laneShapes(index, view, x, place, top, isMarked, path, faulty) {
+  const { drawing } = index, { lane, hidden } = place, name = drawing.lanes[lane];
+  const shapes = [], first = [], labels = [], open = [];
   shapes.push({ tag: "path", class: "lane", d: `M0 ${top}H${view.width}` });
-  const said = cut(drawing.lanes[lane], view.width);
-  shapes.push({ tag: "text", class: "name", x: 4, y: top + 13, text: said, words: drawing.lanes[lane] });
+  const said = cut(name, view.width) + (hidden ? `, and ${hidden} more at once` : "");
+  shapes.push({ tag: "text", class: "name", x: 4, y: top + 13, text: said, words: name });
   const flush = (block) => {
     if (block.count === 1) {
       shapes.push(barShape(drawing, block.call, block, top, ""));
@@ -168,9 +190,9 @@ function laneShapes(index, view, x, lane, top, isMarked, path, faulty) {
       shapes.push(blockShape(drawing, block, top));
     }
   };
-  for (const it of within(drawing, index.calls[lane], view.from, view.to)) {
-    const [left, right] = extent(drawing, x, it), row = drawing.row[it];
-    if (isMarked(it)) continue;
+  for (const it of place.calls) {
+    const [left, right] = extent(drawing, x, it), row = place.slot(drawing.row[it]);
+    if (isMarked(it) || row === undefined) continue;
     const block = open[row], narrow = right - left < NARROW;
     if (block && left <= block.right + 1 && narrow && block.narrow) {
       block.right = Math.max(block.right, right);
@@ -187,8 +209,10 @@ function laneShapes(index, view, x, lane, top, isMarked, path, faulty) {
     const [left, right] = extent(drawing, x, it);
     const look = (faulty.has(it) ? " faulty" : path.has(it) ? " on-path" : "") +
       (it === view.chosen ? " chosen" : "");
-    shapes.push(barShape(drawing, it, { left, right, row: drawing.row[it] }, top, look));
-    first.push([it, { left, right, row: drawing.row[it] }]);
+    const bar = { left, right, row: place.slot(drawing.row[it]) };
+    if (bar.row === undefined) continue;
+    shapes.push(barShape(drawing, it, bar, top, look));
+    first.push([it, bar]);
   }
   return shapes.concat(labelShapes(drawing, view, [...first, ...labels], top, path));
 }
@@ -264,12 +288,17 @@ function otherShapes(index, view, x, top) {
 
 // Arrows from call to call, if few enough are in the window to be told apart.
 function arrowShapes(index, view, x, layout) {
-  const { drawing } = index, tops = new Map(layout.places.map((it) => [it.lane, it.top]));
+  const { drawing } = index, places = new Map(layout.places.map((it) => [it.lane, it]));
+  const isShown = (it) => places.has(drawing.lane[it]) &&
+    places.get(drawing.lane[it]).slot(drawing.row[it]) !== undefined;
   const found = drawing.arrows.filter(([start, end]) =>
     drawing.left[end] >= view.from && drawing.right[start] <= view.to &&
-    tops.has(drawing.lane[start]) && tops.has(drawing.lane[end]));
+    isShown(start) && isShown(end));
   if (found.length > MOST_ARROWS) return [];
-  const y = (it) => middleOf(drawing, it, HEAD + tops.get(drawing.lane[it]) - view.top);
+  const y = (it) => {
+    const place = places.get(drawing.lane[it]);
+    return middleOf(drawing, place, it, HEAD + place.top - view.top);
+  };
   return found.map(([start, end]) => lineShape("arrow", x(drawing.right[start]), y(start),
     x(drawing.left[end]), y(end), true));
 }
@@ -367,9 +396,11 @@ function opened(drawing, at) {
   const fault = drawing.faults[at];
   if (!fault) {
     const lanes = drawing.lanes.map((_, lane) => lane).slice(0, drawing.most_lanes);
-    return { from: drawing.from, to: drawing.to, lanes, fault: null, chosen: null, top: 0 };
+    const all = { from: drawing.from, to: drawing.to, lanes };
+    return { ...all, fault: null, chosen: null, top: 0, few: false };
   }
-  return { from: fault.from, to: fault.to, lanes: fault.lanes, fault: at, chosen: null, top: 0 };
+  const { from, to, lanes } = fault;
+  return { from, to, lanes, fault: at, chosen: null, top: 0, few: true };
 }
 
 function escaped(text) {

@@ -2,6 +2,8 @@
 import re
 from types import SimpleNamespace
 
+from drawing import Refused
+
 MOST_CLIENTS = 64
 NUMBER = r"(?:0|[1-9]\d{0,19})"
 
