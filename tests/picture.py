@@ -1,7 +1,7 @@
 """The pages of tools/picture: where each call, band and arrow stands, and which texts are refused.
 
-Most of it looks at what the tool works out before a page is written, in this process; what the page's
-code makes of it is looked at with node, where there is one.
+Most of it looks at what the tool works out before a page is written, in this process. What the
+page's code makes of it is looked at with node and a browser, where they are.
 """
 import importlib.machinery
 import importlib.util
@@ -68,8 +68,8 @@ RUN = """0 0 0 ask prev 0 version 100 ordinal 0 fresh
 1 2 2 report 100 not raised pos 1
 audit fault: Order 1 1
 """
-# Its calls by client and number: lane, from and to (ten units a column, of which one at each side is
-# free), kind, label, and how the words begin.
+# Its calls: lane, from and to (ten units a column, of which one at each side is free), kind, label
+# and words.
 RUN_CALLS = {
     "client 0 call 0": (0, 1, 9, "fresh", "100", "Client 0 drew the commit version 100, the one "
                         "after 0; its place in the chain is 0. Round 0, command 0; call 0 of the "
@@ -84,8 +84,8 @@ RUN_CALLS = {
                         "was refused: NotIssued, it has got no commit version under this number. "
                         "Round 1, command 1; call 1 of the client's log."),
     "client 0 call 2": (0, 41, 49, "raised", "200", "Client 0 reported 200 as committed, which "
-                        "raised the live committed version and made position 1. Round 0, command 2; "
-                        "call 2 of the client's log; event 2."),
+                        "raised the live committed version and made position 1. Round 0, command 2"
+                        "; call 2 of the client's log; event 2."),
     "client 0 call 3": (0, 51, 59, "tell", "to 1", "Client 0 told client 1 that it had seen "
                         "position 1. Round 0, command 3; call 3 of the client's log."),
     "client 1 call 0": (1, 61, 69, "learn", "from 0", "Client 1 learnt from client 0 of position 1."
@@ -110,7 +110,7 @@ RUN_LINKS = [
 # From one column before the report to one behind the stale read; client 2 is folded away.
 RUN_VIEW = (31, 89, [0, 1])
 RUN_REASON = (
-    "Client 1 read 100 at position 0; the record is unlocked, with no metadata version (call 1). "
+    "Client 1 read 100 at position 0 (call 1). "
     "Its client had come to position 1 before, where 200 was live: client 0 reported 200 as "
     "committed, which raised the live committed version and made position 1 (call 2); client 0 told"
     " client 1 that it had seen position 1 (call 3); client 1 learnt from client 0 of position 1 "
@@ -188,7 +188,7 @@ TWO_FAULTS = """0 0 0 ask prev 0 version 100 ordinal 0 fresh
 audit fault: Order 1 1
 audit fault: Wrong 1 2
 """
-# Of each of its faults: its name, the end of its reason, the call at fault, the path, and the lanes.
+# Of each of its faults: its name, the end of its reason, the call at fault, the path, the lanes.
 TWO_FAULTS_FOUND = [
     ("Order 1 1", "client 1 learnt from client 2 of position 2 (call 0).", ["client 1 call 1"],
      ["client 0 call 4", "client 2 call 0", "client 2 call 1", "client 1 call 0",
@@ -200,26 +200,26 @@ TWO_FAULTS_FOUND = [
 WORDS = {
     "grv refused Early 3": "Client 0 called grv, which was refused: Early 3, it asked for a number "
                            "beyond its next one. Round 0",
-    "reask refused Forgotten": "Client 0 called reask, which was refused: Forgotten, it had given up"
-                               " the answer under this number. Round 0",
+    "reask refused Forgotten": "Client 0 called reask, which was refused: Forgotten, it had given "
+                               "up the answer under this number. Round 0",
     "ask refused Exhausted": "Client 0 called ask, which was refused: Exhausted, the next version "
                              "would be above the last one. Round 0",
-    "report refused NotIssued": "Client 0 called report, which was refused: NotIssued, it has got no"
-                                " commit version under this number. Round 0",
+    "report refused NotIssued": "Client 0 called report, which was refused: NotIssued, it has got "
+                                "no commit version under this number. Round 0",
     "report refused MinAbove": "Client 0 called report, which was refused: MinAbove, the minimum "
                                "that it tells is above the version. Round 0",
     "grv refused BadCount": "Client 0 called grv, which was refused: BadCount, it is for no "
                             "transaction, or for too many. Round 0",
-    "grv refused BatchThrottled": "Client 0 called grv, which was refused: BatchThrottled, the batch"
-                                  " limit is 0. Round 0",
+    "grv refused BatchThrottled": "Client 0 called grv, which was refused: BatchThrottled, the "
+                                  "batch limit is 0. Round 0",
     "grv refused Full": "Client 0 called grv, which was refused: Full, the queue of the GRV proxy "
                         "was full. Round 0",
     "ask refused UnknownProxy": "Client 0 called ask, which was refused: UnknownProxy, there is no "
                                 "commit proxy of its number. Round 0",
     "grv refused ProxyClosed": "Client 0 called grv, which was refused: ProxyClosed, the GRV proxy "
                                "was closed. Round 0",
-    "grv refused Stranger": "Client 0 called grv, which was refused: Stranger, the answer that came "
-                            "was another call's. Round 0",
+    "grv refused Stranger": "Client 0 called grv, which was refused: Stranger, the answer that "
+                            "came was another call's. Round 0",
     "grv refused Locked 100 pos 0": "Client 0 read 100 at position 0, which was refused: the "
                                     "database is locked, and the read is not lock-aware. Round 0",
     "ask prev 100 version 200 ordinal 1 kept": "Client 0 got its earlier answer again, the commit "
@@ -344,7 +344,9 @@ REFUSED_LOGS = {
     "times on some lines": (
         '{"client":"a","read":1}\n{"client":"a","read":1,"began":3,"ended":4}', None, "BadLog 2"
     ),
-    "a learn from nobody": ('{"client":"a","read":1}\n{"client":"a","learn":"b"}', None, "BadLog 2"),
+    "a learn from nobody": (
+        '{"client":"a","read":1}\n{"client":"a","learn":"b"}', None, "BadLog 2"
+    ),
     "no verdict": (LOG, "lines 7\n", "Cut 1"),
     "nothing said": (LOG, "", "Cut 0"),
     "two verdicts": (LOG, f"audit ok\n{LOG_ORDER}\n", "Cut 2"),
@@ -391,7 +393,8 @@ def drawn(text, *faults):
 def logged(text, said, margin=0):
     """The drawing of a log with what was said of it."""
     lines = log_drawing.lines_of(text.splitlines())
-    return log_drawing.log_drawing(lines, log_drawing.said_of(said.splitlines(), lines), None, margin)
+    found = log_drawing.said_of(said.splitlines(), lines)
+    return log_drawing.log_drawing(lines, found, None, margin)
 
 
 def pictured(text, *arguments):
@@ -416,11 +419,12 @@ def differing(what, found, wanted):
 
 
 def by_hand(_program):
-    """Where all stands in a run and in two logs: each is compared with values worked out by hand."""
+    """Where all stands in runs and logs: each is compared with values worked out by hand."""
     run_of, log, told = drawn(RUN), logged(LOG, LOG_ORDER), logged(TOLD, TOLD_ORDER)
-    calls = {it.name: (it.lane, it.left, it.right, it.kind, it.label, it.words) for it in run_of.bars}
+    calls = {it.name: (it.lane, *it[1:5], it.words) for it in run_of.bars}
     yield "the calls of a run", differing("calls", calls, RUN_CALLS)
-    yield "the lanes of a run", differing("lanes", run_of.lanes, [f"client {it}" for it in range(3)])
+    yield "the lanes of a run", differing(
+        "lanes", run_of.lanes, ["client 0", "client 1", "client 2"])
     yield "the reason of a run", differing("reason", run_of.faults[0].reason, RUN_REASON)
     yield from drawing_faults("a run", run_of, RUN_BANDS, RUN_ARROWS, RUN_LINKS, RUN_VIEW)
     for name, it, wanted, lanes in (
@@ -564,7 +568,7 @@ def order_fault(drawing, faulty):
 
 
 def stands(drawing, bar):
-    """Whether a read or report stands in its band: that of its version, or with times none newer."""
+    """Whether a call stands in its band: that of its version, or with times one not newer."""
     before = [it for it in drawing.bands if it.left < bar.left]
     if bar.kind not in ("read", "locked", "raised") or not before:
         return True
@@ -574,11 +578,11 @@ def stands(drawing, bar):
 
 
 def faults(_program):
-    """The calls of a fault stand out, be it given in the text or beside it, with what joins them."""
+    """The calls of a fault stand out, be it in the text or beside it, with what joins them."""
     for line, wanted in FAULTS.items():
         drawing = drawn(STALE, line)
         fault, named = drawing.faults[0], [it.name for it in drawing.bars]
-        short = lambda places: [re.sub(r"client (\d+) call (\d+)", r"\1-\2", named[it]) for it in places]
+        short = lambda places: ["-".join(named[it].split()[1::2]) for it in places]
         found = (short(fault.faulty), short(fault.path))
         yield f"{line} in a text", differing("calls", found, wanted) or page_fault(
             page_of.page(drawing), drawing)
@@ -610,7 +614,8 @@ def refused_texts(_program):
         given = [it for it in {**lines, **changes}.values() if it is not None]
         yield name, refusal_fault(lambda: Text(given or [""]), refusal)
     for name, (text, said, refusal) in REFUSED_LOGS.items():
-        yield name, refusal_fault(lambda: logged(text, "audit ok" if said is None else said), refusal)
+        of_log = "audit ok" if said is None else said
+        yield name, refusal_fault(lambda: logged(text, of_log), refusal)
     for name, given, arguments, refusal in (
         ("a text", STALE.encode(), [], b"Cut 5"),
         ("bytes that are no text", STALE.encode() + b"\xff\n", [], b"NotText 6"),
@@ -685,11 +690,11 @@ def stale_reads(lines, margin):
                  for kind in ("read", "commit", "report") if kind in lines[it]]
         newest = max(shown, default=(0, 0))
         if "read" in line and line["read"] < newest[0]:
-            yield f"audit fault: Order {at + 1}: it read {line['read']}: line {newest[1] + 1} has more"
+            yield f"audit fault: Order {at + 1}: it is below that of line {newest[1] + 1}"
 
 
 def random_logs(_program):
-    """In faulty logs bands never fall, only faulty reads leave theirs, the path has what is named."""
+    """In faulty logs bands rise, only faulty reads leave theirs, the path has what is named."""
     met = 0
     for seed in range(300):
         lines, margin = random_log(seed), (seed // 2) % 3
@@ -713,7 +718,8 @@ def random_fault(drawing, said):
         named = {int(it) - 1 for it in re.findall(r"(?:line|Order) (\d+)", line)}
         if named != set(fault.path) or len(fault.path) != len(named):
             return f"{line}: the path has {fault.path}"
-        if drawing.axis == "order" and all(stands(drawing, drawing.bars[it]) for it in fault.faulty):
+        is_in_place = all(stands(drawing, drawing.bars[it]) for it in fault.faulty)
+        if drawing.axis == "order" and is_in_place:
             return f"{line}: it does not stand out of its band"
         for link in drawings.links_of(drawing, fault):
             one, two = drawing.bars[link.start], drawing.bars[link.end]
@@ -859,7 +865,7 @@ def shape_line(shape):
 
 
 def scenes(_program):
-    """Where the page's code draws all of this, in pixels: compared with values worked out by hand."""
+    """Where the page's code draws this, in pixels: compared with values worked out by hand."""
     if not NODE:
         print("(no node here: what the page's code draws is not looked at) ", end="")
         yield "without node", None
@@ -910,12 +916,13 @@ def scenes(_program):
 def scene_fault(scene, wanted):
     found = [shape_line(it) for it in scene["shapes"]]
     missing = [it for it in wanted.split("\n") if it not in found]
-    other = [it for it in found if it not in wanted.split("\n") and "tick" not in it and "v4" not in it]
+    other = [it for it in found if it not in wanted.split("\n")]
+    other = [it for it in other if "tick" not in it and "v4" not in it]
     return f"missing: {missing}, other: {other}" if missing or other else None
 
 
 def opened_fast(drawing):
-    """A page of the largest log opens in time, and each view of it has few shapes and no overlap."""
+    """A page of the largest log opens in time, and its views have few shapes and no overlap."""
     whole = {"from": 0, "to": 10 * CALLS, "lanes": list(range(200)), "top": 0, "width": 1000,
              "height": 600, "fault": None, "chosen": None, "few": False}
     views = [view(drawing, 1000), whole, {**whole, "from": 5_000, "to": 9_000}]

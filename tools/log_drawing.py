@@ -18,7 +18,9 @@ KINDS = {
         "report whose end is not known: it took effect at some moment after it began, or never",
         "reported {version} as committed",
     ),
-    "learn": Kind("learn", "what another client had seen is learnt", "learnt what {from_} had seen"),
+    "learn": Kind(
+        "learn", "what another client had seen is learnt", "learnt what {from_} had seen"
+    ),
 }
 # The faults, what each means, and which calls each can be of.
 FAULTS = {
@@ -35,9 +37,9 @@ MOST_VERSION = 2**63 - 1
 BY_TIME = """Time goes from left to right: a bar goes from where a call began to where it ended. A
 line over all lanes is the end of a call that showed a newer version: what begins to the right of it
 may read no older one."""
-BY_KNOWN = """The lines have no times. Calls stand by the newest version that they show or that their
-client had seen before, and then in the order of the lines. An arrow goes to a learn from the last
-call of the client from whom it learnt."""
+BY_KNOWN = """The lines have no times. Calls stand by the newest version that they show or that
+their client had seen before, and then in the order of the lines. An arrow goes to a learn from the
+last call of the client from whom it learnt."""
 FIRST_ALONE = "Without --all, fdb_audit names the first fault alone, and there may be more."
 
 

@@ -72,12 +72,15 @@ WITHOUT_HISTORY = """This page was made from the replies alone: their positions 
 reports. With the text of --history it says, too, what each report told beside its version."""
 
 
+def brief(call):
+    """What a call was, in a few words."""
+    text = KINDS[call.kind].words.format_map(vars(call))
+    return text + (f", {REFUSALS[call.why.split()[0]]}" if call.kind == "refused" else "")
+
+
 def said_of(call):
     """What a call was, in words."""
-    said = vars(call)
-    text = KINDS[call.kind].words.format_map(said)
-    if call.kind == "refused":
-        text += f", {REFUSALS[call.why.split()[0]]}"
+    said, text = vars(call), brief(call)
     if "lock" in said:
         text += f"; the record is {call.lock}, {metadata_words(call.metadata)}"
     for name, form in FURTHER.items():
@@ -149,7 +152,8 @@ class RunDrawing:
             return max(raised, key=lambda it: it.position).version
         wrong = {call for fault in self.text.faults for call in fault.calls}
         first = [it for it in self.text.calls("fresh") if it.ordinal == 0]
-        first += [it for it in self.text.events if it.position == 0 and it.kind in ("read", "locked")]
+        reads = [it for it in self.text.events if it.kind in ("read", "locked")]
+        first += [it for it in reads if it.position == 0]
         return next((it.version for it in first if it not in wrong), None)
 
     def way(self, call):
@@ -179,7 +183,7 @@ class RunDrawing:
 
     def reason(self, fault):
         """Why a fault stands, in words: those of the audit, or else what the path shows."""
-        calls = [f"{said_of(it)} (call {it.number})" for it in fault.calls]
+        calls = [f"{brief(it)} (call {it.number})" for it in fault.calls]
         if fault.reason or not calls:
             return fault.reason or f"No call of client {fault.at} got it."
         told = "; ".join(calls) + "."
@@ -187,7 +191,7 @@ class RunDrawing:
         if fault.name in ("Order", "NotAbove") and way:
             seen = self.text.lanes[call.client][call.number - 1].seen
             told += f" Its client had come to position {seen} before, where {self.live(seen)} was"
-            told += f" live: {'; '.join(f'{said_of(it)} (call {it.number})' for it in way)}."
+            told += f" live: {'; '.join(f'{brief(it)} (call {it.number})' for it in way)}."
         elif fault.name == "Wrong" and "position" in vars(call):
             told += f" At position {call.position} the live committed version was"
             told += f" {self.live(call.position)}."
