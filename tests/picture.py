@@ -3,6 +3,7 @@
 Most of it looks at what the tool works out before a page is written, in this process. What the
 page's code makes of it is looked at with node and a browser, where they are.
 """
+import html
 import importlib.machinery
 import importlib.util
 import json
@@ -12,6 +13,7 @@ import re
 import resource
 import shutil
 import sys
+import tempfile
 from html.parser import HTMLParser
 
 import judging
@@ -936,3 +938,72 @@ def opened_fast(drawing):
         yield f"view {at}: versions rise", fault
         room = min((two[0] - one[0] for one, two in zip(labels, labels[1:])), default=99)
         yield f"view {at}: versions are apart", None if room > 20 else f"{room} pixels"
+
+
+# Where a browser is, pages are opened in it, and clicked and typed at by this.
+BROWSERS = ("chromium", "chromium-browser", "google-chrome", "chrome")
+BROWSER = next(filter(None, map(shutil.which, BROWSERS)), None)
+DRIVER = """<script>
+const at = (id) => document.getElementById(id);
+const press = (key) => document.dispatchEvent(new KeyboardEvent("keydown", { key }));
+function state() {
+  const bars = [...document.querySelectorAll("#picture [data-call]")];
+  const path = [...document.querySelectorAll("#picture .path")].map((it) => it.getAttribute("d"));
+  const said = ["said", "why", "words"].map((id) => (at(id) || {}).textContent);
+  const faulty = [...document.querySelectorAll("#picture .faulty")].map((it) => it.dataset.call);
+  return { bars: bars.map((it) => it.dataset.call).sort(), path: path.length, said, faulty,
+    tips: document.querySelectorAll("#picture .path[marker-end]").length,
+    seen: bars.every((it) => it.getBoundingClientRect().height > 0),
+    high: at("picture").getBoundingClientRect().bottom <= innerHeight };
+}
+function driven() {
+  const found = STEPS.map((step) => { eval(step); return state(); });
+  document.body.insertAdjacentHTML("beforeend", "<pre id='driven'></pre>");
+  at("driven").textContent = JSON.stringify(found);
+}
+driven();
+</script>"""
+# All is drawn at once, so that no frame has to be waited for.
+AT_ONCE = "<script>window.requestAnimationFrame = (draw) => draw();</script>"
+# What is done one after another, and then: calls drawn, links of the path, and words.
+STEPS = [
+    ("", ["0", "1", "3", "4"], 1, LOG_ORDER.partition("Order 4: ")[2], ["3"], None),
+    ("at('all').click()", ["0", "1", "2", "3", "4", "5", "6"], 1, None, ["3"], None),
+    ("at('all').click()", ["0", "1", "3", "4"], 1, None, ["3"], None),
+    ("press('n')", ["0", "1", "3", "4"], 1, None, ["3"], LOG_CALLS["line 1"][6]),
+    ("press('n')", ["0", "1", "3", "4"], 1, None, ["3"], LOG_CALLS["line 2"][6]),
+    ("at('wanted').value = 'client c'; at('find').requestSubmit()",
+     ["0", "1", "2", "3", "4", "6"], 1, None, ["3"], LOG_CALLS["line 3"][6]),
+    ("press('f')", ["3"], 0, "client b read 100, which nobody reported", ["3"], None),
+    ("press('f')", ["0", "1", "2", "4"], 1, None, ["2"], None),
+    ("press('F')", ["3"], 0, "client b read 100, which nobody reported", ["3"], None),
+]
+
+
+def browsed(_program):
+    """A page in a browser: what it opens with, and what keys and clicks make of it."""
+    if not BROWSER:
+        print("(no browser here: no page is opened) ", end="")
+        yield "without a browser", None
+        return
+    drawing = logged(LOG, "\n".join(LOG_FAULTS))
+    driver = DRIVER.replace("STEPS", json.dumps([it[0] for it in STEPS]))
+    with tempfile.TemporaryDirectory() as folder:
+        with open(f"{folder}/page.html", "w", encoding="utf-8") as it:
+            page = page_of.page(drawing).replace("<body>", f"<body>{AT_ONCE}")
+            it.write(page.replace("</body>", f"{driver}</body>"))
+        words = ["--headless", "--no-sandbox", "--disable-gpu", f"--user-data-dir={folder}/own",
+                 "--window-size=400,800", "--dump-dom"]
+        ran = run([BROWSER, *words, f"file://{folder}/page.html"], b"", 120)
+    answer = re.search(r'<pre id="driven">(.*)</pre>', ran.out.decode())
+    if not answer:
+        yield "the page", f"it did not end: {ran.err[-300:]!r}"
+        return
+    for at, (found, wanted) in enumerate(zip(json.loads(html.unescape(answer[1])), STEPS)):
+        do, bars, path, why, faulty, words = wanted
+        states = (found["bars"], found["path"], found["faulty"], found["seen"])
+        yield f"step {at}: {do}", (
+            differing("calls, path, fault, seen", states, (bars, path, faulty, True))
+            or why and differing("why", found["said"][1], why)
+            or words and differing("words", found["said"][2], words)
+            or (None if at or found["high"] else "the fault is not in one screen"))

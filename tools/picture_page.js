@@ -5,7 +5,7 @@ const drawing = JSON.parse(document.getElementById("drawing").textContent);
 const index = Scene.indexed(drawing);
 const at = (id) => document.getElementById(id);
 const [figure, picture, band, space] = ["figure", "picture", "overview", "space"].map(at);
-const BAND = 44, LEAST_LANES = 120;
+const BAND = 44, LEAST_LANES = 120, LEAST_LANE = 60;
 let view = null, finds = [], isDue = false;
 
 function open(fault) {
@@ -27,8 +27,9 @@ function tell(fault) {
 
 function change(changed) {
   view = { ...view, ...changed };
-  if (!isDue) requestAnimationFrame(draw);
+  if (isDue) return;
   isDue = true;
+  requestAnimationFrame(draw);
 }
 
 function draw() {
@@ -66,19 +67,21 @@ function say(call) {
 // Chooses a call, and shows its lane and its part of the axis where they are not in view.
 function choose(call) {
   const lane = drawing.lane[call], size = view.to - view.from;
-  const lanes = view.lanes.includes(lane) ? view.lanes : [...view.lanes, lane].sort((a, b) => a - b);
+  const shown = view.lanes.includes(lane) ? view.lanes : [...view.lanes, lane];
+  const lanes = shown.slice().sort((a, b) => a - b);
   const left = drawing.left[call], isSeen = left >= view.from && left <= view.to;
-  change({ ...(isSeen ? {} : Scene.kept(drawing, left - size / 2, size)), lanes, chosen: call });
-  reveal(lane, lanes);
+  const part = isSeen ? {} : Scene.kept(drawing, left - size / 2, size);
+  const { places } = Scene.laidOut(index, { ...view, ...part, lanes });
+  const place = places.find((it) => it.lane === lane);
+  const few = view.few && place.slot(drawing.row[call]) !== undefined;
+  change({ ...part, lanes, few, chosen: call });
+  reveal(place.top);
   say(call);
 }
 
-function reveal(lane, lanes) {
-  const place = Scene.laidOut(index, { ...view, lanes }).places.find((it) => it.lane === lane);
-  const height = view.height || 0;
-  if (place.top < figure.scrollTop || place.top + 60 > figure.scrollTop + height) {
-    requestAnimationFrame(() => { figure.scrollTop = place.top; });
-  }
+function reveal(top) {
+  const isSeen = top >= figure.scrollTop && top + LEAST_LANE <= figure.scrollTop + view.height;
+  if (!isSeen) requestAnimationFrame(() => { figure.scrollTop = top; });
 }
 
 // The call before or after the chosen one, of the lanes in view.
@@ -93,7 +96,9 @@ function step(by) {
 
 function turn(by) {
   const count = drawing.faults.length;
-  if (count) location.hash = `#fault-${(((view.fault || 0) + by + count) % count) + 1}`;
+  if (!count) return;
+  location.hash = `#fault-${(((view.fault || 0) + by + count) % count) + 1}`;
+  follow();
 }
 
 function isFolded() {
