@@ -743,22 +743,25 @@ def random_runs(_program):
     for seed in range(40):
         name, text = f"seed {seed}", judging.right_text(seed).decode().partition("audit ok")[0]
         spoilt, dice = text.splitlines(), random.Random(f"runs {seed}")
-        reads = [at for at, it in enumerate(spoilt)
-                 if " grv " in it and "pos 0" not in it and "refused" not in it]
+        reads = [at for at, it in enumerate(spoilt) if re.search(r" grv \d+ .*pos [1-9]", it)]
         for at in dice.sample(reads, min(3, len(reads))):
-            before = dice.choice([it for it in spoilt if " grv " in it and "refused" not in it])
-            spoilt[at] = " ".join([*spoilt[at].split()[:4], *before.split()[4:]])
-        log = Text([*spoilt, "Gap 0"]).lanes if " grv " in text else {}
-        said = [f"Order {it.client} {it.number}" for calls in log.values()
-                for last, it in zip(calls, calls[1:])
-                if it.kind in ("read", "locked") and it.position < last.seen]
+            spoilt[at] = re.sub(r"grv .*", "grv 1 unlocked none pos 0", spoilt[at])
+        log = Text([*spoilt, "Gap 0"]).lanes if reads else {}
+        said = []
+        for calls in log.values():
+            for last, it in zip([None, *calls], calls):
+                is_stale = last and it.kind in ("read", "locked") and it.position < last.seen
+                is_wrong = it.kind == "read" and it.version == 1
+                if is_stale or is_wrong:
+                    said.append(f"{'Order' if is_stale else 'Wrong'} {it.client} {it.number}")
         if not said:
             continue
         drawing = drawn("\n".join(spoilt), *said)
         faulty = {it for fault in drawing.faults for it in fault.faulty}
         wrong = [f"{fault.said}: it is not at the end of its path {fault.path}"
                  for fault in drawing.faults
-                 if fault.path[-1:] != fault.faulty or len(fault.path) < 2]
+                 if fault.path[-1:] != fault.faulty
+                 or "Order" in fault.said and len(fault.path) < 2]
         wrong += [f"{fault.said}: {it} goes back" for fault in drawing.faults
                   for it in drawings.links_of(drawing, fault) if not it.has_tip]
         yield name, wrong[0] if wrong else order_fault(drawing, faulty)
@@ -942,6 +945,7 @@ def opened_fast(drawing):
 
 # Where a browser is, pages are opened in it, and clicked and typed at by this.
 BROWSERS = ("chromium", "chromium-browser", "google-chrome", "chrome")
+TRIES = 3
 BROWSER = next(filter(None, map(shutil.which, BROWSERS)), None)
 DRIVER = """<script>
 const at = (id) => document.getElementById(id);
@@ -994,8 +998,12 @@ def browsed(_program):
             it.write(page.replace("</body>", f"{driver}</body>"))
         words = ["--headless", "--no-sandbox", "--disable-gpu", f"--user-data-dir={folder}/own",
                  "--window-size=400,800", "--dump-dom"]
-        ran = run([BROWSER, *words, f"file://{folder}/page.html"], b"", 120)
-    answer = re.search(r'<pre id="driven">(.*)</pre>', ran.out.decode())
+        # A browser on a busy machine may give up.
+        for _ in range(TRIES):
+            ran = run([BROWSER, *words, f"file://{folder}/page.html"], b"", 120)
+            answer = re.search(r'<pre id="driven">(.*)</pre>', ran.out.decode())
+            if answer:
+                break
     if not answer:
         yield "the page", f"it did not end: {ran.err[-300:]!r}"
         return

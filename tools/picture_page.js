@@ -42,6 +42,7 @@ function draw() {
   show(band, Scene.overview(index, view, BAND), width, BAND);
   figure.style.height = `${seen}px`;
   space.style.height = `${Math.max(0, inner - view.height)}px`;
+  at("all").hidden = !isFolded() && !drawing.faults.length;
   at("all").textContent = isFolded() ? "all clients" : "fold clients";
 }
 

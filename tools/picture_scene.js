@@ -126,7 +126,11 @@ function scene(index, view) {
         middle.get(link.end), link.has_tip));
     }
   }
-  shapes.push(...tickShapes(drawing, view, x, HEAD + seen));
+  if (layout.height > seen) {
+    const ground = { tag: "rect", class: "ground", x: 0, width: view.width };
+    shapes.push({ ...ground, y: 0, height: HEAD - 10 }, { ...ground, y: HEAD + seen, height: FOOT });
+  }
+  shapes.push(...versionShapes(drawing, view, x), ...tickShapes(drawing, view, x, HEAD + seen));
   return { shapes, height: HEAD + seen + FOOT, inner: layout.height };
 }
 
@@ -139,9 +143,9 @@ function lineShape(look, left, top, right, bottom, hasTip) {
   return { tag: "path", class: look, d: way, ...(hasTip ? { "marker-end": `url(#tip-${look})` } : {}) };
 }
 
-// The bands: shaded in turn where they are wide enough, with a label wherever there is room.
+// The bands: shaded in turn where they are wide enough.
 function bandShapes(drawing, view, x, bottom) {
-  const { left, label, words } = drawing.bands, shapes = [];
+  const { left, words } = drawing.bands, shapes = [];
   const first = Math.max(0, firstPlace(left.length, (it) => left[it] > view.from) - 1);
   const end = firstPlace(left.length, (it) => left[it] > view.to);
   if (end - first <= view.width / 6) {
@@ -155,6 +159,14 @@ function bandShapes(drawing, view, x, bottom) {
       }
     }
   }
+  return shapes;
+}
+
+// The versions above the bands, wherever there is room.
+function versionShapes(drawing, view, x) {
+  const { left, label } = drawing.bands, shapes = [];
+  const first = Math.max(0, firstPlace(left.length, (it) => left[it] > view.from) - 1);
+  const end = firstPlace(left.length, (it) => left[it] > view.to);
   let free = 0;
   for (let it = first; it < end;) {
     const start = Math.max(0, x(left[it])), size = label[it].length * LETTER + 10;
