@@ -740,7 +740,7 @@ def random_fault(drawing, said):
 
 def random_runs(_program):
     """The same of runs in which a read is put back to before what its client had seen."""
-    for seed in range(40):
+    for seed in range(200):
         name, text = f"seed {seed}", judging.right_text(seed).decode().partition("audit ok")[0]
         spoilt, dice = text.splitlines(), random.Random(f"runs {seed}")
         reads = [at for at, it in enumerate(spoilt) if re.search(r" grv \d+ .*pos [1-9]", it)]
