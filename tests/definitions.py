@@ -79,13 +79,27 @@ def lines_of(names, comments):
     return "\\\n".join(said).splitlines()
 
 
+def believed():
+    """The definitions that the headline rests on: crate, file and name."""
+    return {(it.crate, it.file, it.name) for it in rests_on(HEADLINE)[0]}
+
+
+def without_comment():
+    """Those of them that have no comment, by name."""
+    return [
+        name
+        for crate, file, name in sorted(believed())
+        if not comments_of(crate, file)[1][name]
+    ]
+
+
 def lines():
     """The lines of the list."""
-    believed = {(it.crate, it.file, it.name) for it in rests_on(HEADLINE)[0]}
+    headline = believed()
     made, others, crate_before = [], {}, ""
     for crate, file in files_in_order():
         about, comments = comments_of(crate, file)
-        wanted = [it for it in comments if (crate, file, it) in believed]
+        wanted = [it for it in comments if (crate, file, it) in headline]
         if wanted and crate != crate_before:
             made += ["", f"### {crate}"]
             crate_before = crate

@@ -56,6 +56,9 @@ def lists(_program):
     """The lists of definitions and of wrong bodies are those that the sources give."""
     for by in (definitions, planted):
         yield by.DOCUMENT, generated.fault_of(by.DOCUMENT, by.lines())
+    bare = definitions.without_comment()
+    fault = f"none at {', '.join(bare)}" if bare else None
+    yield "comments of what the headline rests on", fault
 
 
 def private(_program):

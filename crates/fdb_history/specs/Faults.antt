@@ -13,6 +13,7 @@ use Rattle.fdb_history.specs.declared.register.Record.{Record}
 
 -- ---- the changes
 
+-- The change in an answer, if it says one.
 abbrev pub change_in : ℕ → CallAnswer → List PlacedChange
 change_in position (Version rec limits locked_out) = []
 change_in position (Acked rec raised true) = record { position = position; rec = rec } ∷ []
@@ -21,24 +22,25 @@ change_in position (Answered issued) = []
 change_in position Told = []
 change_in position (Refused cause) = []
 
--- the changes in the logs
+-- The changes in the logs.
 abbrev pub changes_in : List ClientLog → List PlacedChange
 changes_in logs =
     flat_map (λ log. flat_map (λ call. change_in call.position call.answer) log.calls) logs
 
--- those at a position
+-- Those at a position.
 abbrev pub at_position : ℕ → List PlacedChange → List PlacedChange
 at_position position changes = filter (λ change. change.position == position) changes
 
+-- The changes in the logs at a position.
 abbrev pub changes_at : List ClientLog → ℕ → List PlacedChange
 changes_at logs position = at_position position (changes_in logs)
 
--- The register at a position: the start, and then each change up to there in turn, as `after_report`
--- takes them.
+-- The register after some changes in turn, as `after_report` takes them.
 abbrev pub after_changes : Record → List PlacedChange → Record
 after_changes current [] = current
 after_changes current (change ∷ changes) = after_changes (after_report current change.rec) changes
 
+-- The register at a position: the start, and each change up to there.
 abbrev pub register_at : Record → List ClientLog → ℕ → Record
 register_at start logs zero = start
 register_at start logs (suc position) =
@@ -46,7 +48,8 @@ register_at start logs (suc position) =
 
 -- ---- faults of the history
 
--- a call is answered from before what its client had seen, or a change is not new to its client
+-- A call goes back behind what its client had seen. It is answered from before that, or is a change
+-- that is not new to its client.
 abbrev pub IsOutOfOrder : List Call → Call → Type 0
 IsOutOfOrder before call =
     (call.asked < position_after_calls 0 before)
@@ -67,14 +70,14 @@ IsReached logs position =
 abbrev pub IsGap : List ClientLog → ℕ → Type 0
 IsGap logs position = (1 ≤ position) × (changes_at logs position ≡ []) × IsReached logs position
 
--- A report would have been answered otherwise by this register: it would have changed it or not, or
--- raised it or not.
+-- This register would have answered a report otherwise. It would have changed it or not, or raised
+-- it or not.
 abbrev pub IsMisanswered : Record → Record → Bool → Bool → Type 0
 IsMisanswered current rec raised changed =
     (raised ≢ raises current rec) ⊎ (changed ≢ changes current rec)
 
--- The register would not have answered so at the call's position, given the register at each
--- position. A report that changed the register met the one of the position before its own.
+-- The register at a call's position would not have answered so. It is given at each position. A
+-- report that changed the register met the one of the position before its own.
 abbrev pub IsWrongBy : (ℕ → Record) → ℕ → CallAnswer → Type 0
 IsWrongBy register position (Version rec limits locked_out) = rec ≢ register position
 IsWrongBy register position (Acked rec raised true) =
@@ -85,12 +88,13 @@ IsWrongBy register position (Answered issued) = ⊥
 IsWrongBy register position Told = ⊥
 IsWrongBy register position (Refused cause) = ⊥
 
+-- The same, with the register of the logs.
 abbrev pub IsWrongAnswer : Record → List ClientLog → ℕ → CallAnswer → Type 0
 IsWrongAnswer start logs = IsWrongBy (register_at start logs)
 
 -- ---- where a fault stands
 
--- a fault of a call: given the calls before it in its log
+-- A fault stands at a call, after those before it.
 abbrev pub StandsAt : (List Call → Call → Type 0) → List ClientLog → ℕ → ℕ → Type 0
 StandsAt Fault logs client place =
     (call : Call) × (slice_get (calls_of logs client) place ≡ Some call)
@@ -115,13 +119,15 @@ pub record IsLeast (Stands : ℕ → Type 0) (position : ℕ) : Type 0 where
 abbrev pub Nowhere : (ℕ → ℕ → Type 0) → Type 0
 Nowhere Stands = (client place : ℕ) → Stands client place → ⊥
 
+-- It stands at no position.
 abbrev pub AtNoPosition : (ℕ → Type 0) → Type 0
 AtNoPosition Stands = (position : ℕ) → Stands position → ⊥
 
--- where the faults of the kinds that are named by a call stand
+-- Where calls are out of order.
 abbrev pub OutOfOrder : List ClientLog → ℕ → ℕ → Type 0
 OutOfOrder logs = StandsAt IsOutOfOrder logs
 
+-- Where calls are wrongly answered.
 abbrev pub WronglyAnswered : Record → List ClientLog → ℕ → ℕ → Type 0
 WronglyAnswered start logs =
     StandsAt (λ before call. IsWrongAnswer start logs call.position call.answer) logs

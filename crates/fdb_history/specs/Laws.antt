@@ -21,7 +21,7 @@ seen_version (Read client call rec) = Some rec.version
 abbrev pub seen_at : List Event → ℕ → Option ℕ
 seen_at events place = option_and_then seen_version (slice_get events place)
 
--- what an event reports, whether or not it raised the register
+-- What an event reports, whether or not it raised the register.
 abbrev pub reported : Event → Option Record
 reported (Report client call rec raised changed) = Some rec
 reported (Read client call rec) = None

@@ -15,9 +15,9 @@ abbrev pub client_of : Event → ℕ
 client_of (Report client call rec raised changed) = client
 client_of (Read client call rec) = client
 
--- No call was answered from before what its client had seen, and a change is new to its client: from
--- a position, each call begins at least where the one before it ended, ends at least where it
--- began, and beyond that where it changed the register.
+-- A client's calls never go back behind what it had seen. No call was answered from before that,
+-- and a change is new to its client: from a position, each call begins at least where the one
+-- before it ended, ends at least where it began, and beyond that where it changed the register.
 abbrev pub NeverGoesBack : ℕ → List Call → Type 0
 NeverGoesBack before [] = Unit {0}
 NeverGoesBack before (call ∷ calls) =

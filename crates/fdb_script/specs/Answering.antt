@@ -34,7 +34,8 @@ AnswersCommand before command after = AddsCall before (input_of before command.a
 abbrev pub commands_of : ℕ → List Command → List Command
 commands_of client commands = filter (λ command. command.client == client) commands
 
--- each client has one more call for each of its commands of the round, in their order
+-- Each client has a call more for each of its commands. These are those of the round, in their
+-- order.
 pub record Performs (before : List ClientLog) (commands : List Command)
     (after : List ClientLog) : Type 0 where
   pub same_clients : length after ≡ length before
@@ -44,13 +45,14 @@ pub record Performs (before : List ClientLog) (commands : List Command)
 
 -- ---- learning
 
--- what a client was told: by whom, and up to which position the teller had seen the register
+-- What a client was told: by whom, and up to which position. So far the teller had seen the
+-- register.
 pub record Told : Type 0 where
   pub teller : ℕ
   pub position : ℕ
 
--- a client's calls, with one more, by which it learns what it was told: from then on it has seen
--- what the teller had seen, too
+-- A client's calls, with one more, by which it learns. From then on it has seen what the teller had
+-- seen, too.
 abbrev pub learns : List Call → Told → List Call
 learns before told =
     before ++ record {
@@ -68,8 +70,8 @@ tells client (input.Report num locked metadata min_known) = false
 tells client (input.Tell to) = to == client
 tells client (input.Learn from) = false
 
--- what a client was told in these clients' calls, from this teller on: by teller, and then in the
--- order of its calls
+-- What a client was told in these calls, by teller. They are those of the clients from this one on,
+-- and of each in order.
 abbrev pub told_from : ℕ → ℕ → List (List Call) → List Told
 told_from client teller [] = []
 told_from client teller (calls ∷ others) =
@@ -84,7 +86,8 @@ added_calls (log ∷ before) [] = []
 added_calls (log ∷ before) (after ∷ logs) =
     drop (length log.calls) after.calls ∷ added_calls before logs
 
--- the logs from this client on, with what each learns of these calls
+-- The logs, with what each client learns of these calls. They are those of the clients from this
+-- one on.
 abbrev pub learnt_from : ℕ → List (List Call) → List ClientLog → List ClientLog
 learnt_from client calls [] = []
 learnt_from client calls (log ∷ logs) =
@@ -93,8 +96,7 @@ learnt_from client calls (log ∷ logs) =
 
 -- ---- rounds
 
--- The commands of the round are performed, and then each client learns what it was told in the
--- round.
+-- A round's commands are performed, then what was told is learnt.
 pub record AnswersRound (before : List ClientLog) (commands : List Command)
     (after : List ClientLog) : Type 0 where
   pub performed : List ClientLog

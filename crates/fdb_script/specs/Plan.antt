@@ -10,9 +10,9 @@ use Rattle.fdb_script.specs.declared.script.Command.{Command}
 use Rattle.fdb_script.specs.declared.script.Setup.{Setup}
 use Rattle.fdb_script.specs.declared.script.TheConstants.{MAX_CLIENTS, MAX_THROTTLES, MAX_ROUNDS, MAX_COMMANDS, MAX_TAGS}
 
--- What contracts see of a script: what it says besides its rounds (where the service starts, how
--- many clients there are, what its GRV proxies are made with), and the rounds, each the list of its
--- commands.
+-- What contracts see of a script: its setup and its rounds. The setup says where the service
+-- starts, how many clients there are, and what its GRV proxies are made with; each round is the
+-- list of its commands.
 pub record Plan : Type 0 where
   pub setup : Setup
   pub rounds : List (List Command)
