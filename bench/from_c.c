@@ -2,6 +2,7 @@
  *     cc -O2 -Iinclude bench/from_c.c crates/fdb_c/out/libfdb_c.a crates/fdb_c/out/liblibc_c.a */
 #define _POSIX_C_SOURCE 200809L
 #include "fdb_read_version.h"
+#include <inttypes.h>
 #include <stdio.h>
 #include <stdlib.h>
 #include <string.h>
@@ -107,6 +108,48 @@ static double report(void) {
     return (now() - begun) / COUNT;
 }
 
+/* A log without a fault: commits, each read by another client before the next one. */
+static fdb_call calls[COUNT];
+static char log_text[COUNT * 80];
+static size_t log_length;
+
+static void make_log(void) {
+    for (uint64_t i = 0; i < COUNT; i++) {
+        calls[i] = (fdb_call){.kind = i % 2 ? FDB_READ : FDB_COMMIT, .version = i / 2 + 1,
+                              .began = 2 * i, .ended = 2 * i + 1, .client = (uint32_t)(i % 16),
+                              .has_client = true, .has_times = true, .has_ended = true};
+        const fdb_call *it = &calls[i];
+        char *to = log_text + log_length;
+        to += sprintf(to, "{\"client\":\"%" PRIu32 "\",\"%s\":%" PRIu64, it->client,
+                      i % 2 ? "read" : "commit", it->version);
+        to += sprintf(to, ",\"began\":%" PRIu64 ",\"ended\":%" PRIu64 "}\n", it->began, it->ended);
+        log_length = (size_t)(to - log_text);
+    }
+}
+
+static const fdb_audit_options options = {.margin = 0};
+
+static double line_of_calls(void) {
+    fdb_refused refused;
+    fdb_fault fault;
+    uint64_t size = 0;
+    double begun = now();
+    if (fdb_audit_calls_faults(calls, COUNT, &options, &fault, 1, &size, &refused)) exit(1);
+    sink += size;
+    return (now() - begun) / COUNT;
+}
+
+static double line_of_bytes(void) {
+    fdb_refused refused;
+    fdb_fault fault;
+    uint64_t size = 0;
+    const uint8_t *bytes = (const uint8_t *)log_text;
+    double begun = now();
+    if (fdb_audit_log_faults(bytes, log_length, &options, &fault, 1, &size, &refused)) exit(1);
+    sink += size;
+    return (now() - begun) / COUNT;
+}
+
 int main(void) {
     memset(answers, 1, sizeof answers);
     memset(outcomes, 1, sizeof outcomes);
@@ -122,5 +165,8 @@ int main(void) {
     told("a queue operation, by handle", queue_by_handle);
     told("a queue operation, by array", queue_by_array);
     told("a report and a read", report);
+    make_log();
+    told("a line of an array", line_of_calls);
+    told("a line of a text", line_of_bytes);
     return sink == 0;
 }

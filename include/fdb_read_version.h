@@ -1,13 +1,14 @@
 /*
  * The part of FoundationDB's read-version path that one thread runs: the chain of commit versions,
- * the register and the queue of a GRV proxy (FoundationDB 7.1). Each function answers what the
- * library's answers; that is proved, but for this header, which a person wrote.
+ * the register and the queue of a GRV proxy (FoundationDB 7.1); and the audit of a log of calls, of
+ * any system. Each function answers what the library's answers; that is proved, but for this
+ * header, which a person wrote.
  *
  *     cc prog.c libfdb_c.a liblibc_c.a
  *
- * Versions and moments are numbers of 64 bits; a version is at most 9,223,372,036,854,775,807, and
- * a moment is in microseconds. Nothing here locks, keeps a global or a pointer of the caller's.
- * Memory comes from the program's malloc, realloc and free.
+ * Versions and moments are numbers of 64 bits; but in a log, a version is at most
+ * 9,223,372,036,854,775,807, and a moment is in microseconds. Nothing here locks, keeps a global or
+ * a pointer of the caller's. Memory comes from the program's malloc, realloc and free.
  *
  * Nothing checks what C passes. What a comment says of an argument is the caller's to keep:
  *
@@ -45,7 +46,15 @@ enum {
     FDB_BAD_COUNT = 18,       /* the count is out of range */
     FDB_BATCH_THROTTLED = 19, /* no batch request is let in */
     FDB_FULL = 20,            /* the queue is full of requests that this one may not push out */
-    FDB_TAG_TOO_LONG = 21     /* the tag has more than 16 bytes */
+    FDB_TAG_TOO_LONG = 21,    /* the tag has more than 16 bytes */
+    FDB_FAULT = 32,           /* no history explains the log: it has a fault */
+    FDB_TOO_LONG = 33,        /* a line has more than 1,048,576 bytes */
+    FDB_TOO_MANY = 34,        /* there are more than 4,294,967,295 lines */
+    FDB_NOT_JSON = 35,        /* a line is no JSON */
+    FDB_NO_CALL = 36,         /* a line names no call, or a call is of no kind */
+    FDB_TWO_CALLS = 37,       /* a line names more than one */
+    FDB_SOME_TIMES = 38,      /* some lines have times, and some have none */
+    FDB_BAD_MEMBER = 39       /* a member is missing, of another kind, or may not stand there */
 };
 
 /* -------------------------------------------------------------- the chain of commit versions -- */
@@ -90,6 +99,11 @@ uint8_t fdb_chain_new(uint64_t epoch_end, uint64_t recovery, uint32_t proxies, f
 /*
  * Answers a request. One with its proxy's next number draws the next version; one whose answer is
  * kept gets it again, with `fresh` false. `*chain` must be a chain.
+ *
+ * The first version is the recovery version, and its `prev` the end of the epoch before. Each other
+ * is above the one before by the microseconds between the two requests, by 1 at least and 5,000,000
+ * at most; a moment that goes back counts as none. A request that draws a version lets the answers
+ * of its proxy up to its `processed` go, never its own; these numbers, and 0, are then forgotten.
  *
  * FDB_OK, else FDB_UNKNOWN_PROXY, FDB_EARLY, FDB_FORGOTTEN, FDB_EXHAUSTED, the first that stands;
  * `answer->status` is the same, and a refusal leaves the chain as it was. FDB_MEMORY comes only
@@ -265,6 +279,141 @@ uint8_t fdb_queue_outcomes(const fdb_queue_config *config,
                            const fdb_op *ops, size_t ops_length,
                            fdb_outcome *outcomes, size_t outcomes_length,
                            fdb_request *started, size_t started_length, uint64_t *size);
+
+/* ------------------------------------------------------------------------ the audit of a log -- */
+
+/* The members of a line. A call is one of FDB_READ to FDB_LEARN. */
+enum {
+    FDB_CLIENT = 1, /* whose call it was */
+    FDB_READ = 2,   /* a read got a version */
+    FDB_COMMIT = 3, /* a commit got a version: it was drawn and reported meanwhile */
+    FDB_ASK = 4,    /* a commit version was drawn */
+    FDB_REPORT = 5, /* a version was reported as committed */
+    FDB_LEARN = 6,  /* from here on the client knows what another knew by the lines above */
+    FDB_BEGAN = 7,  /* when a call began */
+    FDB_ENDED = 8   /* when it ended */
+};
+
+/* A line of a log, where that is an array: all have times, or none has. Set `has_client`,
+ * `has_times` and `has_ended` beside the members that they stand for: one without its flag is passed
+ * over, so that a stale read may be FDB_OK. Only a text tells how much was compared (`timed`,
+ * `ordered`). */
+typedef struct fdb_call {
+    uint64_t version; /* the version; of FDB_LEARN nothing */
+    uint64_t began;   /* with `has_times`, when the call began, in any one unit */
+    uint64_t ended;   /* with `has_ended` too, when it ended: not before it began */
+    uint32_t client;  /* with `has_client`, whose call it was, by any number */
+    uint32_t teller;  /* of FDB_LEARN, from whom the client has learnt */
+    uint8_t kind;     /* FDB_READ, FDB_COMMIT, FDB_ASK, FDB_REPORT or, without times, FDB_LEARN */
+    bool has_client;  /* whether it is known whose call it was; without times it has to be */
+    bool has_times;   /* whether the log has times */
+    bool has_ended;   /* whether it is known when the call ended */
+} fdb_call;
+
+/* What an audit is told beside the log, and what its text has. */
+typedef struct fdb_audit_options {
+    uint64_t start;  /* with `complete`, the version that all began with */
+    uint64_t margin; /* how far the clocks of two clients may be apart, in the unit of the times */
+    bool complete;   /* whether the log has all calls; else others may have asked and reported */
+    bool all;        /* whether the text has all faults, and not the first alone */
+    bool history;    /* whether the text of a log without a fault has an order that explains it */
+} fdb_audit_options;
+
+/* Why a log is refused, beside the status. */
+typedef struct fdb_refused {
+    uint64_t line;  /* the first line that is wrong, counted from 1 */
+    uint8_t member; /* on FDB_BAD_MEMBER which, from FDB_CLIENT to FDB_ENDED; else 0 */
+} fdb_refused;
+
+/* What can be wrong with a line. */
+enum {
+    FDB_FAULT_ORDER = 1,     /* a read below what its caller knew: a stale read */
+    FDB_FAULT_WRONG = 2,     /* a read of a version that is not there */
+    FDB_FAULT_NOT_ABOVE = 3, /* a version was drawn that is not above all that its caller knew */
+    FDB_FAULT_TWICE = 4,     /* a version was drawn twice, and not by commits alone */
+    FDB_FAULT_STRAY = 5      /* a report of a version that others drew, or that nobody can have */
+};
+
+/* Why a fault stands. */
+enum {
+    FDB_REASON_KNOWN = 1,      /* of ORDER and NOT_ABOVE: the caller knew `known` */
+    FDB_REASON_UNREPORTED = 2, /* of WRONG: no line reports the version */
+    FDB_REASON_REPORTED = 3,   /* of WRONG: the first line that does, `other`, knew `known` */
+    FDB_REASON_DRAWN = 4,      /* of TWICE and STRAY: line `other` drew the version */
+    FDB_REASON_UNDRAWN = 5     /* of STRAY: no line drew it */
+};
+
+/* How a version was known. */
+enum {
+    FDB_MEANS_START = 1, /* all began with it */
+    FDB_MEANS_ENDED = 2, /* line `by` had ended by more than the margin before */
+    FDB_MEANS_OWN = 3,   /* line `by` is an earlier one of the same client */
+    FDB_MEANS_LEARNT = 4 /* the client had learnt of line `by`, by its own line `learnt` */
+};
+
+/* A fault, and why it stands. Here lines are counted from 0, as an array's elements; a text and
+ * fdb_refused count them from 1. What a reason does not name is 0. */
+typedef struct fdb_fault {
+    uint64_t known;  /* the version that was known: of REASON_KNOWN and REASON_REPORTED */
+    uint32_t line;   /* the line at which the fault stands */
+    uint32_t other;  /* the line that reported or drew: of REASON_REPORTED and REASON_DRAWN */
+    uint32_t by;     /* the line that let `known` be known */
+    uint32_t learnt; /* the line by which the client had learnt of that */
+    uint8_t kind;    /* FDB_FAULT_ORDER to FDB_FAULT_STRAY */
+    uint8_t reason;  /* FDB_REASON_KNOWN to FDB_REASON_UNDRAWN */
+    uint8_t means;   /* how `known` was known, FDB_MEANS_START to FDB_MEANS_LEARNT */
+} fdb_fault;
+
+/*
+ * Audits the log that a text of JSON Lines stands for (docs/FORMATS.md), and writes what is found
+ * to the start of `text`, with no NUL: the counts of a log without a fault, with `history` an order
+ * that explains it; or the first fault, with `all` each, and why it stands.
+ *
+ * FDB_OK where some history explains the log, else FDB_FAULT; `*size` is how long the text is.
+ * FDB_ROOM where `text` is too short: `*size` is then the length that it needs, and nothing is
+ * written to it. For the first line that is wrong FDB_TOO_LONG, FDB_TOO_MANY, FDB_NOT_JSON,
+ * FDB_BAD_MEMBER (client), FDB_NO_CALL, FDB_TWO_CALLS, FDB_BAD_MEMBER (the call, began, ended),
+ * FDB_SOME_TIMES, FDB_BAD_MEMBER (learn with times; no client without), the first that stands:
+ * `*refused` says which line and member. FDB_MEMORY comes anywhere. Where the log or memory is
+ * refused nothing else is written, and else `*refused` is as it was. `n log n` in the lines, and
+ * linear in the bytes.
+ */
+uint8_t fdb_audit_log_text(const uint8_t *log, size_t log_length,
+                           const fdb_audit_options *options,
+                           uint8_t *text, size_t text_length, uint64_t *size,
+                           fdb_refused *refused);
+
+/*
+ * Audits the same, and writes all faults to the start of `faults`, by line. `all` and `history` say
+ * nothing here. At a line stand two faults at most.
+ *
+ * As fdb_audit_log_text, with `*size` how many faults there are: 0 on FDB_OK. What stands behind
+ * them is as it was.
+ */
+uint8_t fdb_audit_log_faults(const uint8_t *log, size_t log_length,
+                             const fdb_audit_options *options,
+                             fdb_fault *faults, size_t faults_length, uint64_t *size,
+                             fdb_refused *refused);
+
+/*
+ * Audits a log whose lines are `calls`, and writes a text as fdb_audit_log_text does. It names a
+ * client by its number.
+ *
+ * As fdb_audit_log_text, but of the first call that is wrong FDB_NO_CALL (`kind`), FDB_BAD_MEMBER
+ * (FDB_ENDED: it ended before it began), FDB_TOO_MANY, FDB_SOME_TIMES, FDB_BAD_MEMBER (FDB_LEARN
+ * with times; FDB_CLIENT: none, and no times), the first that stands.
+ */
+uint8_t fdb_audit_calls_text(const fdb_call *calls, size_t calls_length,
+                             const fdb_audit_options *options,
+                             uint8_t *text, size_t text_length, uint64_t *size,
+                             fdb_refused *refused);
+
+/* Audits a log whose lines are `calls`, writes all faults as fdb_audit_log_faults does (each stands
+ * at `calls[faults[i].line]`), and refuses the log as fdb_audit_calls_text does. */
+uint8_t fdb_audit_calls_faults(const fdb_call *calls, size_t calls_length,
+                               const fdb_audit_options *options,
+                               fdb_fault *faults, size_t faults_length, uint64_t *size,
+                               fdb_refused *refused);
 
 #ifdef __cplusplus
 }

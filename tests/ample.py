@@ -10,8 +10,8 @@ from edits import crates
 from harness import ROOT
 
 LIBRARIES = (
-    "fdb_history", "fdb_chain", "fdb_live", "fdb_queue", "fdb_proxy", "fdb_client", "fdb_script",
-    "fdb_replay",
+    "fdb_history", "fdb_chain", "fdb_live", "fdb_queue", "fdb_proxy", "fdb_client", "fdb_command",
+    "fdb_script", "fdb_replay",
 )
 # The errors of the standard library for memory, and those of a library that may be for memory.
 ALLOC = {"AllocError", "AllocFailed"}
@@ -19,7 +19,10 @@ OF_MEMORY = re.compile(
     r"^pub enum (\w+) \{\n(?:(?!\}).*\n)*? +(?:Memory,|\w+\(\w+(?:Error|Fault)\),)", re.MULTILINE
 )
 # The clause by which a call is not refused memory, though the type of its errors has one for it.
-NOT_REFUSED = {"GrvQueue::new": "bad_config", "LiveRecord::report": "no_memory"}
+NOT_REFUSED = {
+    "GrvQueue::new": "bad_config", "LiveRecord::report": "no_memory",
+    "Master::report": "nothing_else",
+}
 # The call that answers a status.
 BY_STATUS = {"drive"}
 IMPL = re.compile(r"impl(?:<.*?>)? (?:([\w:]+)(?:<.*>)? for )?(\w+)")
@@ -72,7 +75,7 @@ def tabled():
     """The calls in the tables of tests."""
     tables = [
         code for crate in crates() for code in sources(f"crates/{crate}/src")
-        if "const MANY: &str" in code
+        if "use fdb_checks::cases;" in code
     ]
     return {call for code in tables for names in LINE.findall(code) for call in names.split(", ")}
 

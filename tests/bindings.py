@@ -28,15 +28,25 @@ COMPILERS = ["gcc", "clang"]
 SECONDS = 300
 
 FIRST_OF_C = b"version 200 after 100\n7 is early: 2 is next\n"
+AUDIT_OF_C = b"call 1 is stale: 200 was known, as call 0 had ended\n"
 FIRST_OF_PYTHON = b"""\
 Issued(ordinal=0, proxy=0, num=1, processed=0, prev=100, version=200, at=5, fresh=True)
 refused: EARLY, expected 1
 [17]
 """
+AUDIT_OF_PYTHON = b"""\
+Fault(line=1, kind=<FaultKind.ORDER: 1>, reason=<Reason.KNOWN: 1>, other=None, \
+known=Known(version=200, means=<Means.ENDED: 2>, line=0, learnt=None))
+audit fault: Order 2: client 2 read 100, but 200 was known: line 1 (client 1, commit 200) \
+had ended 1 before line 2 began
+"""
 FIRST_OF_RUST = b"""\
 Issued { ordinal: 0, proxy: 0, num: 1, processed: 0, prev: 100, version: 200, at: 5, fresh: true }
 Err(Early { expected: 1 })
 [Request { priority: Default, count: 3, payload: 17 }]
+"""
+AUDIT_OF_RUST = b"""\
+Fault { line: 1, kind: Order, reason: Known { version: 200, means: Ended(0) } }
 """
 
 
@@ -64,8 +74,11 @@ def of_c(_program):
     for compiler in found:
         for source, flags, wanted in (
             ("examples/c/first.c", [], FIRST_OF_C),
+            ("examples/c/audit.c", [], AUDIT_OF_C),
             ("tests/c/calls.c", [], b"ok\n"),
             ("tests/c/calls.c", SANITIZED, b"ok\n"),
+            ("tests/c/audit.c", [], b"ok\n"),
+            ("tests/c/audit.c", SANITIZED, b"ok\n"),
             ("tests/c/memory.c", WRAPPED, b"ok\n"),
         ):
             case = f"{source} by {compiler} {' '.join(flags)}"
@@ -102,8 +115,9 @@ def python(words):
 
 
 def of_python(_program):
-    """The first example of Python, the differential example, and a library that is missing."""
-    yield "first.py", fault_of(python([f"{ROOT}/bindings/python/first.py"]), done(FIRST_OF_PYTHON))
+    """The examples of Python, the differential example, and a library that is missing."""
+    for name, wanted in (("first", FIRST_OF_PYTHON), ("first_audit", AUDIT_OF_PYTHON)):
+        yield name, fault_of(python([f"{ROOT}/bindings/python/{name}.py"]), done(wanted))
     found = python([DIFFERENTIAL, "1000", "5"])
     yield "the differential example", fault_of(found, Ran(0, None, b""))
     lines = found.out.decode().splitlines()
@@ -192,6 +206,9 @@ def refused_numbers(_program):
         ("a proxy above 32 bits", lambda: chain.ask(1 << 32, 1, 0)),
         ("a short metadata version", lambda: library.Record(1, False, b"1")._raw()),
         ("no such priority", lambda: library.GrvQueue(library.QueueConfig(1, 0, 1)).offer(1, 0, 3)),
+        ("a margin below 0", lambda: library.audit(b"", margin=-1)),
+        ("an end and no begin", lambda: library.audit([library.Call(2, 1, 1, ended=2)])),
+        ("a client above 32 bits", lambda: library.audit([library.Call(2, 1, client=1 << 32)])),
         ("a chain that is closed", lambda: (chain.close(), chain.ask(0, 1, 0))),
     ):
         try:
@@ -205,7 +222,7 @@ def refused_numbers(_program):
 
 
 def of_rust(_program):
-    """The crate's tests and its first example, built offline in a folder of their own."""
+    """The crate's tests and its examples, built offline in a folder of their own."""
     if not shutil.which("cargo"):
         yield "there is no cargo: left out", None
         return
@@ -214,6 +231,7 @@ def of_rust(_program):
         for case, words, out in (
             ("its tests", ["test", "--quiet"], None),
             ("its first example", ["run", "--quiet", "--example", "first"], FIRST_OF_RUST),
+            ("its audit", ["run", "--quiet", "--example", "audit"], AUDIT_OF_RUST),
         ):
             ran = cargo(words, env)
             said = (ran.err or ran.out)[-300:].decode(errors="replace")

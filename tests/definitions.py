@@ -4,8 +4,9 @@
 
 First come the definitions that the headline rests on, in the order in which a reader has to believe
 them: by crate as in crates.txt, by file as in its specs/Lib.antt, and as they stand there. Each has
-the first sentence of its comment, and of a long one what stands before its colon or semicolon.
-Then come the files of the others. What is in specs/private/ is left out.
+the first sentence of its comment, and of a long one what stands before its colon or semicolon; but
+those of a file that docs/FORMATS.md tells in words stand by name alone. Those that only other
+promises cite are left out.
 """
 import os
 import re
@@ -23,6 +24,13 @@ MODULE = re.compile(r"^pub mod (\w+)$", re.MULTILINE)
 # Where a definition comes from, which its file says.
 SOURCE = re.compile(r"\s*\([^()]*(?:FoundationDB|masterserver|GrvProxy|own|1990)[^()]*\)")
 LONG = 12
+# The files of which docs/FORMATS.md tells in words what they say.
+TOLD = {
+    ("fdb_history", "Text"),
+    ("fdb_history", "Faults"),
+    ("fdb_script", "Reading"),
+    ("fdb_script", "Text"),
+}
 
 
 def text_of(file):
@@ -79,28 +87,41 @@ def lines_of(names, comments):
     return "\\\n".join(said).splitlines()
 
 
+def named(names):
+    """A line with the names of some definitions."""
+    return [", ".join(f"`{it}`" for it in names)]
+
+
+def believed():
+    """The definitions that the headline rests on: crate, file and name."""
+    return {(it.crate, it.file, it.name) for it in rests_on(HEADLINE)[0]}
+
+
+def without_comment():
+    """Those of them that have no comment, by name."""
+    return [
+        name
+        for crate, file, name in sorted(believed())
+        if not comments_of(crate, file)[1][name]
+    ]
+
+
 def lines():
     """The lines of the list."""
-    believed = {(it.crate, it.file, it.name) for it in rests_on(HEADLINE)[0]}
-    made, others, crate_before = [], {}, ""
+    headline = believed()
+    made, crate_before = [], ""
     for crate, file in files_in_order():
         about, comments = comments_of(crate, file)
-        wanted = [it for it in comments if (crate, file, it) in believed]
+        wanted = [it for it in comments if (crate, file, it) in headline]
         if wanted and crate != crate_before:
             made += ["", f"### {crate}"]
             crate_before = crate
         if wanted:
             made += ["", f"**{link_of(crate, file)}**: {about}", ""]
-            made += lines_of(wanted, comments)
-        if not wanted or len(wanted) < len(comments):
-            others.setdefault(crate, []).append(link_of(crate, file))
+            made += named(wanted) if (crate, file) in TOLD else lines_of(wanted, comments)
     found = counts()
     size = f"{found['headline']} lines in {found['definitions']} definitions"
-    return [
-        "", "## What the headline rests on", "", f"These are {size}.", *made,
-        "", "## What only the libraries promise", "",
-        *(f"- {crate}: {', '.join(links)}" for crate, links in others.items()),
-    ]
+    return ["", "## What the headline rests on", "", f"These are {size}.", *made]
 
 
 if __name__ == "__main__":

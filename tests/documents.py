@@ -3,10 +3,10 @@ import glob
 import os
 import re
 
+import audit_logs
 import definitions
 import generated
 import planted
-import traces
 from believed import counts
 from edits import BESIDE, TRIED, crates, edits_in, fault_of_edit
 from exported import cited_by
@@ -56,6 +56,9 @@ def lists(_program):
     """The lists of definitions and of wrong bodies are those that the sources give."""
     for by in (definitions, planted):
         yield by.DOCUMENT, generated.fault_of(by.DOCUMENT, by.lines())
+    bare = definitions.without_comment()
+    fault = f"none at {', '.join(bare)}" if bare else None
+    yield "comments of what the headline rests on", fault
 
 
 def private(_program):
@@ -141,8 +144,8 @@ def fault_of_logic(document):
 
 
 def shown(program):
-    """A block of a run shows what the program prints, and one of a script is an example."""
-    scripts = [text_of(it).strip() for it in glob.glob(f"{EXAMPLES}/**/*.json", recursive=True)]
+    """A block of a run shows what the program prints, and one of a script or log is an example."""
+    scripts = [text_of(it).strip() for it in glob.glob(f"{EXAMPLES}/**/*.json*", recursive=True)]
     for document, language, block in blocks():
         if language:
             continue
@@ -153,9 +156,9 @@ def shown(program):
                 run([program, *arguments], cwd=ROOT), done(rest.encode())
             )
         elif first.startswith("$ ./fdb_audit "):
-            ran = run([traces.PROGRAM, *first.split()[2:]], cwd=ROOT)
+            ran = run([audit_logs.PROGRAM, *first.split()[2:]], cwd=ROOT)
             fault = None if ran.out == rest.encode() else f"it prints {ran.out[:100]!r}"
             yield f"{document}: {first}", fault
         elif first.startswith("{"):
-            fault = None if block.strip() in scripts else "it is no script of examples/"
+            fault = None if block.strip() in scripts else "it is no script or log of examples/"
             yield f"{document}: {first}", fault

@@ -7,13 +7,14 @@ import tempfile
 from typing import NamedTuple
 
 from answers import do
+from audit_logs import PROGRAM as AUDIT
+from audit_logs import example_cases, large_log, learnt_log
 from harness import ARGUMENTS_REFUSED, EXAMPLES, NOT_ENDED, OUT_OF_MEMORY, READING_FAILED, ROOT, Ran
 from harness import done, fault_of, first_output, first_script, read, run, written
 from harness import refused as refused_script
 from judge import Lawful
 from model import expected
 from races import commit
-from traces import PROGRAM as AUDIT
 
 SOURCE = f"{ROOT}/tests/refuse.c"
 LARGE = [
@@ -195,18 +196,31 @@ def used(_program):
     yield "starts of threads", None if threads > 1 else f"{threads} threads were refused"
 
 
+def audits():
+    """Names audits: arguments, the log, and how the next thing to be refused is chosen."""
+    each, further = lambda at: at + 1, lambda at: at + 1 + at // 12
+    for name, given, words, _out in example_cases():
+        yield f"{name} {' '.join(words)}", words, given, each
+    yield "a file", [f"{EXAMPLES}/logs/shared.jsonl", "--history"], b"", each
+    yield "a file that is not there", ["/none"], b"", each
+    yield "a log that is refused", [], read(f"{EXAMPLES}/logs/shared.jsonl") + b"{}\n", each
+    yield "arguments that are refused", ["--margin"], b"", each
+    yield "help", ["--help"], b"", each
+    yield "many faults", ["--all"], large_log(400)[0], further
+    yield "a chain of learns", ["--history"], learnt_log(60)[0], further
+
+
 def audited(_program):
     """An audit of logs that is refused memory says so and writes nothing, and else ends as ever."""
-    each = lambda at: at + 1
     starved = Ran(OUT_OF_MEMORY.status, b"", b"fdb_audit: want of memory\n")
     with tempfile.TemporaryDirectory(prefix="refuse-") as folder:
         preloaded = built(folder)
-        for logs, *words in (["told", "--history"], ["stale"], ["stale", "--all"]):
-            audit = [AUDIT, f"{EXAMPLES}/logs/{logs}.json", *words]
-            ended = exactly(run(audit))
+        for name, words, given, step in audits():
+            audit = [AUDIT, *words]
+            ended = exactly(run(audit, given))
             for goes_on in (False, True):
-                for it in swept(audit, preloaded, b"", starved, ended, goes_on, each):
-                    yield f"{logs}, {'from ' if goes_on else ''}allocation {it.number}", it.fault
+                for it in swept(audit, preloaded, given, starved, ended, goes_on, step):
+                    yield f"{name}, {'from ' if goes_on else ''}allocation {it.number}", it.fault
 
 
 def bearing_tests(tests, pattern):

@@ -2,7 +2,7 @@
 
     python3 tests/planted.py [--write]
 
-By crate and file, and in bold those that the gate tries.
+By crate and file: the names of those that the gate tries, and how many others there are.
 """
 import sys
 
@@ -21,23 +21,28 @@ def file_of(edit):
     return next(file for file, old, _new in pairs if not old.startswith("use "))
 
 
-def by_file(crate):
-    """The edits of a crate, as the list has them, by the file that each turns."""
+def by_file(crate, folder):
+    """The names of a crate's edits in a folder, by the file that each turns."""
     found = {}
-    for folder, form in ((TRIED, "**`{}`**"), (BESIDE, "`{}`")):
-        for name, edit in edits_in(crate, folder)[0].items():
-            found.setdefault(file_of(edit).removeprefix("src/"), []).append(form.format(name))
+    for name, edit in edits_in(crate, folder)[0].items():
+        found.setdefault(file_of(edit).removeprefix("src/"), []).append(f"`{name}`")
     return found
+
+
+def line_of(file, tried, beside):
+    """What the list has of a file: the names of what the gate tries, and how many others."""
+    return f"{file}: {', '.join([*tried, *([str(len(beside))] if beside else [])])}"
 
 
 def lines():
     """The lines of the list: for each crate a paragraph."""
     made = []
     for crate in crates():
-        edits = by_file(crate)
-        if edits:
-            named = [f"{file}: {', '.join(edits[file])}" for file in sorted(edits)]
-            made += ["", f"## {crate}", "", *";\n".join(named).splitlines()]
+        tried, beside = by_file(crate, TRIED), by_file(crate, BESIDE)
+        files = sorted({*tried, *beside})
+        if files:
+            told = [line_of(it, tried.get(it, []), beside.get(it, [])) for it in files]
+            made += ["", f"## {crate}", "", *";\n".join(told).splitlines()]
     return made
 
 

@@ -3,10 +3,9 @@
 The stack of each thread is as large as `ulimit -s` says, and a text is read by a recursion as deep
 as it nests.
 """
-import json
-
-import traces
 from answers import crowd_at_all_limits, do
+from audit_logs import PROGRAM as AUDIT
+from audit_logs import learnt_log
 from harness import DONE, ROOT, Ran, done, fault_of, read, refused, run, script, written
 from help import HELP
 from judge import Lawful
@@ -59,14 +58,14 @@ def crowds():
     yield "help", ["--help"], b"", lambda ran: fault_of(ran, done(HELP))
 
 
-def long_logs():
-    """Names logs that go deep or far, and have no fault: all read what they begin with."""
-    turns = [["learn", 1, 0], *[["read", 100]] * LONG]
-    yield "a long log", {"start": 100, "versions": [], "clients": [turns, [["read", 100]]]}
-    chained = [[["learn", who + 1, 0]] for who in range(LONG)]
-    yield "learns one behind the other", {
-        "start": 100, "versions": [], "clients": [*chained, [["read", 100]]]
-    }
+def logs():
+    """Names logs that are long, or go deep."""
+    line = '{"client":"a","read":100}\n'
+    yield "a long log", line * LONG
+    yield "a chain of learns", learnt_log()[0].decode()
+    for name, shape in SHAPES.items():
+        deep = nested(shape, DEEPEST - 1)
+        yield f"a member of {name} in a log", line.replace("}", f',"note":{deep}}}')
 
 
 def under_stack(words, given, fault_of_ran):
@@ -86,6 +85,6 @@ def small_stacks(program):
         yield name, under_stack([program], given, lambda ran, wanted=wanted: fault_of(ran, wanted))
     for name, words, given, fault_of_ran in crowds():
         yield name, under_stack([program, *words], given, fault_of_ran)
-    for name, logs in long_logs():
-        given = json.dumps(logs).encode()
-        yield name, under_stack([traces.PROGRAM], given, lambda ran: fault_of(ran, NO_FAULT))
+    for name, text in logs():
+        words, given = [AUDIT, "--history"], text.encode()
+        yield name, under_stack(words, given, lambda ran: fault_of(ran, NO_FAULT))

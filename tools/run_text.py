@@ -2,6 +2,8 @@
 import re
 from types import SimpleNamespace
 
+from drawing import Refused
+
 MOST_CLIENTS = 64
 NUMBER = r"(?:0|[1-9]\d{0,19})"
 
@@ -56,10 +58,6 @@ CHANGES = ("raised", "min raised")
 EVENTS = ("read", "locked", "not raised", *CHANGES)
 
 
-class Refused(Exception):
-    """Says why a text is refused: a name, the line, counted from 1, and what is wrong there."""
-
-
 class Call(SimpleNamespace):
     """A call of a client's log. No two calls are equal."""
 
@@ -76,13 +74,9 @@ def parts_of(found):
 class Text:
     """What a text says: the calls of each client, the order of the events, and maybe faults."""
 
-    # The live committed version before the first call, which logs say.
-    start = None
-
     def __init__(self, lines):
         self.lanes, self.told, self.last = {}, [], (0, -1, -1)
         self.events, self.listed, self.audited, self.faults = None, 0, False, []
-        self.begin()
         for self.number, self.line in enumerate(lines, 1):
             self.take()
         if not self.audited and not self.faults:
@@ -92,10 +86,6 @@ class Text:
             self.refuse("Cut", f"the history ends after {self.listed} of {len(self.events)} events")
         for fault in self.faults:
             fault.calls = self.calls_of(fault)
-        self.concerned = {call: fault.name for fault in self.faults for call in fault.calls}
-
-    def begin(self):
-        """Before its lines a text has no call."""
 
     def refuse(self, name, what):
         raise Refused(f"{name} {self.number}: {what}: {self.line[:80]!r}")
@@ -128,7 +118,6 @@ class Text:
         log = self.lanes.setdefault(client, [])
         call = Call(kind=kind, client=client, number=len(log), needs=log[-1:], **said)
         call.seen = max(said.get("position", 0), log[-1].seen if log else 0)
-        call.column, call.learns = None, []
         log.append(call)
         return call
 
@@ -144,7 +133,6 @@ class Text:
         is_news = said["position"] > max(before, default=0)
         learn = self.call("learn", client, tell=tell, is_news=is_news, **said)
         learn.needs.append(tell)
-        tell.learns.append(learn)
 
     def end_replies(self):
         """Puts the events in the order of the history, which the replies determine."""
@@ -154,9 +142,6 @@ class Text:
             self.events = sorted(self.calls(*EVENTS), key=key)
             for number, event in enumerate(self.events):
                 event.event = number
-            drawn = sorted(self.calls("fresh"), key=lambda it: it.ordinal)
-            for before, it in zip(drawn, drawn[1:]):
-                it.needs.append(before)
 
     def calls(self, *kinds):
         """The calls of these kinds, or all, round after round."""
@@ -207,77 +192,6 @@ class Text:
         return found
 
 
-class Logs(Text):
-    """Logs that fdb_audit reads, at the positions that it works out, with what it prints."""
-
-    def __init__(self, logs, lines):
-        self.logs, self.versions = logs["clients"], [it for it, _ in logs["versions"]]
-        self.start, self.known = logs["start"], [[] for _ in logs["clients"]]
-        super().__init__(lines)
-
-    def begin(self):
-        if len(self.logs) > MOST_CLIENTS:
-            raise Refused(f"BadLogs 0: there are more than {MOST_CLIENTS} clients")
-        moved = True
-        while moved:
-            moved = any([self.see(client) for client in range(len(self.logs))])
-        if any(len(it) < len(steps) for it, steps in zip(self.known, self.logs)):
-            raise Refused("BadLogs 0: calls wait for one another")
-        self.marks = sorted({it for client in range(len(self.logs)) for it in self.raised(client)})
-        self.place()
-        key = lambda it: (it.position, it.kind not in CHANGES, it.client, it.number)
-        self.events = sorted(self.calls("read", "not raised", "raised"), key=key)
-        for number, event in enumerate(self.events):
-            event.event = number
-
-    def see(self, client):
-        """Works out what a client had seen after its next calls, as far as that is known."""
-        known, steps, count = self.known[client], self.logs[client], len(self.known[client])
-        for kind, value, *call in steps[count:]:
-            if kind == "learn" and len(self.known[value]) <= call[0]:
-                break
-            shown = self.known[value][call[0]] if kind == "learn" else value * (kind != "ask")
-            known.append(max(shown, known[-1] if known else self.start))
-        return len(known) > count
-
-    def before(self, client, number):
-        return self.known[client][number - 1] if number else self.start
-
-    def raised(self, client):
-        reports = [(at, it[1]) for at, it in enumerate(self.logs[client]) if it[0] == "report"]
-        return [version for at, version in reports if version > self.before(client, at)]
-
-    def place(self):
-        """Adds all calls, each at its position, a learn once what it learns from is there."""
-        left = [list(enumerate(steps)) for steps in self.logs]
-        while any(left):
-            for client, steps in enumerate(left):
-                while steps and self.is_ready(steps[0][1]):
-                    self.step(client, *steps.pop(0))
-
-    def is_ready(self, step):
-        return step[0] != "learn" or len(self.lanes.get(step[1], [])) > step[2]
-
-    def step(self, client, number, step):
-        kind, value = step[:2]
-        seen = value if kind == "read" else self.known[client][number]
-        said = {"round": None, "position": sum(mark <= seen for mark in self.marks)}
-        if kind == "learn":
-            self.learn(client, self.lanes[value][step[2]], **said)
-        elif kind == "read":
-            self.call("read", client, version=value, lock="unlocked", metadata="none", **said)
-        elif kind == "report":
-            change = "raised" if value > self.before(client, number) else "not raised"
-            self.call(change, client, version=value, **said)
-        else:
-            at = self.versions.index(value) if value in self.versions else len(self.versions)
-            prev = self.versions[at - 1] if at else 0
-            self.call("fresh", client, version=value, prev=prev, ordinal=at, **said)
-
-    def reply(self, do, rest, **where):
-        self.refuse("BadLine", "logs have no replies")
-
-
 FORMS = (
     (form(r"<round> <client> <place> (?P<do>grv|ask|reask|report|tell) (?P<rest>.*)"), Text.reply),
     (form("audit ok events <events> raised <raised> versions <versions>"), Text.audit),
@@ -285,33 +199,3 @@ FORMS = (
     (form(rf"history <index> client <client> call <call> report {RECORD} {CHANGE}"), Text.history),
     (form(rf"(?:.*fault: )?{FAULT}(?:[:,;] (?P<reason>.+))?"), Text.found),
 )
-
-
-def in_time(text):
-    """All calls in an order in which they can have been. Events stand by the history, as far as no
-    tell is against it, and any other call right before it is needed."""
-    order, followers = [], followers_of(text)
-    for call in [*text.events, *text.calls("learn"), *text.calls()]:
-        open_calls = [call] * (call.column is None)
-        while open_calls:
-            top = open_calls[-1]
-            top.column = -1
-            needed = next((it for it in top.needs if it.column is None), None)
-            if needed:
-                open_calls.append(needed)
-            else:
-                top.column = len(order)
-                order.append(open_calls.pop())
-                open_calls += followers.get(top, [])
-    return order
-
-
-def followers_of(text):
-    """The calls at the ends of logs that no call needs, each by the one that it is to follow."""
-    found = {}
-    for log in text.lanes.values():
-        for before, call in zip(log[-2::-1], log[::-1]):
-            if call.kind not in ("refused", "kept"):
-                break
-            found[before] = [call]
-    return found

@@ -20,6 +20,7 @@ def _tag() -> str:
 
 def _library() -> Path:
     file = Path(os.environ.get("FDB_READ_VERSION_LIB", BUILT))
+    file = file / "libfdb_c.so" if file.is_dir() else file
     if not file.is_file():
         how = "make it with tools/bindings, or set FDB_READ_VERSION_LIB to its path"
         raise SystemExit(f"{file} is missing: {how}")

@@ -1,4 +1,5 @@
-//! Finds the library: `FDB_READ_VERSION_LIB` names its folder, else it is `../../crates/fdb_c/out`.
+//! Finds the library: `FDB_READ_VERSION_LIB` names its folder or a file there, else the folder is
+//! `../../crates/fdb_c/out`.
 
 use std::env;
 use std::path::PathBuf;
@@ -6,8 +7,11 @@ use std::path::PathBuf;
 fn main() {
     println!("cargo:rerun-if-env-changed=FDB_READ_VERSION_LIB");
     let here = PathBuf::from(env::var_os("CARGO_MANIFEST_DIR").expect("cargo sets it"));
-    let folder = env::var_os("FDB_READ_VERSION_LIB")
+    let mut folder = env::var_os("FDB_READ_VERSION_LIB")
         .map_or_else(|| here.join("../../crates/fdb_c/out"), PathBuf::from);
+    if folder.is_file() {
+        folder.pop();
+    }
     for name in ["libfdb_c.a", "liblibc_c.a"] {
         let file = folder.join(name);
         if !file.is_file() {

@@ -107,6 +107,63 @@ static uint8_t arrays_bear(long allowed) {
     return status;
 }
 
+/* A log with two stale reads, as bytes and as calls. */
+static const char LOG[] = "{\"client\":\"a\",\"read\":2}\n{\"client\":\"a\",\"read\":1}\n"
+                          "{\"client\":\"b\",\"learn\":\"a\"}\n{\"client\":\"b\",\"read\":1}";
+#define BYTES (const uint8_t *)LOG, sizeof LOG - 1
+static const fdb_call CALLS[] = {
+    {.kind = FDB_READ, .version = 2, .client = 0, .has_client = true},
+    {.kind = FDB_READ, .version = 1, .client = 0, .has_client = true},
+    {.kind = FDB_LEARN, .teller = 0, .client = 1, .has_client = true},
+    {.kind = FDB_READ, .version = 1, .client = 1, .has_client = true},
+};
+static const fdb_audit_options ALL = {.all = true};
+
+/* Nothing is written where memory is refused; else both faults are found. */
+static uint8_t borne(uint8_t status, uint64_t written, uint64_t size, uint64_t line) {
+    left = -1;
+    assert(line == 77);
+    if (status == FDB_MEMORY) assert(written == 77 && size == 77);
+    else assert(status == FDB_FAULT && written != 77 && size != 77);
+    return status == FDB_FAULT ? FDB_OK : status;
+}
+
+static uint8_t log_text_bears(long allowed) {
+    uint8_t text[1000] = {77};
+    uint64_t size = 77;
+    fdb_refused refused = {.line = 77};
+    left = allowed;
+    uint8_t status = fdb_audit_log_text(BYTES, &ALL, text, sizeof text, &size, &refused);
+    return borne(status, text[0], size, refused.line);
+}
+
+static uint8_t log_faults_bear(long allowed) {
+    fdb_fault faults[4] = {{.known = 77}};
+    uint64_t size = 77;
+    fdb_refused refused = {.line = 77};
+    left = allowed;
+    uint8_t status = fdb_audit_log_faults(BYTES, &ALL, faults, 4, &size, &refused);
+    return borne(status, faults[0].known, size, refused.line);
+}
+
+static uint8_t calls_text_bears(long allowed) {
+    uint8_t text[1000] = {77};
+    uint64_t size = 77;
+    fdb_refused refused = {.line = 77};
+    left = allowed;
+    uint8_t status = fdb_audit_calls_text(CALLS, 4, &ALL, text, sizeof text, &size, &refused);
+    return borne(status, text[0], size, refused.line);
+}
+
+static uint8_t calls_faults_bear(long allowed) {
+    fdb_fault faults[4] = {{.known = 77}};
+    uint64_t size = 77;
+    fdb_refused refused = {.line = 77};
+    left = allowed;
+    uint8_t status = fdb_audit_calls_faults(CALLS, 4, &ALL, faults, 4, &size, &refused);
+    return borne(status, faults[0].known, size, refused.line);
+}
+
 static void sweep(uint8_t (*bears)(long allowed)) {
     for (long allowed = 0; bears(allowed) != FDB_OK; allowed++) {
         assert(allowed < 10000);
@@ -118,6 +175,10 @@ int main(void) {
     sweep(chain_bears);
     sweep(queue_bears);
     sweep(arrays_bear);
+    sweep(log_text_bears);
+    sweep(log_faults_bear);
+    sweep(calls_text_bears);
+    sweep(calls_faults_bear);
     assert(refusals > 10);
     puts("ok");
     return 0;

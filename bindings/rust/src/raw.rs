@@ -97,6 +97,50 @@ pub struct Limit {
     pub holds: bool,
 }
 
+#[repr(C)]
+#[derive(Clone, Copy)]
+pub struct Call {
+    pub version: u64,
+    pub began: u64,
+    pub ended: u64,
+    pub client: u32,
+    pub teller: u32,
+    pub kind: u8,
+    pub has_client: bool,
+    pub has_times: bool,
+    pub has_ended: bool,
+}
+
+#[repr(C)]
+#[derive(Clone, Copy)]
+pub struct AuditOptions {
+    pub start: u64,
+    pub margin: u64,
+    pub complete: bool,
+    pub all: bool,
+    pub history: bool,
+}
+
+#[repr(C)]
+#[derive(Clone, Copy, Default)]
+pub struct Refused {
+    pub line: u64,
+    pub member: u8,
+}
+
+#[repr(C)]
+#[derive(Clone, Copy, Default)]
+pub struct Fault {
+    pub known: u64,
+    pub line: u32,
+    pub other: u32,
+    pub by: u32,
+    pub learnt: u32,
+    pub kind: u8,
+    pub reason: u8,
+    pub means: u8,
+}
+
 extern "C" {
     pub fn fdb_chain_new(epoch_end: u64, recovery: u64, proxies: u32, chain: *mut Handle) -> u8;
     pub fn fdb_chain_ask(chain: *mut Handle, ask: *const Ask, answer: *mut Answer) -> u8;
@@ -153,5 +197,41 @@ extern "C" {
         started: *mut Request,
         started_length: usize,
         size: *mut u64,
+    ) -> u8;
+    pub fn fdb_audit_log_text(
+        log: *const u8,
+        log_length: usize,
+        options: *const AuditOptions,
+        text: *mut u8,
+        text_length: usize,
+        size: *mut u64,
+        refused: *mut Refused,
+    ) -> u8;
+    pub fn fdb_audit_log_faults(
+        log: *const u8,
+        log_length: usize,
+        options: *const AuditOptions,
+        faults: *mut Fault,
+        faults_length: usize,
+        size: *mut u64,
+        refused: *mut Refused,
+    ) -> u8;
+    pub fn fdb_audit_calls_text(
+        calls: *const Call,
+        calls_length: usize,
+        options: *const AuditOptions,
+        text: *mut u8,
+        text_length: usize,
+        size: *mut u64,
+        refused: *mut Refused,
+    ) -> u8;
+    pub fn fdb_audit_calls_faults(
+        calls: *const Call,
+        calls_length: usize,
+        options: *const AuditOptions,
+        faults: *mut Fault,
+        faults_length: usize,
+        size: *mut u64,
+        refused: *mut Refused,
     ) -> u8;
 }

@@ -1,91 +1,67 @@
--- What is printed of an audit of a trace. (this product's own)
-use Rattle.std.specs.Prelude.{◌≡◌, ◌≢◌, ◌⊎◌, ℕ, ◌++◌, Bool, true, false, List, [], ◌∷◌, length, Option, None, Some, Ok, Err, codes, decimal}
-use Rattle.std.specs.List.{flat_map}
-use Rattle.fdb_history.specs.Audit.{IsAudited}
-use Rattle.fdb_history.specs.declared.chain.Issued.{Issued}
-use Rattle.fdb_history.specs.declared.event.History.{History}
-use Rattle.fdb_history.specs.declared.fault.AuditFault.{AuditFault}
-use Rattle.fdb_history.specs.declared.fault.AuditFault.TheVariants.{Order, Clash, Gap, Wrong, Stray, NotAbove, Memory}
-use Rattle.fdb_history.specs.declared.log.ClientLog.{ClientLog}
-use Rattle.fdb_history.specs.declared.register.Record.{Record}
-use Rattle.fdb_script.specs.Text.{line, verdict_text}
-use Rattle.fdb_audit.specs.Circular.{IsCircular}
-use Rattle.fdb_audit.specs.Findings.{AreFindings}
-use Rattle.fdb_audit.specs.Reading.{ReadsAs}
-use Rattle.fdb_audit.specs.Reasons.{IsExplained}
-use Rattle.fdb_audit.specs.Text.{reason_text, why_text}
-use Rattle.fdb_audit.specs.Trace.{Given}
-use Rattle.fdb_audit.specs.WorkedOut.{IsWorkedOut, plain}
-use Rattle.fdb_audit.specs.declared.error.TraceError.{TraceError}
-use Rattle.fdb_audit.specs.declared.finding.Finding.{Finding}
+-- What is printed of an audit of a log. (this product's own)
+use Rattle.std.specs.Prelude.{◌≡◌, ℕ, ◌++◌, Bool, true, false, cond, List, All, Option, None, Some, Ok, length, map, slice_get}
+use Rattle.json.specs.Print.{quoted}
+use Rattle.fdb_lines.specs.declared.fault.Found.{Found}
+use Rattle.fdb_lines.specs.declared.opts.AuditOpts.{AuditOpts}
+use Rattle.fdb_lines.specs.declared.reason.Finding.{Finding}
+use Rattle.fdb_lines.specs.declared.summed.Summary.{Summary}
+use Rattle.fdb_lines.specs.declared.turn.Turn.{Turn}
+use Rattle.fdb_lines.specs.Audit.{AreExplained, case_of}
+use Rattle.fdb_lines.specs.Explained.{Explains}
+use Rattle.fdb_lines.specs.Lines.{Lines, is_ask, is_commit, is_learn, is_read, is_report}
+use Rattle.fdb_lines.specs.Listing.{faults_of}
+use Rattle.fdb_lines.specs.Reasons.{HasReason, found_of}
+use Rattle.fdb_lines.specs.Summary.{how_many, ordered, unreported}
+use Rattle.fdb_lines.specs.Turns.{acts_of, AreTurnsOf}
+use Rattle.fdb_log_reader.specs.Reading.{Reading, reading_in}
+use Rattle.fdb_audit.specs.Text.{finding_text, history_lines, line, listing_text, summary_text}
 use Rattle.fdb_audit.specs.declared.judging.Wanted.{Wanted}
-use Rattle.fdb_audit.specs.declared.reason.Reason.{Reason}
-use Rattle.fdb_audit.specs.declared.error.TraceError.TheVariants as error
 
--- a fault, by its name and the call or the position that it names
-abbrev pub fault_text : AuditFault → List ℕ
-fault_text (Order client call) = codes "Order " ++ decimal client ++ codes " " ++ decimal call
-fault_text (Clash position) = codes "Clash " ++ decimal position
-fault_text (Gap position) = codes "Gap " ++ decimal position
-fault_text (Wrong client call) = codes "Wrong " ++ decimal client ++ codes " " ++ decimal call
-fault_text (Stray client call) = codes "Stray " ++ decimal client ++ codes " " ++ decimal call
-fault_text (NotAbove client call) = codes "NotAbove " ++ decimal client ++ codes " " ++ decimal call
-fault_text Memory = codes "want of memory"
+-- the counts of a verdict: the lines in all and of each kind, the versions that no line reports, and the pairs of lines
+-- in order
+pub record IsSummary (log : Lines) (opts : AuditOpts) (counts : Summary) : Type 0 where
+  pub lines : counts.lines ≡ length log.lines
+  pub timed : counts.timed ≡ cond log.timed (length log.lines) 0
+  pub reads : counts.reads ≡ how_many is_read log.lines
+  pub commits : counts.commits ≡ how_many is_commit log.lines
+  pub asks : counts.asks ≡ how_many is_ask log.lines
+  pub reports : counts.reports ≡ how_many is_report log.lines
+  pub learns : counts.learns ≡ how_many is_learn log.lines
+  pub unreported : counts.unreported ≡ unreported (case_of log opts)
+  pub ordered : counts.ordered ≡ ordered (case_of log opts)
 
--- a fault, and why it stands
-abbrev pub finding_text : Finding → List ℕ
-finding_text finding = fault_text finding.fault ++ codes ": " ++ reason_text finding.reason
+-- the turns are an order that explains the lines
+abbrev pub IsOrder : Lines → AuditOpts → List Turn → Type 0
+IsOrder log opts turns = Explains (case_of log opts) (acts_of turns) × AreTurnsOf (case_of log opts) turns
 
--- a line for each of some faults
-abbrev pub listing_text : List Finding → List ℕ
-listing_text found =
-    flat_map (λ finding. line (codes "audit fault: " ++ finding_text finding)) found
+-- What is printed where no fault stands: how much that stands on, and an order that explains the lines if it is wanted.
+abbrev pub IsPassed : Lines → List (List ℕ) → AuditOpts → Bool → List ℕ → Type 0
+IsPassed log names opts false text =
+    (counts : Summary) × IsSummary log opts counts × (text ≡ line (summary_text counts))
+IsPassed log names opts true text =
+    (counts : Summary) × IsSummary log opts counts × (turns : List Turn) × IsOrder log opts turns
+    × (text ≡ line (summary_text counts) ++ history_lines log.lines names 0 turns)
 
--- the text of the first fault: it, and why it stands
-abbrev pub IsFaultLine : Record → List Issued → List ClientLog → AuditFault → List ℕ → Type 0
-IsFaultLine start chain logs fault text =
-    (reason : Option Reason) × IsExplained start chain logs fault reason
-    × (text ≡ line (codes "audit fault: " ++ fault_text fault ++ why_text reason))
+-- what is printed where faults stand: the first of them, or all if they are wanted, each with a reason that is true of
+-- the lines
+abbrev pub IsFaulted : Lines → List (List ℕ) → AuditOpts → Bool → Found → List ℕ → Type 0
+IsFaulted log names opts false first text =
+    (finding : Finding) × (finding.found ≡ first) × HasReason log opts finding
+    × (text ≡ line (finding_text log.lines names finding))
+IsFaulted log names opts true first text =
+    (found : List Finding) × (map found_of found ≡ faults_of (case_of log opts))
+    × All (HasReason log opts) found × (text ≡ listing_text log.lines names found)
 
--- the text of all faults of the register; where none stands, of the first of another kind
-abbrev pub IsListed : Record → List Issued → List ClientLog → AuditFault → List Finding → List ℕ
-    → Type 0
-IsListed start chain logs fault [] text = IsFaultLine start chain logs fault text
-IsListed start chain logs fault (first ∷ later) text = text ≡ listing_text (first ∷ later)
+-- What an audit of a log finds, and prints: no fault, exactly where some history explains the lines; or the first fault.
+abbrev pub IsText : Lines → List (List ℕ) → AuditOpts → Wanted → Option Found → List ℕ → Type 0
+IsText log names opts wanted None text =
+    AreExplained (case_of log opts) × IsPassed log names opts wanted.history text
+IsText log names opts wanted (Some first) text =
+    (¬ (AreExplained (case_of log opts))) × (slice_get (faults_of (case_of log opts)) 0 ≡ Some first)
+    × IsFaulted log names opts wanted.all first text
 
--- the text of a fault, and of all if they are wanted
-abbrev pub IsFaultText : Record → List Issued → List ClientLog → Bool → AuditFault → List ℕ → Type 0
-IsFaultText start chain logs false fault text = IsFaultLine start chain logs fault text
-IsFaultText start chain logs true fault text =
-    (found : List Finding) × AreFindings start chain logs found
-    × IsListed start chain logs fault found text
-
--- The text of what an audit finds: the verdict of logs without a fault, with the history if that is
--- wanted, or the first fault, or all.
-abbrev pub IsText : Record → List Issued → List ClientLog → Wanted → Option AuditFault → List ℕ
-    → Type 0
-IsText start chain logs wanted None text =
-    (history : History) × IsAudited start chain logs (Ok history)
-    × (text ≡ verdict_text history.events (length chain) wanted.history)
-IsText start chain logs wanted (Some fault) text =
-    IsAudited start chain logs (Err fault) × (fault ≢ Memory)
-    × IsFaultText start chain logs wanted.all fault text
-
--- These bytes stand for a trace, and this is found in the logs that are worked out of it.
-pub record IsJudgement (bytes : List ℕ) (wanted : Wanted) (fault : Option AuditFault)
-    (text : List ℕ) : Type 0 where
-  pub given : Given
-  pub read : ReadsAs bytes (Ok given)
-  pub seen : ℕ → ℕ → ℕ
-  pub marks : List ℕ
-  pub chain : List Issued
-  pub logs : List ClientLog
-  pub worked : IsWorkedOut given seen marks chain logs
-  pub found : IsText (plain given.start) chain logs wanted fault text
-
--- These bytes stand for no trace, or for one whose calls wait for one another.
-abbrev pub Refuses : List ℕ → TraceError → Type 0
-Refuses bytes refused =
-    ReadsAs bytes (Err refused)
-    ⊎ ((given : Given) × ReadsAs bytes (Ok given) × (client call : ℕ)
-    × (refused ≡ error.Circular client call) × IsCircular given.clients client call)
+-- These bytes stand for a log, and this is what is found and printed. Clients are printed as JSON strings.
+abbrev pub IsJudgement : List ℕ → AuditOpts → Wanted → Option Found → List ℕ → Type 0
+IsJudgement bytes opts wanted first text =
+    (reading : Reading) × (reading_in bytes ≡ Ok reading)
+    × IsText reading.log (map quoted reading.names) opts wanted first text

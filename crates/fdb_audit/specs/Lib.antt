@@ -1,13 +1,4 @@
-pub mod Trace
-pub mod Reading
-pub mod Circular
-pub mod WorkedOut
-pub mod Laws
-pub mod Reasons
-pub mod Findings
 pub mod Text
 pub mod Judged
-pub mod Arguments
-pub mod Faulty
+pub mod Program
 pub mod private
-pub use Rattle.fdb_history.specs.Audit

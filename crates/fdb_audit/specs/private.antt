@@ -1,5 +1,0 @@
-pub mod Seen
-pub mod Reasons
-pub mod Findings
-pub mod Strays
-pub mod Asked

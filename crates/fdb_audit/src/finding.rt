@@ -1,51 +1,75 @@
-//! Faults, and why they stand.
+//! Faults as they are printed: a line for each, with the reason.
 
-use crate::reason::Reason;
-use fdb_history::AuditFault;
+ghost use Rattle.std.specs.Prelude.{◌≡◌, IfOk, map, string_bytes};
+ghost use Rattle.fdb_lines.specs.Log.{lines_of};
+ghost use Rattle.fdb_audit.specs.Text.{finding_text, line, listing_text};
+
+use crate::reason::Sentence;
+use crate::view::View;
+use fdb_lines::Finding;
+use std::alloc::{AllocError, Global};
 use std::fmt;
+use std::fmt::Write;
 
-/// A fault that stands, and why.
-#[derive(Clone, Copy, Debug, PartialEq, Eq)]
-pub struct Finding {
-    /// The fault.
-    pub fault: AuditFault,
-    /// Why it stands.
-    pub reason: Reason,
-}
-
-/// The fault, and behind a colon why it stands.
-impl fmt::Display for Finding {
-    ghost use Rattle.std.specs.Prelude.{Some};
-    ghost use Rattle.fdb_audit.specs.Judged.{finding_text};
-
-    ghost output = { λ finding. Some (finding_text finding) };
-
-    fn fmt<W: fmt::Write>(&self, f: &mut fmt::Formatter<W>) -> fmt::Result {
-        let fault = FaultLine(self.fault);
-        let reason = self.reason;
-        write!(f, "{fault}: {reason}")
-    }
-}
-
-/// A fault, by its name and the call or the position that it names.
+/// A fault, and the sentence that says why it stands.
 #[derive(Clone, Copy)]
-pub(crate) struct FaultLine(pub(crate) AuditFault);
+struct Explanation<'a> {
+    view: View<'a>,
+    finding: Finding,
+}
 
-impl fmt::Display for FaultLine {
-    ghost use Rattle.std.specs.Prelude.{Some};
-    ghost use Rattle.fdb_audit.specs.Judged.{fault_text};
+impl fmt::Display for Explanation<'_> {
+    ghost use Rattle.std.specs.Prelude.{Some, map, string_bytes};
+    ghost use Rattle.fdb_lines.specs.Log.{lines_of};
+    ghost use Rattle.fdb_audit.specs.Text.{finding_text};
 
-    ghost output = { λ found. Some (fault_text found.0) };
+    ghost output = { λ it. Some (finding_text (lines_of it.view.log.now).lines
+        (map string_bytes it.view.names.now) it.finding) };
 
     fn fmt<W: fmt::Write>(&self, f: &mut fmt::Formatter<W>) -> fmt::Result {
-        match self.0 {
-            AuditFault::Order { client, call } => write!(f, "Order {client} {call}"),
-            AuditFault::Clash { position } => write!(f, "Clash {position}"),
-            AuditFault::Gap { position } => write!(f, "Gap {position}"),
-            AuditFault::Wrong { client, call } => write!(f, "Wrong {client} {call}"),
-            AuditFault::Stray { client, call } => write!(f, "Stray {client} {call}"),
-            AuditFault::NotAbove { client, call } => write!(f, "NotAbove {client} {call}"),
-            AuditFault::Memory => f.write_str("want of memory"),
-        }
+        let fault = self.finding.found;
+        let sentence = Sentence {
+            view: self.view,
+            place: self.finding.found.line,
+            reason: self.finding.reason,
+        };
+        write!(f, "audit fault: {fault}: {sentence}")
     }
+}
+
+/// A fault's line, with the line feed at its end.
+pub(crate) fn finding_line(
+    alloc: Global,
+    view: View<'_>,
+    finding: Finding,
+) -> Result<String, AllocError>
+    ensures { IfOk result (λ text. string_bytes text
+        ≡ line (finding_text (lines_of view.entry.log.now).lines
+        (map string_bytes view.entry.names.now) finding)) }
+{
+    let mut printed = String::new(alloc);
+    let explanation = Explanation { view, finding };
+    writeln!(printed, "{explanation}")?;
+    Ok(printed)
+}
+
+/// A line for each of some faults, in their order.
+pub(crate) fn finding_lines(
+    alloc: Global,
+    view: View<'_>,
+    found: &[Finding],
+) -> Result<String, AllocError>
+    ensures { IfOk result (λ text. string_bytes text
+        ≡ listing_text (lines_of view.entry.log.now).lines
+        (map string_bytes view.entry.names.now) found.now) }
+{
+    let mut printed = String::new(alloc);
+    for finding in found {
+        let explanation = Explanation {
+            view,
+            finding: *finding,
+        };
+        writeln!(printed, "{explanation}")?;
+    }
+    Ok(printed)
 }

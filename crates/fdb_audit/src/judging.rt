@@ -1,180 +1,201 @@
-//! From the bytes of a trace to what an audit of it finds.
+//! From a log to what is said of it.
 
-ghost use Rattle.std.specs.Prelude.{◌≡◌, ◌≤◌, ◌++◌, ◌^◌, ℕ, List, IfOk, IfErr, Ok, codes, length};
-ghost use Rattle.fdb_history.specs.Audit.{IsFirstFault};
-ghost use Rattle.fdb_script.specs.Text.{line, verdict_text};
-ghost use Rattle.fdb_audit.specs.Judged.{IsFaultLine, IsFaultText, IsJudgement, IsText, Refuses};
-ghost use Rattle.fdb_audit.specs.Judged.{fault_text, finding_text, listing_text};
-ghost use Rattle.fdb_audit.specs.Reading.{ReadsAs};
-ghost use Rattle.fdb_audit.specs.Text.{why_text};
-ghost use Rattle.fdb_audit.specs.Trace.{Given};
-ghost use Rattle.fdb_audit.specs.WorkedOut.{IsWorkedOutOf};
-ghost use Rattle.fdb_audit.specs.declared.trace.TheConstants.{MAX_TRACE_CLIENTS};
+ghost use Rattle.std.specs.Prelude.{◌≡◌, ◌⊎◌, ◌++◌, false, true, IfOk, IfErr, List, OnOk, Err};
+ghost use Rattle.std.specs.Prelude.{map, string_bytes};
+ghost use Rattle.json.specs.Print.{quoted};
+ghost use Rattle.fdb_lines.specs.Audit.{AreExplained, case_of};
+ghost use Rattle.fdb_lines.specs.Log.{lines_of};
+ghost use Rattle.fdb_log_reader.specs.Names.{names_of};
+ghost use Rattle.fdb_log_reader.specs.Reading.{reading_in};
+ghost use Rattle.fdb_audit.specs.Judged.{IsJudgement, IsOrder, IsPassed, IsText};
+ghost use Rattle.fdb_audit.specs.Text.{history_lines};
+ghost use Rattle.fdb_lines.specs.declared.turn.Turn.{Turn};
 
-use crate::error::TraceError;
-use crate::explaining::explain;
-use crate::finding::{FaultLine, Finding};
-use crate::listing::register_faults;
-use crate::reading::read_trace;
-use crate::reason::Reason;
-use crate::trace::Trace;
-use crate::worked_out::{WorkedOut, work_out};
-use fdb_history::{AuditFault, History, audit};
-use fdb_script::push_verdict;
+use crate::finding::{finding_line, finding_lines};
+use crate::verdict::{push_history, verdict_line};
+use crate::view::View;
+use fdb_lines::{AuditOpts, Found, Log, findings, first_finding, order, summary};
+use fdb_log_reader::{NamedLog, ReadError, Why, read_log};
 use std::alloc::{AllocError, Global};
-use std::fmt;
-use std::fmt::Write;
 
-/// What is printed besides the verdict.
+/// What an audit prints besides its verdict. Whether a fault stands decides which of these counts.
 #[derive(Clone, Copy, Debug, PartialEq, Eq)]
 pub struct Wanted {
-    /// The history, where no fault stands.
+    /// An order that explains the lines, where no fault stands.
     pub history: bool,
-    /// All faults of the register, where one stands, and not the first alone.
+    /// All faults, where one stands, and not the first alone.
     pub all: bool,
 }
 
-/// What an audit of a trace found.
+/// What an audit of a log found.
 #[derive(Debug, Drop)]
 pub struct Judgement {
     /// The first fault, if there is one.
-    pub fault: Option<AuditFault>,
-    /// What is printed: the audit line, with the history where that is wanted; or the fault, or all.
-    pub text: Vec<u8>,
+    pub fault: Option<Found>,
+    /// What is printed: how much the verdict stands on, with an order that explains the lines where
+    /// that is wanted; or the first fault, or all, each with why it stands.
+    pub text: String,
 }
 
-/// Audits the trace that the bytes stand for. It is refused as its bytes are, then where its calls
-/// wait for one another, and as `Memory` where memory runs out.
+/// Audits a log. Its clients are printed by these names, and those beyond them by their numbers. It
+/// fails only where memory is refused.
 ///
-/// It takes time in proportion to the bytes and the calls, times the logarithm of these.
-pub fn judge(alloc: Global, bytes: &[u8], wanted: Wanted) -> Result<Judgement, TraceError>
+/// `n log n` in how many lines there are, and linear in what is printed.
+pub fn judge(
+    alloc: Global,
+    log: &Log,
+    names: &[String],
+    opts: &AuditOpts,
+    wanted: Wanted,
+) -> Result<Judgement, AllocError>
+    ensures { IfOk result (λ found. IsText (lines_of log.now) (map string_bytes names.now)
+        opts.now wanted found.fault (string_bytes found.text)) }
+{
+    let view = View { log, names };
+    if wanted.all {
+        judge_all(alloc, view, opts, wanted)
+    } else {
+        judge_first(alloc, view, opts, wanted)
+    }
+}
+
+/// Audits the log that a text of JSON Lines stands for. Its clients are printed as JSON strings. It
+/// is refused as [`read_log`] refuses it; an error of memory says nothing of the text.
+///
+/// `n log n` in how many lines there are, and linear in the text and in what is printed.
+pub fn judge_text(
+    alloc: Global,
+    bytes: &[u8],
+    opts: &AuditOpts,
+    wanted: Wanted,
+) -> Result<Judgement, ReadError>
     ensures ok { IfOk result
-        (λ found. IsJudgement bytes.now wanted found.fault found.text.items) }
-    ensures err { IfErr result (Refuses bytes.now) }
+        (λ found. IsJudgement bytes.now opts.now wanted found.fault (string_bytes found.text)) }
+    ensures err { IfErr result
+        (λ error. (error.why ≡ Why.Memory) ⊎ (reading_in bytes.now ≡ Err error)) }
 {
-    match read_trace(alloc, bytes) {
-        Ok(trace) => judge_trace(alloc, &trace, wanted),
-        Err(error) => Err(error),
+    let named = read_log(alloc, bytes)?;
+    match judge_named(alloc, &named, opts, wanted) {
+        Ok(found) => Ok(found),
+        Err(_) => Err(ReadError {
+            line: 0,
+            why: Why::Memory,
+        }),
     }
 }
 
-/// What an audit of a trace finds, whatever bytes it was read from.
-fn judge_trace(alloc: Global, trace: &Trace, wanted: Wanted) -> Result<Judgement, TraceError>
-    ensures ok { (bytes : List ℕ) → ReadsAs bytes (Ok trace.now)
-        → IfOk result (λ found. IsJudgement bytes wanted found.fault found.text.items) }
-    ensures err { (bytes : List ℕ) → ReadsAs bytes (Ok trace.now)
-        → IfErr result (Refuses bytes) }
+/// Audits a log whose clients have names, which are printed as JSON strings.
+pub(crate) fn judge_named(
+    alloc: Global,
+    named: &NamedLog,
+    opts: &AuditOpts,
+    wanted: Wanted,
+) -> Result<Judgement, AllocError>
+    ensures { IfOk result (λ found. IsText (lines_of named.now.log)
+        (map quoted (names_of named.now.names)) opts.now wanted
+        found.fault (string_bytes found.text)) }
 {
-    match work_out(alloc, trace) {
-        Ok(worked) => judge_logs(alloc, &worked, wanted),
-        Err(error) => Err(error),
-    }
+    let names = named.names.quoted(alloc)?;
+    judge(alloc, &named.log, &names, opts, wanted)
 }
 
-/// What an audit of worked-out logs finds. It is refused only where memory runs out.
-fn judge_logs(alloc: Global, worked: &WorkedOut, wanted: Wanted) -> Result<Judgement, TraceError>
-    requires few { length worked.now.logs.items ≤ MAX_TRACE_CLIENTS }
-    requires worked_out { (given : Given) × IsWorkedOutOf given worked.now }
-    ensures ok { IfOk result (λ found. IsText worked.now.start worked.now.chain.items
-        worked.now.logs.items wanted found.fault found.text.items) }
-    ensures err { IfErr result (λ error. error ≡ TraceError.Memory) }
+/// Finds all faults, and prints a line for each; where there is none, as [`passed`] says.
+fn judge_all(
+    alloc: Global,
+    view: View<'_>,
+    opts: &AuditOpts,
+    wanted: Wanted,
+) -> Result<Judgement, AllocError>
+    requires all { wanted.all ≡ true }
+    ensures { IfOk result (λ found. IsText (lines_of view.entry.log.now)
+        (map string_bytes view.entry.names.now) opts.now wanted
+        found.fault (string_bytes found.text)) }
 {
-    match audit(alloc, worked.start, &worked.chain, &worked.logs) {
-        Ok(history) => {
-            let text = passed(alloc, &history, worked.chain.len() as u64, wanted.history)?;
-            Ok(Judgement { fault: None, text })
+    let found = findings(alloc, view.log, opts)?;
+    match found.first() {
+        Some(first) => {
+            let fault = Some(first.found);
+            let text = finding_lines(alloc, view, &found)?;
+            Ok(Judgement { fault, text })
         }
-        Err(AuditFault::Memory) => Err(TraceError::Memory),
-        Err(fault) => {
-            let text = faulted(alloc, worked, fault, wanted.all)?;
-            Ok(Judgement {
-                fault: Some(fault),
-                text,
-            })
-        }
+        None => passed(alloc, view, opts, wanted),
     }
 }
 
-/// The text of logs without a fault.
+/// Finds the first fault, and prints a line for it; where there is none, as [`passed`] says.
+fn judge_first(
+    alloc: Global,
+    view: View<'_>,
+    opts: &AuditOpts,
+    wanted: Wanted,
+) -> Result<Judgement, AllocError>
+    requires first { wanted.all ≡ false }
+    ensures { IfOk result (λ found. IsText (lines_of view.entry.log.now)
+        (map string_bytes view.entry.names.now) opts.now wanted
+        found.fault (string_bytes found.text)) }
+{
+    match first_finding(alloc, view.log, opts)? {
+        Some(finding) => {
+            let fault = Some(finding.found);
+            let text = finding_line(alloc, view, finding)?;
+            Ok(Judgement { fault, text })
+        }
+        None => passed(alloc, view, opts, wanted),
+    }
+}
+
+/// The judgement of a log without a fault, which some history has to explain.
 fn passed(
     alloc: Global,
-    history: &History,
-    versions: u64,
+    view: View<'_>,
+    opts: &AuditOpts,
+    wanted: Wanted,
+) -> Result<Judgement, AllocError>
+    requires explained { AreExplained (case_of (lines_of view.log.now) opts.now) }
+    ensures { IfOk result (λ found. IsText (lines_of view.entry.log.now)
+        (map string_bytes view.entry.names.now) opts.now wanted
+        found.fault (string_bytes found.text)) }
+{
+    let text = passed_text(alloc, view, opts, wanted.history)?;
+    Ok(Judgement { fault: None, text })
+}
+
+/// The text of a log without a fault, with an order if that is wanted.
+fn passed_text(
+    alloc: Global,
+    view: View<'_>,
+    opts: &AuditOpts,
     with_history: bool,
-) -> Result<Vec<u8>, AllocError>
-    ensures { IfOk result
-        (λ text. text.items ≡ verdict_text history.now.events versions with_history) }
+) -> Result<String, AllocError>
+    requires explained { AreExplained (case_of (lines_of view.log.now) opts.now) }
+    ensures { IfOk result (λ text. IsPassed (lines_of view.entry.log.now)
+        (map string_bytes view.entry.names.now) opts.now with_history (string_bytes text)) }
 {
-    let mut printed = String::new(alloc);
-    push_verdict(&mut printed, history, versions, with_history)?;
-    Ok(printed.into_bytes())
-}
-
-/// The text of the first fault, or of all faults of the register.
-fn faulted(
-    alloc: Global,
-    worked: &WorkedOut,
-    fault: AuditFault,
-    all: bool,
-) -> Result<Vec<u8>, AllocError>
-    requires few { length worked.now.logs.items ≤ 2 ^ 32 }
-    requires worked_out { (given : Given) × IsWorkedOutOf given worked.now }
-    requires stands { IsFirstFault worked.now.start worked.now.chain.items
-        worked.now.logs.items fault }
-    ensures { IfOk result (λ text. IsFaultText worked.now.start worked.now.chain.items
-        worked.now.logs.items all fault text.items) }
-{
-    if all {
-        let found = register_faults(alloc, worked)?;
-        if !found.is_empty() {
-            return listed(alloc, &found);
-        }
+    let counts = summary(alloc, view.log, opts)?;
+    let mut printed = verdict_line(alloc, counts)?;
+    if !with_history {
+        return Ok(printed);
     }
-    let reason = explain(alloc, worked, fault)?;
-    fault_line(alloc, fault, reason)
+    push_order(alloc, &mut printed, view, opts)?;
+    Ok(printed)
 }
 
-/// A line for each of some faults.
-fn listed(alloc: Global, found: &[Finding]) -> Result<Vec<u8>, AllocError>
-    ensures { IfOk result (λ text. text.items ≡ listing_text found.now) }
-{
-    let mut printed = String::new(alloc);
-    for finding in found {
-        writeln!(printed, "audit fault: {finding}")?;
-    }
-    Ok(printed.into_bytes())
-}
-
-/// The text of a fault, with why it stands where that is told.
-fn fault_line(
+/// Appends an order that explains the lines, a line for each turn.
+fn push_order(
     alloc: Global,
-    fault: AuditFault,
-    reason: Option<Reason>,
-) -> Result<Vec<u8>, AllocError>
-    ensures { IfOk result (λ text. text.items
-        ≡ line (codes "audit fault: " ++ fault_text fault ++ why_text reason)) }
+    printed: &mut String,
+    view: View<'_>,
+    opts: &AuditOpts,
+) -> Result<(), AllocError>
+    requires explained { AreExplained (case_of (lines_of view.log.now) opts.now) }
+    ensures { OnOk result ((turns : List Turn)
+        × IsOrder (lines_of view.entry.log.now) opts.now turns
+        × (string_bytes printed.new ≡ string_bytes printed.old
+        ++ history_lines (lines_of view.entry.log.now).lines
+        (map string_bytes view.entry.names.now) 0 turns)) }
 {
-    let mut printed = String::new(alloc);
-    let line = FaultLine(fault);
-    let why = Why(reason);
-    writeln!(printed, "audit fault: {line}{why}")?;
-    Ok(printed.into_bytes())
-}
-
-/// A reason behind a fault, where one is told.
-#[derive(Clone, Copy)]
-struct Why(Option<Reason>);
-
-impl fmt::Display for Why {
-    ghost use Rattle.std.specs.Prelude.{Some};
-    ghost use Rattle.fdb_audit.specs.Text.{why_text};
-
-    ghost output = { λ why. Some (why_text why.0) };
-
-    fn fmt<W: fmt::Write>(&self, f: &mut fmt::Formatter<W>) -> fmt::Result {
-        match self.0 {
-            Some(reason) => write!(f, ": {reason}"),
-            None => Ok(()),
-        }
+    match order(alloc, view.log, opts)? {
+        Some(turns) => push_history(printed, view, &turns),
+        None => Ok(()),
     }
 }

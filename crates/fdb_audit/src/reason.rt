@@ -1,220 +1,232 @@
-//! Why a fault stands.
+//! Why a fault stands, in words of the log.
 
+ghost use Rattle.std.specs.Prelude.{◌≡◌};
+ghost use Rattle.fdb_lines.specs.Before.{began, ended};
+ghost use Rattle.fdb_lines.specs.Lines.{line_at};
+ghost use Rattle.fdb_lines.specs.Log.{lines_of};
+ghost use Rattle.fdb_audit.specs.Text.{is_by, since};
+
+use crate::mention::{Caller, Mention, Number};
+use crate::view::View;
+use fdb_lines::{Call, Means, Reason, Witness};
 use std::fmt;
 
-/// A call, by its client and its place in the client's log, both counted from 0.
-#[derive(Clone, Copy, Debug, PartialEq, Eq)]
-pub struct CallPlace {
-    /// The client.
-    pub client: u32,
-    /// The call.
-    pub call: u64,
-}
-
-/// A live committed version, and the first call that reported it, none where it is the start.
-#[derive(Clone, Copy, Debug, PartialEq, Eq)]
-pub struct Live {
-    /// The version.
-    pub version: u64,
-    /// The call that reported it.
-    pub by: Option<CallPlace>,
-}
-
-/// Why a fault stands, at the call or the position that the fault names.
-#[derive(Clone, Copy, Debug, PartialEq, Eq)]
-pub enum Reason {
-    /// The call read a version that is below what its client had seen.
-    Behind {
-        /// What it read.
-        version: u64,
-        /// What its client had seen.
-        seen: Live,
-        /// The first call of its client by which the client had seen that.
-        call: u64,
-    },
-    /// Two calls reported one version, and the client of neither had seen it.
-    Twice {
-        /// The version.
-        version: u64,
-        /// The first call that reported it.
-        first: CallPlace,
-        /// A later one.
-        second: CallPlace,
-    },
-    /// The call read a version that is not the live committed one at its position.
-    NotLive {
-        /// What it read.
-        version: u64,
-        /// Its position.
-        position: u64,
-        /// The live committed version there.
-        live: Live,
-    },
-    /// The call reported a version below what its client had seen, so that it raised nothing, but
-    /// the live committed version at its position is below that version.
-    NotRaised {
-        /// What it reported.
-        version: u64,
-        /// Its position.
-        position: u64,
-        /// The live committed version there.
-        live: Live,
-    },
-    /// The call was answered a commit version that is not above what its client had seen.
-    NotAbove {
-        /// The version.
-        version: u64,
-        /// What its client had seen.
-        seen: Live,
-    },
-    /// The call was answered a commit version that was never issued.
-    NeverIssued {
-        /// The version.
-        version: u64,
-    },
-    /// The call was answered a commit version that was issued to another client.
-    IssuedTo {
-        /// The version.
-        version: u64,
-        /// The other client.
-        owner: u32,
-    },
-    /// The call was answered a commit version of its client's, but another one than was due.
-    OutOfTurn {
-        /// The version.
-        version: u64,
-        /// The version that was due, none where its client had got all its versions.
-        due: Option<u64>,
-    },
-    /// The call reported a version that its client had not got.
-    NotGot {
-        /// The version.
-        version: u64,
-    },
-    /// A version was issued to the client, and none of its calls got it: the call at the end of
-    /// its log is missing.
-    NotLogged {
-        /// The version.
-        version: u64,
-    },
-}
-
-/// The client, and the call by its place.
-impl fmt::Display for CallPlace {
-    ghost use Rattle.std.specs.Prelude.{Some};
-    ghost use Rattle.fdb_audit.specs.Text.{place_text};
-
-    ghost output = { λ place. Some (place_text place) };
-
-    fn fmt<W: fmt::Write>(&self, f: &mut fmt::Formatter<W>) -> fmt::Result {
-        let (client, call) = (self.client, self.call);
-        write!(f, "client {client} by its call {call}")
+/// How long after an end a moment was; 0 where no end is known.
+fn since(end: Option<u64>, moment: u64) -> u64
+    ensures { result ≡ since end moment }
+{
+    match end {
+        Some(end) => moment.saturating_sub(end),
+        None => 0,
     }
 }
 
-/// The version, and which call reported it, or that it is the start.
-impl fmt::Display for Live {
-    ghost use Rattle.std.specs.Prelude.{Some};
-    ghost use Rattle.fdb_audit.specs.Text.{live_text};
+/// How the call at a place knew of a line.
+#[derive(Clone, Copy)]
+struct Telling<'a> {
+    view: View<'a>,
+    place: u32,
+    by: Witness,
+}
 
-    ghost output = { λ live. Some (live_text live) };
+impl Telling<'_> {
+    /// How long the line had ended when the call began.
+    fn wait(&self) -> u64
+        ensures { result
+            ≡ since (ended (line_at (lines_of self.now.view.log.now).lines self.now.by.line))
+            (began (line_at (lines_of self.now.view.log.now).lines self.now.place)) }
+    {
+        let end = self.view.line(self.by.line).ended();
+        let moment = self.view.line(self.place).began();
+        since(end, moment)
+    }
+}
+
+impl fmt::Display for Telling<'_> {
+    ghost use Rattle.std.specs.Prelude.{Some, map, string_bytes};
+    ghost use Rattle.fdb_lines.specs.Log.{lines_of};
+    ghost use Rattle.fdb_audit.specs.Text.{means_text};
+
+    ghost output = { λ it. Some (means_text (lines_of it.view.log.now).lines
+        (map string_bytes it.view.names.now) it.place it.by.line it.by.means) };
 
     fn fmt<W: fmt::Write>(&self, f: &mut fmt::Formatter<W>) -> fmt::Result {
-        let version = self.version;
-        match self.by {
-            Some(by) => {
-                let (client, call) = (by.client, by.call);
-                write!(
-                    f,
-                    "{version}, which client {client} reported by its call {call}"
-                )
+        let view = self.view;
+        let other = self.by.line;
+        let mention = Mention { view, place: other };
+        match self.by.means {
+            Means::Ended => {
+                let number = Number(self.place);
+                let wait = self.wait();
+                write!(f, "{mention} had ended {wait} before {number} began")
             }
-            None => write!(f, "{version}, the start"),
+            Means::Own => write!(f, "{mention} is an earlier call of its client"),
+            Means::Learnt(teller) => {
+                let teller = Number(teller);
+                write!(f, "{teller} had learnt of {mention}")
+            }
         }
     }
 }
 
-/// The commit version that was due to a client, if one was.
+/// How the call at a place knew of a version.
 #[derive(Clone, Copy)]
-struct Due(Option<u64>);
+struct Knowing<'a> {
+    view: View<'a>,
+    place: u32,
+    version: u64,
+    by: Option<Witness>,
+}
 
-/// That another version was due, or none.
-impl fmt::Display for Due {
+impl fmt::Display for Knowing<'_> {
+    ghost use Rattle.std.specs.Prelude.{Some, map, string_bytes};
+    ghost use Rattle.fdb_lines.specs.Log.{lines_of};
+    ghost use Rattle.fdb_audit.specs.Text.{known_text};
+
+    ghost output = { λ it. Some (known_text (lines_of it.view.log.now).lines
+        (map string_bytes it.view.names.now) it.place it.version it.by) };
+
+    fn fmt<W: fmt::Write>(&self, f: &mut fmt::Formatter<W>) -> fmt::Result {
+        let Knowing {
+            view,
+            place,
+            version,
+            by,
+        } = *self;
+        match by {
+            Some(by) => {
+                let telling = Telling { view, place, by };
+                write!(f, "{telling}")
+            }
+            None => write!(f, "all began with {version}"),
+        }
+    }
+}
+
+/// What a caller did: it read, drew or reported a version.
+#[derive(Clone, Copy)]
+struct Deed(Call);
+
+impl fmt::Display for Deed {
     ghost use Rattle.std.specs.Prelude.{Some};
-    ghost use Rattle.fdb_audit.specs.Text.{due_text};
+    ghost use Rattle.fdb_audit.specs.Text.{deed_text};
 
-    ghost output = { λ due. Some (due_text due.0) };
+    ghost output = { λ deed. Some (deed_text deed.0) };
 
     fn fmt<W: fmt::Write>(&self, f: &mut fmt::Formatter<W>) -> fmt::Result {
         match self.0 {
-            Some(version) => write!(f, ", but its client's next version is {version}"),
-            None => f.write_str(", but its client had got all its versions"),
+            Call::Read(version) => write!(f, " read {version}"),
+            Call::Commit(version) | Call::Ask(version) => write!(f, " drew {version}"),
+            Call::Report(version) => write!(f, " reported {version}"),
+            Call::Learn(client) => write!(f, " learnt of {client}"),
         }
     }
 }
 
-/// A clause of plain English, with its numbers in decimal.
-impl fmt::Display for Reason {
-    ghost use Rattle.std.specs.Prelude.{Some};
+/// Whether a version was known by the line at a place.
+fn is_by(place: u32, by: Option<Witness>) -> bool
+    ensures { result ≡ is_by place by }
+{
+    match by {
+        Some(by) => by.line == place,
+        None => false,
+    }
+}
+
+/// Why a fault stands, behind what the caller of the line at a place did.
+#[derive(Clone, Copy)]
+struct Because<'a> {
+    view: View<'a>,
+    place: u32,
+    reason: Reason,
+}
+
+impl fmt::Display for Because<'_> {
+    ghost use Rattle.std.specs.Prelude.{Some, map, string_bytes};
+    ghost use Rattle.fdb_lines.specs.Log.{lines_of};
     ghost use Rattle.fdb_audit.specs.Text.{reason_text};
 
-    ghost output = { λ reason. Some (reason_text reason) };
+    ghost output = { λ it. Some (reason_text (lines_of it.view.log.now).lines
+        (map string_bytes it.view.names.now) it.place it.reason) };
 
     fn fmt<W: fmt::Write>(&self, f: &mut fmt::Formatter<W>) -> fmt::Result {
-        match *self {
-            Reason::Behind {
-                version,
-                seen,
-                call,
-            } => write!(
-                f,
-                "it got {version}, but by its call {call} its client had seen {seen}"
-            ),
-            Reason::Twice {
-                version,
-                first,
-                second,
-            } => write!(
-                f,
-                "{first} and {second} each reported {version} for the first time"
-            ),
-            Reason::NotLive {
-                version,
-                position,
-                live,
-            } => write!(
-                f,
-                "it got {version}, but the live committed version at position {position} was {live}"
-            ),
-            Reason::NotRaised {
-                version,
-                position,
-                live,
-            } => write!(
-                f,
-                "it reported {version} as seen, but the live committed version at position \
-                 {position} was {live}"
-            ),
-            Reason::NotAbove { version, seen } => {
-                write!(f, "it got {version}, but its client had seen {seen}")
+        let Because {
+            view,
+            place,
+            reason,
+        } = *self;
+        match reason {
+            Reason::Known { version, by } => {
+                let knowing = Knowing {
+                    view,
+                    place,
+                    version,
+                    by,
+                };
+                write!(f, ", but {version} was known: {knowing}")
             }
-            Reason::NeverIssued { version } => {
-                write!(f, "it got {version}, which was never issued")
+            Reason::Unreported => write!(f, ", which nobody reported"),
+            Reason::Reported { line, version, by } => {
+                let knowing = Knowing {
+                    view,
+                    place: line,
+                    version,
+                    by,
+                };
+                let reporter = Mention { view, place: line };
+                if is_by(place, by) {
+                    write!(f, ", which was reported only after this: {knowing}")
+                } else {
+                    write!(
+                        f,
+                        ", which {reporter} reported when {version} was known: {knowing}"
+                    )
+                }
             }
-            Reason::IssuedTo { version, owner } => {
-                write!(f, "it got {version}, which was issued to client {owner}")
+            Reason::Drawn { line } => {
+                let other = Mention { view, place: line };
+                if view.line(place).call.draws() {
+                    write!(f, ", and so did {other}")
+                } else {
+                    write!(f, ", which {other} drew")
+                }
             }
-            Reason::OutOfTurn { version, due } => {
-                let due = Due(due);
-                write!(f, "it got {version}{due}")
-            }
-            Reason::NotGot { version } => {
-                write!(f, "it reported {version}, which its client had not got")
-            }
-            Reason::NotLogged { version } => write!(
-                f,
-                "{version} was issued to the client, and none of its calls got it"
-            ),
+            Reason::Undrawn => write!(f, ", which nobody drew"),
         }
+    }
+}
+
+/// What the caller of the line at a place did, and why that is a fault.
+#[derive(Clone, Copy)]
+pub(crate) struct Sentence<'a> {
+    pub view: View<'a>,
+    pub place: u32,
+    pub reason: Reason,
+}
+
+impl fmt::Display for Sentence<'_> {
+    ghost use Rattle.std.specs.Prelude.{Some, map, string_bytes};
+    ghost use Rattle.fdb_lines.specs.Log.{lines_of};
+    ghost use Rattle.fdb_audit.specs.Text.{sentence_text};
+
+    ghost output = { λ it. Some (sentence_text (lines_of it.view.log.now).lines
+        (map string_bytes it.view.names.now) it.place it.reason) };
+
+    fn fmt<W: fmt::Write>(&self, f: &mut fmt::Formatter<W>) -> fmt::Result {
+        let Sentence {
+            view,
+            place,
+            reason,
+        } = *self;
+        let line = view.line(place);
+        let client = line.client;
+        let caller = Caller { view, client };
+        let deed = Deed(line.call);
+        let because = Because {
+            view,
+            place,
+            reason,
+        };
+        write!(f, "{caller}{deed}{because}")
     }
 }

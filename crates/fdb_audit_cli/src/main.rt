@@ -1,15 +1,49 @@
-//! Audits the logs of a system, as the arguments of the command line say.
+//! Audits the logs of a system, as the arguments of the command line say. On a terminal it tells how
+//! far it is as if `--progress` were given.
 #![tactic(auto)]
 
+use std::alloc::{AllocError, Global};
+use std::io;
+use std::io::IsTerminal;
 use std::process::ExitCode;
 
+/// The flag that has progress told.
+const PROGRESS: &str = "--progress";
+
 fn main(rt: HostRuntime) -> ExitCode {
+    let alloc = rt.alloc();
+    let arguments = arguments(
+        alloc,
+        fdb_audit::command_line(&rt),
+        rt.stderr().is_terminal(),
+    );
     ExitCode::from(fdb_audit::drive(
         &rt,
-        rt.alloc(),
-        fdb_audit::command_line(&rt),
+        alloc,
+        arguments,
         &mut rt.stdin(),
         &mut rt.stdout(),
         &mut rt.stderr(),
     ))
+}
+
+/// The arguments that were given, with the flag for progress in front where standard error is a
+/// terminal and they do not have it; without it where memory for it is refused.
+fn arguments(
+    alloc: Global,
+    given: io::Result<Vec<String>>,
+    on_terminal: bool,
+) -> io::Result<Vec<String>> {
+    let mut arguments = given?;
+    if on_terminal && !arguments.iter().any(|given| given.as_str() == PROGRESS) {
+        let _ = ask_for_progress(alloc, &mut arguments);
+    }
+    Ok(arguments)
+}
+
+/// Puts the flag in front.
+fn ask_for_progress(alloc: Global, arguments: &mut Vec<String>) -> Result<(), AllocError> {
+    let flag = String::from_str(alloc, PROGRESS)?;
+    arguments.insert(0, flag)?;
+    Ok(())
 }

@@ -37,7 +37,7 @@ pub(crate) fn repeats(clock: &impl CpuClock, alloc: Global, size: u32) -> Result
     time_repeats(clock, &mut chain, size)
 }
 
-/// Fills a chain, and repeats what it was asked.
+/// Fills a chain, which is not timed, and repeats numbers drawn from those that it was asked.
 fn time_repeats(
     clock: &impl CpuClock,
     chain: &mut ChainCore,
@@ -95,7 +95,6 @@ fn asked(chain: &mut ChainCore, ask: Ask, checksum: Checksum) -> Result<Checksum
     }
 }
 
-/// A word for an answer.
 fn issued_word(issued: &Issued) -> u64 {
     issued
         .version
@@ -104,7 +103,7 @@ fn issued_word(issued: &Issued) -> u64 {
         .wrapping_add(u64::from(issued.fresh))
 }
 
-/// Makes so many fresh requests.
+/// Makes so many requests, each for the next number of its proxy.
 fn ask_fresh(chain: &mut ChainCore, proxies: u32, size: u32) -> Result<Checksum, Fault> {
     let mut checksum = Checksum::EMPTY;
     let proxies = proxies.max(1);
@@ -138,7 +137,7 @@ fn mixed(draws: &mut Draws, place: u32) -> Ask {
     }
 }
 
-/// The moment of a request: one comes each three microseconds.
+/// The moment of a request in microseconds: one comes each three.
 fn moment(place: u32) -> u64 {
     u64::from(place) * 3
 }

@@ -1,4 +1,4 @@
-//! Audits of the logs of many clients.
+//! Audits of 64 logs of a run that is played before the watch starts.
 
 ghost use Rattle.std.specs.Prelude.{◌≤◌, length};
 
@@ -20,10 +20,11 @@ const CLIENTS: u32 = 64;
 
 const RECOVERY: u64 = 100;
 
-/// How many times the logs are audited.
+/// How many times the same logs are audited, each of which counts as so many operations as there
+/// are calls.
 const AUDITS: u64 = 10;
 
-/// The record before any report.
+/// The record before any report, unlocked and with no minimum.
 const OPENING: Record = Record {
     version: RECOVERY,
     locked: false,
@@ -41,7 +42,7 @@ pub(crate) fn audits(clock: &impl CpuClock, alloc: Global, size: u32) -> Result<
     }
 }
 
-/// Audits the logs a few times.
+/// Audits the same logs [`AUDITS`] times, and adds each history to one checksum.
 fn audit_often(alloc: Global, chain: &[Issued], logs: &[ClientLog]) -> Result<Checksum, Fault> {
     if logs.len() > 64 {
         return Err(Fault::Audit);
@@ -53,7 +54,7 @@ fn audit_often(alloc: Global, chain: &[Issued], logs: &[ClientLog]) -> Result<Ch
     Ok(checksum)
 }
 
-/// Audits the logs, and adds the history.
+/// Audits the logs, and adds each event of the history to the checksum.
 fn audit_once(
     alloc: Global,
     chain: &[Issued],
@@ -68,7 +69,6 @@ fn audit_once(
     }
 }
 
-/// The checksum with some events.
 fn with_events(before: Checksum, events: &[Event]) -> Checksum {
     let mut checksum = before;
     for event in events {
@@ -77,7 +77,8 @@ fn with_events(before: Checksum, events: &[Event]) -> Checksum {
     checksum
 }
 
-/// A word for an event.
+/// What the checksum takes in of an event: client, call and version, and whether it raised the
+/// record.
 fn event_word(event: &Event) -> u64 {
     match event {
         Event::Report {
@@ -91,7 +92,6 @@ fn event_word(event: &Event) -> u64 {
     }
 }
 
-/// A word for a client's call of a record.
 fn place_word(client: u32, call: u64, rec: &Record) -> u64 {
     rec.version
         .wrapping_mul(31)
@@ -126,7 +126,6 @@ impl Run {
         }
     }
 
-    /// So many calls.
     fn play_all(&mut self, alloc: Global, size: u32) -> Result<(), Fault> {
         for place in 0..size {
             self.play(alloc, place)?;
@@ -134,7 +133,7 @@ impl Run {
         Ok(())
     }
 
-    /// The call at a place.
+    /// The call at a place: of three in a row one client asks, reports and reads.
     fn play(&mut self, alloc: Global, place: u32) -> Result<(), Fault> {
         let turn = place / 3;
         let (client, num) = (turn % CLIENTS, u64::from(turn / CLIENTS) + 1);
@@ -145,7 +144,7 @@ impl Run {
         }
     }
 
-    /// A client's request for a commit version.
+    /// A client asks for a commit version, and keeps its last eight answers.
     fn ask(&mut self, client: u32, num: u64) -> Result<(), Fault> {
         let processed = num.saturating_sub(8);
         let at = self.position.wrapping_mul(3);
@@ -191,7 +190,6 @@ impl Run {
         self.log(client, input, answer)
     }
 
-    /// A client's read of the live record.
     fn read(&mut self, alloc: Global, client: u32) -> Result<(), Fault> {
         let input = Input::Grv(GrvOpts {
             priority: Priority::Default,
@@ -231,7 +229,6 @@ impl Run {
     }
 }
 
-/// A log without calls for each client.
 fn empty_logs(alloc: Global) -> Result<Vec<ClientLog>, Fault> {
     let mut logs = Vec::new(alloc);
     for _ in 0..CLIENTS {

@@ -15,7 +15,6 @@ use std::time::CpuClock;
 /// How many requests are served in all, one batch more or less.
 const REQUESTS: u32 = 20_000;
 
-/// The requests of a batch.
 type Batch<J> = Vec<Req<Request<J>>>;
 
 /// Serves batches of so many requests each, which were made before.
@@ -55,7 +54,6 @@ fn fill<J: Live>(
     Ok(())
 }
 
-/// Adds a request to a batch.
 fn add<J: Live>(request: Request<J>, batch: &mut Batch<J>) -> Result<(), Fault> {
     let request = Req {
         priority: request.opts.priority,
@@ -66,7 +64,7 @@ fn add<J: Live>(request: Request<J>, batch: &mut Batch<J>) -> Result<(), Fault> 
     Ok(())
 }
 
-/// Serves batches of so many requests in all.
+/// Serves batches of so many requests in all, at a queue in which nothing waits.
 fn time_batches<J: Live, R: CpuClock + Wait>(
     rt: &R,
     alloc: Global,
@@ -100,7 +98,7 @@ fn served<J: Live, R: Wait>(
     }
 }
 
-/// The checksum with some answers.
+/// The checksum with some answers, of which one that is no reply counts as 0.
 fn with_answers<J: Live>(before: Checksum, answers: &[Answer<J>]) -> Checksum {
     let mut checksum = before;
     for answer in answers {

@@ -11,7 +11,7 @@ use std::sync::Wait;
 use std::thread::Threads;
 use std::time::{Clock, CpuClock};
 
-/// What is measured.
+/// What is measured, and what its size counts.
 #[derive(Clone, Copy)]
 pub(crate) enum Benchmark {
     /// Fresh requests for commit versions by one proxy. The size is how many there are.
@@ -41,7 +41,7 @@ pub(crate) enum Benchmark {
 }
 
 impl Benchmark {
-    /// All of them.
+    /// Every benchmark once, in the order in which all are run.
     pub(crate) const ALL: &'static [Benchmark] = &[
         Benchmark::FreshOfOne,
         Benchmark::FreshOfMany,
@@ -71,7 +71,7 @@ impl Benchmark {
         Benchmark::Live(Load::Proxies(Team::Four)),
     ];
 
-    /// Its name.
+    /// The name under which the command line asks for it.
     pub(crate) fn name(self) -> &'static str {
         match self {
             Benchmark::FreshOfOne => "fresh_of_one",
@@ -90,7 +90,7 @@ impl Benchmark {
         }
     }
 
-    /// The one of a name.
+    /// The benchmark that an argument names, if there is one.
     pub(crate) fn of_name(name: &str) -> Option<Benchmark> {
         Self::ALL
             .iter()
@@ -107,7 +107,7 @@ impl Benchmark {
         }
     }
 
-    /// Whether threads do it side by side.
+    /// Whether threads do it side by side, so that wall time is what counts.
     fn is_shared(self) -> bool {
         match self {
             Benchmark::Sequencer(_) => true,
@@ -126,7 +126,7 @@ impl Benchmark {
         }
     }
 
-    /// The greatest size that it may have.
+    /// The greatest size that the command line may ask for.
     fn greatest_size(self) -> u32 {
         match self {
             Benchmark::Windows | Benchmark::PushOuts | Benchmark::Throttles => 100_000,
@@ -148,7 +148,7 @@ impl Benchmark {
         Ok(size)
     }
 
-    /// Runs it.
+    /// Runs it at this size, and gives what it computed and took.
     pub(crate) fn run<R: Clock + CpuClock + Threads + Wait + Sync>(
         self,
         rt: &R,

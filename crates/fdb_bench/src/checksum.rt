@@ -5,17 +5,15 @@
 pub(crate) struct Checksum(u64);
 
 impl Checksum {
-    /// Of no words.
     pub(crate) const EMPTY: Checksum = Checksum(0);
 
     const FACTOR: u64 = 6_364_136_223_846_793_005;
 
-    /// With one more word.
+    /// The checksum with one more word, whose place counts as well as its value.
     pub(crate) fn with(self, word: u64) -> Checksum {
         Checksum(self.0.wrapping_mul(Self::FACTOR).wrapping_add(word))
     }
 
-    /// As a number.
     pub(crate) fn value(self) -> u64 {
         self.0
     }

@@ -5,7 +5,7 @@
 pub(crate) struct Draws(u64);
 
 impl Draws {
-    /// The first state.
+    /// The state from which each benchmark draws the same numbers.
     pub(crate) const START: Draws = Draws(1);
 
     const FACTOR: u64 = 6_364_136_223_846_793_005;

@@ -1,4 +1,4 @@
-//! Why a benchmark could not be run.
+//! The parts of a benchmark that may fail.
 
 use std::alloc::{AllocError, AllocFailed};
 
@@ -14,7 +14,6 @@ pub(crate) enum Fault {
 }
 
 impl Fault {
-    /// What is said of it.
     pub(crate) fn line(self) -> &'static str {
         match self {
             Fault::Memory => "out of memory",

@@ -1,8 +1,8 @@
-//! What is measured at a live record.
+//! The benchmarks at a live record, with their names and teams.
 
 use crate::team::Team;
 
-/// What is measured at a live record.
+/// What is measured at a live record, and what its size counts.
 #[derive(Clone, Copy)]
 pub(crate) enum Load {
     /// Reads by a team, with nothing written. The size is the number of raises before.
@@ -22,7 +22,6 @@ pub(crate) enum Load {
 }
 
 impl Load {
-    /// Its name.
     pub(crate) fn name(self) -> &'static str {
         match self {
             Load::Reads(Team::One) => "reads_of_one",

@@ -59,7 +59,7 @@ fn main(rt: HostRuntime) -> Result<()> {
     run_one(&rt, rt.alloc(), benchmark, size)
 }
 
-/// Runs each benchmark at its small size.
+/// Runs each benchmark at its small size, until one of them fails.
 fn run_each<R>(rt: &R, alloc: Global) -> Result<()>
 where
     R: Print + Eprint + Clock + CpuClock + Threads + Wait + Sync,
@@ -86,7 +86,7 @@ where
     print_time(rt, benchmark, size, measured.operations, nanos(time))
 }
 
-/// Prints what a benchmark took, in nanoseconds.
+/// Prints to standard error what a benchmark took, in nanoseconds, in all and for each operation.
 fn print_time(
     rt: &impl Eprint,
     benchmark: Benchmark,

@@ -1,4 +1,4 @@
-//! What a benchmark computed and took.
+//! The outcome of a benchmark, and its time in numbers.
 
 use crate::checksum::Checksum;
 use std::time::Duration;
@@ -6,16 +6,14 @@ use std::time::Duration;
 /// What a benchmark computed, and what it took.
 #[derive(Clone, Copy)]
 pub(crate) struct Measured {
-    /// How many operations there were.
     pub(crate) operations: u64,
     /// The time of all of them, if the clock said it: processor
     /// time, or wall time where threads work side by side.
     pub(crate) time: Option<Duration>,
-    /// The checksum over what they answered.
     pub(crate) checksum: Checksum,
 }
 
-/// A time in nanoseconds.
+/// A time in nanoseconds, or the greatest number where that is too small for it.
 pub(crate) fn nanos(time: Duration) -> u64 {
     u64::try_from(time.as_nanos()).unwrap_or(u64::MAX)
 }

@@ -41,7 +41,7 @@ pub(crate) fn ask_beside<J: Live + Send + Sync, R: Clock + Threads + Wait + Sync
     })
 }
 
-/// Asks so often, one bunch after another.
+/// Asks so often, [`BUNCH`] requests at a time, whose answers it waits for before the next.
 pub(crate) fn ask_in_turn<J: Live, R: Wait>(
     rt: &R,
     alloc: Global,
@@ -59,7 +59,7 @@ pub(crate) fn ask_in_turn<J: Live, R: Wait>(
     Ok(tally)
 }
 
-/// Leaves so many requests at the desk.
+/// Leaves so many requests at the desk, numbered from the first one on, and hears none yet.
 fn ask_bunch<J: Live, R: Wait>(
     rt: &R,
     alloc: Global,
@@ -77,7 +77,6 @@ fn ask_bunch<J: Live, R: Wait>(
     Ok(waiters)
 }
 
-/// Leaves a request at the desk.
 fn submit<J: Live, R: Wait>(rt: &R, desk: &Desk<J>, request: Request<J>) -> Result<(), Fault> {
     let request = Req {
         priority: request.opts.priority,

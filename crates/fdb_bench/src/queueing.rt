@@ -13,19 +13,17 @@ use std::time::CpuClock;
 /// How many offers there are for each request that there is room for.
 const OFFERS_PER_ROOM: u32 = 20;
 
-/// How many offers there are for each window.
 const OFFERS_PER_WINDOW: u32 = 100;
 
-/// The microseconds between two windows.
+/// The microseconds between two windows, and the most that a question asks about.
 const ELAPSED: u64 = 10_000;
 
-/// How many floods there are.
+/// How many times a queue is filled anew and flooded.
 const FLOODS: u64 = 10;
 
 /// How many offers all floods make for each request that there is room for.
 const OFFERS_OF_FLOODS: u64 = FLOODS * 3;
 
-/// How many questions there are for each window.
 const WAITS_PER_WINDOW: u32 = 8;
 
 /// Offers of all priorities, and windows that start about as
@@ -68,7 +66,6 @@ pub(crate) fn push_outs(
     }
 }
 
-/// All floods.
 fn floods(alloc: Global, room: u32) -> Result<Checksum, Fault> {
     let mut checksum = Checksum::EMPTY;
     for _ in 0..FLOODS {
@@ -111,7 +108,6 @@ fn ask_waits(
     Ok(checksum)
 }
 
-/// A queue in which nobody waits.
 pub(crate) fn empty_queue(
     alloc: Global,
     normal: u64,
@@ -175,7 +171,6 @@ fn started(queue: &mut GrvQueue<u64>, before: Checksum, elapsed: u64) -> Result<
     }
 }
 
-/// The checksum with some requests.
 fn with_requests(before: Checksum, requests: &[Req<u64>]) -> Checksum {
     let mut checksum = before;
     for request in requests {
@@ -184,7 +179,7 @@ fn with_requests(before: Checksum, requests: &[Req<u64>]) -> Checksum {
     checksum
 }
 
-/// A word for a request.
+/// What the checksum takes in of a request: payload, transactions and priority.
 fn request_word(request: &Req<u64>) -> u64 {
     request
         .payload

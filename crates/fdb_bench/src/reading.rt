@@ -1,4 +1,4 @@
-//! Reads of the live record.
+//! One thread's reads of the live record, with one token.
 
 use crate::tally::Tally;
 use fdb_live::{Live, LiveRecord, Seen};

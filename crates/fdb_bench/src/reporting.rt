@@ -1,4 +1,4 @@
-//! Reports to the live record.
+//! One thread's reports to the live record, as the reporter of its token.
 
 use crate::fault::Fault;
 use crate::tally::Tally;

@@ -1,4 +1,4 @@
-//! Requests for a read version, and their answers.
+//! Requests for a read version by client 0, and where their answers come.
 
 use crate::fault::Fault;
 use crossbeam_channel::{Receiver, bounded};
@@ -11,7 +11,7 @@ use std::alloc::{AllocError, Global};
 /// The time between two windows: at the greatest rate each may start as many transactions as any.
 pub(crate) const ELAPSED: u64 = 10_000_000;
 
-/// The greatest rate and the greatest room.
+/// The rates and the room of the queue, the greatest that it may have.
 const MOST: u64 = 100_000;
 
 /// Where the answer to a request comes.
@@ -57,7 +57,7 @@ pub(crate) fn request<J: Live>(
     Ok((request, waiter))
 }
 
-/// A word for an answer, if it is a reply.
+/// What is added up of an answer, if it is a reply: version, position and serial.
 pub(crate) fn answer_word<J: Live>(answer: &Answer<J>) -> Option<u64> {
     match answer {
         Answer::Reply(reply) => {

@@ -13,7 +13,7 @@ use std::thread;
 use std::thread::Threads;
 use std::time::Clock;
 
-/// The service whose sequencer is asked.
+/// A service that stands for the one chain, which begins at 100.
 struct Shared;
 
 impl Service for Shared {
@@ -48,7 +48,7 @@ pub(crate) fn asks<R: Clock + Threads + Wait + Sync>(
     measured(sequencer, all)
 }
 
-/// What came of all requests to a sequencer.
+/// What came of all requests to a sequencer, which is closed by that.
 fn measured(sequencer: Sequencer<Shared>, all: Result<Timed, Fault>) -> Result<Measured, Fault> {
     match all {
         Ok(all) => Ok(all.measured(of_answers(sequencer, all.tally))),
@@ -76,7 +76,6 @@ fn ask_all<R: Clock + Threads + Wait + Sync>(
     ask_side_by_side(rt, sequencer, askers.as_mut_slice(), each)
 }
 
-/// One for each commit proxy.
 fn askers(alloc: Global, proxies: u32) -> Result<Vec<Asker>, Fault> {
     let mut askers = Vec::new(alloc);
     for proxy in 0..proxies {
@@ -111,7 +110,7 @@ fn ask_side_by_side<R: Clock + Threads + Wait + Sync>(
     Ok(all)
 }
 
-/// Asks so often for one proxy.
+/// Asks so often for one proxy, and takes the wall time.
 fn ask_in_turn<R: Clock + Wait>(
     rt: &R,
     sequencer: &Sequencer<Shared>,

@@ -19,7 +19,7 @@ use std::sync::atomic::{AtomicU64, Ordering};
 use std::thread::Threads;
 use std::time::{Clock, CpuClock};
 
-/// How many reporters the record has.
+/// How many reporters the record has, which is the greatest team.
 const REPORTERS: u32 = 4;
 
 /// How many reads each reader makes for each raise before.
@@ -28,7 +28,7 @@ const READS_PER_RAISE: u64 = 100;
 /// The version of the record before any report.
 const START: u64 = 100;
 
-/// The version of the first report.
+/// The version of the first report, just above that of the start.
 const FIRST: u64 = 101;
 
 /// A live record and what threads share beside it, the token of a reader,
@@ -41,7 +41,7 @@ struct Served<J: Live> {
     workers: Vec<Worker<J>>,
 }
 
-/// Opens a live record, and measures it under a load.
+/// Opens a live record for this load alone, and measures it.
 pub(crate) fn measure<R: Clock + CpuClock + Threads + Wait + Sync>(
     rt: &R,
     alloc: Global,
@@ -90,7 +90,6 @@ fn measure_named<J: Live + Send + Sync, R: Clock + CpuClock + Threads + Wait + S
 }
 
 impl<J: Live + Send + Sync> Served<J> {
-    /// Measures it under a load.
     fn measure<R: Clock + CpuClock + Threads + Wait + Sync>(
         &mut self,
         rt: &R,
@@ -211,7 +210,8 @@ impl<J: Live + Send + Sync> Served<J> {
         Ok(telling::tokens(rt, &self.shared.live, teller, &mut self.reader, size))
     }
 
-    /// Raises the record so many times.
+    /// Raises the record so many times, by versions from [`FIRST`] on, with the first reporter's
+    /// token.
     fn raise<R: Wait>(&mut self, rt: &R, raises: u32) -> Result<(), Fault> {
         let Some(token) = self.reporters.first_mut() else {
             return Err(Fault::Live);
@@ -228,7 +228,6 @@ impl<J: Live + Send + Sync> Served<J> {
         Ok(())
     }
 
-    /// One more, with a token that is split off the reader's.
     fn add_worker(&mut self, role: Role) -> Result<(), Fault> {
         let token = self.shared.live.split(&mut self.reader);
         self.workers.push(Worker::new(token, role))?;

@@ -1,8 +1,8 @@
-//! Wall time.
+//! Wall time, of one thread or from the first of several to the last.
 
 use std::time::{Clock, Duration};
 
-/// From one moment to another.
+/// From one moment of the monotonic clock to another.
 #[derive(Clone, Copy)]
 pub(crate) struct Span {
     begun: Duration,
@@ -32,7 +32,6 @@ impl Span {
         }
     }
 
-    /// How long it is.
     pub(crate) fn length(self) -> Duration {
         self.ended.saturating_sub(self.begun)
     }

@@ -1,4 +1,4 @@
-//! The processor time of the process.
+//! The processor time that the process has used, in all its threads.
 
 use crate::checksum::Checksum;
 use crate::measured::Measured;
@@ -11,7 +11,6 @@ pub(crate) struct Stopwatch {
 }
 
 impl Stopwatch {
-    /// From now on.
     pub(crate) fn start(clock: &impl CpuClock) -> Stopwatch {
         Stopwatch {
             begun: clock.process_cpu_time().ok(),

@@ -4,26 +4,24 @@ use crate::checksum::Checksum;
 use crate::measured::Measured;
 use crate::span::Span;
 
-/// What came of some calls.
+/// What came of some calls, whose order does not count.
 #[derive(Clone, Copy)]
 pub(crate) struct Tally {
-    /// How many calls there were.
     pub(crate) calls: u64,
-    /// The sum of what they answered.
+    /// The sum of what they answered, which wraps around.
     pub(crate) sum: u64,
     /// How many of them did what not every call does: each caller says what.
     pub(crate) marked: u64,
 }
 
 impl Tally {
-    /// Of no calls.
     pub(crate) const EMPTY: Tally = Tally {
         calls: 0,
         sum: 0,
         marked: 0,
     };
 
-    /// With one more call.
+    /// With one more call: what it answered, as a number, and whether it is marked.
     pub(crate) fn with_call(self, answer: u64, marked: bool) -> Tally {
         Tally {
             calls: self.calls.wrapping_add(1),
@@ -32,7 +30,6 @@ impl Tally {
         }
     }
 
-    /// With the calls of another thread.
     fn with(self, other: Tally) -> Tally {
         Tally {
             calls: self.calls.wrapping_add(other.calls),
@@ -45,20 +42,19 @@ impl Tally {
 /// What came of the calls of one thread, or of several, and when they were made.
 #[derive(Clone, Copy)]
 pub(crate) struct Timed {
-    /// What came of them.
     pub(crate) tally: Tally,
     /// From when to when they were made, if the clock said it.
     pub(crate) span: Option<Span>,
 }
 
 impl Timed {
-    /// Of no calls.
+    /// No calls, and a span that adds nothing to another.
     pub(crate) const EMPTY: Timed = Timed {
         tally: Tally::EMPTY,
         span: Some(Span::EMPTY),
     };
 
-    /// With the calls of another thread.
+    /// With the calls of another thread; there is no span where one of the two has none.
     pub(crate) fn with(self, other: Timed) -> Timed {
         let span = match (self.span, other.span) {
             (Some(one), Some(two)) => Some(one.with(two)),

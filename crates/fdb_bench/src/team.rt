@@ -9,7 +9,6 @@ pub(crate) enum Team {
 }
 
 impl Team {
-    /// How many they are.
     pub(crate) fn threads(self) -> u32 {
         match self {
             Team::One => 1,

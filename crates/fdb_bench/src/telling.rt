@@ -1,4 +1,4 @@
-//! Tokens that one holder tells another.
+//! Tokens that one holder tells another: split off, learned and met.
 
 use crate::checksum::Checksum;
 use crate::measured::Measured;
@@ -7,7 +7,7 @@ use fdb_live::{Live, LiveRecord, Seen};
 use std::sync::Wait;
 use std::time::CpuClock;
 
-/// How many calls one telling is.
+/// How many operations one telling counts for: a split, a learn and a meet.
 const CALLS: u64 = 3;
 
 /// So many times one token's holder tells another's what it has seen: a token is split off the

@@ -1,4 +1,4 @@
-//! Throttles of tags.
+//! Throttles of tags, set once and looked up in several passes.
 
 use crate::checksum::Checksum;
 use crate::draws::Draws;
@@ -14,7 +14,7 @@ use std::time::CpuClock;
 /// How many times all tags are looked up.
 const PASSES: u64 = 10;
 
-/// How many tags a request has.
+/// How many tags are looked up at once, as for one request.
 const TAGS_PER_REQUEST: usize = 4;
 
 /// The moments at which throttles expire are below this one.
@@ -55,7 +55,6 @@ impl Throttled {
         })
     }
 
-    /// Sets them, and looks them up.
     fn set_and_look_up(self) -> Result<Checksum, Fault> {
         let Throttled {
             mut queue,
@@ -79,7 +78,6 @@ fn tags(alloc: Global, size: u32) -> Result<Vec<Tag>, Fault> {
     Ok(tags)
 }
 
-/// A copy of each tag.
 fn copies(alloc: Global, tags: &[Tag]) -> Result<Vec<Tag>, Fault> {
     let mut copies = Vec::new(alloc);
     for tag in tags {
@@ -128,7 +126,7 @@ fn look_up_some(
     }
 }
 
-/// The checksum with some limits.
+/// The checksum with some limits: expiry, rate and the tag's last byte.
 fn with_limits(before: Checksum, limits: &[TagLimit]) -> Checksum {
     let mut checksum = before;
     for limit in limits {

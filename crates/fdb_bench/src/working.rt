@@ -24,17 +24,16 @@ pub(crate) struct Shared<J: Live> {
     pub(crate) reading: AtomicU64,
 }
 
-/// What a thread does.
+/// What a thread does with its token, over and over.
 #[derive(Clone, Copy)]
 pub(crate) enum Role {
-    /// It reads.
     Reads,
     /// It reports a version, and each time one that is greater by so much.
     Reports { first: u64, step: u64 },
     /// It reports one version after another for as long as a
     /// thread reads, which counts for nothing.
     ReportsBesideReads { first: u64 },
-    /// It asks at the desk.
+    /// It asks at the desk, where a proxy has to serve.
     Asks,
 }
 
@@ -47,7 +46,6 @@ pub(crate) struct Worker<J: Live> {
 }
 
 impl<J: Live> Worker<J> {
-    /// One that has not begun.
     pub(crate) fn new(token: Seen<J>, role: Role) -> Self {
         Worker {
             token: Some(token),

@@ -44,3 +44,27 @@ pub const FDB_FULL: u8 = 20;
 
 /// The tag is too long.
 pub const FDB_TAG_TOO_LONG: u8 = 21;
+
+/// No history explains the log: it has a fault.
+pub const FDB_FAULT: u8 = 32;
+
+/// A line has more bytes than a line may have.
+pub const FDB_TOO_LONG: u8 = 33;
+
+/// There are more lines than a log may have.
+pub const FDB_TOO_MANY: u8 = 34;
+
+/// A line is no JSON.
+pub const FDB_NOT_JSON: u8 = 35;
+
+/// A line has none of the members that name a call, or a call is of no kind.
+pub const FDB_NO_CALL: u8 = 36;
+
+/// A line has more than one of them.
+pub const FDB_TWO_CALLS: u8 = 37;
+
+/// Some lines have times, and some have none.
+pub const FDB_SOME_TIMES: u8 = 38;
+
+/// A member of a line is missing, of another kind, or not one that may stand there.
+pub const FDB_BAD_MEMBER: u8 = 39;

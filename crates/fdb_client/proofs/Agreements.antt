@@ -147,16 +147,6 @@ agrees_quiet start input (Answered issued) before after quiet agrees logged = ag
 agrees_quiet start input Told before after quiet agrees logged = agrees_logged start input Told before after agrees logged (λ is. absurd (cc is)) (λ wrong. wrong) tt tt
 agrees_quiet start input (Refused cause) before after quiet agrees logged = agrees_logged start input (Refused cause) before after agrees logged (λ is. absurd (cc is)) (λ wrong. wrong) tt tt
 
-asked_quiet : (found : Result Issued Refusal) → IsQuiet (logged_as found)
-asked_quiet (Ok issued) = tt
-asked_quiet (Err cause) = tt
-
-pub agrees_asked : (start : Record) (epoch_end recovery num processed at : ℕ) (before after : Account) (result : Result Issued ClientError) → Agrees start before
-    → Asks epoch_end recovery num processed at before after result → Agrees start after
-agrees_asked start epoch_end recovery num processed at before after result agrees asks =
-    agrees_quiet start (input.Ask num processed at) asks.answer before after
-    (subst IsQuiet (sym asks.answered) (asked_quiet (answer_to asks.chain (request_of before num processed at)))) agrees asks.logged
-
 last_at : (start : Record) (log : List Change) → record_at start log (length log) ≡ last_record start log
 last_at start log = ap (last_record start) (take-length log)
 
@@ -232,9 +222,6 @@ pub agrees_reported : (start : Record) (num : ℕ) (locked : Bool) (metadata : O
     → Reports start num locked metadata min_known before after result → Agrees start after
 agrees_reported start num locked metadata min_known before after result agrees reports =
     report_agrees start num locked metadata min_known (issued_under before.calls num) reports.answer before after reports.answered agrees reports.logged
-
-pub agrees_new : (start : Record) (number : ℕ) (log : List Change) → own_positions (sight (new_account number log)) ≡ [] → Agrees start (new_account number log)
-agrees_new start number log none = record { own = none; order = tt; come_to = omega arith; each = tt }
 
 -- ---- where memory may have been refused
 

@@ -18,7 +18,7 @@ pub record Account : Type 0 where
   pub calls : List Call
   pub changes : List Change
 
--- what its token proves
+-- what a client's token proves: the changes that it has seen, as the reporter of its number
 abbrev pub sight : Account → Sight
 sight account = record { reporter = Some account.number; changes = account.changes }
 

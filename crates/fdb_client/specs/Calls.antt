@@ -24,8 +24,6 @@ use Rattle.fdb_client.specs.Returned.{ReadReturns, AskReturns, ReportReturns}
 use Rattle.fdb_client.specs.declared.error.ClientError.{ClientError}
 use Rattle.fdb_client.specs.declared.read.ReadVersion.{ReadVersion}
 
--- ---- reads
-
 -- A read gets the last record that the client has then seen, and is turned away exactly where that
 -- is locked and the read is not lock-aware. Else it was refused as a read may be.
 abbrev pub IsReadAnswer : Record → GrvOpts → Account → CallAnswer → Type 0
@@ -34,7 +32,7 @@ IsReadAnswer start opts after (Version rec limits locked_out) =
 IsReadAnswer start opts after (Refused cause) = may_refuse (input.Grv opts) cause ≡ true
 IsReadAnswer start opts after _ = ⊥
 
--- A read was logged, and returned what it logged.
+-- A read was logged as one of these options, and returned what it logged.
 pub record Reads (start : Record) (opts : GrvOpts) (before after : Account)
     (result : Result ReadVersion ClientError) : Type 0 where
   pub answer : CallAnswer
@@ -54,8 +52,6 @@ pub record IsReadOf (start : Record) (opts : GrvOpts) (before after : List Chang
   pub at_most : read.version ≤ read.rec.version
   pub never_falls : IsNotBehind (last_record start before) read.rec
   pub bounded : IsBounded read.position read.rec
-
--- ---- requests for a commit version
 
 -- the number that a client's next request for a commit version has: one more than it has drawn
 abbrev pub next_number : Account → ℕ
@@ -78,8 +74,6 @@ pub record Asks (epoch_end recovery num processed at : ℕ) (before after : Acco
       answer ≡ logged_as (definition.answer_to chain (request_of before num processed at))
   pub returned : AskReturns answer result
 
--- ---- reports
-
 -- A report is refused as `NotIssued` where the client's calls have no version under its number, and
 -- as `MinAbove` where its minimum known committed version is above the version that they have.
 abbrev pub IsReportRefusal : Option ℕ → ℕ → Refusal → Type 0
@@ -101,7 +95,7 @@ IsReportAnswer start version locked metadata min_known before after (Refused cau
     IsReportRefusal version min_known cause
 IsReportAnswer start version locked metadata min_known before after _ = ⊥
 
--- A report was logged, and returned what it logged.
+-- A report of the version under this number was logged, and returned what it logged.
 pub record Reports (start : Record) (num : ℕ) (locked : Bool) (metadata : Option (List ℕ))
     (min_known : ℕ) (before after : Account) (result : Result Ack ClientError) : Type 0 where
   pub answer : CallAnswer
@@ -110,9 +104,7 @@ pub record Reports (start : Record) (num : ℕ) (locked : Bool) (metadata : Opti
       before after answer
   pub returned : ReportReturns (length after.changes) answer result
 
--- ---- tells and learns
-
--- A tell was logged.
+-- A tell was logged, with the client that is told.
 abbrev pub Tells : ℕ → Account → Account → Type 0
 Tells to before after = Logs before (input.Tell to) Told after
 

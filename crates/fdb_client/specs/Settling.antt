@@ -14,7 +14,7 @@ AllAgree start logs tokens =
     → Agrees start
     (record { number = k; begun = 0; calls = calls_of logs k; changes = token.changes })
 
--- the logs of some clients
+-- the logs of some clients: of each its calls, in the same order
 abbrev pub logs_of : List Account → List ClientLog
 logs_of clients = map (λ client. record { calls = client.calls }) clients
 

@@ -1,4 +1,4 @@
-//! A client of the service.
+//! A client that calls the service, one call at a time, and logs each call.
 
 ghost use Rattle.std.specs.Prelude.{◌≡◌, ◌≢◌, ◌≤◌, ℕ, [], length};
 ghost use Rattle.std.specs.Prelude.{IfOk, IfErr, OnOk, OnErr, None, Some};
@@ -12,7 +12,7 @@ ghost use Rattle.fdb_history.specs.Strays.{issued_under};
 ghost use Rattle.fdb_live.specs.Seen.{IsBounded, IsNotBehind, last_record, own_positions};
 
 use crate::error::ClientError;
-use crate::exchange::Mark;
+use crate::exchange::RequestId;
 use crate::journal::Journal;
 use crate::read::ReadVersion;
 use crate::{exchange, reply};
@@ -39,7 +39,6 @@ pub struct Client<'a, J: Live> {
     id: u32,
     live: &'a LiveRecord<J>,
     seen: Seen<J>,
-    /// The position that it began with.
     begun: u64,
     journal: Journal,
 }
@@ -89,14 +88,14 @@ impl<'a, J: Live> Client<'a, J> {
         }
     }
 
-    /// Its number.
+    /// The number under which it asks and reports, and at whose place its log belongs.
     pub fn number(&self) -> u32
         ensures { result ≡ self.now.number }
     {
         self.id
     }
 
-    /// The position that it began with.
+    /// The position of its token when it was made: its first call is asked from there.
     pub fn begun(&self) -> u64
         ensures { result ≡ self.now.begun }
     {
@@ -111,7 +110,7 @@ impl<'a, J: Live> Client<'a, J> {
         self.seen.position()
     }
 
-    /// Its calls, in order.
+    /// The calls that it has logged so far, the first one first; a call refused for memory is none.
     pub fn calls(&self) -> &[Call]
         ensures { result.now ≡ self.now.calls }
     {
@@ -148,11 +147,11 @@ impl<'a, J: Live> Client<'a, J> {
         self.journal.reserve()?;
         let logged = opts.clone()?;
         let (reply, answers) = crossbeam_channel::bounded(self.alloc, 1)?;
-        let own = Mark::next(self.id, &self.journal, &self.seen);
+        let own = RequestId::next(self.id, &self.journal, &self.seen);
         let told = self.live.split(&mut self.seen);
         let request = own.request(told, opts, reply);
         let answer = exchange::answer_to(rt, gate, desk, request, answers);
-        match answer.and_then(|answer| exchange::judge(own, answer)) {
+        match answer.and_then(|answer| exchange::reply_to(own, answer)) {
             Ok(reply) => reply::take_reply(
                 rt,
                 self.live,

@@ -15,7 +15,11 @@ use fdb_queue::{GrvQueue, QueueConfig, QueueError, Throttle};
 use std::alloc::{AllocError, Global};
 use std::sync::Wait;
 
-/// What a cluster is made with.
+/// The most GRV proxies that a cluster may have, each with a thread of its own while it serves.
+pub const MAX_GRV_PROXIES: u32 = 16;
+
+/// What a cluster is made with: the versions that it begins from, how many call and serve there,
+/// and how each GRV proxy's queue starts requests.
 #[derive(Clone, Copy, Debug, PartialEq, Eq)]
 pub struct ClusterConfig<'c> {
     /// The last version of the epoch before, below that of `start`.
@@ -23,11 +27,12 @@ pub struct ClusterConfig<'c> {
     /// The live committed version before any report. Its version is the first commit version, and
     /// its minimum known committed version is not above that.
     pub start: Record,
-    /// The number of clients, 1 to 64. There is a commit proxy for each.
+    /// The number of clients, 1 to [`MAX_REPORTERS`](fdb_live::MAX_REPORTERS). There is a commit
+    /// proxy for each.
     pub clients: u32,
-    /// The number of GRV proxies, 1 to 16.
+    /// The number of GRV proxies, 1 to [`MAX_GRV_PROXIES`].
     pub grv_proxies: u32,
-    /// What the queue of each GRV proxy is made with.
+    /// The rates and the capacity of the queue that each GRV proxy has of its own.
     pub queue: QueueConfig,
     /// The throttles that the queue of each GRV proxy is given, with tags of at most 16 bytes. Of
     /// two for one priority and one tag the later counts.
@@ -78,7 +83,7 @@ impl<'c, J: Live> Cluster<'c, J> {
         })
     }
 
-    /// What it was made with.
+    /// A copy of the configuration that it was made with, which never changes.
     pub fn config(&self) -> ClusterConfig<'c>
         ensures value { result ≡ self.now.config }
         ensures in_range { IsClusterConfig result }
@@ -86,14 +91,14 @@ impl<'c, J: Live> Cluster<'c, J> {
         self.config
     }
 
-    /// Its sequencer.
+    /// The sequencer, with a commit proxy for each client.
     pub fn sequencer(&self) -> &Sequencer<J>
         ensures { result.now ≡ self.now.sequencer }
     {
         &self.sequencer
     }
 
-    /// Its live record.
+    /// The live record that all clients report to and all GRV proxies read.
     pub fn live(&self) -> &LiveRecord<J>
         ensures { result.now ≡ self.now.live }
     {
@@ -130,7 +135,7 @@ impl<'c, J: Live> Cluster<'c, J> {
         Ok(GrvProxy::new(alloc, &self.live, desk, queue, self.config.elapsed, seen))
     }
 
-    /// Closes all desks. Takes no memory.
+    /// Closes all desks, which ends the proxies that serve there. Takes no memory.
     pub(crate) fn close<R: Wait>(&self, rt: &R) {
         for desk in &self.desks {
             desk.close(rt);

@@ -18,7 +18,7 @@ pub enum ClientError {
     /// The database is locked, and the read is not lock-aware. The read took place.
     #[error("the database is locked at version {version}")]
     Locked {
-        /// The version that was read.
+        /// The live committed version that was read, which is all that the caller gets of it.
         version: u64,
     },
     /// The answer that came is another call's.
@@ -27,16 +27,17 @@ pub enum ClientError {
     /// The GRV proxy's desk is closed, or the proxy went without an answer.
     #[error("the GRV proxy is closed")]
     ProxyClosed,
-    /// The sequencer refused the request.
+    /// The sequencer refused the request; not for memory, which is `Memory`.
     #[error(transparent)]
     Chain(ChainError),
-    /// The GRV proxy's queue refused the request.
+    /// The GRV proxy's queue refused the request; not for memory, which is `Memory`.
     #[error(transparent)]
     Queue(QueueError),
     /// The client has no commit version under this number.
     #[error("no commit version was issued under this number")]
     NotIssued,
-    /// The live record refused the report.
+    /// The live record refused the report: its minimum known committed version is above its
+    /// version.
     #[error(transparent)]
     Live(LiveError),
     /// Memory was refused. The call is not logged, and the client is as it was.

@@ -1,7 +1,7 @@
 //! A request at a proxy's desk, and its answer.
 
 ghost use Rattle.std.specs.Prelude.{◌≡◌, ◌==◌, IfErr, IfOk, None, length};
-ghost use Rattle.fdb_client.specs.private.Exchange.{is_same, judged, mark_of};
+ghost use Rattle.fdb_client.specs.private.Exchange.{is_same, reply_to, id_of};
 ghost use Rattle.fdb_client.specs.private.Refusals.{IsOfRead};
 
 use crate::error::ClientError;
@@ -15,30 +15,29 @@ use std::sync::Wait;
 
 /// What the answer to a request has to carry: any other is the answer to another request.
 #[derive(Clone, Copy, PartialEq, Eq)]
-pub(crate) struct Mark {
-    /// The client that asked.
+pub(crate) struct RequestId {
     pub(crate) client: u32,
-    /// Its number for the request.
+    /// How many calls its log had when it asked.
     pub(crate) serial: u64,
     /// The position that it had seen when it asked.
     pub(crate) asked: u64,
 }
 
-impl Mark {
-    /// The mark of a client's next request: the number of the request is the length of its log.
-    pub(crate) fn next<J: Live>(client: u32, journal: &Journal, seen: &Seen<J>) -> Mark
+impl RequestId {
+    /// The id of a client's next request: the number of the request is the length of its log.
+    pub(crate) fn next<J: Live>(client: u32, journal: &Journal, seen: &Seen<J>) -> RequestId
         ensures client { result.client ≡ client }
         ensures serial { result.serial ≡ length journal.now.calls.items }
         ensures asked { result.asked ≡ length seen.now.changes }
     {
-        Mark {
+        RequestId {
             client,
             serial: journal.len(),
             asked: seen.position(),
         }
     }
 
-    /// The request with this mark.
+    /// The request with this id: a token of what the client has seen, and where to send the answer.
     pub(crate) fn request<J: Live>(
         self,
         seen: Seen<J>,
@@ -86,7 +85,6 @@ pub(crate) fn answer_to<J: Live, R: Wait, G: Gate>(
     Ok(answer)
 }
 
-/// Leaves a request at a desk.
 fn submit<J: Live, R: Wait>(rt: &R, desk: &Desk<J>, request: Request<J>) -> Result<(), ClientError>
     ensures { IfErr result IsOfRead }
 {
@@ -105,14 +103,14 @@ fn submit<J: Live, R: Wait>(rt: &R, desk: &Desk<J>, request: Request<J>) -> Resu
 }
 
 /// What an answer comes to. Another's is a stranger's, whatever it says.
-pub(crate) fn judge<J: Live>(own: Mark, answer: Answer<J>) -> Result<Reply<J>, ClientError>
-    ensures judged { result ≡ judged own answer }
+pub(crate) fn reply_to<J: Live>(own: RequestId, answer: Answer<J>) -> Result<Reply<J>, ClientError>
+    ensures exact { result ≡ reply_to own answer }
     ensures client { IfOk result (λ reply. reply.client ≡ own.client) }
     ensures serial { IfOk result (λ reply. reply.serial ≡ own.serial) }
     ensures asked { IfOk result (λ reply. reply.asked ≡ own.asked) }
     ensures refused { IfErr result IsOfRead }
 {
-    if mark_of(&answer) != own {
+    if id_of(&answer) != own {
         return Err(ClientError::Stranger);
     }
     match answer {
@@ -121,17 +119,17 @@ pub(crate) fn judge<J: Live>(own: Mark, answer: Answer<J>) -> Result<Reply<J>, C
     }
 }
 
-/// The mark of the request that an answer is to.
-fn mark_of<J: Live>(answer: &Answer<J>) -> Mark
-    ensures { result ≡ mark_of answer.now }
+/// The id of the request that an answer is to.
+fn id_of<J: Live>(answer: &Answer<J>) -> RequestId
+    ensures { result ≡ id_of answer.now }
 {
     match answer {
-        Answer::Reply(reply) => Mark {
+        Answer::Reply(reply) => RequestId {
             client: reply.client,
             serial: reply.serial,
             asked: reply.asked,
         },
-        Answer::Refused(refused) => Mark {
+        Answer::Refused(refused) => RequestId {
             client: refused.client,
             serial: refused.serial,
             asked: refused.asked,

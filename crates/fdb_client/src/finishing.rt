@@ -44,7 +44,7 @@ pub enum FinishError {
     /// These are not all clients of the cluster, each at the place of its number.
     #[error("a client is not in its place")]
     Astray,
-    /// Memory was refused.
+    /// Memory was refused; the clients are given up all the same.
     #[error("want of memory")]
     Memory,
 }

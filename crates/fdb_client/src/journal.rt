@@ -19,11 +19,10 @@ use std::alloc::{AllocError, Global};
 /// number.
 #[derive(Drop)]
 pub(crate) struct Journal {
-    /// The calls, in order.
     pub(crate) calls: Vec<Call>,
     /// How many of its answers are fresh ones.
     pub(crate) drawn: u64,
-    /// The versions in its answers.
+    /// The versions in its answers, of each number the first one.
     pub(crate) versions: Versions,
     pub(crate) ghost few: { drawn ≤ vec_len calls },
     pub(crate) ghost counted: { drawn ≡ length (fresh_answers calls.items) },
@@ -35,7 +34,6 @@ pub(crate) struct Journal {
 }
 
 impl Journal {
-    /// No calls. Takes no memory.
     pub(crate) fn new(alloc: Global) -> Journal
         ensures { result.calls.items ≡ [] }
     {
@@ -46,7 +44,6 @@ impl Journal {
         }
     }
 
-    /// How many calls there are.
     pub(crate) fn len(&self) -> u64
         ensures { result ≡ length self.now.calls.items }
     {
@@ -60,7 +57,7 @@ impl Journal {
         self.drawn + 1
     }
 
-    /// The version under a request number, if there is one.
+    /// The version of the first answer under a request number, if there is one.
     pub(crate) fn version_under(&self, num: u64) -> Option<u64>
         ensures first { result ≡ issued_under self.now.calls.items num }
         ensures in_range { IfSome result (λ version. version ≤ MAX_VERSION) }
@@ -130,7 +127,7 @@ impl Journal {
         error
     }
 
-    /// Adds a request that was answered.
+    /// Adds a request that was answered, and counts it as drawn where its answer is fresh.
     #[tactic(auto, using(crate::proofs::Calls::position_of_added))]
     pub(crate) fn add_answer(&mut self, input: Input, position: u64, issued: Issued)
         requires capacity { vec_len self.old.calls < vec_capacity self.old.calls }

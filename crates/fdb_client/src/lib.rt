@@ -24,7 +24,7 @@ mod versions;
 mod workload;
 
 pub use client::Client;
-pub use cluster::{Cluster, ClusterConfig};
+pub use cluster::{Cluster, ClusterConfig, MAX_GRV_PROXIES};
 pub use error::ClientError;
 pub use finishing::{FinishError, Finished};
 pub use opening::{ClusterParts, OpenedCluster};

@@ -34,11 +34,11 @@ impl<'c> Model for OpenedCluster<'c> {
 /// A cluster that nobody has called yet, and its tokens, none of which has seen a change.
 #[derive(Drop)]
 pub struct ClusterParts<'c, J: Live> {
-    /// The cluster.
+    /// The cluster, whose desks no proxy serves yet.
     pub cluster: Cluster<'c, J>,
     /// A token with no number: for the GRV proxies, and to settle with.
     pub first: Seen<J>,
-    /// The token of each client, in order.
+    /// The token of each client, at the place of its number.
     pub tokens: Vec<Seen<J>>,
 }
 

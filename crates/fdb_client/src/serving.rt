@@ -12,7 +12,7 @@ use std::sync::Wait;
 use std::thread;
 use std::thread::{JoinHandle, Scope, Threads};
 
-/// How the GRV proxies of a cluster ended.
+/// How the GRV proxies of a cluster ended, once their threads were joined.
 #[derive(Debug, Drop)]
 pub struct Ends {
     /// Whether each served until its desk was closed, by its number. One that did not ran out of
@@ -33,9 +33,9 @@ impl Ends {
 /// What came of a body, and how the GRV proxies ended that served while it ran.
 #[derive(Debug, Drop)]
 pub struct Served<O> {
-    /// What came of the body.
+    /// What the body returned, of which its own `ensures` holds.
     pub output: O,
-    /// How the GRV proxies ended.
+    /// Of each proxy, whether it served until its desk was closed.
     pub ends: Ends,
 }
 

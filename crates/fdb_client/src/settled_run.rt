@@ -6,6 +6,7 @@ ghost use Rattle.fdb_history.specs.Chain.{IsChain};
 ghost use Rattle.fdb_history.specs.Faults.{IsFaultless, changes_in};
 ghost use Rattle.fdb_history.specs.Laws.{HaveMinimaWithin};
 ghost use Rattle.fdb_history.specs.Linear.{IsLinear};
+ghost use Rattle.fdb_live.specs.declared.opened.TheConstants.{MAX_REPORTERS};
 
 use crate::cluster::Cluster;
 use crate::finishing::Finished;
@@ -19,17 +20,17 @@ use std::sync::Wait;
 /// in its logs.
 #[derive(Debug, Drop)]
 pub struct SettledRun {
-    /// The last version of the epoch before.
+    /// The last version of the epoch before, below that of `start`.
     pub epoch_end: u64,
     /// The live committed version before any report. Its version is the first commit version.
     pub start: Record,
     /// The log of each client, at the place of its number.
     pub logs: Vec<ClientLog>,
-    /// The commit versions, in order.
+    /// The commit versions that were drawn, each above the one before.
     pub chain: Vec<Issued>,
-    /// How many reports changed the record.
+    /// How many reports changed the record: the position that the run came to.
     pub changes: u64,
-    pub ghost few: { length logs.items ≤ 64 },
+    pub ghost few: { length logs.items ≤ MAX_REPORTERS },
     pub ghost faultless: { IsFaultless start logs.items },
     pub ghost counted: { changes ≡ length (changes_in logs.items) },
 }

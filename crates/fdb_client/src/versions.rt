@@ -1,4 +1,4 @@
-//! The version under each request number.
+//! Where a client finds the commit version that it got under a request number.
 
 ghost use Rattle.std.specs.Prelude.{◌≡◌, ℕ, ◌+◌, ◌<◌, ◌==◌, None, OnOk, [], vec_len, vec_capacity};
 ghost use Rattle.std.specs.Option.{option_or};
@@ -21,7 +21,6 @@ pub(crate) struct Versions {
 }
 
 impl Versions {
-    /// None. Takes no memory.
     pub(crate) fn new(alloc: Global) -> Versions
         ensures in_turn { result.in_turn.items ≡ [] }
         ensures others { result.others.items ≡ [] }
@@ -32,7 +31,6 @@ impl Versions {
         }
     }
 
-    /// The version under a number, if there is one.
     pub(crate) fn under(&self, num: u64) -> Option<u64>
         ensures { result ≡ version_under self.now.in_turn.items self.now.others.items num }
     {
@@ -57,7 +55,7 @@ impl Versions {
         Some(found.version)
     }
 
-    /// Reserves capacity for one more answer.
+    /// Reserves capacity for one more answer, where one with this number is to be kept.
     pub(crate) fn reserve(&mut self, num: u64) -> Result<(), AllocError>
         ensures in_turn { self.new.in_turn.items ≡ self.old.in_turn.items }
         ensures others { self.new.others.items ≡ self.old.others.items }

@@ -6,6 +6,7 @@ ghost use Rattle.fdb_client.specs.Cluster.{IsClusterConfig};
 ghost use Rattle.fdb_client.specs.Settling.{AreNew};
 ghost use Rattle.fdb_history.specs.Chain.{IsChain};
 ghost use Rattle.fdb_history.specs.Laws.{HaveMinimaWithin};
+ghost use Rattle.fdb_live.specs.declared.opened.TheConstants.{MAX_REPORTERS};
 
 use crate::client::Client;
 use crate::cluster::{Cluster, ClusterConfig};
@@ -20,9 +21,9 @@ use std::sync::Wait;
 use std::thread::Threads;
 use thiserror::Error;
 
-/// Calls that a user writes (`TestWorkload`, FoundationDB 7.1).
+/// Calls that a user writes, to be made at a cluster (`TestWorkload`, FoundationDB 7.1).
 pub trait Workload<R> {
-    /// What comes of it.
+    /// What the calls come to, which is handed back beside the settled logs.
     type Output: Drop;
 
     // What it promises of that.
@@ -41,18 +42,18 @@ pub trait Workload<R> {
         ensures { gives self result };
 }
 
-/// What a workload at a cluster has left.
+/// What a workload at a cluster has left, once its GRV proxies have ended and its logs are settled.
 #[derive(Debug, Drop)]
 pub struct WorkloadOutcome<O> {
-    /// What came of the workload.
+    /// What [`Workload::start`] returned, of which `gives` holds.
     pub output: O,
     /// The logs of its clients and the chain of commit versions, settled.
     pub run: SettledRun,
-    /// How the GRV proxies ended.
+    /// Whether each GRV proxy served until its desk was closed.
     pub ends: Ends,
 }
 
-/// Why a workload has left nothing.
+/// Why a workload has left nothing, neither logs nor what it returned.
 #[derive(Clone, Copy, Debug, PartialEq, Eq, Error)]
 pub enum WorkloadError {
     /// Memory was refused, or a thread could not be had.
@@ -176,7 +177,7 @@ pub fn clients_of<'a, J: Live>(
     live: &'a LiveRecord<J>,
     tokens: Vec<Seen<J>>,
 ) -> Result<Vec<Client<'a, J>>, AllocError>
-    requires few { vec_len tokens ≤ 64 }
+    requires few { vec_len tokens ≤ MAX_REPORTERS }
     requires tokens { (k : ℕ) → k < vec_len tokens
         → slice_get tokens.items k ≡ Some (record { reporter = Some k; changes = [] }) }
     ensures count { IfOk result (λ clients. vec_len clients ≡ vec_len tokens) }

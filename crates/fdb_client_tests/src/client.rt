@@ -1,7 +1,7 @@
 //! Clients. Each line of a text is a call of a client; where
 //! clients read, the test serves the desk itself, or proxies do.
 
-ghost use Rattle.std.specs.Prelude.{◌≡◌};
+ghost use Rattle.std.specs.Prelude.{◌≡◌, ◌<◌, ◌≤◌};
 
 mod kinds;
 mod lines;
@@ -13,18 +13,18 @@ use crate::client::lines::play_lines;
 use crate::client::pair::over_two_proxies;
 use crate::refused_memory::clients::begin_each;
 use fdb_chain::{ChainCore, Sequencer};
+use fdb_checks::CaseError;
 use fdb_client::Client;
 use fdb_history::Record;
 use fdb_live::{Live, LiveRecord, Opened, Seen};
 use fdb_proxy::Desk;
-use std::alloc::{AllocError, Global};
+use std::alloc::Global;
 use std::marker::Brand;
-use std::process::Abort;
 use std::sync::Wait;
 use std::test::Fail;
 use std::thread::Threads;
 
-/// What clients call.
+/// What clients call: the live record, the sequencer, and the desks of two GRV proxies.
 #[derive(Drop)]
 pub(crate) struct Service<J: Live> {
     pub(crate) alloc: Global,
@@ -36,7 +36,7 @@ pub(crate) struct Service<J: Live> {
     pub(crate) once: bool,
 }
 
-/// Two clients with what they call.
+/// The clients of a service, with what was told among them.
 #[derive(Drop)]
 pub(crate) struct Stand<'a, J: Live> {
     pub(crate) service: &'a Service<J>,
@@ -47,14 +47,15 @@ pub(crate) struct Stand<'a, J: Live> {
     pub(crate) told: Vec<Seen<J>>,
 }
 
-/// What is done with clients.
+/// What a test does with the clients of a service.
 #[derive(Clone, Copy)]
 pub(crate) enum Case<'a> {
     /// The lines of a text, one after another.
     Lines(&'a str),
     /// Two clients report, tell each other and read, over two proxies.
     OverTwoProxies,
-    /// Each of six clients begins with another call, which may be refused memory: once, or from then on.
+    /// Each of six clients begins with another call, which may be refused memory: once, or from
+    /// then on.
     BeginEach { once: bool },
 }
 
@@ -70,38 +71,40 @@ pub(crate) fn unlocked(version: u64) -> Record {
 
 /// Plays a case with so many clients and a sequencer for so many
 /// commit proxies. It fails where memory is refused, and passes else.
-pub(crate) fn play<R: Threads + Wait + Abort + Sync>(
+pub(crate) fn play<R: Threads + Wait + Sync>(
     rt: &R,
     alloc: Global,
     clients: u32,
     proxies: u32,
     case: Case<'_>,
-) -> Result<(), AllocError> {
-    assert!(rt; clients > 0 && clients <= 64, "clients in range");
+) -> Result<(), CaseError>
+    requires some_client { 0 < clients }
+    requires few_clients { clients ≤ 64 }
+{
     let Ok(opened) = LiveRecord::<Brand>::open(rt, alloc, unlocked(100), clients) else {
-        return Err(AllocError);
+        return Err(CaseError::Memory);
     };
     match ChainCore::new(alloc, 0, 100, proxies) {
         Ok(core) => play_named::<Brand, R>(rt, alloc, opened, core, case),
-        Err(_) => Err(AllocError),
+        Err(_) => Err(CaseError::Memory),
     }
 }
 
 /// Plays a case under the name of the service.
-fn play_named<J: Live + Send + Sync, R: Threads + Wait + Abort + Sync>(
+fn play_named<J: Live + Send + Sync, R: Threads + Wait + Sync>(
     rt: &R,
     alloc: Global,
     opened: Opened,
     core: ChainCore,
     case: Case<'_>,
-) -> Result<(), AllocError>
+) -> Result<(), CaseError>
     requires opened { opened
         ≡ record { table = J.table; start = J.start; reporters = J.reporters } }
     requires epoch_end { core.epoch_end ≡ J.epoch_end }
     requires recovery { core.recovery ≡ J.recovery }
 {
     let Ok((live, served, tokens)) = opened.parts::<J>() else {
-        return Err(AllocError);
+        return Err(CaseError::Memory);
     };
     let service = Service {
         alloc,
@@ -114,31 +117,29 @@ fn play_named<J: Live + Send + Sync, R: Threads + Wait + Abort + Sync>(
     play_at(rt, &service, served, tokens, case)
 }
 
-/// Plays a case at a service.
-fn play_at<J: Live + Send + Sync, R: Threads + Wait + Abort + Sync>(
+fn play_at<J: Live + Send + Sync, R: Threads + Wait + Sync>(
     rt: &R,
     service: &Service<J>,
     served: Seen<J>,
     tokens: Vec<Seen<J>>,
     case: Case<'_>,
-) -> Result<(), AllocError> {
+) -> Result<(), CaseError> {
     match case {
-        Case::Lines(text) => play_lines(rt, &mut stand_of(rt, service, served, tokens)?, text),
-        Case::OverTwoProxies => over_two_proxies(rt, &mut stand_of(rt, service, served, tokens)?),
+        Case::Lines(text) => play_lines(rt, &mut stand_of(service, served, tokens)?, text),
+        Case::OverTwoProxies => over_two_proxies(rt, &mut stand_of(service, served, tokens)?),
         Case::BeginEach { once } => begin_each(rt, service, served, tokens, once),
     }
 }
 
 /// A client for each token, with what they call.
 fn stand_of<'a, J: Live>(
-    rt: &impl Abort,
     service: &'a Service<J>,
     served: Seen<J>,
     tokens: Vec<Seen<J>>,
-) -> Result<Stand<'a, J>, AllocError> {
+) -> Result<Stand<'a, J>, CaseError> {
     let mut clients = Vec::new(service.alloc);
     for token in tokens {
-        clients.push(client_of(rt, service, token))?;
+        clients.push(client_of(service, token)?)?;
     }
     Ok(Stand {
         service,
@@ -150,15 +151,14 @@ fn stand_of<'a, J: Live>(
 
 /// The client whose token it is, and which has seen nothing.
 pub(crate) fn client_of<'a, J: Live>(
-    rt: &impl Abort,
     service: &'a Service<J>,
     token: Seen<J>,
-) -> Client<'a, J> {
+) -> Result<Client<'a, J>, Fail> {
     match token.reporter() {
         Some(number) if token.position() == 0 => {
-            Client::new(service.alloc, number, &service.live, token)
+            Ok(Client::new(service.alloc, number, &service.live, token))
         }
-        _ => panic!(rt; "the token has seen something, or is nobody's"),
+        _ => Err(Fail::new("the token has seen something, or is nobody's")),
     }
 }
 
@@ -243,8 +243,8 @@ fn reads_at_a_desk(rt: HostRuntime) -> Result<(), Fail> {
     Ok(())
 }
 
-/// A desk that is closed between two reads of a client, who goes on with all that needs no proxy: it
-/// is a commit proxy that the sequencer knows.
+/// A desk that is closed between two reads of a client, who goes on with all that needs no proxy:
+/// it is a commit proxy that the sequencer knows.
 const CLOSED: &str = "
 ask 1 0 1000 => 100 after 0, fresh
 read 1 served => 100 at 0

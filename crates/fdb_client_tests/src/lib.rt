@@ -6,11 +6,7 @@ mod ample_memory;
 #[cfg(test)]
 mod client;
 #[cfg(test)]
-mod line;
-#[cfg(test)]
 mod refused_memory;
-#[cfg(test)]
-mod same;
 #[cfg(test)]
 mod throttled;
 #[cfg(test)]

@@ -3,15 +3,13 @@
 ghost use Rattle.std.specs.Prelude.{IfOk, IsTrue};
 ghost use Rattle.fdb_queue.specs.Throttles.{is_throttle};
 
-use crate::line::tag;
-use crate::same::{holds, same};
+use fdb_checks::{holds, same, tag};
 use fdb_client::{Client, Cluster, ClusterConfig, Workload, run_workload};
 use fdb_history::{GrvOpts, OpenGate, Priority, Record, Sequence, Tag};
 use fdb_live::Live;
 use fdb_proxy::Desk;
 use fdb_queue::{QueueConfig, Throttle};
-use std::alloc::{AllocError, Global};
-use std::process::Abort;
+use std::alloc::Global;
 use std::sync::Wait;
 use std::test::Fail;
 
@@ -43,7 +41,7 @@ impl<R: Wait> Workload<R> for ReadTagged {
 }
 
 impl ReadTagged {
-    /// What a read at a desk comes with.
+    /// The limits that a read with the tag `t` comes with, at a desk.
     fn limits_at<J: Live, R: Wait>(
         &self,
         rt: &R,
@@ -70,7 +68,7 @@ impl ReadTagged {
 }
 
 /// A throttle of the tag `t`, at the default priority.
-fn throttle(rt: &impl Abort, alloc: Global, rate: u64, expires: u64) -> Result<Throttle, AllocError>
+fn throttle(alloc: Global, rate: u64, expires: u64) -> Result<Throttle, Fail>
     ensures { IfOk result (λ throttle. IsTrue (is_throttle throttle)) }
 {
     let throttle = Throttle {
@@ -79,7 +77,9 @@ fn throttle(rt: &impl Abort, alloc: Global, rate: u64, expires: u64) -> Result<T
         rate,
         expires,
     };
-    assert!(rt; throttle.is_in_range(), "a tag of one byte");
+    if !throttle.is_in_range() {
+        return Err(Fail::new("a tag of one byte is wanted"));
+    }
     Ok(throttle)
 }
 
@@ -87,10 +87,7 @@ fn throttle(rt: &impl Abort, alloc: Global, rate: u64, expires: u64) -> Result<T
 #[test]
 fn each_proxy_has_the_throttles(rt: HostRuntime) -> Result<(), Fail> {
     let alloc = rt.alloc();
-    let throttles = [
-        throttle(&rt, alloc, 4, 9_000)?,
-        throttle(&rt, alloc, 5, 5_000)?,
-    ];
+    let throttles = [throttle(alloc, 4, 9_000)?, throttle(alloc, 5, 5_000)?];
     let config = ClusterConfig {
         epoch_end: 0,
         start: Record {
@@ -111,7 +108,6 @@ fn each_proxy_has_the_throttles(rt: HostRuntime) -> Result<(), Fail> {
     };
     let ran = run_workload(&rt, alloc, config, ReadTagged { alloc })?;
     let last = Some((1, 5, 5_000));
-    same(&rt, &ran.output, &[last, last], &"limits");
-    holds(&rt, ran.ends.all_served(), &"all served");
-    Ok(())
+    same(&ran.output, &[last, last], &"limits")?;
+    holds(ran.ends.all_served(), &"all served")
 }

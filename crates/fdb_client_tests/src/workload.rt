@@ -1,17 +1,17 @@
-//! Workloads at a cluster.
+//! Workloads at a cluster: commits and reads, a desk that is closed, and clients out of place.
 
+ghost use Rattle.std.specs.Prelude.{IfOk};
 ghost use Rattle.fdb_client.specs.Cluster.{IsClusterConfig};
 
-use crate::same::{holds, same};
 use fdb_chain::ChainError;
+use fdb_checks::{CaseError, holds, same};
 use fdb_client::{
     Client, ClientError, Cluster, ClusterConfig, SettledRun, Workload, WorkloadError, run_workload,
 };
 use fdb_history::{Ask, AuditFault, GrvOpts, OpenGate, Priority, Record, Sequence};
 use fdb_live::Live;
 use fdb_queue::QueueConfig;
-use std::alloc::{AllocError, Global};
-use std::process::Abort;
+use std::alloc::Global;
 use std::sync::Wait;
 use std::test::Fail;
 use std::thread::Threads;
@@ -49,7 +49,7 @@ impl<R: Wait> Workload<R> for CommitAndRead {
 }
 
 impl CommitAndRead {
-    /// Has a client make its calls.
+    /// A client draws a version, reports it with a lock, and reads through each GRV proxy.
     fn call<J: Live, R: Wait>(
         &self,
         rt: &R,
@@ -78,15 +78,14 @@ fn one_read(alloc: Global) -> GrvOpts {
 }
 
 /// A cluster for so many clients, with so many GRV proxies.
-fn config_of(rt: &impl Abort, clients: u32, grv_proxies: u32) -> ClusterConfig<'static>
-    ensures { IsClusterConfig result }
+fn config_of(clients: u32, grv_proxies: u32) -> Result<ClusterConfig<'static>, Fail>
+    ensures { IfOk result (λ config. IsClusterConfig config) }
 {
-    assert!(rt; clients > 0 && clients <= 64, "clients in range");
-    assert!(rt;
-        grv_proxies > 0 && grv_proxies <= 16,
-        "GRV proxies in range"
-    );
-    ClusterConfig {
+    let some = clients > 0 && grv_proxies > 0;
+    if !some || clients > 64 || grv_proxies > 16 {
+        return Err(Fail::new("clients and GRV proxies in range are wanted"));
+    }
+    Ok(ClusterConfig {
         epoch_end: 60,
         start: START,
         clients,
@@ -98,55 +97,56 @@ fn config_of(rt: &impl Abort, clients: u32, grv_proxies: u32) -> ClusterConfig<'
         },
         throttles: &[],
         elapsed: 1_000_000,
-    }
+    })
 }
 
 /// Runs that at a new cluster. Each client has a log, the chain a version for each, and one history
 /// explains all. It fails where memory is refused: to a GRV proxy, if it is one that is closed.
-pub(crate) fn commit_and_read<R: Threads + Wait + Abort + Sync>(
+pub(crate) fn commit_and_read<R: Threads + Wait + Sync>(
     rt: &R,
     alloc: Global,
     clients: u32,
     grv_proxies: u32,
-) -> Result<(), AllocError> {
-    let config = config_of(rt, clients, grv_proxies);
+) -> Result<(), CaseError> {
+    let config = config_of(clients, grv_proxies)?;
     let ran = match run_workload(rt, alloc, config, CommitAndRead { alloc, grv_proxies }) {
         Ok(ran) => ran,
-        Err(WorkloadError::Memory) => return Err(AllocError),
-        Err(WorkloadError::Astray) => panic!(rt; "each client is in its place"),
+        Err(WorkloadError::Memory) => return Err(CaseError::Memory),
+        Err(WorkloadError::Astray) => {
+            return Err(CaseError::Failed(Fail::new("a client is not in its place")));
+        }
     };
     let all_served = ran.ends.all_served();
     match ran.output {
         Ok(()) => {
-            holds(rt, all_served, &"each GRV proxy has served");
-            explained(rt, alloc, &ran.run, clients, grv_proxies)
+            holds(all_served, &"each GRV proxy has served")?;
+            explained(alloc, &ran.run, clients, grv_proxies)
         }
-        Err(ClientError::Memory) => Err(AllocError),
+        Err(ClientError::Memory) => Err(CaseError::Memory),
         Err(cause) => {
-            same(rt, &cause, &ClientError::ProxyClosed, &"a refused call");
-            holds(rt, !all_served, &"a GRV proxy has ended");
-            Err(AllocError)
+            same(&cause, &ClientError::ProxyClosed, &"a refused call")?;
+            holds(!all_served, &"a GRV proxy has ended")?;
+            Err(CaseError::Memory)
         }
     }
 }
 
-/// Checks the logs of a workload and its chain.
+/// Checks that each client has a log and a version, and how many events explain all.
 fn explained(
-    rt: &impl Abort,
     alloc: Global,
     run: &SettledRun,
     clients: u32,
     grv_proxies: u32,
-) -> Result<(), AllocError> {
-    same(rt, &run.logs.len(), &(clients as usize), &"logs");
-    same(rt, &run.chain.len(), &(clients as usize), &"chain");
+) -> Result<(), CaseError> {
+    same(&run.logs.len(), &(clients as usize), &"logs")?;
+    same(&run.chain.len(), &(clients as usize), &"chain")?;
     let events = match run.history(alloc) {
         Ok(history) => history.events.len() as u64,
-        Err(AuditFault::Memory) => return Err(AllocError),
-        Err(fault) => panic!(rt; "{fault}"),
+        Err(AuditFault::Memory) => return Err(CaseError::Memory),
+        Err(fault) => return Err(CaseError::Failed(Fail::new(fault))),
     };
     let wanted = u64::from(clients) * (1 + u64::from(grv_proxies));
-    same(rt, &events, &wanted, &"events");
+    same(&events, &wanted, &"events")?;
     Ok(())
 }
 
@@ -205,9 +205,10 @@ fn each_desk_is_closed_alone(rt: HostRuntime) -> Result<(), Fail> {
                 grv_proxies,
                 closed,
             };
-            let ran = run_workload(&rt, alloc, config_of(&rt, 1, grv_proxies), workload)?;
-            same(&rt, &ran.output, &None, &grv_proxies);
-            holds(&rt, ran.ends.all_served(), &grv_proxies);
+            let config = config_of(1, grv_proxies)?;
+            let ran = run_workload(&rt, alloc, config, workload)?;
+            same(&ran.output, &None, &grv_proxies)?;
+            holds(ran.ends.all_served(), &grv_proxies)?;
         }
     }
     Ok(())
@@ -246,10 +247,11 @@ impl<R: Wait> Workload<R> for AskAsEach {
 #[test]
 fn a_commit_proxy_for_each_client(rt: HostRuntime) -> Result<(), Fail> {
     for clients in 1..=64 {
-        let ran = run_workload(&rt, rt.alloc(), config_of(&rt, clients, 1), AskAsEach)?;
+        let config = config_of(clients, 1)?;
+        let ran = run_workload(&rt, rt.alloc(), config, AskAsEach)?;
         let wanted = Some((clients, ChainError::UnknownProxy));
-        same(&rt, &ran.output, &wanted, &"the first that is refused");
-        same(&rt, &ran.run.chain.len(), &(clients as usize), &"chain");
+        same(&ran.output, &wanted, &"the first that is refused")?;
+        same(&ran.run.chain.len(), &(clients as usize), &"chain")?;
     }
     Ok(())
 }
@@ -272,9 +274,10 @@ impl<R: Wait> Workload<R> for ChangePlaces {
 #[test]
 fn each_client_stays_in_its_place(rt: HostRuntime) -> Result<(), Fail> {
     for (clients, astray) in [(1, false), (2, true), (64, true)] {
-        let ran = run_workload(&rt, rt.alloc(), config_of(&rt, clients, 1), ChangePlaces);
+        let config = config_of(clients, 1)?;
+        let ran = run_workload(&rt, rt.alloc(), config, ChangePlaces);
         let refused = matches!(ran, Err(WorkloadError::Astray));
-        same(&rt, &refused, &astray, &clients);
+        same(&refused, &astray, &clients)?;
     }
     Ok(())
 }

@@ -1,19 +1,51 @@
 -- What is read of an input, piece by piece.
-use Rattle.std.proofs.Common.{◌≡◌, ℕ, ◌+◌, ◌≤◌, List, ◌++◌, Option, None, Some, IfSome, append-nil, length, ap, arith, subst, sym, ◌∙◌}
+use Rattle.std.proofs.Common.{◌≡◌, ◌⊎◌, inl, inr, ℕ, ◌+◌, ◌≤◌, List, [], ◌++◌, Option, None, Some, IfSome, append-nil, append_assoc, length, Result, Ok, Err, ap, arith, refl, subst, sym, ◌∙◌}
 use Rattle.std.specs.Io.KnownBytes.{Consumes, IsAtEnd}
+use Rattle.std.specs.Prelude.{IfErr, IsErrAnd}
 use Rattle.std.proofs.KnownBytes.{Consumes-trans}
 use Rattle.std.proofs.lemmas.List.{length-append}
+use Rattle.fdb_command.specs.Driving.{Promise, Stops}
 use Rattle.fdb_command.specs.Input.{TakesAtMost}
-
-pub read_more : (first before after : Option (List ℕ)) (so_far more taken : List ℕ) → more ≡ so_far ++ taken → Consumes first before so_far → Consumes before after taken → Consumes first after more
-read_more first before after so_far more taken is read piece = subst (Consumes first after) (sym is) (Consumes-trans first before after so_far taken read piece)
+use Rattle.fdb_command.specs.private.Taking.{IsTaken, MayStop, StopsAt}
+use Rattle.fdb_command.specs.declared.fault.Fault.{Fault}
+use Rattle.fdb_command.specs.declared.fault.Fault.TheVariants.{Memory, Reading}
 
 pub takes_more : (first before after : Option (List ℕ)) (so_far : List ℕ) (room most : ℕ) → length so_far + room ≤ most → Consumes first before so_far → TakesAtMost room before after → TakesAtMost most first after
 takes_more first before after so_far room most within read (taken, few, piece) =
     (so_far ++ taken, omega (arith, length-append so_far taken), Consumes-trans first before after so_far taken read piece)
 
 -- whoever is at the end has read all
-pub read_whole : (first last : Option (List ℕ)) (all : List ℕ) → Consumes first last all → IsAtEnd last → IfSome first (λ bytes. bytes ≡ all)
+read_whole : (first last : Option (List ℕ)) (all : List ℕ) → Consumes first last all → IsAtEnd last → IfSome first (λ bytes. bytes ≡ all)
 read_whole None last all gone end = tt
 read_whole (Some bytes) None all gone end = absurd gone
 read_whole (Some bytes) (Some left) all gone end = gone ∙ ap (λ rest. all ++ rest) end ∙ append-nil all
+
+-- what a program has taken when it is at the end
+pub taken_whole : {O I E F : Type 0} (program : Promise O I E F) (first last : Option (List ℕ)) (intake : I) (bytes : List ℕ) → length bytes ≤ program.most → Consumes first last bytes → IsAtEnd last
+    → program.taken intake bytes → IsTaken program None first intake
+taken_whole program first last intake bytes few gone end taken = record { bytes = bytes; few = few; read = read_whole first last bytes gone end; taken = taken }
+
+-- memory that was refused says nothing of the bytes
+pub stops_unread : {O I E F : Type 0} (program : Promise O I E F) (first : Option (List ℕ)) → MayStop program None first Memory
+stops_unread program None = record { bytes = []; read = tt; stops = tt }
+stops_unread program (Some all) = record { bytes = all; read = refl; stops = tt }
+
+-- where a program stops whatever comes after, it stops at all bytes
+stops_whole : {O I E F : Type 0} (program : Promise O I E F) (first last : Option (List ℕ)) (so_far bytes : List ℕ) (fault : Fault E F) → Consumes first last (so_far ++ bytes)
+    → ((rest : List ℕ) → Stops program (so_far ++ (bytes ++ rest)) fault) → MayStop program None first fault
+stops_whole program None last so_far bytes fault gone stops = record { bytes = so_far ++ (bytes ++ []); read = tt; stops = stops [] }
+stops_whole program (Some all) None so_far bytes fault gone stops = absurd gone
+stops_whole program (Some all) (Some rest) so_far bytes fault gone stops = record { bytes = so_far ++ (bytes ++ rest); read = gone ∙ append_assoc so_far bytes rest; stops = stops rest }
+
+pub stops_there : {O I E F : Type 0} (program : Promise O I E F) (first before after : Option (List ℕ)) (intake : I) (so_far : List ℕ) (most : ℕ) (fault : Fault E F) → Consumes first before so_far
+    → program.taken intake so_far → StopsAt program intake most before after fault → (fault ≡ Reading) ⊎ MayStop program None first fault
+stops_there program first before after intake so_far most fault gone taken at = go at.stops
+  where
+    go : (fault ≡ Reading) ⊎ ((so_far rest : List ℕ) → program.taken intake so_far → Stops program (so_far ++ (at.bytes ++ rest)) fault) → (fault ≡ Reading) ⊎ MayStop program None first fault
+    go (inl reading) = inl reading
+    go (inr stops) = inr (stops_whole program first after so_far at.bytes fault (Consumes-trans first before after so_far at.bytes gone at.gone) (λ rest. stops so_far rest taken))
+
+-- what holds of an error holds of the one that is passed on
+pub passed_on : {T E : Type 0} (r : Result T E) (error : E) (P : E → Type 0) → IsErrAnd r (λ e. e ≡ error) → P error → IfErr r P
+passed_on (Ok value) error P is holds = tt
+passed_on (Err e) error P is holds = subst P (sym is) holds

@@ -3,6 +3,7 @@
 use Rattle.std.proofs.Common.{◌≡◌, ◌∙◌, ◌<◌, ◌&&◌, ◌||◌, ap, ℕ, suc, Bool, true, false, List, [], ◌∷◌, get_or, length, Option, Some, None, Result, Ok, ◌^◌, pos, refl, sym, subst, inl, inr, arith, codes}
 use Rattle.std.specs.Borrow.{Bor}
 use Rattle.std.specs.List.{All, slice_index_or}
+use Rattle.std.specs.Option.{option_map_or}
 use Rattle.std.specs.Prelude.{option_map, slice_get, not}
 use Rattle.std.specs.Str.Parse.{ParsesUnsigned}
 use Rattle.std.specs.Str.{bytes_eq}
@@ -16,7 +17,7 @@ use Rattle.clap.specs.Matches.{ReadsOne, found_of, matched_of, one_text}
 use Rattle.clap.specs.Values.{Accepts, read_as, reading_of}
 use Rattle.clap.specs.Simple.{has_plain_fields}
 use Rattle.clap.specs.Walk.{is_empty}
-use Rattle.clap.specs.Words.{Rule, Text, app_of, rule_of}
+use Rattle.clap.specs.Words.{App, Rule, Text, app_of, matches_of, one_of, rule_of}
 use Rattle.clap.specs.declared.builder.arg.Arg.{Arg}
 use Rattle.clap.specs.declared.builder.command.Command.{Command}
 use Rattle.clap.specs.declared.builder.command.Command.TheViews.{out-Command}
@@ -26,7 +27,10 @@ use Rattle.clap.specs.declared.builder.value_parser.ValueParser.TheVariants as p
 use Rattle.clap.specs.declared.parser.matches.ArgMatches.{ArgMatches}
 use Rattle.clap.specs.declared.parser.matches.Found.{Found}
 use Rattle.clap.specs.declared.parser.matches.MatchedArg.{MatchedArg}
-use Rattle.fdb_command.specs.Arguments.{HasArgument, IsNumber, is_set}
+use Rattle.std.proofs.lemmas.List.Sums.{AllPass-from_list_all}
+use Rattle.clap.proofs.WalkLemmas.{one_text-rows}
+use Rattle.fdb_command.specs.Arguments.{AreMatches, HasArgument, IsNumber, flag_rule, is_set, number_rule}
+use Rattle.fdb_command.proofs.Choices.{one_place}
 use Rattle.clap.proofs.CallerReads.{signed_reads}
 use Rattle.clap.proofs.CallerLemmas.{entry_by_id, same_rules_by_id}
 
@@ -104,13 +108,21 @@ given_text old m p globals no_groups k a lt at unique named own q parser case t 
 
 -- ---- the arguments of a command
 
-and_left : (a b : Bool) → (a && b) ≡ true → a ≡ true
+pub and_left : (a b : Bool) → (a && b) ≡ true → a ≡ true
 and_left true b h = refl
 and_left false b h = h
 
 and_right : (a b : Bool) → (a && b) ≡ true → b ≡ true
 and_right true b h = h
 and_right false b h = cc
+
+or_left : (a b : Bool) → (a || b) ≡ false → a ≡ false
+or_left true b h = h
+or_left false b h = refl
+
+or_right : (a b : Bool) → (a || b) ≡ false → b ≡ false
+or_right true b h = cc
+or_right false b h = h
 
 not_so : (b : Bool) → not b ≡ true → b ≡ false
 not_so true h = cc
@@ -165,9 +177,26 @@ text_is old m p rules are plain simple k rule low here unique named no_help no_v
         (λ empty. named (sym id ∙ empty)) (λ auto. elim auto [ inl help ↦ no_help (sym id ∙ help) | inr version ↦ no_version (sym id ∙ version) ])
         q (ap (λ (r : Rule). r.parser) is ∙ parser) (ap (λ (r : Rule). r.ignore_case) is ∙ case) t (subst (λ (n : Text). one_text (found_of m) n ≡ Some t) (sym id) found)
 
+differs : (x y : Text) → bytes_eq x y ≡ false → x ≡ y → ⊥
+differs x y other same =
+    let bad : false ≡ true = sym other ∙ (bytes_eq-Decides x y).1 same in
+    cc
+
+-- the text of an argument that a command has
+value_of : (app : App) (arguments : List Text) (m : ArgMatches) → AreMatches app arguments m → (rule : Rule) → HasArgument app rule → (q : ValueParser) → rule.parser ≡ Some q → rule.ignore_case ≡ false
+    → (t : List ℕ) → one_of rule.id (matches_of app arguments) ≡ Some t → IsRead q t
+value_of app arguments m matches rule (simple, free, one) q parser case t found =
+    let (place, within, here, alone) = one_place (λ other. bytes_eq other.id rule.id) app.top.rules rule one in
+    let plain = and_left _ _ (and_left _ _ (and_left _ _ simple)) in
+    let each = AllPass-from_list_all (λ r. r.is_simple) app.top.rules (and_right _ _ (and_left _ _ (and_left _ _ simple))) in
+    let text : one_text (found_of m) rule.id ≡ Some t = one_text-rows (found_of m) rule.id ∙ ap (one_of rule.id) matches.rows ∙ found in
+    text_is matches.command m matches.parsed app.top.rules (ap (λ (a : App). a.top.rules) matches.is) (ap (λ (a : App). a.top.is_plain) matches.is ∙ plain) each place rule within here
+    (λ j low same. alone j low ((bytes_eq-Decides _ rule.id).1 same))
+    (differs rule.id [] (or_left _ _ free)) (differs rule.id (codes "help") (or_left _ _ (or_right _ _ free))) (differs rule.id (codes "version") (or_right _ _ (or_right _ _ free))) q parser case t text
+
 -- a flag whose text passed as a bool is set where that text is true
 flag_read : (o : Option (List ℕ)) (r : Bool) → ((t : List ℕ) → o ≡ Some t → IsRead parser.Bool t) → (o ≡ None → r ≡ false) → (o ≡ Some (codes "true") → r ≡ true)
-    → (o ≡ Some (codes "false") → r ≡ false) → r ≡ is_set o
+    → (o ≡ Some (codes "false") → r ≡ false) → r ≡ option_map_or (λ text. bytes_eq text (codes "true")) o false
 flag_read None r read absent set unset = absent refl
 flag_read (Some t) r read absent set unset =
     let got = read t refl in
@@ -179,30 +208,31 @@ flag_read (Some t) r read absent set unset =
         let other : bytes_eq t (codes "false") ≡ true = rw e at h in
         unset (ap Some ((bytes_eq-Decides t (codes "false")).0 other)) ∙ sym e
 
--- the text of an argument that a command has
-value_of : (old : Command) (m : ArgMatches) → IsParsedFrom old m → (name : Text) (q : ValueParser) → HasArgument (app_of old) name q → (t : List ℕ) → one_text (found_of m) name ≡ Some t → IsRead q t
-value_of old m p name q has t found =
-    let id = has.id in
-    text_is old m p (app_of old).top.rules refl has.plain has.simple has.place has.rule has.within has.here (λ j low same. has.alone j low (same ∙ id))
-    (λ e. has.named (sym id ∙ e)) (λ e. has.own.0 (sym id ∙ e)) (λ e. has.own.1 (sym id ∙ e)) q has.read has.case t (subst (λ (n : Text). one_text (found_of m) n ≡ Some t) (sym id) found)
+-- what is found of a name, by the matches
+found_is : (app : App) (arguments : List Text) (m : ArgMatches) → AreMatches app arguments m → (name : Text) → one_text (found_of m) name ≡ one_of name (matches_of app arguments)
+found_is app arguments m matches name = one_text-rows (found_of m) name ∙ ap (one_of name) matches.rows
 
 -- So a flag is given where its text is true.
-pub flag_of : (old : Command) (m : ArgMatches) → IsParsedFrom old m → (name : Text) → HasArgument (app_of old) name parser.Bool → (r : Bool) → (one_text (found_of m) name ≡ None → r ≡ false)
-    → (one_text (found_of m) name ≡ Some (codes "true") → r ≡ true) → (one_text (found_of m) name ≡ Some (codes "false") → r ≡ false) → r ≡ is_set (one_text (found_of m) name)
-flag_of old m p name has r absent set unset = flag_read (one_text (found_of m) name) r (value_of old m p name parser.Bool has) absent set unset
+pub flag_of : (app : App) (arguments : List Text) (m : ArgMatches) → AreMatches app arguments m → (name : Text) → HasArgument app (flag_rule name) → (r : Bool) → (one_text (found_of m) name ≡ None → r ≡ false)
+    → (one_text (found_of m) name ≡ Some (codes "true") → r ≡ true) → (one_text (found_of m) name ≡ Some (codes "false") → r ≡ false) → r ≡ is_set name app arguments
+flag_of app arguments m matches name has r absent set unset =
+    let is = found_is app arguments m matches name in
+    flag_read (one_of name (matches_of app arguments)) r (value_of app arguments m matches (flag_rule name) has parser.Bool refl refl) (λ e. absent (is ∙ e)) (λ e. set (is ∙ e)) (λ e. unset (is ∙ e))
 
 number_read : (E : Type 0) (G : List ℕ → Result ℕ E → Type 0) (low high : ℕ) (o : Option (List ℕ)) (r : Option ℕ) → ((t : List ℕ) → o ≡ Some t → IsRead (parser.Signed (pos low) (pos high)) t)
-    → (o ≡ None → r ≡ None) → ((t : List ℕ) → o ≡ Some t → ReadsOne G t r) → ((u : List ℕ) (x : Result ℕ E) → G u x → ParsesUnsigned 32 10 u x) → high < 2 ^ 32 → IsNumber low high o r
+    → (o ≡ None → r ≡ None) → ((t : List ℕ) → o ≡ Some t → ReadsOne G t r) → ((u : List ℕ) (x : Result ℕ E) → G u x → ParsesUnsigned 64 10 u x) → high < 2 ^ 64 → IsNumber low high o r
 number_read E G low high None r read absent value only fits = absent refl
 number_read E G low high (Some t) r read absent value only fits =
     let got = read t refl in
-    let number = signed_reads E G 32 low high got.0 r (subst (λ (u : List ℕ). ReadsOne G u r) got.1 (value t refl)) only fits got.2 in
+    let number = signed_reads E G 64 low high got.0 r (subst (λ (u : List ℕ). ReadsOne G u r) got.1 (value t refl)) only fits got.2 in
     let parsed = only t (Ok number.0) (subst (ReadsOne G t) number.1 (value t refl)) in
     (number.0, number.1, number.2, number.3, parsed.1)
 
 -- And a number is the one that its digits write.
-pub number_of : (E : Type 0) (G : List ℕ → Result ℕ E → Type 0) (old : Command) (m : ArgMatches) → IsParsedFrom old m → (name : Text) (low high : ℕ) → HasArgument (app_of old) name (parser.Signed (pos low) (pos high))
-    → (r : Option ℕ) → (one_text (found_of m) name ≡ None → r ≡ None) → ((t : List ℕ) → one_text (found_of m) name ≡ Some t → ReadsOne G t r)
-    → ((u : List ℕ) (x : Result ℕ E) → G u x → ParsesUnsigned 32 10 u x) → high < 2 ^ 32 → IsNumber low high (one_text (found_of m) name) r
-number_of E G old m p name low high has r absent value only fits =
-    number_read E G low high (one_text (found_of m) name) r (value_of old m p name (parser.Signed (pos low) (pos high)) has) absent value only fits
+pub number_of : (E : Type 0) (G : List ℕ → Result ℕ E → Type 0) (app : App) (arguments : List Text) (m : ArgMatches) → AreMatches app arguments m → (name : Text) (low high : ℕ)
+    → HasArgument app (number_rule name (pos low) (pos high)) → (r : Option ℕ) → (one_text (found_of m) name ≡ None → r ≡ None) → ((t : List ℕ) → one_text (found_of m) name ≡ Some t → ReadsOne G t r)
+    → ((u : List ℕ) (x : Result ℕ E) → G u x → ParsesUnsigned 64 10 u x) → high < 2 ^ 64 → IsNumber low high (one_of name (matches_of app arguments)) r
+number_of E G app arguments m matches name low high has r absent value only fits =
+    let is = found_is app arguments m matches name in
+    number_read E G low high (one_of name (matches_of app arguments)) r (value_of app arguments m matches (number_rule name (pos low) (pos high)) has (parser.Signed (pos low) (pos high)) refl refl)
+    (λ e. absent (is ∙ e)) (λ t e. value t (is ∙ e)) only fits

@@ -1,3 +1,5 @@
 pub mod Arguments
 pub mod Input
 pub mod Output
+pub mod Driving
+pub mod private

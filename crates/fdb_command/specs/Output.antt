@@ -2,7 +2,7 @@
 use Rattle.std.specs.Prelude.{◌≡◌, ℕ, ◌<◌, ◌++◌, List, Option, length}
 use Rattle.std.specs.Io.KnownBytes.{Appends}
 
--- A writer took some of these bytes, from the first one on, and not all of them.
+-- A writer took the first of these bytes, and not all.
 pub record TakesSome (bytes : List ℕ) (before after : Option (List ℕ)) : Type 0 where
   pub taken : List ℕ
   pub left : List ℕ

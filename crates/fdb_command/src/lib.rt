@@ -1,11 +1,20 @@
-//! What the programs share of the command line: its arguments, the bytes
-//! of their input and output, and the help.
+//! What the programs share of the command line: a program's
+//! way from its arguments and the bytes of its input to the
+//! bytes of its output, and its status.
 #![tactic(auto)]
 
 mod arguments;
+mod driving;
+mod fault;
 mod input;
+mod intake;
 mod output;
+mod program;
 
-pub use arguments::{ArgumentsFault, command_line, help_of, is_given, number, show};
-pub use input::{InputFault, input_bytes};
+pub use arguments::{
+    command_line, file_argument, flag_argument, is_given, new_command, number, number_argument,
+};
+pub use driving::drive;
+pub use fault::Fault;
 pub use output::{OutputFault, write_whole};
+pub use program::{Answer, Program};

@@ -9,10 +9,10 @@ ghost use Rattle.fdb_command.specs.Output.{TakesSome};
 use std::io;
 use std::io::{ErrorKind, Write};
 
-/// Why bytes were not written.
+/// Why bytes were not written: any error of the writer but an interruption, or a write that took
+/// none.
 #[derive(Clone, Copy, Debug, PartialEq, Eq)]
 pub enum OutputFault {
-    /// The writer failed.
     Writing,
 }
 

@@ -1,4 +1,4 @@
-//! Over the chain of commit versions.
+//! Two requests to a chain of commit versions, one after another.
 
 ghost use Rattle.std.specs.Prelude.{◌≡◌, ◌<◌, IfOk, true};
 

@@ -1,4 +1,4 @@
-//! Over clients.
+//! What a client reads once it has read, reported or been told, and what two clients settle.
 
 ghost use Rattle.std.specs.Prelude.{◌≡◌, ◌*◌, ◌<◌, ◌≤◌, ℕ, [], false, true, IfOk, Some};
 ghost use Rattle.fdb_history.specs.Faults.{IsFaultless};
@@ -81,7 +81,7 @@ pub fn read_once_told<J: Live, R: Wait>(
     Ok((one, two))
 }
 
-/// Nor one below what the teller had reported.
+/// Who was told reads no version below one that the teller had reported.
 pub fn read_once_told_of_a_report<J: Live, R: Wait>(
     rt: &R,
     desk: &Desk<J>,
@@ -132,7 +132,7 @@ pub fn read_within<J: Live, R: Wait>(
     client.read_version(rt, &OpenGate, desk, opts)
 }
 
-/// And so is an acknowledgement, with the record that its client has then seen.
+/// An acknowledgement is within the same bounds, with the record that its client has then seen.
 pub fn report_within<J: Live, R: Wait>(
     rt: &R,
     client: &mut Client<'_, J>,

@@ -6,5 +6,6 @@
 pub mod chain;
 pub mod clients;
 pub mod live;
+pub mod master;
 pub mod runs;
 pub mod scripts;

@@ -1,4 +1,4 @@
-//! Over the live record.
+//! Reads and reports of the live record with no client between, by tokens alone.
 
 ghost use Rattle.std.specs.Prelude.{◌≡◌, ◌*◌, ◌<◌, ◌≤◌, IfOk, IsSome, length, true};
 ghost use Rattle.fdb_live.specs.Seen.{last_record};
@@ -64,7 +64,7 @@ pub fn look_within<J: Live, R: Wait>(rt: &R, live: &LiveRecord<J>, seen: &mut Se
     live.read(rt, seen)
 }
 
-/// And so is an acknowledgement, with the record that its reporter has then seen.
+/// An acknowledgement is within the same bounds, with the record that its reporter has then seen.
 pub fn report_within<J: Live, R: Wait>(
     rt: &R,
     live: &LiveRecord<J>,

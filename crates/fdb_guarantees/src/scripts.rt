@@ -1,6 +1,7 @@
-//! Over a script that is run.
+//! A script that is run, and how far the positions of its history go.
 
 ghost use Rattle.std.specs.Prelude.{◌≡◌, ◌+◌, ◌*◌, ◌<◌, ◌≤◌, ℕ, IfOk, Some, slice_get, take};
+ghost use Rattle.fdb_client.specs.declared.cluster.TheConstants.{MAX_GRV_PROXIES};
 ghost use Rattle.fdb_history.specs.Event.{positions_from, register_after};
 ghost use Rattle.fdb_replay.specs.Outcome.{opening};
 
@@ -19,7 +20,7 @@ pub fn run_within<R: Threads + Wait + Sync>(
     proxies: u32,
 ) -> Result<Outcome, RunFault>
     requires some_proxy { 0 < proxies }
-    requires few_proxies { proxies ≤ 16 }
+    requires few_proxies { proxies ≤ MAX_GRV_PROXIES }
     ensures { IfOk result (λ outcome. (place position : ℕ)
         → slice_get (positions_from 0 outcome.history.events) place ≡ Some position
         → position ≤ 2 * (register_after (opening script.now.setup.recovery)

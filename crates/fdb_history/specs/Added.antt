@@ -7,8 +7,8 @@ use Rattle.fdb_history.specs.declared.log.CallAnswer.TheVariants.{Version, Acked
 use Rattle.fdb_history.specs.declared.log.Input.{Input}
 use Rattle.fdb_history.specs.declared.log.Input.TheVariants.{Grv, Report}
 
--- whether a client may have seen more after a call than before it: a read that was answered, or a
--- report that was acknowledged
+-- Whether the register answered a call, so that its client may have seen more. That is a read that
+-- was answered, or a report that was acknowledged.
 abbrev pub may_advance : Input → CallAnswer → Bool
 may_advance (Grv opts) (Version rec limits locked_out) = true
 may_advance (Report num locked metadata min_known) (Acked rec raised changed) = true

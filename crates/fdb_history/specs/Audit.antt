@@ -12,8 +12,8 @@ use Rattle.fdb_history.specs.declared.log.CallAnswer.TheVariants.{Version, Answe
 use Rattle.fdb_history.specs.declared.log.ClientLog.{ClientLog}
 use Rattle.fdb_history.specs.declared.register.Record.{Record}
 
--- A commit version that was drawn for its call, other than the first of the chain, is not above the
--- register that its asker had seen, given the register at each position.
+-- A drawn version is not above what its asker had seen. The first of the chain is left out, and the
+-- register is given at each position.
 abbrev pub IsNotAbove : (ℕ → Record) → ℕ → CallAnswer → Type 0
 IsNotAbove register asked (Answered issued) =
     (issued.fresh ≡ true) × (issued.ordinal ≢ 0) × (issued.version ≤ (register asked).version)
@@ -22,13 +22,13 @@ IsNotAbove register asked (Acked rec raised changed) = ⊥
 IsNotAbove register asked Told = ⊥
 IsNotAbove register asked (Refused cause) = ⊥
 
--- where a version is low: one that is not above stands there
+-- The calls whose drawn versions are not above what they had seen.
 abbrev pub Low : Record → List ClientLog → ℕ → ℕ → Type 0
 Low start logs =
     StandsAt (λ before call. IsNotAbove (register_at start logs) call.asked call.answer) logs
 
--- The fault is the first that stands: none of an earlier kind does, and it is the first of its
--- kind. Memory may run out at any time.
+-- The fault is the first that stands, by kind and place. None of an earlier kind does, and it is
+-- the first of its kind. Memory may run out at any time.
 abbrev pub IsFirstFault : Record → List Issued → List ClientLog → AuditFault → Type 0
 IsFirstFault start chain logs (Order client call) = IsFirst (OutOfOrder logs) client call
 IsFirstFault start chain logs (Clash position) =
@@ -44,8 +44,8 @@ IsFirstFault start chain logs (NotAbove client call) =
     IsFaultless start logs × Nowhere (IsStray chain logs) × IsFirst (Low start logs) client call
 IsFirstFault start chain logs Memory = Unit {0}
 
--- A fault of one answer: nothing justifies it, or it is a commit version that is not above what its
--- asker had seen.
+-- A fault of one answer: `Stray` or `NotAbove`. Nothing justifies it, or it is a commit version
+-- that is not above what its asker had seen.
 abbrev pub IsOfAnAnswer : AuditFault → Type 0
 IsOfAnAnswer (Stray client call) = Unit {0}
 IsOfAnAnswer (NotAbove client call) = Unit {0}

@@ -4,10 +4,10 @@ use Rattle.fdb_history.specs.declared.chain.Issued.{Issued}
 use Rattle.fdb_history.specs.declared.chain.TheConstants.{MAX_STEP}
 use Rattle.fdb_history.specs.declared.register.TheConstants.{MAX_VERSION}
 
--- How far a commit version is above the one before it: a version for each microsecond since, at
--- least one and at most MAX_STEP. A moment before the last one counts as no time at all.
--- (getVersion of masterserver, FoundationDB 7.1; whole microseconds, and the last sentence, are
--- this product's own)
+-- The microseconds since the version before, from 1 to MAX_STEP. So far a commit version is above
+-- the one before it. A moment before the last one counts as no time at all. (getVersion of
+-- masterserver, FoundationDB 7.1; whole microseconds, and the last sentence, are this product's
+-- own)
 abbrev pub step : ℕ → ℕ → ℕ
 step last_at at = max 1 (min MAX_STEP (at - last_at))
 
@@ -16,15 +16,14 @@ step last_at at = max 1 (min MAX_STEP (at - last_at))
 abbrev pub last_answer : List Issued → Option Issued
 last_answer answers = slice_get answers (length answers - 1)
 
--- The version before the next one: the last one that was given, and at first the end of the epoch
--- before.
--- (getVersion of masterserver: prevVersion, lastEpochEnd)
+-- The last version, or at first the end of the epoch before. The next one names it as the one
+-- before it. (getVersion of masterserver: prevVersion, lastEpochEnd)
 abbrev pub prev_after : ℕ → Option Issued → ℕ
 prev_after epoch_end None = epoch_end
 prev_after epoch_end (Some last) = last.version
 
--- The next version at a moment: a step above the last one, and at first the recovery version.
--- (getVersion of masterserver: recoveryTransactionVersion)
+-- The next version is a step above, at first the recovery version. (getVersion of masterserver:
+-- recoveryTransactionVersion)
 abbrev pub version_after : ℕ → Option Issued → ℕ → ℕ
 version_after recovery None at = recovery
 version_after recovery (Some last) at = last.version + step last.at at
@@ -44,15 +43,13 @@ pub record IsNext (epoch_end recovery : ℕ) (before : List Issued) (answer : Is
   pub version : answer.version ≡ version_after recovery (last_answer before) answer.at
   pub in_range : answer.version ≤ MAX_VERSION
 
--- Some answers go on from those before them: each is the next one after all before it. (this
--- product's own)
+-- Each of some answers is the next one after all before it. (this product's own)
 abbrev pub GoesOn : ℕ → ℕ → List Issued → List Issued → Type 0
 GoesOn epoch_end recovery before [] = Unit {0}
 GoesOn epoch_end recovery before (answer ∷ later) =
     IsNext epoch_end recovery before answer
     × GoesOn epoch_end recovery (before ++ answer ∷ []) later
 
--- One chain: each answer is the next one after those before it, the first after none. (this
--- product's own)
+-- One chain: each answer is the next one, the first after none. (this product's own)
 abbrev pub IsChain : ℕ → ℕ → List Issued → Type 0
 IsChain epoch_end recovery answers = GoesOn epoch_end recovery [] answers

@@ -17,16 +17,15 @@ after_event current (Read client call rec) = current
 abbrev pub register_after : Record → List Event → Record
 register_after start events = fold after_event start events
 
--- What an event says is so, given the register before it: a read has the register's record, and a
+-- What an event says is so of the register before it. A read has the register's record, and a
 -- report says that it raised the register, and that it changed it, exactly where it did.
 abbrev pub IsTrueOf : Record → Event → Type 0
 IsTrueOf current (Report client call rec raised changed) =
     (raised ≡ raises current rec) × (changed ≡ changes current rec)
 IsTrueOf current (Read client call rec) = rec ≡ current
 
--- A list of events is legal from a start record where each of them is true of the register before
--- it.
--- (the sequential specification of Herlihy and Wing, Linearizability, 1990, at this register)
+-- Each event is true of the register before it, from a start. (the sequential specification of
+-- Herlihy and Wing, Linearizability, 1990, at this register)
 abbrev pub IsLegal : Record → List Event → Type 0
 IsLegal start [] = Unit {0}
 IsLegal start (event ∷ events) = IsTrueOf start event × IsLegal (after_event start event) events
@@ -41,27 +40,26 @@ abbrev pub is_raise : Event → Bool
 is_raise (Report client call rec raised changed) = raised
 is_raise (Read client call rec) = false
 
--- The position after an event, from the position before it: positions count the changes. (this
--- product's own)
+-- The position counts the changes up to an event. (this product's own)
 abbrev pub position_after : ℕ → Event → ℕ
 position_after before event = if is_change event then before + 1 else before
 
--- Each event with its position: the number of changes up to and including it, over a position
--- before them all.
+-- Each event with its position. That is the number of changes up to and including it, over a
+-- position before them all.
 abbrev pub stamped : ℕ → List Event → List Placed
 stamped before [] = []
 stamped before (event ∷ events) =
     record { event = event; position = position_after before event }
     ∷ stamped (position_after before event) events
 
--- the positions of the events
+-- The positions of some events, each counted on from the one given.
 abbrev pub positions_from : ℕ → List Event → List ℕ
 positions_from before events = map (λ p. p.position) (stamped before events)
 
--- how many changes there are
+-- How many of some events are reports that changed the register.
 abbrev pub change_count : List Event → ℕ
 change_count events = count_by is_change events
 
--- how many of the reports raised the register
+-- How many of some events are reports that raised the register.
 abbrev pub raise_count : List Event → ℕ
 raise_count events = count_by is_raise events

@@ -11,8 +11,9 @@ use Rattle.fdb_history.specs.declared.log.CallAnswer.TheVariants.{Version, Answe
 use Rattle.fdb_history.specs.declared.log.ClientLog.{ClientLog}
 use Rattle.fdb_history.specs.declared.register.Record.{Record}
 
--- ---- the changes
+-- ---- the changes in the logs, and the register that comes of them
 
+-- The change in an answer, if it says one.
 abbrev pub change_in : ℕ → CallAnswer → List PlacedChange
 change_in position (Version rec limits locked_out) = []
 change_in position (Acked rec raised true) = record { position = position; rec = rec } ∷ []
@@ -21,43 +22,46 @@ change_in position (Answered issued) = []
 change_in position Told = []
 change_in position (Refused cause) = []
 
--- the changes in the logs
+-- The changes in all logs, by client and then by call.
 abbrev pub changes_in : List ClientLog → List PlacedChange
 changes_in logs =
     flat_map (λ log. flat_map (λ call. change_in call.position call.answer) log.calls) logs
 
--- those at a position
+-- The changes of a list that have this position.
 abbrev pub at_position : ℕ → List PlacedChange → List PlacedChange
 at_position position changes = filter (λ change. change.position == position) changes
 
+-- The changes in all logs at a position: one at each from 1 on that is reached, and none at 0,
+-- where no fault stands.
 abbrev pub changes_at : List ClientLog → ℕ → List PlacedChange
 changes_at logs position = at_position position (changes_in logs)
 
--- The register at a position: the start, and then each change up to there in turn, as `after_report`
--- takes them.
+-- The register after some changes in turn, as `after_report` takes them.
 abbrev pub after_changes : Record → List PlacedChange → Record
 after_changes current [] = current
 after_changes current (change ∷ changes) = after_changes (after_report current change.rec) changes
 
+-- The register at a position: the start, and each change up to there.
 abbrev pub register_at : Record → List ClientLog → ℕ → Record
 register_at start logs zero = start
 register_at start logs (suc position) =
     after_changes (register_at start logs position) (changes_at logs (suc position))
 
--- ---- faults of the history
+-- ---- faults of the history: of calls, of positions and of answers
 
--- a call is answered from before what its client had seen, or a change is not new to its client
+-- A call goes back behind what its client had seen. It is answered from before that, or is a change
+-- that is not new to its client.
 abbrev pub IsOutOfOrder : List Call → Call → Type 0
 IsOutOfOrder before call =
     (call.asked < position_after_calls 0 before)
     ⊎ ((call.position < call.asked)
     ⊎ (IsTrue (answer_changes call.answer) × (call.position ≡ call.asked)))
 
--- two changes have one position
+-- Two or more changes have this position, which only one can have.
 abbrev pub IsClash : List ClientLog → ℕ → Type 0
 IsClash logs position = 1 < length (changes_at logs position)
 
--- some call has seen at least so much
+-- Some client's call has come to this position or beyond it.
 abbrev pub IsReached : List ClientLog → ℕ → Type 0
 IsReached logs position =
     (client place : ℕ) × (call : Call)
@@ -67,14 +71,14 @@ IsReached logs position =
 abbrev pub IsGap : List ClientLog → ℕ → Type 0
 IsGap logs position = (1 ≤ position) × (changes_at logs position ≡ []) × IsReached logs position
 
--- A report would have been answered otherwise by this register: it would have changed it or not, or
--- raised it or not.
+-- This register would have answered a report otherwise. It would have changed it or not, or raised
+-- it or not.
 abbrev pub IsMisanswered : Record → Record → Bool → Bool → Type 0
 IsMisanswered current rec raised changed =
     (raised ≢ raises current rec) ⊎ (changed ≢ changes current rec)
 
--- The register would not have answered so at the call's position, given the register at each
--- position. A report that changed the register met the one of the position before its own.
+-- The register at a call's position would not have answered so. It is given at each position. A
+-- report that changed the register met the one of the position before its own.
 abbrev pub IsWrongBy : (ℕ → Record) → ℕ → CallAnswer → Type 0
 IsWrongBy register position (Version rec limits locked_out) = rec ≢ register position
 IsWrongBy register position (Acked rec raised true) =
@@ -85,12 +89,13 @@ IsWrongBy register position (Answered issued) = ⊥
 IsWrongBy register position Told = ⊥
 IsWrongBy register position (Refused cause) = ⊥
 
+-- The register of the logs would not have answered so at this position.
 abbrev pub IsWrongAnswer : Record → List ClientLog → ℕ → CallAnswer → Type 0
 IsWrongAnswer start logs = IsWrongBy (register_at start logs)
 
--- ---- where a fault stands
+-- ---- where a fault stands, and which of several is the first
 
--- a fault of a call: given the calls before it in its log
+-- A fault stands at a call, after those before it.
 abbrev pub StandsAt : (List Call → Call → Type 0) → List ClientLog → ℕ → ℕ → Type 0
 StandsAt Fault logs client place =
     (call : Call) × (slice_get (calls_of logs client) place ≡ Some call)
@@ -101,7 +106,7 @@ abbrev pub ComesBefore : ℕ → ℕ → ℕ → ℕ → Type 0
 ComesBefore client place other_client other_place =
     (client < other_client) ⊎ ((client ≡ other_client) × (place < other_place))
 
--- the first place at which something stands
+-- The first at which it stands, by client and then by place.
 pub record IsFirst (Stands : ℕ → ℕ → Type 0) (client place : ℕ) : Type 0 where
   pub stands : Stands client place
   pub none_before : (c p : ℕ) → ComesBefore c p client place → Stands c p → ⊥
@@ -111,22 +116,22 @@ pub record IsLeast (Stands : ℕ → Type 0) (position : ℕ) : Type 0 where
   pub stands : Stands position
   pub none_below : (p : ℕ) → p < position → Stands p → ⊥
 
--- it stands nowhere
+-- There is no client and no place at which it stands.
 abbrev pub Nowhere : (ℕ → ℕ → Type 0) → Type 0
 Nowhere Stands = (client place : ℕ) → Stands client place → ⊥
 
+-- It stands at no position, however great and whether reached or not.
 abbrev pub AtNoPosition : (ℕ → Type 0) → Type 0
 AtNoPosition Stands = (position : ℕ) → Stands position → ⊥
 
--- where the faults of the kinds that are named by a call stand
+-- The calls that go back behind what their clients had seen.
 abbrev pub OutOfOrder : List ClientLog → ℕ → ℕ → Type 0
 OutOfOrder logs = StandsAt IsOutOfOrder logs
 
+-- The calls that the register at their positions would have answered otherwise.
 abbrev pub WronglyAnswered : Record → List ClientLog → ℕ → ℕ → Type 0
 WronglyAnswered start logs =
     StandsAt (λ before call. IsWrongAnswer start logs call.position call.answer) logs
-
--- ---- the whole
 
 -- No fault of the history stands anywhere in the logs.
 pub record IsFaultless (start : Record) (logs : List ClientLog) : Type 0 where

@@ -15,8 +15,8 @@ pub record Chain : Type 0 where
   pub proxies : ℕ
   pub answers : List Issued
 
--- A search through the answers, the newest first: the first answer of the proxy with this number is
--- found, unless an answer of the proxy that has processed the number comes before it.
+-- A search, newest first, for the answer that is kept. The first answer of the proxy with this
+-- number is found, unless an answer of the proxy that has processed the number comes before it.
 abbrev pub kept_among : ℕ → ℕ → List Issued → Option Issued
 kept_among proxy num [] = None
 kept_among proxy num (answer ∷ older) =
@@ -57,8 +57,8 @@ abbrev pub kept_answer : Option Issued → Result Issued Refusal
 kept_answer None = Err Forgotten
 kept_answer (Some answer) = Ok (record answer { fresh = false })
 
--- What becomes of a request is decided by its number and its proxy's latest one: it is ahead of the
--- next number, or a repeat of one up to the latest, or the next.
+-- A request is ahead of the next number, a repeat, or the next. A repeat is of a number up to its
+-- proxy's latest one.
 abbrev pub by_number : {A : Type 0} → ℕ → ℕ → A → A → A → A
 by_number latest_num num ahead again next =
     if nat_lt (latest_num + 1) num then ahead
@@ -80,7 +80,7 @@ abbrev pub with_answer : Chain → Issued → Chain
 with_answer chain answer =
     if answer.fresh then record chain { answers = chain.answers ++ answer ∷ [] } else chain
 
--- The chain after a request.
+-- The chain after a request was answered so, unchanged by a refusal.
 abbrev pub chain_after : Chain → Result Issued Refusal → Chain
 chain_after chain (Ok answer) = with_answer chain answer
 chain_after chain (Err cause) = chain

@@ -21,7 +21,7 @@ seen_version (Read client call rec) = Some rec.version
 abbrev pub seen_at : List Event → ℕ → Option ℕ
 seen_at events place = option_and_then seen_version (slice_get events place)
 
--- what an event reports, whether or not it raised the register
+-- What an event reports, whether or not it raised the register.
 abbrev pub reported : Event → Option Record
 reported (Report client call rec raised changed) = Some rec
 reported (Read client call rec) = None
@@ -39,7 +39,7 @@ HasMinimumWithin (Answered issued) = Unit {0}
 HasMinimumWithin Told = Unit {0}
 HasMinimumWithin (Refused cause) = Unit {0}
 
--- nor did any of the logs
+-- No log has an acknowledged report with a minimum above its version.
 abbrev pub HaveMinimaWithin : List ClientLog → Type 0
 HaveMinimaWithin logs =
     (client : ℕ) → AllByRecursion (λ call. HasMinimumWithin call.answer) (calls_of logs client)

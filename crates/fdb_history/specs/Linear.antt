@@ -10,14 +10,14 @@ use Rattle.fdb_history.specs.declared.event.Event.TheVariants.{Report, Read}
 use Rattle.fdb_history.specs.declared.log.Call.{Call}
 use Rattle.fdb_history.specs.declared.log.ClientLog.{ClientLog}
 
--- whose event it is
+-- The client whose call an event was, by its number.
 abbrev pub client_of : Event → ℕ
 client_of (Report client call rec raised changed) = client
 client_of (Read client call rec) = client
 
--- No call was answered from before what its client had seen, and a change is new to its client: from
--- a position, each call begins at least where the one before it ended, ends at least where it
--- began, and beyond that where it changed the register.
+-- A client's calls never go back behind what it had seen. No call was answered from before that,
+-- and a change is new to its client: from a position, each call begins at least where the one
+-- before it ended, ends at least where it began, and beyond that where it changed the register.
 abbrev pub NeverGoesBack : ℕ → List Call → Type 0
 NeverGoesBack before [] = Unit {0}
 NeverGoesBack before (call ∷ calls) =
@@ -28,7 +28,8 @@ NeverGoesBack before (call ∷ calls) =
 -- The history explains the logs from the start record. (linearizability of Herlihy and Wing, 1990,
 -- with 'none before what its asker had seen' in the place of real time; this product's own)
 pub record IsLinear (start : Record) (logs : List ClientLog) (history : List Event) : Type 0 where
-  -- it is legal from the start
+  -- each read and each report's answer is what the register before it gives, from the start record
+  -- on
   pub legal : IsLegal start history
   -- each client's register calls stand in it once and in the log's order, with their places and
   -- records, and for a report whether it raised and changed the register; nothing else stands in it
@@ -38,9 +39,9 @@ pub record IsLinear (start : Record) (logs : List ClientLog) (history : List Eve
   pub placed : (client : ℕ)
       → map (λ p. p.position) (filter (λ p. client_of p.event == client) (stamped 0 history))
       ≡ map (λ p. p.position) (placed_from client 0 (calls_of logs client))
-  -- no client's positions go back
+  -- no call goes back behind what its own client had seen
   pub ordered : AllByRecursion (λ log. NeverGoesBack 0 log.calls) logs
-  -- no call has seen more than there is
+  -- no call's position is above the number of changes in the history
   pub bounded :
       AllByRecursion
       (λ log. AllByRecursion (λ call. call.position ≤ change_count history) log.calls) logs

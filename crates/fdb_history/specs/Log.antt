@@ -11,8 +11,8 @@ use Rattle.fdb_history.specs.declared.log.CallAnswer.{CallAnswer}
 use Rattle.fdb_history.specs.declared.log.CallAnswer.TheVariants.{Version, Answered, Acked, Told, Refused}
 use Rattle.fdb_history.specs.declared.log.ClientLog.{ClientLog}
 
--- A register call is one that the register answered: a read with a record, or a report with an
--- acknowledgement. This is its event, as the call at this place of this client's log.
+-- The register's event for an answered read or an acknowledged report. It is the event of the call
+-- at this place of this client's log.
 abbrev pub event_of_answer : ℕ → ℕ → CallAnswer → Option Event
 event_of_answer client place (Version rec limits locked_out) = Some (Read client place rec)
 event_of_answer client place (Acked rec raised changed) = Some (Report client place rec raised changed)
@@ -20,8 +20,8 @@ event_of_answer client place (Answered issued) = None
 event_of_answer client place Told = None
 event_of_answer client place (Refused cause) = None
 
--- the events of a client's calls from this place of its log on, in the log's order, with the
--- positions of the calls
+-- A log's events with the positions of their calls. They are those from this place on, in the log's
+-- order.
 abbrev pub placed_from : ℕ → ℕ → List Call → List Placed
 placed_from client place [] = []
 placed_from client place (call ∷ calls) =
@@ -41,12 +41,13 @@ answer_changes (Answered issued) = false
 answer_changes Told = false
 answer_changes (Refused cause) = false
 
--- The position after some calls, from a position before them: that of the last, if there is one.
+-- The position after some calls is that of the last. Where there is none, it is the position before
+-- them.
 abbrev pub position_after_calls : ℕ → List Call → ℕ
 position_after_calls before [] = before
 position_after_calls before (call ∷ calls) = position_after_calls call.position calls
 
--- the commit version answers in some calls, in order
+-- The commit version in an answer, if it has one.
 abbrev pub answer_in : CallAnswer → List Issued
 answer_in (Version rec limits locked_out) = []
 answer_in (Acked rec raised changed) = []
@@ -54,9 +55,10 @@ answer_in (Answered issued) = issued ∷ []
 answer_in Told = []
 answer_in (Refused cause) = []
 
+-- The commit versions in some calls, in order.
 abbrev pub answers_in : List Call → List Issued
 answers_in calls = flat_map (λ call. answer_in call.answer) calls
 
--- those of them that were drawn for their call
+-- The commit versions in some calls that were drawn for their call.
 abbrev pub fresh_answers : List Call → List Issued
 fresh_answers calls = filter (λ issued. issued.fresh) (answers_in calls)

@@ -7,14 +7,14 @@ use Rattle.fdb_history.specs.declared.register.Record.{Record}
 abbrev pub raises : Record → Record → Bool
 raises current reported = nat_lt current.version reported.version
 
--- A report changes the register where it raises it, or where the minimum known committed version
--- that it tells is strictly greater.
--- (minKnownCommittedVersion in updateLiveCommittedVersion of masterserver, FoundationDB 7.1)
+-- A report changes the register where it raises version or minimum. The minimum is the minimum
+-- known committed version that it tells, and has to be strictly greater. (minKnownCommittedVersion
+-- in updateLiveCommittedVersion of masterserver, FoundationDB 7.1)
 abbrev pub changes : Record → Record → Bool
 changes current reported = raises current reported || nat_lt current.min_known reported.min_known
 
--- The register after a report: version, lock and metadata version as reported where it raises the
--- register, and else as they were; and the greater of the two minimum known committed versions.
+-- The register after a report takes over all where that raises it. That is version, lock and
+-- metadata version, which else stay; and the greater of the two minimum known committed versions.
 -- (updateLiveCommittedVersion of masterserver, FoundationDB 7.1)
 abbrev pub after_report : Record → Record → Record
 after_report current reported =
@@ -23,7 +23,7 @@ after_report current reported =
           else current.min_known;
     }
 
--- The read version that a record gives: its version, or for a request that asks for it the minimum
--- known committed version. (the flag is this product's own)
+-- The read version is the record's version, or its minimum where asked for. (the flag is this
+-- product's own)
 abbrev pub version_for : Bool → Record → ℕ
 version_for use_min rec = if use_min then rec.min_known else rec.version

@@ -21,7 +21,7 @@ use Rattle.fdb_history.specs.declared.log.Refusal.{Refusal}
 use Rattle.fdb_history.specs.declared.log.Refusal.TheVariants.{Early, Forgotten, Exhausted, BadCount, BatchThrottled, Full, ProxyClosed, NotIssued, Stranger, MinAbove}
 use Rattle.fdb_history.specs.declared.register.TheConstants.{MAX_VERSION}
 
--- ---- the kind of an answer
+-- ---- which kinds of answers go with which calls
 
 -- the refusals that a call of this kind may meet
 abbrev pub may_refuse : Input → Refusal → Bool
@@ -47,15 +47,15 @@ goes_with (input.Learn from) Told = true
 goes_with asked (Refused cause) = may_refuse asked cause
 goes_with _ _ = false
 
--- ---- reads
+-- ---- answers to reads: who is turned away from a locked database
 
--- a read is turned away exactly where the record is locked and the client is not lock-aware
+-- A read is turned away exactly where locked and not lock-aware. What is locked is the record.
 abbrev pub is_rightly_locked_out : Input → CallAnswer → Bool
 is_rightly_locked_out (input.Grv opts) (Version rec limits locked_out) =
     beq locked_out (rec.locked && not opts.lock_aware)
 is_rightly_locked_out _ _ = true
 
--- ---- requests for a commit version
+-- ---- answers to requests for a commit version, by the chain and the log
 
 -- two answers are one, member by member
 abbrev pub is_same : Issued → Issued → Bool
@@ -64,8 +64,8 @@ is_same a b =
     && ((a.processed == b.processed) && ((a.prev == b.prev) && ((a.version == b.version)
     && ((a.at == b.at) && beq a.fresh b.fresh))))))
 
--- a commit version is the client's own, under the number asked for, and the chain's entry at its
--- ordinal, in all but `fresh`
+-- A commit version is its client's, under its number, in the chain. It is the chain's entry at its
+-- ordinal, in all but `fresh`.
 abbrev pub is_of_chain : List Issued → ℕ → Input → CallAnswer → Bool
 is_of_chain chain client (input.Ask num processed at) (Answered issued) =
     (issued.proxy == client) && ((issued.num == num)
@@ -73,31 +73,32 @@ is_of_chain chain client (input.Ask num processed at) (Answered issued) =
     (slice_get chain issued.ordinal) false)
 is_of_chain _ _ _ _ = true
 
--- the versions are used up, or nearly so
+-- The next version would be above the greatest one at the greatest step.
 abbrev pub is_near_the_end : List Issued → Bool
 is_near_the_end chain =
     option_map_or (λ last. nat_lt (MAX_VERSION - MAX_STEP) last.version) (last_answer chain) false
 
--- a request is told that its number is ahead of this one, the next
+-- A request is told the next number, which its own is beyond.
 abbrev pub is_early : ℕ → CallAnswer → Bool
 is_early next (Refused (Early expected)) = expected == next
 is_early _ _ = false
 
--- a repeated request gets the answer that is kept, all of it but `fresh`, or is told that none is
+-- A repeat gets the kept answer, or is told that none is. It gets all of it but `fresh`.
 abbrev pub is_again : Option Issued → CallAnswer → Bool
 is_again (Some found) (Answered issued) = is_same issued (record found { fresh = false })
 is_again None (Refused Forgotten) = true
 is_again _ _ = false
 
--- The answer to the next request is fresh and has its members, or there is no version left.
+-- The next request gets a fresh answer, or the versions are used up. The answer has the request's
+-- members.
 abbrev pub is_fresh_answer : List Issued → ℕ → ℕ → CallAnswer → Bool
 is_fresh_answer chain processed at (Answered issued) =
     issued.fresh && ((issued.processed == processed) && (issued.at == at))
 is_fresh_answer chain processed at (Refused Exhausted) = is_near_the_end chain
 is_fresh_answer _ _ _ _ = false
 
--- The answer to a request is the one that is due, where this is its client's latest number, and
--- this answer is kept under the request's.
+-- The answer is the one that a request's number asks for. That is, where this is its client's
+-- latest number, and this answer is kept under the request's.
 abbrev pub is_due : List Issued → ℕ → Option Issued → Input → CallAnswer → Bool
 is_due chain latest_num found (input.Ask num processed at) answer =
     by_number latest_num num
@@ -111,16 +112,16 @@ abbrev pub logged_as : Result Issued Refusal → CallAnswer
 logged_as (Ok issued) = Answered issued
 logged_as (Err cause) = Refused cause
 
--- ---- reports
+-- ---- answers to reports, by the version under their number
 
--- the version that was issued under a number, by the first answer of the log that has it
+-- The first version that a log got under a number.
 abbrev pub issued_under : List Call → ℕ → Option ℕ
 issued_under before num =
     option_map (λ issued. issued.version) (find (λ issued. issued.num == num) (answers_in before))
 
--- a report is of the version that was issued under its number, with the flags and the minimum known
--- committed version that it was told; it is refused only where none was, or where that minimum is
--- above it
+-- A report is of the issued version, as given, or rightly refused. The version is the one under its
+-- number, with the flags and the minimum known committed version that it was told; it is refused
+-- only where none was, or where that minimum is above it.
 abbrev pub is_of_issued : Option ℕ → Input → CallAnswer → Bool
 is_of_issued version (input.Report num locked metadata min_known) (Acked rec raised changed) =
     option_eq nat_eq version (Some rec.version)
@@ -131,17 +132,17 @@ is_of_issued version (input.Report num locked metadata min_known) (Refused MinAb
     option_map_or (λ issued. nat_lt issued min_known) version false
 is_of_issued _ _ _ = true
 
--- ---- where an answer is stray
+-- ---- where an answer is stray, and where one is missing
 
--- the number that a call is about
+-- The number under which a call asks or reports, else 0.
 abbrev pub number_of : Input → ℕ
 number_of (input.Ask num processed at) = num
 number_of (input.Report num locked metadata min_known) = num
 number_of _ = 0
 
--- A call's answer is justified by its input, by the chain, and by what its client's calls so far
--- say of its number: the client's latest one, the answer that is kept under it, and the version
--- that was issued under it.
+-- A call's answer is justified by chain, input and earlier calls. What its client's calls so far
+-- say of its number is given: the client's latest one, the answer that is kept under it, and the
+-- version that was issued under it.
 abbrev pub is_justified_by : List Issued → ℕ → ℕ → Option Issued → Option ℕ → Call → Bool
 is_justified_by chain client latest_num found version call =
     goes_with call.input call.answer
@@ -150,7 +151,7 @@ is_justified_by chain client latest_num found version call =
     && (is_due chain latest_num found call.input call.answer
     && is_of_issued version call.input call.answer)))
 
--- A call's answer is justified, after the calls before it in its client's log.
+-- A call's answer is justified after the calls before it in its log.
 abbrev pub is_justified : List Issued → ℕ → List Call → Call → Bool
 is_justified chain client before call =
     is_justified_by chain client
@@ -159,19 +160,19 @@ is_justified chain client before call =
     (issued_under before (number_of call.input))
     call
 
--- Where a call's answer is not justified.
+-- The calls whose answers are not justified after those before them.
 abbrev pub NotJustified : List Issued → List ClientLog → ℕ → ℕ → Type 0
 NotJustified chain logs client place =
     StandsAt (λ before call. is_justified chain client before call ≡ false) logs client place
 
--- the chain's entry at a place was drawn by one of some calls: with this ordinal, and fresh, it is
--- among their answers
+-- A call drew the chain's entry at a place. With this ordinal, and fresh, it is among the answers
+-- of some calls.
 abbrev pub is_drawn : List Call → ℕ → Issued → Bool
 is_drawn calls place entry =
     list_any (λ issued. is_same issued (record entry { ordinal = place; fresh = true }))
     (answers_in calls)
 
--- the chain has an entry of this client that none of its calls drew
+-- The chain has a client's entry that none of its calls drew.
 abbrev pub HasUndrawn : List Issued → List ClientLog → ℕ → Type 0
 HasUndrawn chain logs client =
     (place : ℕ) × (entry : Issued) × (slice_get chain place ≡ Some entry) × (entry.proxy ≡ client)

@@ -5,16 +5,17 @@ use Rattle.fdb_history.specs.declared.log.Refusal.{Refusal}
 use Rattle.fdb_history.specs.declared.log.Refusal.TheVariants.{Early, Forgotten, UnknownProxy, Exhausted, BadCount, BatchThrottled, Full, ProxyClosed, NotIssued, Stranger, TooLarge, MinAbove}
 use Rattle.fdb_history.specs.declared.register.Record.{Record}
 
--- a metadata version, each of its bytes as two hexadecimal digits in lower case, or `none`
+-- A metadata version as twenty hexadecimal digits in lower case, or `none`. These are two for each
+-- of its bytes.
 abbrev pub metadata_text : Option (List ℕ) → List ℕ
 metadata_text None = codes "none"
 metadata_text (Some metadata) = encode_lower metadata
 
--- a minimum known committed version, which is told where it is not 0
+-- A minimum known committed version, told where it is not 0.
 abbrev pub min_text : ℕ → List ℕ
 min_text min_known = if min_known == 0 then [] else codes " min " ++ decimal min_known
 
--- a record: its version, its lock, its metadata version and its minimum known committed version
+-- A record: its version, lock, metadata version and minimum.
 abbrev pub record_text : Record → List ℕ
 record_text rec =
     decimal rec.version ++ (if rec.locked then codes " locked " else codes " unlocked ")

@@ -104,7 +104,7 @@ fn answers_or_fault(
     Ok(explaining::explain(alloc, events)?)
 }
 
-/// The history, or the first fault.
+/// What [`audit`] does, with the one clause of which its others are consequences.
 fn history_or_fault(
     alloc: Global,
     start: Record,

@@ -1,4 +1,4 @@
-//! Commit version requests and their answers.
+//! What a commit proxy asks of the sequencer for a commit version, and what it is answered.
 
 /// The most that a commit version is above the one before it: five seconds' worth of versions
 /// (`MAX_READ_TRANSACTION_LIFE_VERSIONS` of FoundationDB 7.1, at a million versions a second).
@@ -22,15 +22,13 @@ pub struct Ask {
 pub struct Issued {
     /// How many fresh answers of the service came before.
     pub ordinal: u64,
-    /// The commit proxy that asked.
     pub proxy: u32,
-    /// The proxy's number for the request.
     pub num: u64,
     /// What the request said of the answers that its proxy has processed.
     pub processed: u64,
     /// The commit version before this one (`prevVersion`).
     pub prev: u64,
-    /// The commit version.
+    /// The commit version that was drawn, at most `MAX_VERSION`.
     pub version: u64,
     /// The moment of the request, in microseconds.
     pub at: u64,

@@ -13,41 +13,36 @@ pub enum Event {
     /// A client reported a record (`reportLiveCommittedVersion`),
     /// and was told whether it raised the register, and whether it changed it.
     Report {
-        /// The client.
         client: u32,
         /// The place of the call in the client's log.
         call: u64,
-        /// What was reported.
+        /// The record as it was reported, whether or not it is newer than the register.
         rec: Record,
         /// Whether its version was greater than the register's.
         raised: bool,
         /// Whether its version or its minimum known committed version was greater.
         changed: bool,
     },
-    /// A client read the register (`getLiveCommittedVersion`).
+    /// A client read the register, which stays as it was (`getLiveCommittedVersion`).
     Read {
-        /// The client.
         client: u32,
         /// The place of the call in the client's log.
         call: u64,
-        /// What was read.
+        /// The whole record that the register held.
         rec: Record,
     },
 }
 
-/// An event and its position.
+/// An event and its position: the number of changes up to and including it.
 #[derive(Clone, Copy)]
 pub(crate) struct Placed {
-    /// The event.
     pub(crate) event: Event,
-    /// Its position.
     pub(crate) position: u64,
 }
 
 /// Events, one after another, that explain the replies of a run.
 #[derive(Debug, Drop)]
 pub struct History {
-    /// The events, in order.
     pub events: Sequence<Event>,
 }
 

@@ -1,13 +1,13 @@
 //! Places at which a test can hold a thread.
 
-/// A place that a thread passes.
+/// A place in a call that a thread passes, and at which its gate may hold it.
 #[derive(Clone, Copy, Debug, PartialEq, Eq)]
 pub enum Place {
-    /// The sequencer's lock is held.
+    /// The sequencer's lock is held, and the chain is not asked yet.
     SequencerHeld,
-    /// The lock of the reports is held.
+    /// The lock of the reports is held, and the live record is not looked at yet.
     ReportHeld,
-    /// The answer to a read has come.
+    /// The answer to a read has come, and its client has not looked at it yet.
     ReadAnswered,
 }
 
@@ -18,7 +18,7 @@ pub trait Gate: Sync {
     fn pass(&self, place: Place, who: u32);
 }
 
-/// The gate that holds nobody.
+/// The gate of a service in use: every thread passes it at once.
 #[derive(Clone, Copy, Debug, PartialEq, Eq)]
 pub struct OpenGate;
 

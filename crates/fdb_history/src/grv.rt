@@ -6,11 +6,11 @@ use std::alloc::AllocError;
 /// The priority of a request, and with it its queue at the GRV proxy (`TransactionPriority`).
 #[derive(Clone, Copy, Debug, PartialEq, Eq)]
 pub enum Priority {
-    /// `IMMEDIATE`: no rate holds it.
+    /// `IMMEDIATE`: no rate holds it, and it starts before the others.
     System,
-    /// `DEFAULT`: the normal rate holds it.
+    /// `DEFAULT`: the normal rate holds it, and it starts before batch requests.
     Default,
-    /// `BATCH`: both rates hold it.
+    /// `BATCH`: both rates hold it, and it is the first to be pushed out.
     Batch,
 }
 
@@ -20,9 +20,8 @@ pub type Tag = Sequence<u8>;
 /// A throttle as a client is told of it (`ClientTagThrottleLimits`).
 #[derive(Clone, Debug, Drop, PartialEq, Eq)]
 pub struct TagLimit {
-    /// The tag.
     pub tag: Tag,
-    /// Transactions per second.
+    /// How many transactions with the tag may start a second (`tpsRate`).
     pub rate: u64,
     /// The moment from which on it holds no longer, in microseconds.
     pub expires: u64,
@@ -31,11 +30,10 @@ pub struct TagLimit {
 /// What a client says with a request for a read version (`GetReadVersionRequest`).
 #[derive(Debug, Drop, PartialEq, Eq)]
 pub struct GrvOpts {
-    /// The priority.
     pub priority: Priority,
     /// How many transactions the request stands for.
     pub count: u64,
-    /// The transactions' tags, in order.
+    /// The transactions' tags, whose throttles the answer tells in this order.
     pub tags: Sequence<Tag>,
     /// Whether the client may go on when the database is locked.
     pub lock_aware: bool,

@@ -7,23 +7,21 @@ use crate::sequence::Sequence;
 use std::error::Error;
 use std::fmt;
 
-/// What a client called.
+/// What a client called. It asks as the commit proxy that has its own number.
 #[derive(Debug, Drop)]
 pub enum Input {
-    /// It read the read version.
+    /// It asked a GRV proxy for a read version.
     Grv(GrvOpts),
-    /// It asked for a commit version.
+    /// It asked the sequencer for a commit version, for the first time or again.
     Ask {
-        /// The number of the request.
         num: u64,
-        /// What it has processed.
+        /// It needs no answer up to this number any more.
         processed: u64,
-        /// The moment, in microseconds.
+        /// The moment of the request, in microseconds.
         at: u64,
     },
     /// It reported the commit version that it got under a number.
     Report {
-        /// The number of the request.
         num: u64,
         /// Whether the database is locked from this version on.
         locked: bool,
@@ -34,33 +32,31 @@ pub enum Input {
     },
     /// It told another client what it has seen.
     Tell {
-        /// The other client.
         to: u32,
     },
     /// It learnt what another client had seen.
     Learn {
-        /// The other client.
         from: u32,
     },
 }
 
-/// What a call was answered.
+/// What a call was answered: of the kind of its [`Input`], or a refusal.
 #[derive(Debug, Drop)]
 pub enum CallAnswer {
     /// A read: the live record, and what throttles the tags of the request.
     Version {
-        /// What was read.
+        /// The record that was read, of which the client's options name the read version.
         rec: Record,
-        /// The throttles of the request's tags.
+        /// The throttles of the request's tags that had not expired at its moment.
         limits: Sequence<TagLimit>,
         /// Whether the client was turned away because the database is locked.
         locked_out: bool,
     },
-    /// A commit version.
+    /// A commit version, drawn for this call or kept from an earlier one.
     Answered(Issued),
-    /// A report was acknowledged.
+    /// A report was acknowledged, whether or not it was newer than the register.
     Acked {
-        /// What was reported.
+        /// What was reported: the version under the call's number, with what the call said of it.
         rec: Record,
         /// Whether the report raised the live committed version.
         raised: bool,
@@ -73,35 +69,35 @@ pub enum CallAnswer {
     Refused(Refusal),
 }
 
-/// Why a call was refused.
+/// Why a call was refused, and so changed nothing.
 #[derive(Clone, Copy, Debug, PartialEq, Eq)]
 pub enum Refusal {
     /// The request's number is beyond the next one of its proxy.
     Early {
-        /// The next number.
+        /// The next number of that proxy, one above its latest.
         expected: u64,
     },
     /// The answer under this number is not kept any more.
     Forgotten,
-    /// There is no such commit proxy.
+    /// The commit proxy's number is not below the number of commit proxies.
     UnknownProxy,
-    /// The next version would be above the greatest one.
+    /// The next version would be above `MAX_VERSION`.
     Exhausted,
     /// The count of a read is none that could ever start.
     BadCount,
-    /// The batch limit is 0.
+    /// A batch request was not let in, since the batch limit is 0.
     BatchThrottled,
-    /// The queue was full.
+    /// The queue was full of requests that this one could not push out, or it was pushed out.
     Full,
-    /// The GRV proxy was closed.
+    /// The GRV proxy was closed before the request started.
     ProxyClosed,
     /// The client has no commit version under this number.
     NotIssued,
     /// An answer came that was another call's.
     Stranger,
-    /// The version is above the greatest one.
+    /// A reported version is above `MAX_VERSION`, which none that was drawn is.
     TooLarge,
-    /// The minimum known committed version is above the version.
+    /// A report's minimum known committed version is above its version.
     MinAbove,
 }
 
@@ -136,19 +132,17 @@ impl Error for Refusal {}
 /// One call of a client. A position is the number of changes that had been seen.
 #[derive(Debug, Drop)]
 pub struct Call {
-    /// What was called.
     pub input: Input,
-    /// The client's position before the call.
+    /// The position that the client had come to before the call.
     pub asked: u64,
-    /// The client's position after the call.
+    /// The position that it had come to after the call, at least as great unless the log has a
+    /// fault.
     pub position: u64,
-    /// What came back.
     pub answer: CallAnswer,
 }
 
 /// What one client called, one call after another.
 #[derive(Debug, Drop)]
 pub struct ClientLog {
-    /// The calls.
     pub calls: Sequence<Call>,
 }

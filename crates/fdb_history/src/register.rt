@@ -18,9 +18,7 @@ pub const MAX_VERSION: u64 = 9_223_372_036_854_775_807;
 /// (masterserver), and the members of `GetRawCommittedVersionReply`.
 #[derive(Clone, Copy, Debug, PartialEq, Eq)]
 pub struct Record {
-    /// The live committed version.
     pub version: u64,
-    /// Whether the database is locked.
     pub locked: bool,
     /// The metadata version, if there is one: a versionstamp, which is ten bytes.
     pub metadata: Option<[u8; 10]>,

@@ -31,7 +31,7 @@ impl Model for Replies {
 }
 
 impl Replies {
-    /// No replies. Takes no memory.
+    /// The replies of a proxy that got no answer yet. Takes no memory.
     pub fn new(alloc: Global) -> Self
         ensures { result ≡ no_replies }
     {
@@ -53,7 +53,7 @@ impl Replies {
         Ok(all)
     }
 
-    /// The proxy's latest number.
+    /// The greatest number under which the proxy got an answer, and 0 before the first.
     pub fn latest(&self) -> u64
         ensures value { result ≡ length self.now.places }
         ensures in_range { result < 2 ^ 63 }

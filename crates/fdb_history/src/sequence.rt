@@ -26,7 +26,7 @@ impl<T> Model for Sequence<T> {
 }
 
 impl<T> Sequence<T> {
-    /// No items. Takes no memory.
+    /// A sequence without items, which takes no memory.
     pub fn new(alloc: Global) -> Self
         ensures { result ≡ [] }
     {
@@ -35,28 +35,28 @@ impl<T> Sequence<T> {
         }
     }
 
-    /// How many items there are.
+    /// How many items it has, whatever its `Vec` has room for.
     pub fn len(&self) -> usize
         ensures { result ≡ length self.now }
     {
         self.items.len()
     }
 
-    /// Whether there are none.
+    /// Whether it has no item, whatever its `Vec` has room for.
     pub fn is_empty(&self) -> bool
         ensures { result ≡ (length self.now == 0) }
     {
         self.items.is_empty()
     }
 
-    /// The items.
+    /// The items as a slice, without a copy.
     pub fn as_slice(&self) -> &[T]
         ensures { result.now ≡ self.now }
     {
         self.items.as_slice()
     }
 
-    /// The items, in order.
+    /// Goes over the items from the first, without a copy.
     pub fn iter(&self) -> slice::Iter<'_, T>
         ensures { iter_rest result ≡ self.now }
     {
@@ -84,7 +84,7 @@ impl<T> Sequence<T> {
 impl<T> From<Vec<T>> for Sequence<T> {
     ghost from_gives = { λ items s. s ≡ items.items };
 
-    /// Takes no memory.
+    /// Takes the `Vec` as it is, without a copy and without memory.
     fn from(items: Vec<T>) -> Self {
         Sequence { items }
     }

@@ -1,35 +1,32 @@
 -- Spots in order are an order of the acts.
-use Rattle.std.proofs.Common.{◌≡◌, ◌⊎◌, ℕ, zero, suc, ◌+◌, ◌*◌, ◌^◌, ◌<◌, ◌≤◌, ◌==◌, ◌&&◌, ◌||◌, nat_lt, Bool, true, false, cond, List, [], ◌∷◌, ◌++◌, map, length, Option, Some, None, is_some, refl, ap, sym, subst, ◌∙◌, inl, inr, arith, slice_index_or, Contains, IsPermutation, ◌-◌, drop, slice_get, add-one, append_assoc, not, option_to_list, IfSome, IsTrue}
+use Rattle.std.proofs.Common.{◌≡◌, ◌⊎◌, ℕ, zero, suc, ◌+◌, ◌*◌, ◌^◌, ◌<◌, ◌≤◌, ◌==◌, ◌&&◌, ◌||◌, nat_lt, Bool, true, false, cond, List, [], ◌∷◌, ◌++◌, map, length, Option, Some, None, is_some, refl, ap, sym, subst, ◌∙◌, inl, inr, arith, slice_index_or, Contains, IsPermutation, ◌-◌, drop, slice_get, add-one, append_assoc, not, option_to_list}
 use Rattle.std.proofs.lemmas.Bool.{cases_order, and_parts, and_from, or_cases, or_parts, both_ways, eq-eqb, eqb-true}
 use Rattle.std.proofs.lemmas.Bool.Decides.{nat_tests}
-use Rattle.std.proofs.lemmas.List.{append-nil}
-use Rattle.std.proofs.lemmas.List.Elements.{All-append, All-cons}
-use Rattle.std.proofs.lemmas.List.Sorted.{All-permutation, Contains-permutation, IsPermutation-sym}
+use Rattle.std.proofs.lemmas.List.Sorted.{Contains-permutation, IsPermutation-sym}
 use Rattle.std.proofs.lemmas.Option.{slice_get-get_or}
 use Rattle.std.proofs.Math.Seq.{drop-cons}
 use Rattle.std.specs.List.Sorted.{IsNonDecreasingBy}
-use Rattle.fdb_lines.specs.declared.act.Act.{Act}
-use Rattle.fdb_lines.specs.declared.act.Act.TheVariants.{Asks}
 use Rattle.fdb_lines.specs.declared.spot.Spot.{Spot}
 use Rattle.fdb_lines.specs.declared.spot.Stage.{Stage}
 use Rattle.fdb_lines.specs.declared.spot.Stage.TheVariants.{Asked, Shared, Raising, Shown}
 use Rattle.fdb_lines.specs.declared.turn.Turn.{Turn}
-use Rattle.fdb_lines.specs.Explained.{Explains, taken_by}
+use Rattle.fdb_lines.specs.Explained.{Explains}
 use Rattle.fdb_lines.specs.declared.line.Line.{Line}
 use Rattle.fdb_lines.specs.Before.{began}
 use Rattle.fdb_lines.specs.Faults.{is_reported, knows}
-use Rattle.fdb_lines.specs.Lines.{Case, kind_at, version_at, line_at, shows, draws, is_learn, is_read, kind_of, version_of}
+use Rattle.fdb_lines.specs.Lines.{Case, kind_at, version_at, line_at, shows, is_learn, is_read, kind_of, version_of}
 use Rattle.fdb_lines.specs.Order.{Item, IsRanked, ask_item, shared_item, take_by, take_item, needs_ask, needs_report}
-use Rattle.fdb_lines.specs.Turns.{acts_of, AreTurnsOf, IsActOf}
+use Rattle.fdb_lines.specs.Turns.{acts_of}
 use Rattle.fdb_lines.specs.private.Late.{late}
-use Rattle.fdb_lines.specs.private.Spots.{AreSpotsOf, IsActBy, above_at, follows, is_one, item_of, items_at, items_below, level_of, may_share, one_if, spot_key, spot_rank, stage_number, turn_by, turns_from}
-use Rattle.fdb_lines.proofs.Complete.{IsOrder, Origin, Asked as AskedBy, explained_by, origin_take, origin_report, same_items}
+use Rattle.fdb_lines.specs.private.Spots.{above_at, follows, is_one, item_of, items_at, items_below, level_of, may_share, one_if, spot_key, spot_rank, stage_number, turn_by, turns_from}
+use Rattle.fdb_lines.proofs.Complete.{explained_by}
+use Rattle.fdb_lines.proofs.Legal.{IsOrder, Origin, Asked as AskedBy, origin_take, origin_report, same_items}
 use Rattle.fdb_lines.proofs.Facts.{HasNone}
 use Rattle.fdb_lines.proofs.Sorted.{In, KeyLess, SameKey, Rises, less_trans}
 
 -- ---- spots in a list, in any order
 
-abbrev Has : Spot → List Spot → Type 0
+abbrev pub Has : Spot → List Spot → Type 0
 Has x [] = ⊥
 Has x (y ∷ ys) = (x ≡ y) ⊎ Has x ys
 
@@ -38,10 +35,10 @@ has_at [] k d lt = absurd (omega arith)
 has_at (y ∷ ys) zero d lt = inl refl
 has_at (y ∷ ys) (suc k) d lt = inr (has_at ys k d (omega arith))
 
-from_Contains : (xs : List Spot) (x : Spot) → Contains xs x → Has x xs
+pub from_Contains : (xs : List Spot) (x : Spot) → Contains xs x → Has x xs
 from_Contains xs x c = subst (λ y. Has y xs) c.2 (has_at xs c.0 x c.1)
 
-to_Contains : (xs : List Spot) (x : Spot) → Has x xs → Contains xs x
+pub to_Contains : (xs : List Spot) (x : Spot) → Has x xs → Contains xs x
 to_Contains [] x h = absurd h
 to_Contains (y ∷ ys) x h = elim h [ inl e ↦ (0, omega arith, sym e) | inr r ↦ let c = to_Contains ys x r in (suc c.0, omega arith, c.2) ]
 
@@ -362,52 +359,3 @@ items_added it k line is start known reported es ek er a b d ea eb ed old one tw
     ∙ ((λ i. old ++ (option_to_list (ea i) ++ option_to_list (eb i) ++ option_to_list (ed i)))
     ∙ ((λ i. old ++ (option_to_list (ask_if (is i) (es i)) ++ option_to_list (take_if (is i) k (ek i)) ++ option_to_list (report_if (is i) (es i) (told i))))
     ∙ ap (λ l. old ++ l) (found_items it k)))))))
-
--- ---- each act is of its line
-
-act_by : (it : Case) (k : ℕ) → k < length it.lines → (line : Line) → line ≡ line_at it.lines k → (act : Act) (o : Option ℕ) → IsActBy line k act o → IsActOf it act o
-act_by it k lt line is act None h = tt
-act_by it k lt line is act (Some j) h =
-    subst (λ i. IsActOf it act (Some i)) (sym h.0)
-    (lt, subst (λ l. (IsTrue (draws (kind_of l.call)) × (act ≡ Asks (version_of l.call))) ⊎ (IsTrue (shows (kind_of l.call)) × (act ≡ taken_by (kind_of l.call) (version_of l.call)))) is h.1)
-
-of_nobody : (it : Case) (spot : Spot) → spot.line ≡ None → IsActOf it spot.act spot.line
-of_nobody it spot e = subst (IsActOf it spot.act) (sym e) tt
-
-one_more : (it : Case) (old : List Spot) (o : Option Spot) → IfSome o (λ s. IsActOf it s.act s.line) → AreSpotsOf it old → AreSpotsOf it (old ++ option_to_list o)
-one_more it old None h told = subst (AreSpotsOf it) (sym (append-nil old)) told
-one_more it old (Some s) h told = All-append (λ (z : Spot). IsActOf it z.act z.line) old (s ∷ []) told (All-cons (λ (z : Spot). IsActOf it z.act z.line) s [] h (λ j d lt. absurd (omega arith)))
-
-some_by : (it : Case) (k : ℕ) → k < length it.lines → (line : Line) → line ≡ line_at it.lines k → (o : Option Spot) → IfSome o (λ s. IsActBy line k s.act s.line) → IfSome o (λ s. IsActOf it s.act s.line)
-some_by it k lt line is None h = tt
-some_by it k lt line is (Some s) h = act_by it k lt line is s.act s.line h
-
-some_others : (it : Case) (o : Option Spot) → IfSome o (λ s. s.line ≡ None) → IfSome o (λ s. IsActOf it s.act s.line)
-some_others it None h = tt
-some_others it (Some s) h = of_nobody it s h
-
-pub spots_told : (it : Case) (k : ℕ) → k < length it.lines → (line : Line) → line ≡ line_at it.lines k → (a b d : Option Spot) → IfSome a (λ s. IsActBy line k s.act s.line)
-    → IfSome b (λ s. IsActBy line k s.act s.line) → IfSome d (λ s. s.line ≡ None) → (old one two three : List Spot) → AreSpotsOf it old
-    → one ≡ old ++ option_to_list a → two ≡ one ++ option_to_list b → three ≡ two ++ option_to_list d → AreSpotsOf it three
-spots_told it k lt line is a b d ha hb hd old one two three told e1 e2 e3 =
-    subst (AreSpotsOf it) (sym e3) (one_more it two d (some_others it d hd)
-    (subst (AreSpotsOf it) (sym e2) (one_more it one b (some_by it k lt line is b hb)
-    (subst (AreSpotsOf it) (sym e1) (one_more it old a (some_by it k lt line is a ha) told)))))
-
-pub spots_moved : (it : Case) (xs ys : List Spot) → IsPermutation xs ys → AreSpotsOf it xs → AreSpotsOf it ys
-spots_moved it xs ys p told = All-permutation (λ (z : Spot). IsActOf it z.act z.line) xs ys p told
-
-turn_told : (it : Case) (b : Bool) (s : Spot) → IsActOf it s.act s.line → AreTurnsOf it (turn_by b s)
-turn_told it false s h = All-cons (λ (z : Turn). IsActOf it z.act z.line) _ [] h (λ j d lt. absurd (omega arith))
-turn_told it true s h =
-    elim (is_some s.line) as (λ o. AreTurnsOf it (cond o (record { act = s.act; line = s.line; shared = true } ∷ []) [])) [
-      | true ↦ All-cons (λ (z : Turn). IsActOf it z.act z.line) _ [] h (λ j d lt. absurd (omega arith))
-      | false ↦ λ j d lt. absurd (omega arith)
-    ]
-
-pub turns_told : (it : Case) (above : Option Spot) (ss : List Spot) → AreSpotsOf it ss → AreTurnsOf it (turns_from above ss)
-turns_told it above [] told = λ j d lt. absurd (omega arith)
-turns_told it above (s ∷ ss) told =
-    All-append (λ (z : Turn). IsActOf it z.act z.line) (turn_by (follows above s) s) (turns_from (Some s) ss)
-    (turn_told it (follows above s) s (told 0 s (omega arith)))
-    (turns_told it (Some s) ss (λ j d lt. told (suc j) d (omega arith)))

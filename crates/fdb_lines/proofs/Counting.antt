@@ -1,15 +1,15 @@
 -- How many versions are equal to one, and how many numbers pass a test.
-use Rattle.std.proofs.Common.{◌≡◌, ◌≢◌, ℕ, zero, suc, max, ◌+◌, ◌<◌, ◌≤◌, ◌==◌, nat_lt, nat_le, not, Bool, true, false, cond, ◌&&◌, ◌||◌, List, [], ◌∷◌, ◌++◌, length, get_or, slice_index, count_by, sum_by, refl, ap, sym, ◌∙◌, inl, inr, arith, add-one}
+use Rattle.std.proofs.Common.{◌≡◌, ℕ, zero, suc, max, ◌+◌, ◌<◌, ◌≤◌, ◌==◌, nat_lt, nat_le, not, Bool, true, false, cond, ◌&&◌, ◌||◌, List, [], ◌∷◌, ◌++◌, length, get_or, slice_index, count_by, refl, ap, sym, ◌∙◌, inl, inr, arith, add-one}
 use Rattle.std.specs.List.Sorted.{IsPartitionPoint}
-use Rattle.std.proofs.lemmas.Bool.{both_ways, cases_Bool, cases_eq, cases_order, cond-true, cond-false, eq-eqb, eqb-true, ne_eqb, lt-ltb, le-ltb, le-leb, lt-leb}
+use Rattle.std.proofs.lemmas.Bool.{both_ways, cases_Bool, cases_eq, cases_order, eq-eqb, ne_eqb, lt-ltb, le-ltb, le-leb, lt-leb}
 use Rattle.std.proofs.lemmas.List.{get_or_default}
 use Rattle.std.proofs.lemmas.List.Sums.{sum_by-cons, sum_by-append}
 use Rattle.fdb_lines.specs.declared.choice.Choice.{Choice}
 use Rattle.fdb_lines.specs.declared.line.Line.{Line}
 use Rattle.fdb_lines.specs.Lines.{nobody, line_at, kind_of, version_of}
 use Rattle.fdb_lines.specs.Faults.{some_below}
-use Rattle.fdb_lines.specs.private.Versions.{times_in, tally, is_chosen, is_choice, AreBelow}
-use Rattle.fdb_lines.proofs.Tests.{same_tests}
+use Rattle.fdb_lines.specs.Summary.{tally}
+use Rattle.fdb_lines.specs.private.Versions.{times_in, is_chosen, is_choice, AreBelow}
 
 -- what a test adds to a count
 abbrev adds : Bool → ℕ

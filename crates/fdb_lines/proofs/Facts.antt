@@ -1,7 +1,7 @@
 -- What holds of lines without a fault, and the keys of their acts.
 use Rattle.std.proofs.Common.{◌≡◌, ◌≢◌, ◌⊎◌, ℕ, max, ◌+◌, ◌*◌, ◌<◌, ◌≤◌, ◌==◌, nat_lt, not, Bool, true, false, ◌&&◌, length, refl, ap, sym, subst, inl, inr, arith}
 use Rattle.std.proofs.lemmas.Bool.{cases_Bool, cases_lt, cases_eq, and_parts, and_from, and_left, both_ways, not_from_false, not-true, eqb-true, eqb-false, ne_eqb, ltb-true, ltb-false}
-use Rattle.fdb_lines.specs.Lines.{Kind, Read, Commit, Ask, Report, Learn, Case, kind_at, version_at, client_at, draws, reports, shows, is_read, is_commit, is_learn}
+use Rattle.fdb_lines.specs.Lines.{Kind, Read, Commit, Ask, Report, Learn, Case, kind_at, version_at, draws, reports, shows, is_read, is_commit, is_learn}
 use Rattle.fdb_lines.specs.declared.act.Act.TheVariants.{Asks, Reports, Reads}
 use Rattle.fdb_lines.specs.Explained.{taken_by}
 use Rattle.fdb_lines.specs.declared.fault.Fault.{Fault}

@@ -1,6 +1,6 @@
 -- What clients have heard of, line by line.
 use Rattle.std.proofs.Common.{◌≡◌, ℕ, suc, max, ◌<◌, ◌≤◌, ◌==◌, Bool, true, false, cond, ◌&&◌, ◌||◌, List, length, Option, None, Some, refl, ap, sym, ◌∙◌, inl, inr, arith}
-use Rattle.std.proofs.lemmas.Bool.{cases_Bool, cases_eq, and_parts, and_from, or_cases, or_left, both_ways, cond-true, cond-false, eq-eqb, eqb-true, ne_eqb}
+use Rattle.std.proofs.lemmas.Bool.{cases_Bool, cases_eq, and_parts, and_from, both_ways, cond-true, cond-false, eq-eqb, eqb-true, ne_eqb}
 use Rattle.fdb_lines.specs.declared.line.Line.{Line}
 use Rattle.fdb_lines.specs.declared.seen.Seen.{Seen}
 use Rattle.fdb_lines.specs.declared.seen.Seen.TheVariants.{Shown, Drawn}
@@ -27,7 +27,7 @@ heard_here seen lines k = by (line_at lines k).client
     by None = sym (nothing (version_in lines) (length lines))
     by (Some a) = refl
 
-learns_nothing : (seen : Seen) (kind : Kind) → is_learn kind ≡ true → counts seen kind ≡ false
+pub learns_nothing : (seen : Seen) (kind : Kind) → is_learn kind ≡ true → counts seen kind ≡ false
 learns_nothing Shown Learn e = refl
 learns_nothing Drawn Learn e = refl
 learns_nothing seen Read e = absurd (both_ways false refl e)

@@ -1,14 +1,13 @@
 -- What each line knows by time, from two tables.
-use Rattle.std.proofs.Common.{◌≡◌, ℕ, suc, max, ◌+◌, ◌-◌, ◌<◌, ◌≤◌, ◌==◌, nat_lt, Bool, true, false, cond, ◌&&◌, ◌||◌, List, [], ◌∷◌, ◌++◌, length, get_or, option_to_list, Option, None, Some, refl, ap, sym, ◌∙◌, inl, inr, arith, add-one, append-nil}
-use Rattle.std.proofs.lemmas.Bool.{cases_lt, cases_order, both_ways, cond-true, cond-false, lt-ltb, le-ltb}
+use Rattle.std.proofs.Common.{◌≡◌, ℕ, max, ◌+◌, ◌-◌, ◌<◌, ◌==◌, nat_lt, Bool, true, false, cond, ◌&&◌, ◌||◌, List, [], ◌∷◌, ◌++◌, length, get_or, option_to_list, Option, None, Some, refl, ap, sym, ◌∙◌, arith, add-one, append-nil}
+use Rattle.std.proofs.lemmas.Bool.{both_ways, le-ltb}
 use Rattle.std.proofs.lemmas.List.{get_or_default}
 use Rattle.fdb_lines.specs.declared.end.End.{End}
 use Rattle.fdb_lines.specs.declared.line.Line.{Line}
 use Rattle.fdb_lines.specs.declared.seen.Seen.{Seen}
-use Rattle.fdb_lines.specs.Lines.{nobody, line_at, kind_of, version_of}
+use Rattle.fdb_lines.specs.Lines.{nobody, line_at, version_of}
 use Rattle.fdb_lines.specs.Before.{began, ended, one_client, ended_before, by_time}
 use Rattle.fdb_lines.specs.Faults.{greatest_of}
-use Rattle.fdb_lines.specs.private.Seen.{counts}
 use Rattle.fdb_lines.specs.private.Ends.{top, is_earlier, newest_before}
 use Rattle.fdb_lines.specs.private.Known.{counts_at, version_in, newest_known, in_group, had_ended, stands_in, newest_in, IsTable, newest_of_end, newest_of_own}
 use Rattle.fdb_lines.proofs.Numbers.{greatest_same, greatest_least}
@@ -43,7 +42,7 @@ table_more by_client seen lines k ends line o table lt is adds group time place 
 -- ---- what comes before by time stands in one of the tables
 
 -- an end before a moment and any place is just an end before it
-at_zero : (end time above : ℕ) → is_earlier end above time 0 ≡ nat_lt end time
+pub at_zero : (end time above : ℕ) → is_earlier end above time 0 ≡ nat_lt end time
 at_zero end time above =
     ap (λ b. nat_lt end time || ((end == time) && b)) (le-ltb above 0 (omega arith))
     ∙ (ap (λ b. nat_lt end time || b) (with_false (end == time)) ∙ only_left (nat_lt end time))
@@ -61,7 +60,7 @@ grouped : (o : Option ℕ) (a : ℕ) → one_client o (Some a) ≡ in_group true
 grouped None a = refl
 grouped (Some b) a = refl
 
-no_client : (o : Option ℕ) → one_client o None ≡ false
+pub no_client : (o : Option ℕ) → one_client o None ≡ false
 no_client None = refl
 no_client (Some b) = refl
 

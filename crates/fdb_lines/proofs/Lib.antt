@@ -3,12 +3,14 @@ pub mod Standing
 pub mod Sound
 pub mod Sorted
 pub mod Facts
+pub mod Legal
 pub mod Complete
 pub mod Steps
 pub mod Clocks
 pub mod Told
 pub mod Ranked
 pub mod Arranged
+pub mod Turned
 pub mod Search
 pub mod Newest
 pub mod Knowing
@@ -18,3 +20,12 @@ pub mod Counting
 pub mod Verdicts
 pub mod Listed
 pub mod Owning
+pub mod Marking
+pub mod Retold
+pub mod Informed
+pub mod Firsts
+pub mod Reasoning
+pub mod Tallies
+pub mod Witnessing
+pub mod Paired
+pub mod Gathered

@@ -1,10 +1,10 @@
 -- The newest version before a moment, found in a sorted table.
-use Rattle.std.proofs.Common.{◌≡◌, ◌≢◌, ◌⊎◌, ℕ, zero, suc, max, ◌+◌, ◌-◌, ◌*◌, ◌^◌, ◌<◌, ◌≤◌, ◌==◌, nat_lt, Bool, true, false, ◌&&◌, ◌||◌, List, length, slice_index, get_or, refl, ap, sym, ◌∙◌, inl, inr, arith}
-use Rattle.std.specs.List.Sorted.{IsNonDecreasingBy, IsPartitionPoint}
-use Rattle.std.proofs.lemmas.Bool.{cases_eq, cases_lt, cases_order, and_parts, and_from, or_cases, or_left, or_right, both_ways, cond-true, eq-eqb, eqb-true, ltb-true, lt-ltb}
+use Rattle.std.proofs.Common.{◌≡◌, ◌≢◌, ◌⊎◌, ℕ, zero, suc, max, ◌-◌, ◌^◌, ◌<◌, ◌≤◌, ◌==◌, nat_lt, true, ◌&&◌, List, length, refl, ap, sym, ◌∙◌, inl, inr, arith}
+use Rattle.std.specs.List.Sorted.{IsNonDecreasingBy}
+use Rattle.std.proofs.lemmas.Bool.{cases_lt, cases_order, and_parts, and_from, or_cases, or_left, or_right, cond-true, eq-eqb, eqb-true, ltb-true, lt-ltb}
 use Rattle.fdb_lines.specs.declared.end.End.{End}
 use Rattle.fdb_lines.specs.Faults.{greatest_of}
-use Rattle.fdb_lines.specs.private.Ends.{key, end_key, end_at, no_end, is_earlier, newest_before, newest_at, AreNewest, IsFront}
+use Rattle.fdb_lines.specs.private.Ends.{key, end_key, end_at, no_end, is_earlier, newest_before, newest_at, IsFront}
 use Rattle.fdb_lines.proofs.Numbers.{greatest_bound, greatest_least, greatest_same}
 use Rattle.fdb_lines.proofs.Search.{top_places}
 

@@ -1,6 +1,6 @@
 -- What is known, found by a search: the greatest over the places of a list is that over the list in any order, and in
 -- a list sorted by ends it is the greatest of a front.
-use Rattle.std.proofs.Common.{◌≡◌, ℕ, max, ◌<◌, ◌≤◌, nat_lt, Bool, true, cond, ◌||◌, List, [], ◌∷◌, ◌++◌, length, get_or, refl, inl, inr, arith, zero-le}
+use Rattle.std.proofs.Common.{◌≡◌, ℕ, max, ◌<◌, ◌≤◌, nat_lt, Bool, true, ◌||◌, List, [], ◌∷◌, ◌++◌, length, get_or, refl, inl, inr, arith, zero-le}
 use Rattle.std.specs.List.{AllByRecursion}
 use Rattle.std.specs.List.Sorted.{IsPermutation}
 use Rattle.std.proofs.lemmas.Bool.{cases_Bool, cond-true, cond-false, lt-ltb, le-ltb, or_cases, or_left, or_right}

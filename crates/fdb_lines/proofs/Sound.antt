@@ -14,13 +14,6 @@ use Rattle.fdb_lines.proofs.Numbers.{greatest_least, some_find, none_at, least_b
 
 -- ---- kinds
 
-shows_unless : (kind : Kind) → reports kind ≡ true → shows kind ≡ true
-shows_unless Read h = refl
-shows_unless Commit h = refl
-shows_unless Ask h = h
-shows_unless Report h = refl
-shows_unless Learn h = h
-
 -- what a line's read or report is, by what it is equal to
 not_asks : (kind : Kind) (v w : ℕ) → taken_by kind v ≡ Asks w → ⊥
 not_asks Read v w e = cc

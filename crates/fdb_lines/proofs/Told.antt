@@ -1,5 +1,5 @@
 -- Without times: what clients have told one another is transitive, and stands above.
-use Rattle.std.proofs.Common.{◌≡◌, ℕ, zero, suc, ◌<◌, ◌==◌, Bool, true, false, ◌&&◌, ◌||◌, List, Option, Some, None, refl, ap, sym, subst, ◌∙◌, inl, inr, arith}
+use Rattle.std.proofs.Common.{◌≡◌, ℕ, zero, suc, ◌<◌, ◌==◌, true, false, ◌&&◌, ◌||◌, List, Option, Some, None, refl, ap, sym, subst, inl, inr, arith}
 use Rattle.std.proofs.lemmas.Bool.{and_parts, and_from, or_cases, or_left, or_right, both_ways, eqb-true}
 use Rattle.fdb_lines.specs.declared.line.Line.{Line}
 use Rattle.fdb_lines.specs.Lines.{line_at, kind_of, is_learn, teller_of}
@@ -9,7 +9,7 @@ pub of_client : (a : ℕ) (o : Option ℕ) → is_of a o ≡ true → o ≡ Some
 of_client a None h = absurd (both_ways false refl h)
 of_client a (Some b) h = ap Some (sym (eqb-true a b h))
 
-heard_above : (lines : List Line) (n a j : ℕ) → has_heard lines n a j ≡ true → j < n
+pub heard_above : (lines : List Line) (n a j : ℕ) → has_heard lines n a j ≡ true → j < n
 heard_above lines zero a j h = absurd (both_ways false refl h)
 heard_above lines (suc n) a j h =
     let of_n = is_of a (line_at lines n).client in

@@ -1,8 +1,8 @@
 -- What the tables of a log say is what the definitions say.
-use Rattle.std.proofs.Common.{◌≡◌, ◌≢◌, ℕ, max, ◌+◌, ◌<◌, ◌≤◌, ◌==◌, nat_lt, nat_le, not, Bool, true, false, cond, ◌&&◌, ◌||◌, List, length, slice_index, refl, ap, sym, ◌∙◌, inl, inr, arith}
+use Rattle.std.proofs.Common.{◌≡◌, ℕ, max, ◌<◌, ◌==◌, nat_lt, nat_le, not, Bool, true, false, cond, ◌&&◌, ◌||◌, length, slice_index, refl, ap, sym, ◌∙◌, inl, inr, arith}
 use Rattle.std.specs.List.{list_any}
-use Rattle.std.proofs.lemmas.Bool.{cases_Bool, cases_eq, both_ways, cond-true, cond-false, eq-eqb, eqb-true, ne_eqb}
-use Rattle.fdb_lines.specs.declared.choice.Choice.TheVariants.{Reports, Raises, Draws, Asks}
+use Rattle.std.proofs.lemmas.Bool.{cases_Bool, cases_eq, both_ways, cond-true, cond-false, eq-eqb, ne_eqb}
+use Rattle.fdb_lines.specs.declared.choice.Choice.TheVariants.{Raises}
 use Rattle.fdb_lines.specs.declared.fault.Fault.TheVariants.{Wrong, Twice, Stray}
 use Rattle.fdb_lines.specs.declared.line.Line.{Line}
 use Rattle.fdb_lines.specs.declared.tables.Tables.{Tables}
@@ -10,7 +10,8 @@ use Rattle.fdb_lines.specs.Lines.{Kind, Read, Commit, Ask, Report, Learn, Case, 
 use Rattle.fdb_lines.specs.Faults.{knows, last, is_reported, is_drawn, is_raised, is_own, is_twice, stands, some_below}
 use Rattle.fdb_lines.specs.private.Owners.{is_owner}
 use Rattle.fdb_lines.specs.private.Tables.{AreTables}
-use Rattle.fdb_lines.specs.private.Versions.{times_in, tally, is_choice}
+use Rattle.fdb_lines.specs.Summary.{tally}
+use Rattle.fdb_lines.specs.private.Versions.{times_in, is_choice}
 use Rattle.fdb_lines.proofs.Counting.{some_tally, some_same, tally_without}
 use Rattle.fdb_lines.proofs.Tests.{with_false, same_tests}
 
@@ -58,14 +59,14 @@ own_is c t are k = are.owners (version_at c k) (client_at c k)
 abbrev twice : Case → ℕ → Bool → ℕ → Bool
 twice c k commit j = not (j == k) && (draws (kind_at c j) && (version_at c j == version_at c k && not (is_commit (kind_at c j) && commit)))
 
-no_ask : (kind : Kind) → is_commit kind ≡ true → is_ask kind ≡ false
+pub no_ask : (kind : Kind) → is_commit kind ≡ true → is_ask kind ≡ false
 no_ask Read h = refl
 no_ask Commit h = refl
 no_ask Ask h = absurd (both_ways false refl h)
 no_ask Report h = refl
 no_ask Learn h = refl
 
-beside_commit : (kind : Kind) (e : Bool) → (draws kind && (e && not (is_commit kind && true))) ≡ (is_ask kind && e)
+pub beside_commit : (kind : Kind) (e : Bool) → (draws kind && (e && not (is_commit kind && true))) ≡ (is_ask kind && e)
 beside_commit Read e = refl
 beside_commit Commit e = with_false e
 beside_commit Ask true = refl
@@ -73,7 +74,7 @@ beside_commit Ask false = refl
 beside_commit Report e = refl
 beside_commit Learn e = refl
 
-beside_ask : (kind : Kind) (e : Bool) → (draws kind && (e && not (is_commit kind && false))) ≡ (draws kind && e)
+pub beside_ask : (kind : Kind) (e : Bool) → (draws kind && (e && not (is_commit kind && false))) ≡ (draws kind && e)
 beside_ask Read e = refl
 beside_ask Commit true = refl
 beside_ask Commit false = refl

@@ -4,7 +4,7 @@ use Rattle.fdb_lines.specs.declared.line.Line.{Line}
 use Rattle.fdb_lines.specs.declared.line.Times.{Times}
 use Rattle.fdb_lines.specs.Lines.{line_at, kind_of, is_learn, teller_of}
 
--- ---- by time
+-- ---- with times: a call comes before what began after it had ended
 
 abbrev pub began_of : Option Times → ℕ
 began_of None = 0

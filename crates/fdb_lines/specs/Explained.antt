@@ -5,7 +5,7 @@ use Rattle.fdb_lines.specs.declared.act.Act.{Act}
 use Rattle.fdb_lines.specs.declared.act.Act.TheVariants.{Asks, Reports, Reads}
 use Rattle.fdb_lines.specs.Lines.{Kind, Read, Commit, Ask, Report, Learn, Case, kind_at, version_at, client_at, draws, reports, shows, is_commit}
 
--- the act at a moment of a history
+-- what happens at a moment of a history, counted from 0
 abbrev pub Happens : List Act → ℕ → Act → Type 0
 Happens history moment act = slice_get history moment ≡ Some act
 
@@ -27,7 +27,7 @@ pub record IsLegal (start : ℕ) (history : List Act) : Type 0 where
   pub rising : (m v w : ℕ) → Happens history m (Asks v) → AskedBefore history m w → w < v
   pub above : (m v w : ℕ) → Happens history m (Asks v) → ReportedBefore start history m w → w < v
 
--- what a line's read or report is
+-- the act that a line's read or report is; nothing asks for that of a line that has neither
 abbrev pub taken_by : Kind → ℕ → Act
 taken_by Read v = Reads v
 taken_by Commit v = Reports v
@@ -64,7 +64,7 @@ pub record Explains (c : Case) (history : List Act) : Type 0 where
   pub apart : (j k m : ℕ) → j < length c.lines → k < length c.lines → j ≢ k
       → IsMoment c asked took j m → IsMoment c asked took k m
       → IsTrue (is_commit (kind_at c j)) × IsTrue (is_commit (kind_at c k))
-  -- what comes before comes before
+  -- where a line precedes another, each of its moments comes before each of the other's
   pub ordered : (j k m n : ℕ) → j < length c.lines → k < length c.lines → IsTrue (precedes c j k)
       → IsMoment c asked took j m → IsMoment c asked took k n → m < n
   -- a version is reported by who asked for it, where a line did
@@ -72,6 +72,6 @@ pub record Explains (c : Case) (history : List Act) : Type 0 where
       → version_at c j ≡ version_at c k
       → (i : ℕ) × (i < length c.lines) × IsTrue (draws (kind_at c i)) × (version_at c i ≡ version_at c k)
       × (client_at c i ≡ client_at c k)
-  -- all else was done by others
+  -- every other act was done by callers who logged nothing, if the log may lack calls
   pub others : (m : ℕ) (act : Act) → Happens history m act
       → ((k : ℕ) × (k < length c.lines) × IsMoment c asked took k m) ⊎ ((c.complete ≡ false) × OthersMay c act)

@@ -1,5 +1,5 @@
 -- The faults of lines, by a rule that looks at what each call knows. (this product's own)
-use Rattle.std.specs.Prelude.{◌≡◌, ℕ, zero, suc, max, ◌<◌, ◌==◌, ◌&&◌, ◌||◌, not, nat_lt, nat_le, Bool, true, false, cond, length}
+use Rattle.std.specs.Prelude.{◌≡◌, ℕ, zero, suc, max, ◌<◌, ◌==◌, ◌&&◌, ◌||◌, not, nat_lt, nat_le, Bool, false, cond, length}
 use Rattle.fdb_lines.specs.declared.fault.Fault.{Fault}
 use Rattle.fdb_lines.specs.declared.fault.Fault.TheVariants.{Order, Wrong, NotAbove, Twice, Stray}
 use Rattle.fdb_lines.specs.Lines.{Case, kind_at, version_at, client_at, is_read, is_commit, is_report, draws, reports, shows, same_client}
@@ -38,16 +38,16 @@ abbrev pub is_twice : Case → ℕ → Bool
 is_twice c k =
     some_below (λ j. not (j == k) && (draws (kind_at c j) && (version_at c j == version_at c k && not (is_commit (kind_at c j) && is_commit (kind_at c k))))) (length c.lines)
 
--- whether a fault stands at a line
+-- whether a fault stands at a line, by what its call knew and which lines report or drew its version
 abbrev pub stands : Case → Fault → ℕ → Bool
--- a read below what it knew
+-- a read below the greatest version that it knew
 stands c Order k = is_read (kind_at c k) && nat_lt (version_at c k) (knows c k)
 -- a read of a version that is not there: nobody reported it without knowing as much before
 stands c Wrong k =
     is_read (kind_at c k) && (not (version_at c k == c.start) && (not (is_raised c (version_at c k)) && (c.complete || is_reported c (version_at c k))))
 -- a version was drawn that is not above all that was known
 stands c NotAbove k = draws (kind_at c k) && nat_le (version_at c k) (max (knows c k) (last c k))
--- a version was drawn twice
+-- a version was drawn by another line too, and not both are commits
 stands c Twice k = draws (kind_at c k) && is_twice c k
 -- a report of a version that others drew, or that nobody can have drawn
 stands c Stray k =

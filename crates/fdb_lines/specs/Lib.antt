@@ -8,4 +8,7 @@ pub mod Steps
 pub mod Audit
 pub mod Listing
 pub mod Turns
+pub mod Text
+pub mod Reasons
+pub mod Summary
 pub mod private

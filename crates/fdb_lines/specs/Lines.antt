@@ -1,5 +1,5 @@
 -- The lines of a log: what kind of call each is, its version, and its client. (this product's own)
-use Rattle.std.specs.Prelude.{◌≡◌, ℕ, Bool, true, false, ◌==◌, List, Option, None, Some, slice_index_or}
+use Rattle.std.specs.Prelude.{ℕ, Bool, true, false, ◌==◌, List, Option, None, Some, slice_index_or}
 use Rattle.fdb_lines.specs.declared.line.Call.{Call}
 use Rattle.fdb_lines.specs.declared.line.Call.TheVariants.{Read as ReadOf, Commit as CommitOf, Ask as AskOf, Report as ReportOf, Learn as LearnFrom}
 use Rattle.fdb_lines.specs.declared.line.Line.{Line}
@@ -106,7 +106,7 @@ nobody = record { client = None; call = LearnFrom 0; times = None }
 abbrev pub line_at : List Line → ℕ → Line
 line_at lines k = slice_index_or lines k nobody
 
--- whether a line has times
+-- whether there are times, with an end or without one
 abbrev pub are_known : Option Times → Bool
 are_known None = false
 are_known (Some times) = true

@@ -1,5 +1,5 @@
 -- What a log is, and which lines it takes. (this product's own)
-use Rattle.std.specs.Prelude.{ℕ, ◌==◌, ◌&&◌, not, nat_le, Bool, true, false, cond, List, [], ◌∷◌, ◌++◌, Option, None, Some, length}
+use Rattle.std.specs.Prelude.{ℕ, ◌==◌, ◌&&◌, not, nat_le, Bool, true, false, cond, [], ◌∷◌, ◌++◌, Option, None, Some, length}
 use Rattle.fdb_lines.specs.declared.line.Line.{Line}
 use Rattle.fdb_lines.specs.declared.log.Log.{Log}
 use Rattle.fdb_lines.specs.declared.log.LineError.{LineError}

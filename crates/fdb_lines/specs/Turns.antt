@@ -21,3 +21,15 @@ IsActOf c act (Some k) =
 -- each turn has an act of its line
 abbrev pub AreTurnsOf : Case → List Turn → Type 0
 AreTurnsOf c turns = All (λ turn. IsActOf c turn.act turn.line) turns
+
+-- a turn of a line with this act
+abbrev pub HasTurn : List Turn → ℕ → Act → Type 0
+HasTurn [] k act = ⊥
+HasTurn (turn ∷ turns) k act = ((turn.line ≡ Some k) × (turn.act ≡ act)) ⊎ HasTurn turns k act
+
+-- each line has a turn for its ask, and one for its read or report
+abbrev pub HaveTurns : Case → List Turn → Type 0
+HaveTurns c turns =
+    (k : ℕ) → k < length c.lines
+    → (IsTrue (draws (kind_at c k)) → HasTurn turns k (Asks (version_at c k)))
+    × (IsTrue (shows (kind_at c k)) → HasTurn turns k (taken c k))

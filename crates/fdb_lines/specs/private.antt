@@ -8,3 +8,9 @@ pub mod Owners
 pub mod Tables
 pub mod Late
 pub mod Spots
+pub mod Marks
+pub mod Heard
+pub mod Witnesses
+pub mod Grounds
+pub mod Ended
+pub mod HeardCounts

@@ -1,12 +1,12 @@
-//! What register and sequencer are asked.
+//! Acts: what the register and the sequencer are asked, one after another.
 
-/// What the register and the sequencer are asked, with its version: an act of a history.
+/// An act of a history, with its version. A commit is two of them: it asks, and reports.
 #[derive(Clone, Copy, Debug, PartialEq, Eq)]
 pub enum Act {
-    /// A commit version is drawn.
+    /// The sequencer draws a commit version (`GetCommitVersionRequest`).
     Asks(u64),
-    /// A version is reported as committed.
+    /// A version is reported as committed (`reportLiveCommittedVersion`).
     Reports(u64),
-    /// The newest version that was reported is read.
+    /// The newest version that was reported is read (`getLiveCommittedVersion`).
     Reads(u64),
 }

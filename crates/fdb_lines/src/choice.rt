@@ -1,4 +1,4 @@
-//! The versions of some of the lines.
+//! The versions of the lines of a choice, as a table to look them up in.
 
 ghost use Rattle.std.specs.Prelude.{◌≡◌, IfOk, length};
 ghost use Rattle.fdb_lines.specs.Lines.{kind_of, version_of};
@@ -8,16 +8,13 @@ use crate::line::{Call, Line};
 use crate::versions::Versions;
 use std::alloc::{AllocError, Global};
 
-/// Which lines' versions are looked for.
+/// Which lines' versions are looked for. Commits are among those that report and those that draw.
 #[derive(Clone, Copy, Debug, PartialEq, Eq)]
 pub(crate) enum Choice {
-    /// Those that report.
     Reports,
     /// Those that report a version above what they know.
     Raises,
-    /// Those that draw.
     Draws,
-    /// The asks.
     Asks,
 }
 

@@ -1,8 +1,9 @@
-//! A call that ended.
+//! An entry of the table of calls that ended.
 
 ghost use Rattle.std.specs.Prelude.{◌≡◌, ◌^◌, ◌<◌};
 
-/// A call that ended: whose, at which line and time, and its version.
+/// A call that ended: its group, which is its client or 0 for all, its line and time, and its
+/// version.
 #[derive(Clone, Copy, Debug, Drop)]
 pub(crate) struct End {
     pub(crate) group: u32,
@@ -13,7 +14,6 @@ pub(crate) struct End {
 }
 
 impl End {
-    /// A call that ended.
     pub(crate) fn new(group: u32, time: u64, place: u32, version: u64) -> Self
         ensures group { result.group ≡ group }
         ensures time { result.time ≡ time }

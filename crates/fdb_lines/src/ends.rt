@@ -10,6 +10,9 @@ use crate::end::End;
 use std::alloc::{AllocError, Global};
 use std::cmp::Ordering;
 
+/// How far around a place a search looks before it looks through all.
+const NEAR: usize = 1_024;
+
 /// The calls that ended, by group, time and place, and after each the newest version of its group.
 #[derive(Drop)]
 pub(crate) struct Ends {
@@ -29,12 +32,14 @@ impl Ends {
         Ok(Ends { ends, newest })
     }
 
-    /// The newest version of a group before a moment; 0 where there is none. Logarithmic.
-    pub(crate) fn newest_before(&self, group: u32, time: u64, place: u32) -> u64
+    /// The newest version of a group before a moment; 0 where there is none. It is looked for first
+    /// near the place that the last search left there. Logarithmic.
+    pub(crate) fn newest_before(&self, group: u32, time: u64, place: u32, near: &mut usize) -> u64
         requires { AreSettled self.now }
         ensures { result ≡ newest_before self.now.ends.items group time place }
     {
-        let front = front_of(&self.ends, &End::new(group, time, place, 0));
+        let front = front_near(&self.ends, &End::new(group, time, place, 0), *near);
+        *near = front;
         if front > 0 && self.ends[front - 1].group == group {
             self.newest[front - 1]
         } else {
@@ -43,8 +48,8 @@ impl Ends {
     }
 }
 
-/// The order of the table.
-fn order(a: &End, b: &End) -> Ordering
+/// The order of the table: by group, then by time, then by place.
+pub(crate) fn order(a: &End, b: &End) -> Ordering
     ensures { result ≡ nat_cmp (end_key a.now) (end_key b.now) }
 {
     a.group
@@ -60,8 +65,24 @@ fn is_before(a: &End, b: &End) -> bool
     order(a, b) == Ordering::Less
 }
 
+/// How many ends of a sorted table come before a moment. The ends around a place are looked through
+/// first: where moments come nearly in order, that is much less of the table than all of it.
+fn front_near(ends: &[End], moment: &End, near: usize) -> usize
+    requires { IsNonDecreasingBy end_key ends.now }
+    ensures bound { result ≤ length ends.now }
+    ensures parts { IsFront ends.now (end_key moment.now) result }
+{
+    let low = near.saturating_sub(NEAR);
+    let high = near.saturating_add(NEAR);
+    if high < ends.len() && is_before(&ends[low], moment) && !is_before(&ends[high], moment) {
+        low + front_of(&ends[low..high], moment)
+    } else {
+        front_of(ends, moment)
+    }
+}
+
 /// How many ends of a sorted table come before a moment.
-fn front_of(ends: &[End], moment: &End) -> usize
+pub(crate) fn front_of(ends: &[End], moment: &End) -> usize
     requires { IsNonDecreasingBy end_key ends.now }
     ensures bound { result ≤ length ends.now }
     ensures parts { IsFront ends.now (end_key moment.now) result }

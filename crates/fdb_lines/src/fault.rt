@@ -1,9 +1,11 @@
-//! What can be wrong with a line.
+//! Faults, each at a line, and how they are printed.
 
-/// What can be wrong with a line.
+use std::fmt;
+
+/// What can be wrong with a line. The faults of one line are listed in this order.
 #[derive(Clone, Copy, Debug, PartialEq, Eq)]
 pub enum Fault {
-    /// A read below what its caller knew.
+    /// A stale read: below a version that its caller knew.
     Order,
     /// A read of a version that is not there: nobody reported it, or all who did knew as much before.
     Wrong,
@@ -15,11 +17,27 @@ pub enum Fault {
     Stray,
 }
 
-/// A fault, and the line at which it stands, counted from 0.
+/// A fault, and the line at which it stands, counted from 0. What is printed counts from 1.
 #[derive(Clone, Copy, Debug, PartialEq, Eq)]
 pub struct Found {
-    /// The line.
     pub line: u32,
-    /// What is wrong with it.
     pub fault: Fault,
+}
+
+impl fmt::Display for Found {
+    ghost use Rattle.std.specs.Prelude.{Some};
+    ghost use Rattle.fdb_lines.specs.Text.{found_text};
+
+    ghost output = { λ found. Some (found_text found) };
+
+    fn fmt<W: fmt::Write>(&self, f: &mut fmt::Formatter<W>) -> fmt::Result {
+        let number = self.line as u64 + 1;
+        match self.fault {
+            Fault::Order => write!(f, "Order {number}"),
+            Fault::Wrong => write!(f, "Wrong {number}"),
+            Fault::NotAbove => write!(f, "NotAbove {number}"),
+            Fault::Twice => write!(f, "Twice {number}"),
+            Fault::Stray => write!(f, "Stray {number}"),
+        }
+    }
 }

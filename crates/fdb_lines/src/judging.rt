@@ -1,4 +1,4 @@
-//! The faults of a log.
+//! Which faults stand at the lines of a log, listed line by line.
 
 ghost use Rattle.std.specs.Prelude.{◌≡◌, ◌<◌, ◌↔◌, ◌++◌, None, IfOk, OnOk, length, slice_get};
 ghost use Rattle.fdb_lines.specs.Audit.{case_of, AreExplained};
@@ -24,9 +24,25 @@ pub fn faults(alloc: Global, log: &Log, opts: &AuditOpts) -> Result<Vec<Found>, 
         (λ found. length found.items ≡ 0 ↔ AreExplained (case_of (lines_of log.now) opts.now)) }
 {
     let tables = tables_of(alloc, log, opts)?;
+    faults_by(alloc, &tables, log, opts)
+}
+
+/// The faults of a log, by its tables.
+pub(crate) fn faults_by(
+    alloc: Global,
+    tables: &Tables,
+    log: &Log,
+    opts: &AuditOpts,
+) -> Result<Vec<Found>, AllocError>
+    requires { AreTables (case_of (lines_of log.now) opts.now) tables.now }
+    ensures listed { IfOk result
+        (λ found. found.items ≡ faults_of (case_of (lines_of log.now) opts.now)) }
+    ensures explained { IfOk result
+        (λ found. length found.items ≡ 0 ↔ AreExplained (case_of (lines_of log.now) opts.now)) }
+{
     let mut found = Vec::new(alloc);
     for place in 0..log.lines().len() {
-        add_faults(&mut found, &tables, log, opts, place)?;
+        add_faults(&mut found, tables, log, opts, place)?;
     }
     Ok(found)
 }
@@ -42,9 +58,25 @@ pub fn first_fault(alloc: Global, log: &Log, opts: &AuditOpts) -> Result<Option<
         (λ first. first ≡ None ↔ AreExplained (case_of (lines_of log.now) opts.now)) }
 {
     let tables = tables_of(alloc, log, opts)?;
+    first_fault_by(alloc, &tables, log, opts)
+}
+
+/// The first fault of a log, by its tables, if there is one.
+pub(crate) fn first_fault_by(
+    alloc: Global,
+    tables: &Tables,
+    log: &Log,
+    opts: &AuditOpts,
+) -> Result<Option<Found>, AllocError>
+    requires { AreTables (case_of (lines_of log.now) opts.now) tables.now }
+    ensures first { IfOk result
+        (λ first. first ≡ slice_get (faults_of (case_of (lines_of log.now) opts.now)) 0) }
+    ensures explained { IfOk result
+        (λ first. first ≡ None ↔ AreExplained (case_of (lines_of log.now) opts.now)) }
+{
     let mut found = Vec::new(alloc);
     for place in 0..log.lines().len() {
-        add_faults(&mut found, &tables, log, opts, place)?;
+        add_faults(&mut found, tables, log, opts, place)?;
         if let Some(first) = found.first() {
             return Ok(Some(*first));
         }
@@ -52,7 +84,7 @@ pub fn first_fault(alloc: Global, log: &Log, opts: &AuditOpts) -> Result<Option<
     Ok(None)
 }
 
-/// Adds the faults of a line.
+/// Adds the faults of a line, in the order of [`Fault`].
 fn add_faults(
     found: &mut Vec<Found>,
     tables: &Tables,

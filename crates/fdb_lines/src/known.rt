@@ -1,4 +1,4 @@
-//! What each line knows.
+//! What each line knows in a log with times.
 
 ghost use Rattle.std.specs.Prelude.{◌≡◌, ℕ, ◌≤◌, IfOk, OnOk, cond, length};
 ghost use Rattle.fdb_lines.specs.Before.{began, by_time};
@@ -42,8 +42,10 @@ fn known_of_all(
 {
     let table = table_of(alloc, lines, seen, false)?;
     let mut known = Vec::with_capacity(alloc, lines.len())?;
+    let mut near = 0;
     for line in lines {
-        known.push(table.newest_before(0, line.began().saturating_sub(margin), 0))?;
+        let bound = line.began().saturating_sub(margin);
+        known.push(table.newest_before(0, bound, 0, &mut near))?;
     }
     Ok(known)
 }
@@ -60,19 +62,21 @@ fn add_own(
     ensures { OnOk result (HasOwn seen lines.now known.old.items known.new.items) }
 {
     let table = table_of(alloc, lines, seen, true)?;
+    let mut near = 0;
     for (place, line) in lines.iter().enumerate() {
-        known[place] = known[place].max(own_before(&table, line, place as u32));
+        let own = own_before(&table, line, place as u32, &mut near);
+        known[place] = known[place].max(own);
     }
     Ok(())
 }
 
 /// The newest version of a client's own lines that had ended when its line at a place began.
-fn own_before(table: &Ends, line: &Line, place: u32) -> u64
+fn own_before(table: &Ends, line: &Line, place: u32, near: &mut usize) -> u64
     requires { AreSettled table.now }
     ensures { result ≡ own_newest table.now.ends.items line.now.client (began line.now) place }
 {
     match line.client {
-        Some(client) => table.newest_before(client, line.began(), place),
+        Some(client) => table.newest_before(client, line.began(), place, near),
         None => 0,
     }
 }

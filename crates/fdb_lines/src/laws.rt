@@ -1,4 +1,4 @@
-//! Laws of the definitions.
+//! Laws of the definitions. The functions do nothing: each stands for its contract.
 
 ghost use Rattle.std.specs.Prelude.{ℕ, ◌<◌, ◌≤◌, ◌≡◌, ◌≢◌, ◌↔◌, List, length, IsTrue};
 ghost use Rattle.fdb_lines.specs.declared.act.Act.{Act};
@@ -42,7 +42,7 @@ pub fn legal_exactly_where_it_runs()
     ensures { (start : ℕ) (history : List Act) → IsTrue (runs (fresh start) history) ↔ IsLegal start history }
 {}
 
-/// Where no line is an ask, nothing is exempt: what comes before comes before.
+/// Only an ask is exempt: any other call precedes each line that it comes before.
 pub fn all_counts_without_asks()
     ensures { (c : Case) (j k : ℕ) → kind_at c j ≢ Ask → kind_at c j ≢ Learn → precedes c j k ≡ c.before j k }
 {}

@@ -1,27 +1,27 @@
-//! The lines of a log.
+//! A line of a log: one call, its version, whose it was, and when.
 
 ghost use Rattle.std.specs.Prelude.{◌≡◌, ◌≤◌, ◌<◌, None, Some, IfSome};
 ghost use Rattle.std.specs.Prelude.{IsSomeAnd, MatchOption};
 ghost use Rattle.std.proofs.Props.{props};
 
-/// What a line says that was done.
+/// What a line says that was done, with the version that was read, drawn or reported.
 #[derive(Clone, Copy, Debug, PartialEq, Eq)]
 pub enum Call {
-    /// A read got this version.
+    /// A read got this version: the newest that was reported when the read was answered.
     Read(u64),
     /// A commit got this version: it was drawn and reported meanwhile, maybe for others too.
     Commit(u64),
-    /// A commit version was drawn.
+    /// This commit version was drawn; a report of it is a line of its own.
     Ask(u64),
-    /// A version was reported as committed.
+    /// This version was reported as committed, apart from the call that drew it.
     Report(u64),
     /// From here on the client knows what this one had seen by the lines above.
     Learn(u32),
 }
 
 impl Call {
-    ghost use Rattle.fdb_lines.specs.Lines.{draws, is_ask, is_commit, is_read, is_report};
-    ghost use Rattle.fdb_lines.specs.Lines.{kind_of, reports, shows, version_of};
+    ghost use Rattle.fdb_lines.specs.Lines.{draws, is_ask, is_commit, is_learn, is_read};
+    ghost use Rattle.fdb_lines.specs.Lines.{is_report, kind_of, reports, shows, version_of};
 
     /// The version of a call; 0 for a line that has learnt.
     pub fn version(self) -> u64
@@ -36,32 +36,39 @@ impl Call {
         }
     }
 
-    /// Whether this is a read.
+    /// Whether this got a version from the register and changed nothing.
     pub fn is_read(self) -> bool
         ensures { result ≡ is_read (kind_of self) }
     {
         matches!(self, Call::Read(_))
     }
 
-    /// Whether this is a commit.
+    /// Whether this both draws a version and reports it.
     pub fn is_commit(self) -> bool
         ensures { result ≡ is_commit (kind_of self) }
     {
         matches!(self, Call::Commit(_))
     }
 
-    /// Whether this is an ask.
+    /// Whether this draws a version and leaves the report to another line.
     pub fn is_ask(self) -> bool
         ensures { result ≡ is_ask (kind_of self) }
     {
         matches!(self, Call::Ask(_))
     }
 
-    /// Whether this is a report.
+    /// Whether this reports a version that it did not draw itself.
     pub fn is_report(self) -> bool
         ensures { result ≡ is_report (kind_of self) }
     {
         matches!(self, Call::Report(_))
+    }
+
+    /// Whether this is no call, but says that the client has learnt from another.
+    pub fn is_learn(self) -> bool
+        ensures { result ≡ is_learn (kind_of self) }
+    {
+        matches!(self, Call::Learn(_))
     }
 
     /// Whether this draws a version: a commit or an ask.
@@ -86,12 +93,11 @@ impl Call {
     }
 }
 
-/// When a call began and ended, in any one unit; of a report that may not have ended, `ended` is left out.
+/// When a call began and ended, in any one unit. `ended` is left out where that is not known, as of
+/// a report that may never have arrived; such a call comes before no other.
 #[derive(Clone, Copy, Debug, PartialEq, Eq)]
 pub struct Times {
-    /// When it began.
     pub began: u64,
-    /// When it ended, where that is known.
     pub ended: Option<u64>,
     ghost in_order: { IfSome ended (λ end. began ≤ end) } by { Prim.hlevel props },
 }
@@ -109,21 +115,19 @@ impl Times {
     }
 }
 
-/// A line of a log.
+/// A line of a log: a call, whose it was, where that is known, and when, in a log with times.
+/// Without times each line names a client; with times none has learnt.
 #[derive(Clone, Copy, Debug, PartialEq, Eq)]
 pub struct Line {
-    /// Whose call it was, where that is known.
     pub client: Option<u32>,
-    /// What was done.
     pub call: Call,
-    /// When, in a log with times.
     pub times: Option<Times>,
 }
 
 impl Line {
     ghost use Rattle.fdb_lines.specs.Before.{began, ended};
 
-    /// When it began; 0 without times.
+    /// When the call began, in the unit of the log; 0 in a log without times.
     pub fn began(&self) -> u64
         ensures { result ≡ began self.now }
     {
@@ -133,7 +137,7 @@ impl Line {
         }
     }
 
-    /// When it ended, where that is known.
+    /// When the call ended; none where that is not known, and in a log without times.
     pub fn ended(&self) -> Option<u64>
         ensures { result ≡ ended self.now }
     {

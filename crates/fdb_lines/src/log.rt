@@ -11,7 +11,7 @@ use thiserror::Error;
 /// How many lines a log may have: each place fits 32 bits.
 pub const MAX_LINES: usize = 4_294_967_295;
 
-/// Why a line is refused.
+/// Why [`Log::push`] refuses a line. The first that holds is given, and memory last.
 #[derive(Clone, Copy, Debug, PartialEq, Eq, Error)]
 pub enum LineError {
     /// There are as many lines as a log may have.
@@ -20,13 +20,12 @@ pub enum LineError {
     /// It has times and the lines above have none, or the other way round.
     #[error("times on some lines only")]
     SomeTimes,
-    /// A line with times has learnt.
+    /// A line with times has learnt: there the times alone say what comes before.
     #[error("a learn beside times")]
     TimedLearn,
     /// A line without times names no client.
     #[error("no client and no times")]
     NoClient,
-    /// Memory was refused.
     #[error("want of memory")]
     Memory,
 }
@@ -44,7 +43,7 @@ impl Log {
     ghost use Rattle.fdb_lines.specs.declared.log.LineError.TheVariants.{Memory};
     ghost use Rattle.fdb_lines.specs.Log.{added, lines_of, refusal_of};
 
-    /// A log without lines.
+    /// A log without lines: the first that is added decides whether all have times.
     pub fn new(alloc: Global) -> Self
         ensures empty { (lines_of result).lines ≡ [] }
         ensures untimed { (lines_of result).timed ≡ false }
@@ -55,14 +54,14 @@ impl Log {
         }
     }
 
-    /// The lines.
+    /// The lines in the order in which they were added. A line's place is counted from 0.
     pub fn lines(&self) -> &[Line]
         ensures { result.now ≡ (lines_of self.now).lines }
     {
         self.lines.as_slice()
     }
 
-    /// Whether all lines have times, or none has.
+    /// Whether all lines have times; false where none has, and where there is no line.
     pub fn is_timed(&self) -> bool
         ensures { result ≡ (lines_of self.now).timed }
     {

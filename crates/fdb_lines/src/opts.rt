@@ -1,4 +1,4 @@
-//! What an audit is told beside the lines.
+//! The options of an audit: which calls the log has, and how far clocks may be apart.
 
 ghost use Rattle.std.specs.Prelude.{◌≡◌};
 

@@ -1,15 +1,16 @@
 //! An order that explains the lines of a log.
 
-ghost use Rattle.std.specs.Prelude.{◌≡◌, ◌<◌, ◌++◌, ◌≤◌, None, Some, IfOk, IfSome, MatchOption};
-ghost use Rattle.std.specs.Prelude.{OnOk};
-ghost use Rattle.std.specs.Prelude.{length, map, option_map, option_to_list, slice_index_or};
+ghost use Rattle.std.specs.Prelude.{◌≡◌, ◌<◌, ◌++◌, ◌≤◌, ℕ, None, Some, IfOk, IfSome};
+ghost use Rattle.std.specs.Prelude.{MatchOption, OnOk, length, map, option_map, option_to_list};
+ghost use Rattle.std.specs.Prelude.{slice_index_or};
 ghost use Rattle.fdb_lines.specs.Audit.{AreExplained, case_of};
 ghost use Rattle.fdb_lines.specs.Explained.{Explains};
 ghost use Rattle.fdb_lines.specs.Log.{lines_of};
-ghost use Rattle.fdb_lines.specs.Turns.{acts_of, AreTurnsOf};
-ghost use Rattle.fdb_lines.specs.private.Spots.{AreSpotsOf, follows, item_of, items_at};
-ghost use Rattle.fdb_lines.specs.private.Spots.{items_below};
-ghost use Rattle.fdb_lines.specs.private.Spots.{above_at, turn_by, turns_from};
+ghost use Rattle.fdb_lines.specs.Turns.{acts_of, AreTurnsOf, HaveTurns};
+ghost use Rattle.fdb_lines.specs.private.Spots.{AreSpotsOf, HasSpot, HasSpots, above_at};
+ghost use Rattle.fdb_lines.specs.private.Spots.{follows, item_of, items_at, items_below};
+ghost use Rattle.fdb_lines.specs.private.Spots.{turn_by, turns_from};
+ghost use Rattle.fdb_lines.specs.declared.act.Act.{Act};
 ghost use Rattle.fdb_lines.specs.declared.spot.Spot.{Spot};
 ghost use Rattle.fdb_lines.specs.private.Tables.{AreTables};
 
@@ -31,6 +32,8 @@ pub fn order(alloc: Global, log: &Log, opts: &AuditOpts) -> Result<Option<Vec<Tu
         (λ turns. Explains (case_of (lines_of log.now) opts.now) (acts_of turns.items))) }
     ensures lines { IfOk result (λ found. IfSome found
         (λ turns. AreTurnsOf (case_of (lines_of log.now) opts.now) turns.items)) }
+    ensures all { IfOk result (λ found. IfSome found
+        (λ turns. HaveTurns (case_of (lines_of log.now) opts.now) turns.items)) }
 {
     if first_fault(alloc, log, opts)?.is_some() {
         return Ok(None);
@@ -45,16 +48,20 @@ fn turns_of(alloc: Global, log: &Log, opts: &AuditOpts) -> Result<Vec<Turn>, All
         → Explains (case_of (lines_of log.now) opts.now) (acts_of turns.items)) }
     ensures lines { IfOk result
         (λ turns. AreTurnsOf (case_of (lines_of log.now) opts.now) turns.items) }
+    ensures all { IfOk result
+        (λ turns. HaveTurns (case_of (lines_of log.now) opts.now) turns.items) }
 {
     let mut spots = spots_of(alloc, log, opts)?;
     spots.sort_unstable_by(|a, b| a.order(b));
     turns_in(alloc, &spots)
 }
 
-/// The spots of all lines.
+/// The spots of all lines, line by line and not yet sorted.
 fn spots_of(alloc: Global, log: &Log, opts: &AuditOpts) -> Result<Vec<Spot>, AllocError>
     ensures lines { IfOk result
         (λ spots. AreSpotsOf (case_of (lines_of log.now) opts.now) spots.items) }
+    ensures all { IfOk result (λ spots. (k : ℕ) → k < length (lines_of log.now).lines
+        → HasSpots (case_of (lines_of log.now) opts.now) spots.items k) }
     ensures items { IfOk result (λ spots. map item_of spots.items
         ≡ items_below (case_of (lines_of log.now) opts.now) (length (lines_of log.now).lines)) }
 {
@@ -66,7 +73,8 @@ fn spots_of(alloc: Global, log: &Log, opts: &AuditOpts) -> Result<Vec<Spot>, All
     Ok(spots)
 }
 
-/// Adds the spots of a line.
+/// Adds the spots of a line: of its ask, of its read or report, and of the report by others that it
+/// needs.
 fn add_spots(
     spots: &mut Vec<Spot>,
     tables: &Tables,
@@ -78,6 +86,10 @@ fn add_spots(
     requires place { place < length (lines_of log.now).lines }
     ensures lines { OnOk result (AreSpotsOf (case_of (lines_of log.now) opts.now) spots.old.items
         → AreSpotsOf (case_of (lines_of log.now) opts.now) spots.new.items) }
+    ensures own { OnOk result
+        (HasSpots (case_of (lines_of log.now) opts.now) spots.new.items place) }
+    ensures kept { OnOk result ((k : ℕ) (act : Act)
+        → HasSpot spots.old.items k act → HasSpot spots.new.items k act) }
     ensures items { OnOk result (map item_of spots.new.items
         ≡ map item_of spots.old.items ++ items_at (case_of (lines_of log.now) opts.now) place) }
 {
@@ -90,7 +102,6 @@ fn add_spots(
     add_spot(spots, Spot::report(line, start, reported))
 }
 
-/// Adds a spot, if there is one.
 fn add_spot(spots: &mut Vec<Spot>, spot: Option<Spot>) -> Result<(), AllocError>
     ensures spots { OnOk result (spots.new.items ≡ spots.old.items ++ option_to_list spot) }
     ensures items { OnOk result (map item_of spots.new.items

@@ -1,4 +1,4 @@
-//! Who drew a version.
+//! An entry of the table of who drew which version.
 
 ghost use Rattle.std.specs.Prelude.{◌≡◌, ◌^◌, ◌<◌, ◌&&◌, ◌==◌};
 ghost use Rattle.fdb_lines.specs.Lines.{same_client};
@@ -14,7 +14,6 @@ pub(crate) struct Owner {
 ghost use Rattle.fdb_lines.specs.private.Code.{code};
 
 impl Owner {
-    /// A version with who drew it.
     pub(crate) fn new(version: u64, client: Option<u32>) -> Self
         ensures version { result.version ≡ version }
         ensures client { result.client ≡ client }

@@ -12,7 +12,7 @@ use crate::owner::Owner;
 use std::alloc::{AllocError, Global};
 use std::cmp::Ordering;
 
-/// Who drew which version, in order.
+/// Who drew which version, by version and client; a client that is not known comes first.
 #[derive(Drop)]
 pub(crate) struct Owners {
     owners: Vec<Owner>,
@@ -30,7 +30,7 @@ impl Owners {
         Ok(Owners { owners })
     }
 
-    /// Whether a client drew a version. Logarithmic.
+    /// Whether a client drew a version, or, for none, one that is not known. Logarithmic.
     pub(crate) fn has(&self, version: u64, client: Option<u32>) -> bool
         requires { IsNonDecreasingBy owner_key self.now.owners.items }
         ensures { result ≡ list_any (is_owner version client) self.now.owners.items }
@@ -62,7 +62,6 @@ fn front_of(owners: &[Owner], owner: &Owner) -> usize
     owners.partition_point(|other| order(other, owner) == Ordering::Less)
 }
 
-/// The order of the table.
 fn order(a: &Owner, b: &Owner) -> Ordering
     ensures { result ≡ nat_cmp (owner_key a.now) (owner_key b.now) }
 {

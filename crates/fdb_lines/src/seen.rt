@@ -1,4 +1,4 @@
-//! What lines let others know.
+//! The two ways in which a line lets its version be known.
 
 ghost use Rattle.std.specs.Prelude.{◌≡◌};
 ghost use Rattle.fdb_lines.specs.Lines.{kind_of};
@@ -11,7 +11,7 @@ use crate::line::Call;
 pub(crate) enum Seen {
     /// Reads, reports and commits show their versions.
     Shown,
-    /// Asks and commits draw theirs.
+    /// Asks and commits draw theirs, of which only later asks and commits have to know.
     Drawn,
 }
 

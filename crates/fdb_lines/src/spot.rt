@@ -1,9 +1,10 @@
 //! Where an act stands in an order.
 
 ghost use Rattle.std.specs.Prelude.{◌≡◌, ◌+◌, ◌*◌, ◌^◌, ◌<◌, ℕ, cond, nat_lt, not, ◌&&◌, ◌==◌};
-ghost use Rattle.std.specs.Prelude.{option_map, IfSome, None, Some};
+ghost use Rattle.std.specs.Prelude.{option_map, IfSome, IsSomeAnd, IsTrue, None, Some};
 ghost use Rattle.std.specs.Ordering.{nat_cmp};
 ghost use Rattle.fdb_lines.specs.Before.{began};
+ghost use Rattle.fdb_lines.specs.Explained.{taken_by};
 ghost use Rattle.fdb_lines.specs.Lines.{draws, is_learn, is_read, kind_of, shows, version_of};
 ghost use Rattle.fdb_lines.specs.Order.{ask_item, shared_item, take_by};
 
@@ -14,9 +15,9 @@ use std::cmp::Ordering;
 /// Where acts stand among those of a level: the version, or of a late report what was known.
 #[derive(Clone, Copy, Debug, PartialEq, Eq)]
 pub(crate) enum Stage {
-    /// The version is asked for.
+    /// The version is asked for, once for all lines that need it.
     Asked,
-    /// Commits, or others, report it.
+    /// Commits that share the version report it, or callers who logged nothing.
     Shared,
     /// It is reported by one who knew less.
     Raising,
@@ -24,7 +25,8 @@ pub(crate) enum Stage {
     Shown,
 }
 
-/// An act, and where it stands.
+/// An act, and where it stands: by level and stage, then by when the call began, then by line. Of
+/// acts that may be of several lines `began` is 0.
 #[derive(Clone, Copy, Debug, Drop)]
 pub(crate) struct Spot {
     pub(crate) level: u64,
@@ -40,7 +42,6 @@ ghost use Rattle.fdb_lines.specs.private.Late.{late};
 impl Stage {
     ghost use Rattle.fdb_lines.specs.private.Spots.{may_share, stage_number};
 
-    /// Its place among the stages.
     fn number(self) -> u8
         ensures number { result ≡ stage_number self }
         ensures small { result < 4 }
@@ -81,7 +82,7 @@ impl Spot {
         }
     }
 
-    /// An act of one line.
+    /// An act of one line alone, which stands by when that began.
     fn single(level: u64, stage: Stage, began: u64, line: u32, act: Act) -> Self
         ensures level { result.level ≡ level }
         ensures stage { result.stage ≡ stage }
@@ -102,6 +103,8 @@ impl Spot {
     /// The ask of a line, if it needs one.
     pub(crate) fn ask(line: &Line, place: u32, start: u64) -> Option<Self>
         ensures line { IfSome result (λ spot. IsActBy line.now place spot.act spot.line) }
+        ensures own { IsTrue (draws (kind_of line.now.call)) → IsSomeAnd result (λ spot.
+            (spot.line ≡ Some place) × (spot.act ≡ Act.Asks (version_of line.now.call))) }
         ensures item { option_map item_of result ≡ cond
             (not (is_learn (kind_of line.now.call))
             && not (is_read (kind_of line.now.call) && (version_of line.now.call == start)))
@@ -119,6 +122,9 @@ impl Spot {
     /// The read or report of a line, if it has one.
     pub(crate) fn take(line: &Line, place: u32, known: u64) -> Option<Self>
         ensures line { IfSome result (λ spot. IsActBy line.now place spot.act spot.line) }
+        ensures own { IsTrue (shows (kind_of line.now.call)) → IsSomeAnd result (λ spot.
+            (spot.line ≡ Some place)
+            × (spot.act ≡ taken_by (kind_of line.now.call) (version_of line.now.call))) }
         ensures item { option_map item_of result ≡ cond (shows (kind_of line.now.call))
             (Some (take_by (kind_of line.now.call) (began line.now * 2 ^ 33 + place) known
             (version_of line.now.call))) None }
@@ -158,7 +164,8 @@ impl Spot {
         Some(Spot::sharing(version, Stage::Shared, None, act))
     }
 
-    /// Whether two stand for one act.
+    /// Whether two stand for one act: both are shared at a level and stage, or both are of one
+    /// line.
     pub(crate) fn is_one(&self, other: &Spot) -> bool
         ensures { result ≡ is_one self.now other.now }
     {
@@ -168,7 +175,7 @@ impl Spot {
                 || (self.began == other.began && late(self.line) == late(other.line)))
     }
 
-    /// The order of spots.
+    /// The order of the history: by level and stage, then by when calls began, then by line.
     pub(crate) fn order(&self, other: &Spot) -> Ordering
         ensures { result ≡ nat_cmp (spot_key self.now) (spot_key other.now) }
     {

@@ -90,7 +90,7 @@ impl Tables {
         self.drawn[place]
     }
 
-    /// Whether a line reports a version.
+    /// Whether a commit or a report of the log reports a version. Logarithmic.
     pub(crate) fn is_reported(&self, version: u64) -> bool
         ensures { result ≡ nat_lt 0 (times_in version self.now.reported.rising.items) }
     {

@@ -29,7 +29,7 @@ impl Versions {
         up_to(rising, version) - below(rising, version)
     }
 
-    /// Whether a version was added. Logarithmic.
+    /// Whether a version was added at least once. Logarithmic.
     pub(crate) fn has(&self, version: u64) -> bool
         ensures { result ≡ nat_lt 0 (times_in version self.now.rising.items) }
     {
@@ -45,8 +45,8 @@ fn up_to(rising: &[u64], version: u64) -> usize
     rising.partition_point(|v| *v <= version)
 }
 
-/// How many versions are below this one.
-fn below(rising: &[u64], version: u64) -> usize
+/// How many numbers are below this one.
+pub(crate) fn below(rising: &[u64], version: u64) -> usize
     requires { IsNonDecreasing rising.now }
     ensures { result ≡ count_by (λ v. nat_lt v version) rising.now }
 {

@@ -1,4 +1,4 @@
--- Faults that say that a read went back.
+-- Which faults are stale reads: those of the order. (this product's own)
 use Rattle.std.specs.Prelude.{Bool, true, false}
 use Rattle.fdb_lines.specs.declared.fault.Fault.{Fault}
 use Rattle.fdb_lines.specs.declared.fault.Fault.TheVariants.{Order, Wrong, NotAbove, Twice, Stray}

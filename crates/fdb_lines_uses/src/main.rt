@@ -33,7 +33,6 @@ fn main(rt: HostRuntime) -> Result<()> {
     Ok(())
 }
 
-/// A line of a client.
 fn at(client: u32, call: Call, times: Option<Times>) -> Line {
     Line {
         client: Some(client),
@@ -42,7 +41,6 @@ fn at(client: u32, call: Call, times: Option<Times>) -> Line {
     }
 }
 
-/// A log of these lines.
 fn log_of(alloc: Global, lines: &[Line]) -> Result<Log, LineError> {
     let mut log = Log::new(alloc);
     for line in lines {
@@ -51,7 +49,7 @@ fn log_of(alloc: Global, lines: &[Line]) -> Result<Log, LineError> {
     Ok(log)
 }
 
-/// Whether some history explains a log.
+/// Whether some history explains a log, which is so exactly where it has no fault.
 fn is_explained(alloc: Global, log: &Log, opts: &AuditOpts) -> Result<bool, AllocError>
     ensures { IfOk result
         (λ answer. IsTrue answer ↔ AreExplained (case_of (lines_of log.now) opts.now)) }
@@ -59,7 +57,6 @@ fn is_explained(alloc: Global, log: &Log, opts: &AuditOpts) -> Result<bool, Allo
     Ok(first_fault(alloc, log, opts)?.is_none())
 }
 
-/// How many reads of a log are stale.
 fn stale_reads(alloc: Global, log: &Log, opts: &AuditOpts) -> Result<usize, AllocError>
     ensures { IfOk result
         (λ n. n ≡ count_by is_stale (faults_of (case_of (lines_of log.now) opts.now))) }
@@ -72,7 +69,7 @@ fn stale_reads(alloc: Global, log: &Log, opts: &AuditOpts) -> Result<usize, Allo
     )
 }
 
-/// Whether a read went back.
+/// Whether a fault is a stale read: of a version below one that its caller knew.
 fn is_stale(found: &Found) -> bool
     ensures { result ≡ is_stale found.now }
 {

@@ -1,33 +1,12 @@
 -- The passes of a table that fit, after one of them has changed or a new one has come.
-use Rattle.std.proofs.Common.{◌≡◌, ◌≢◌, ◌⊎◌, ℕ, zero, suc, ◌==◌, Bool, true, false, true≢false, List, [], ◌∷◌, ◌++◌, length, set, if◌then◌else◌, refl, sym, ap, ◌∙◌, subst, ⊎_elim, inl, inr, arith}
-use Rattle.std.proofs.lemmas.Bool.Decides.{nat_tests}
-use mathlib.Core.List.{IsPrefix}
+use Rattle.std.proofs.Common.{◌≡◌, ◌≢◌, ◌⊎◌, ℕ, zero, suc, List, [], ◌∷◌, ◌++◌, length, set, refl, sym, ap, ◌∙◌, subst, ⊎_elim, inl, inr, arith}
 use mathlib.Core.Option.{some, some-ne-none, some-injective}
 use lib.ListN.{get_elem?, length-set}
-use Rattle.fdb_history.specs.declared.register.Record.{Record}
-use Rattle.fdb_live.specs.private.Rule.{Fits, spent}
-use Rattle.fdb_live.specs.declared.change.Change.{Change}
+use Rattle.fdb_live.specs.private.Rule.{Fits, Whole, spent}
 use Rattle.fdb_live.specs.declared.view.View.{View}
-
-pub off : false ≡ true → ⊥
-off e = true≢false (sym e)
-
-pub prefix_nil : (xs : List Change) → IsPrefix [] xs
-prefix_nil xs = (xs, refl)
-
--- whoever `from` was is now `to`
-abbrev pub moved : ℕ → ℕ → ℕ → ℕ
-moved from to k = if k == from then to else k
-
-pub moved_here : (from to k : ℕ) → k ≡ from → to ≡ moved from to k
-moved_here from to k e = grind (arith, nat_tests)
-
-pub moved_else : (from to k j : ℕ) → j ≢ from → j ≡ k → j ≡ moved from to k
-moved_else from to k j n e = go (k == from) refl
-  where
-    go : (b : Bool) → (k == from) ≡ b → j ≡ (if b then to else k)
-    go true is = absurd (n (grind (arith, nat_tests)))
-    go false is = e
+use Rattle.fdb_live.proofs.ChainParts.{chain_spent}
+use Rattle.fdb_live.proofs.Moved.{off}
+use Rattle.fdb_live.proofs.Prefixes.{prefix_nil}
 
 -- what is at a place once one was set is the new one, there, and else what was there before
 pub at_set : {A : Type 0} (l : List A) (i j : ℕ) (a b : A) → get_elem? (set l i a) j ≡ some b → ((j ≡ i) × (a ≡ b)) ⊎ ((j ≢ i) × (get_elem? l j ≡ some b))
@@ -43,9 +22,9 @@ at_new [] a b (suc j) e = absurd (some-ne-none b (sym e))
 at_new (x ∷ xs) a b zero e = inl e
 at_new (x ∷ xs) a b (suc j) e = ⊎_elim (λ old. inl old) (λ new. inr (ap suc new.0, new.1)) (at_new xs a b j e)
 
-module _ (start : Record) (reporters : ℕ) (log : List Change) (seat : ℕ) (holder : ℕ → ℕ) where
+module _ (whole : Whole) where
   abbrev pub Fit : ℕ → View → Type 0
-  Fit pass v = Fits start reporters log seat holder pass v
+  Fit pass v = Fits whole pass v
 
   -- each pass but one fits
   abbrev pub Others : List View → ℕ → Type 0
@@ -69,7 +48,7 @@ module _ (start : Record) (reporters : ℕ) (log : List Change) (seat : ℕ) (ho
       (at_new (set views pass left) right u j e)
 
   pub fits_spent : (pass : ℕ) → Fit pass spent
-  fits_spent pass = record { opened = λ o. absurd (omega arith); right = λ e. absurd (off e); seen = prefix_nil log; mine = prefix_nil []; theirs = prefix_nil []; own = λ n low high. absurd (omega arith); numbers = omega arith; held = λ n low high. absurd (omega arith) }
+  fits_spent pass = record { opened = λ o. absurd (omega arith); right = λ e. absurd (off e); seen = prefix_nil whole.log; mine = prefix_nil []; theirs = prefix_nil []; own = λ n low high. absurd (omega arith); numbers = omega arith; held = λ n low high. absurd (omega arith); chain = chain_spent whole.answers whole.drawer pass }
 
   pub fits_merge : (views : List View) (pass other : ℕ) (both : View) → ((j : ℕ) (u : View) → j ≢ pass → j ≢ other → get_elem? views j ≡ some u → Fit j u) → Fit pass both → Each (set (set views pass both) other spent)
   fits_merge views pass other both others mine = fits_set (set views pass both) other spent rest (fits_spent other)

@@ -2,11 +2,17 @@ pub mod Prefixes
 pub mod Register
 pub mod Logs
 pub mod Rising
+pub mod Moved
+pub mod Drawn
+pub mod ChainParts
 pub mod Fitting
 pub mod Splits
 pub mod Joins
 pub mod Turning
 pub mod InWords
+pub mod Serving
+pub mod Asked
+pub mod Above
 pub mod Tokens
 pub mod Reports
 pub mod Opening

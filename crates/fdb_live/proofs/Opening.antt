@@ -1,5 +1,6 @@
 -- The tokens that are made for the reporters, one after another.
 use Rattle.std.proofs.Common.{◌≡◌, ℕ, ◌<◌, List, [], Some, slice_get}
+use Rattle.fdb_live.specs.Holding.{Holding}
 use Rattle.fdb_live.specs.Seen.{Sight}
 
 abbrev pub token_of : ℕ → Sight
@@ -7,3 +8,10 @@ token_of number = record { reporter = Some number; changes = [] }
 
 abbrev pub AreTokens : List Sight → ℕ → Type 0
 AreTokens items n = (k : ℕ) → k < n → slice_get items k ≡ Some (token_of k)
+
+-- The same of the tokens of a master.
+abbrev pub holding_of : ℕ → Holding
+holding_of number = record { number = Some number; answers = []; changes = [] }
+
+abbrev pub AreHoldings : List Holding → ℕ → Type 0
+AreHoldings items n = (k : ℕ) → k < n → slice_get items k ≡ Some (holding_of k)

@@ -4,7 +4,6 @@ use Rattle.std.specs.Prelude.{nat_lt}
 use Rattle.std.proofs.lemmas.Bool.Decides.{nat_tests}
 use mathlib.Core.List.{IsPrefix}
 use Rattle.fdb_live.specs.Seen.{longer}
-use Rattle.fdb_live.specs.declared.change.Change.{Change}
 
 module _ {A : Type 0} where
   pub prefix_same : (xs : List A) → IsPrefix xs xs
@@ -35,15 +34,25 @@ module _ {A : Type 0} where
   prefix_whole (x ∷ xs) (y ∷ ys) p long =
       let rest = prefix_whole xs ys (p.0, cc (p.1)) (omega arith) in cc (p.1, rest)
 
--- the longer of two that begin one list
-pub record IsLonger (xs ys zs long : List Change) : Type 0 where
-  pub these : IsPrefix xs long
-  pub those : IsPrefix ys long
-  pub all : IsPrefix long zs
+  -- the longer of two that begin one list
+  pub record IsLonger (xs ys zs long : List A) : Type 0 where
+    pub these : IsPrefix xs long
+    pub those : IsPrefix ys long
+    pub all : IsPrefix long zs
 
-pub prefix_longer : (xs ys zs : List Change) → IsPrefix xs zs → IsPrefix ys zs → IsLonger xs ys zs (longer xs ys)
-prefix_longer xs ys zs p q = go (nat_lt (length xs) (length ys)) refl
-  where
-    go : (b : Bool) → nat_lt (length xs) (length ys) ≡ b → IsLonger xs ys zs (if b then ys else xs)
-    go true e = record { these = prefix_shorter xs ys zs p q (grind (arith, nat_tests)); those = prefix_same ys; all = q }
-    go false e = record { these = prefix_same xs; those = prefix_shorter ys xs zs q p (grind (arith, nat_tests)); all = p }
+  pub prefix_longer : (xs ys zs : List A) → IsPrefix xs zs → IsPrefix ys zs → IsLonger xs ys zs (longer xs ys)
+  prefix_longer xs ys zs p q = go (nat_lt (length xs) (length ys)) refl
+    where
+      go : (b : Bool) → nat_lt (length xs) (length ys) ≡ b → IsLonger xs ys zs (if b then ys else xs)
+      go true e = record { these = prefix_shorter xs ys zs p q (grind (arith, nat_tests)); those = prefix_same ys; all = q }
+      go false e = record { these = prefix_same xs; those = prefix_shorter ys xs zs q p (grind (arith, nat_tests)); all = p }
+
+  -- where one of two is the whole, so is the longer
+  pub longer_whole : (xs ys log : List A) → xs ≡ log → IsPrefix ys log → IsPrefix xs log → longer xs ys ≡ log
+  longer_whole xs ys log whole q p =
+      let l = prefix_longer xs ys log p q in
+      let long = prefix_length xs (longer xs ys) l.these in
+      prefix_whole (longer xs ys) log l.all (omega (arith, long, ap length whole))
+
+  pub prefix_nil : (xs : List A) → IsPrefix [] xs
+  prefix_nil xs = (xs, refl)

@@ -1,17 +1,22 @@
 -- What a report makes of the right to replace and of its token.
 use Rattle.std.proofs.Common.{◌≡◌, ℕ, ◌+◌, ◌*◌, ◌<◌, ◌≤◌, Bool, true, false, true≢false, List, [], ◌∷◌, ◌++◌, length, Option, None, Some, refl, sym, ap, ◌∙◌, subst, arith, length-append}
-use Rattle.std.specs.Prelude.{MatchBool, IsSome}
-use Rattle.std.proofs.lemmas.List.Elements.{All-nil, All-cons, All-append}
+use Rattle.std.specs.Prelude.{All, Contains, IsSome, MatchBool}
+use Rattle.std.proofs.lemmas.Option.{same_Some}
+use Rattle.std.proofs.lemmas.List.Elements.{All-append, All-cons, All-contains, All-map, All-nil}
 use mathlib.Core.List.{IsPrefix}
+use Rattle.fdb_history.specs.Chain.{GoesOn, IsChain}
+use Rattle.fdb_history.specs.declared.chain.Issued.{Issued}
 use Rattle.fdb_history.specs.declared.register.Record.{Record}
 use Rattle.fdb_history.specs.declared.register.TheConstants.{MAX_VERSION}
 use Rattle.fdb_history.specs.Register.{after_report, changes, raises}
 use Rattle.fdb_live.specs.declared.fetched.Fetched.{Fetched}
 use Rattle.fdb_live.specs.declared.change.Change.{Change}
+use Rattle.fdb_live.specs.declared.view.Epoch.{Epoch}
 use Rattle.fdb_live.specs.declared.view.View.{View}
+use Rattle.fdb_live.specs.Holding.{answers_among, answers_to, versions}
 use Rattle.fdb_live.specs.Seen.{Sight, last_record, IsLog, IsRecord, changed_by, IsChangedBy}
 use Rattle.fdb_live.specs.private.Rule.{taken, lowest_of, without_lowest, Looks}
-use Rattle.fdb_live.specs.private.Token.{IsHolder, IsRight, IsReported}
+use Rattle.fdb_live.specs.private.Token.{IsHolder, IsMember, IsReported, IsRight, epoch_from}
 use Rattle.fdb_live.proofs.Logs.{last_record-push, all_change-push, position_below, taken_last, above_start, above_all, changed_by-push_own}
 use Rattle.fdb_live.proofs.Prefixes.{prefix_trans}
 use Rattle.fdb_live.proofs.Register.{raises_higher, raised_stands, not_raised_stands}
@@ -27,8 +32,13 @@ room v u x l some =
     omega arith
 
 -- what the right and the token are after a report
-pub record HasReported (start : Record) (reporters : ℕ) (number : Option ℕ) (old : Sight) (rec : Record) (raised changed : Bool) (position : ℕ) (right token : View) : Type 0 where
+pub record HasReported (start : Record) (reporters : ℕ) (number : Option ℕ) (was : View) (old : Sight) (rec : Record) (raised changed : Bool) (position : ℕ) (right token : View) : Type 0 where
   pub holder : IsHolder start reporters number token
+  pub epoch : token.epoch ≡ was.epoch
+  pub settled : token.chain.mine ≡ token.chain.seen
+  pub answers : IsPrefix was.chain.seen token.chain.seen
+  pub own : (n : ℕ) → number ≡ Some n → answers_to n token.chain.seen ≡ answers_to n was.chain.mine
+  pub legal : (epoch : Epoch) → was.epoch ≡ Some epoch → IsChain epoch.before epoch.recovery token.chain.seen
   pub position_is : position ≡ length token.seen
   pub extends : IsPrefix old.changes token.seen
   pub changed_is : changed ≡ true → IsChangedBy start rec raised old (record { reporter = number; changes = token.seen })
@@ -81,7 +91,7 @@ module _ (start : Record) (n : ℕ) where
   so old found new rec raised false seen own tests up is =
       (subst (IsPrefix old) (sym is) seen, λ e. absurd (true≢false (sym e)))
 
-reported_as : (start : Record) (reporters n : ℕ) (rv v u right token : View) (rec : Record) (raised changed : Bool) (position : ℕ) → IsRecord rec → IsRight start reporters rv → IsHolder start reporters (Some n) v → IsReported (taken rv v) rec raised changed position u → right ≡ without_lowest u → token ≡ lowest_of u → HasReported start reporters (Some n) (record { reporter = Some n; changes = v.seen }) rec raised changed position right token
+reported_as : (start : Record) (reporters n : ℕ) (rv v u right token : View) (rec : Record) (raised changed : Bool) (position : ℕ) → IsRecord rec → IsRight start reporters rv → IsHolder start reporters (Some n) v → IsReported (taken rv v) rec raised changed position u → right ≡ without_lowest u → token ≡ lowest_of u → HasReported start reporters (Some n) v (record { reporter = Some n; changes = v.seen }) rec raised changed position right token
 reported_as start reporters n rv v u right token rec raised changed position allowed r h d e f =
     let low : v.low ≡ n = h.numbers.0 in
     let seen : token.seen ≡ u.seen = ap (λ w. w.seen) f in
@@ -102,17 +112,44 @@ reported_as start reporters n rv v u right token rec raised changed position all
         numbers = (ap (λ w. w.low) f ∙ (ap (λ w. w.low) d.is ∙ low), ap (λ w. w.high) f ∙ ap (λ (k : ℕ). k + 1) (ap (λ w. w.low) d.is ∙ low));
         legal = log_after start n reporters d.found token.seen rec changed below allowed log up is;
       };
+      epoch = ap (λ w. w.epoch) f ∙ ap (λ w. w.epoch) d.is;
+      settled = ap (λ w. w.chain.mine) f ∙ (ap (λ w. w.chain.mine) d.is ∙ sym (ap (λ w. w.chain.seen) f));
+      answers = subst (IsPrefix v.chain.seen) (sym (ap (λ w. w.chain.seen) f)) d.chain.seen;
+      own = λ m same. (let its : n ≡ m = same_Some n m same in ap (λ w. answers_to m w.chain.seen) f ∙ sym (d.chain.own m (omega arith) (let high = h.numbers.1 in omega arith)));
+      legal = λ epoch its. subst (IsChain epoch.before epoch.recovery) (sym (ap (λ w. w.chain.seen) f)) (d.legal_chain epoch its);
       position_is = d.position_is ∙ ap length (sym seen);
       extends = all.0;
       changed_is = all.1;
     }
 
-reported : (start : Record) (reporters : ℕ) (number : Option ℕ) (rv v u right token : View) (rec : Record) (raised changed : Bool) (position : ℕ) → IsSome number → IsRecord rec → IsRight start reporters rv → IsHolder start reporters number v → IsReported (taken rv v) rec raised changed position u → right ≡ without_lowest u → token ≡ lowest_of u → HasReported start reporters number (record { reporter = number; changes = v.seen }) rec raised changed position right token
+reported : (start : Record) (reporters : ℕ) (number : Option ℕ) (rv v u right token : View) (rec : Record) (raised changed : Bool) (position : ℕ) → IsSome number → IsRecord rec → IsRight start reporters rv → IsHolder start reporters number v → IsReported (taken rv v) rec raised changed position u → right ≡ without_lowest u → token ≡ lowest_of u → HasReported start reporters number v (record { reporter = number; changes = v.seen }) rec raised changed position right token
 reported start reporters None rv v u right token rec raised changed position some allowed r h d e f = absurd (true≢false (sym some))
 reported start reporters (Some n) rv v u right token rec raised changed position some allowed r h d e f = reported_as start reporters n rv v u right token rec raised changed position allowed r h d e f
 
-pub has_reported : {start : Record} {reporters : ℕ} {number : Option ℕ} {old : Sight} {rv v given t u right token : View} {rec : Record} {raised changed : Bool} {position : ℕ} → record { reporter = number; changes = v.seen } ≡ old → IsSome old.reporter → IsRecord rec → IsRight start reporters rv → IsHolder start reporters number v → given ≡ v → t ≡ taken rv given → IsReported t rec raised changed position u → right ≡ without_lowest u → token ≡ lowest_of u → HasReported start reporters number old rec raised changed position right token
+pub has_reported : {start : Record} {reporters : ℕ} {number : Option ℕ} {old : Sight} {rv v given t u right token : View} {rec : Record} {raised changed : Bool} {position : ℕ} → record { reporter = number; changes = v.seen } ≡ old → IsSome old.reporter → IsRecord rec → IsRight start reporters rv → IsHolder start reporters number v → given ≡ v → t ≡ taken rv given → IsReported t rec raised changed position u → right ≡ without_lowest u → token ≡ lowest_of u → HasReported start reporters number v old rec raised changed position right token
 has_reported {start} {reporters} {number} {old} {rv} {v} {given} {t} {u} {right} {token} {rec} {raised} {changed} {position} is some allowed r h gives takes d e f =
     let done = subst (λ (w : View). IsReported w rec raised changed position u) (takes ∙ ap (taken rv) gives) d in
     let numbered : IsSome number = subst (λ (s : Sight). IsSome s.reporter) (sym is) some in
-    subst (λ (s : Sight). HasReported start reporters number s rec raised changed position right token) is (reported start reporters number rv v u right token rec raised changed position numbered allowed r h done e f)
+    subst (λ (s : Sight). HasReported start reporters number v s rec raised changed position right token) is (reported start reporters number rv v u right token rec raised changed position numbered allowed r h done e f)
+
+-- what a report makes of what a master's token knows besides
+pub member_reported : {start : Record} {epoch_end recovery reporters : ℕ} {number : Option ℕ} {v right token : View} {old : Sight} {rec : Record} {raised changed : Bool} {position : ℕ} → IsMember epoch_end recovery reporters number v → HasReported start reporters number v old rec raised changed position right token → IsMember epoch_end recovery reporters number token
+member_reported {epoch_end = epoch_end} {recovery = recovery} m all = record {
+  epoch = all.epoch ∙ m.epoch;
+  settled = all.settled;
+  legal = all.legal (epoch_from epoch_end recovery) m.epoch;
+  below = m.below;
+}
+
+-- each version of a chain is a version
+goes_on_in_range : (epoch_end recovery : ℕ) (before later : List Issued) → GoesOn epoch_end recovery before later → All (λ answer. answer.version ≤ MAX_VERSION) later
+goes_on_in_range epoch_end recovery before [] on = All-nil _
+goes_on_in_range epoch_end recovery before (next ∷ later) on = All-cons (λ (answer : Issued). answer.version ≤ MAX_VERSION) next later on.0.in_range (goes_on_in_range epoch_end recovery (before ++ next ∷ []) later on.1)
+
+pub version_in_range : (epoch_end recovery : ℕ) (answers : List Issued) (version : ℕ) → IsChain epoch_end recovery answers → Contains (versions answers) version → version ≤ MAX_VERSION
+version_in_range epoch_end recovery answers version chain has =
+    All-contains (λ (v : ℕ). v ≤ MAX_VERSION) (versions answers) version (All-map (λ (v : ℕ). v ≤ MAX_VERSION) (λ (answer : Issued). answer.version) answers (goes_on_in_range epoch_end recovery [] answers chain)) has
+
+pub own_reported : {start : Record} {epoch_end recovery reporters : ℕ} {v right token : View} {old : Sight} {rec : Record} {raised changed : Bool} {position : ℕ} (number : Option ℕ) → IsMember epoch_end recovery reporters number v → HasReported start reporters number v old rec raised changed position right token → answers_among number token.chain.seen ≡ answers_among number v.chain.seen
+own_reported None m all = refl
+own_reported (Some n) m all = all.own n refl ∙ ap (answers_to n) m.settled

@@ -54,8 +54,8 @@ own_among (Some number) changes = changed_by number 1 changes
 abbrev pub own_positions : Sight → List ℕ
 own_positions sight = own_among sight.reporter sight.changes
 
--- The longer of two lists.
-abbrev pub longer : List Change → List Change → List Change
+-- The longer of two lists, the first where both are as long.
+abbrev pub longer : {A : Type 0} → List A → List A → List A
 longer these those = if nat_lt (length these) (length those) then those else these
 
 -- A record is not behind another: neither its version nor its minimum known committed version is
@@ -64,7 +64,8 @@ pub record IsNotBehind (other rec : Record) : Type 0 where
   pub version : other.version ≤ rec.version
   pub minimum : other.min_known ≤ rec.min_known
 
--- A record and its position are within bounds.
+-- A position is at most twice the version of its record. That version is not above the greatest
+-- one, and the minimum known committed version not above that version.
 pub record IsBounded (position : ℕ) (rec : Record) : Type 0 where
   pub below : position ≤ 2 * rec.version
   pub within : rec.min_known ≤ rec.version

@@ -1,4 +1,4 @@
-//! The acknowledgement of a report.
+//! The acknowledgement of a report, and what it says of what the report did.
 
 /// That a report was taken: whether it raised the record, whether it changed it, and the number of
 /// changes by then (the reply of `reportLiveCommittedVersion` of masterserver, FoundationDB 7.1; all
@@ -10,6 +10,6 @@ pub struct Ack {
     /// Whether it changed the record: its version or its minimum known committed version was
     /// greater.
     pub changed: bool,
-    /// The number of changes.
+    /// How many changes there were by then, with this report where it is one.
     pub position: u64,
 }

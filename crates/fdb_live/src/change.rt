@@ -8,6 +8,6 @@ use fdb_history::Record;
 pub struct Change {
     /// The number of the reporter that made it.
     pub reporter: u32,
-    /// The record that it reported.
+    /// The record as it was reported, which the live record need not have become.
     pub rec: Record,
 }

@@ -6,14 +6,14 @@ use thiserror::Error;
 /// Why a live record is not opened, or a report not taken.
 #[derive(Clone, Copy, Debug, PartialEq, Eq, Error)]
 pub enum LiveError {
-    /// The version is above the greatest one.
+    /// The version is above the greatest one, `MAX_VERSION` of `fdb_history`.
     #[error("the version is out of range")]
     TooLarge,
     /// The minimum known committed version is above the version. (this product's own: masterserver
     /// takes it as it comes)
     #[error("the minimum known committed version is above the version")]
     MinAbove,
-    /// Memory was refused.
+    /// Memory was refused to an opening, or to the tokens; a report takes none.
     #[error("want of memory")]
     Memory,
 }

@@ -1,4 +1,4 @@
-//! What a read answers.
+//! What a read answers: a record, and how many changes had led to it.
 
 use fdb_history::Record;
 
@@ -8,8 +8,6 @@ use fdb_history::Record;
 /// this product's own).
 #[derive(Clone, Copy, Debug, PartialEq, Eq)]
 pub struct Fetched {
-    /// The record.
     pub rec: Record,
-    /// The number of changes.
     pub position: u64,
 }

@@ -8,33 +8,30 @@ use crate::fetched::Fetched;
 use crossbeam_utils::atomic::Words;
 use fdb_history::Record;
 
-/// The flag of a locked database.
+/// Bit 0 of the flags: the database is locked.
 const LOCKED: u64 = 1;
 
-/// The flag of a record with a metadata version.
+/// Bit 1 of the flags: there is a metadata version.
 const HAS_METADATA: u64 = 2;
 
 /// The record and its position in six words. They have no gaps, which a copy of a [`Fetched`]
 /// would move as well, a few bytes at a time.
 #[derive(Clone, Copy)]
 pub(crate) struct Held {
-    /// The number of changes.
     pub(crate) position: u64,
-    /// The live committed version.
     pub(crate) version: u64,
-    /// Whether the database is locked, and whether there is a metadata version.
+    /// `LOCKED` and `HAS_METADATA`, each where it stands.
     pub(crate) flags: u64,
     /// The first eight bytes of the metadata version as a number, the first byte the highest, and 0
     /// where there is none.
     pub(crate) first_metadata: u64,
     /// The last two bytes of the metadata version, likewise.
     pub(crate) second_metadata: u64,
-    /// The minimum known committed version.
     pub(crate) min_known: u64,
 }
 
 impl Held {
-    /// What the cell keeps of this.
+    /// The words of a record and its position, of which `fetched` makes them again.
     #[inline]
     pub(crate) fn of(fetched: Fetched) -> Held
         ensures words { result ≡ held_of fetched }
@@ -55,7 +52,7 @@ impl Held {
         }
     }
 
-    /// What these words say.
+    /// The record and the position that these words stand for.
     #[inline]
     pub(crate) fn fetched(self) -> Fetched
         ensures { result ≡ fetched_of self }

@@ -1,4 +1,4 @@
-//! The live record.
+//! The live record, which reports replace under a lock and reads load without it.
 
 ghost use Rattle.std.specs.Prelude.{◌≡◌, ◌≢◌, ◌*◌, ◌<◌, ◌≤◌, ◌⊎◌, ◌↔◌, length, Option, None};
 ghost use Rattle.std.specs.Prelude.{IsSome, IfOk, OnOk, OnErr, true, false};

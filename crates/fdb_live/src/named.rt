@@ -9,7 +9,7 @@ use std::marker::Brand;
 
 /// What is done with a service under a name that stands for it.
 pub trait UnderName<R> {
-    /// What comes of it.
+    /// What [`run`](UnderName::run) answers, whatever the name is.
     type Output;
 
     // What it promises of that, by what the name stands for: what was opened, the last version of

@@ -1,10 +1,10 @@
 //! A live record that was opened, before its service has a name.
 
-ghost use Rattle.std.specs.Prelude.{◌≡◌, ◌+◌, ◌<◌, ◌≤◌, ◌↔◌, ℕ, [], true, Some, None, IfOk, IfErr};
+ghost use Rattle.std.specs.Prelude.{◌≡◌, ◌+◌, ◌<◌, ◌≤◌, ◌↔◌, ℕ, [], Some, None, IfOk, IfErr};
 ghost use Rattle.std.specs.Prelude.{vec_len, slice_get};
 ghost use Rattle.crossbeam_utils.specs.Seq.{cell_view};
 ghost use Rattle.fdb_live.specs.Seen.{IsRecord};
-ghost use Rattle.fdb_live.specs.private.Rule.{opened, view};
+ghost use Rattle.fdb_live.specs.private.Rule.{left_from, opened};
 
 use crate::error::LiveError;
 use crate::fetched::Fetched;
@@ -15,7 +15,7 @@ use crate::passes;
 use crate::passes::Pass;
 use crate::right::Right;
 use crate::seen::Seen;
-use crate::view::Cell;
+use crate::view::{Bare, Cell};
 use fdb_history::{MAX_VERSION, Record};
 use std::alloc::{AllocError, Global};
 use std::marker::{Brand, Model, PhantomData};
@@ -36,7 +36,7 @@ pub struct Opened {
 }
 
 impl Model for Opened {
-    ghost use Rattle.std.specs.Prelude.{◌≡◌, ◌<◌, ◌≤◌};
+    ghost use Rattle.std.specs.Prelude.{◌≡◌, ◌<◌, ◌≤◌, None};
     ghost use Rattle.crossbeam_utils.specs.Seq.{cell_view};
     ghost use Rattle.fdb_live.specs.private.Rule.{opened};
     ghost use Rattle.fdb_live.specs.Seen.{IsRecord, Origin};
@@ -52,7 +52,7 @@ impl Model for Opened {
     ghost invariant = { λ o. (o.pass.table_id ≡ o.cell.table.shared.table_id)
         × (0 < o.reporters)
         × IsRecord (cell_view o.pass).start
-        × (cell_view o.pass ≡ opened (cell_view o.pass).start o.reporters) };
+        × (cell_view o.pass ≡ opened (cell_view o.pass).start None o.reporters) };
 }
 
 impl LiveRecord<Brand> {
@@ -84,7 +84,7 @@ impl LiveRecord<Brand> {
             position: 0,
         };
         let (cell, mut pass) = Cell::ruled(alloc, Held::of(begun))?;
-        passes::open_as::<Brand, R>(rt, &cell, &mut pass, start, reporters);
+        passes::open_as::<Brand, Bare, R>(rt, &cell, &mut pass, start, reporters);
         Ok(Opened {
             cell,
             pass,
@@ -142,11 +142,11 @@ fn numbered<J: Live>(
     requires cell { cell.now.table.shared.table_id ≡ J.table }
     requires pass { pass.old.table_id ≡ J.table }
     requires named { reporters ≡ J.reporters }
-    requires opened { cell_view pass.old ≡ opened J.start reporters }
+    requires opened { cell_view pass.old ≡ opened J.start None reporters }
     requires taken { IsRecord J.start }
     ensures cell { pass.new.table_id ≡ J.table }
     ensures left { IfOk result (λ _.
-        cell_view pass.new ≡ view J.start reporters reporters reporters true [] [] []) }
+        cell_view pass.new ≡ left_from reporters J.start None reporters) }
     ensures count { IfOk result (λ tokens. vec_len tokens ≡ reporters) }
     ensures tokens { IfOk result (λ tokens. (k : ℕ) → k < reporters →
         slice_get tokens.items k ≡ Some (record { reporter = Some k; changes = [] })) }
@@ -164,10 +164,9 @@ fn token<J: Live>(cell: &Cell, pass: &mut Pass, number: u32) -> Seen<J>
     requires pass { pass.old.table_id ≡ J.table }
     requires below { number < J.reporters }
     requires taken { IsRecord J.start }
-    requires left { cell_view pass.old ≡ view J.start J.reporters number J.reporters true [] [] [] }
+    requires left { cell_view pass.old ≡ left_from number J.start None J.reporters }
     ensures cell { pass.new.table_id ≡ J.table }
-    ensures left { cell_view pass.new
-        ≡ view J.start J.reporters (number + 1) J.reporters true [] [] [] }
+    ensures left { cell_view pass.new ≡ left_from (number + 1) J.start None J.reporters }
     ensures token { result ≡ record { reporter = Some number; changes = [] } }
 {
     Seen {

@@ -1,12 +1,18 @@
 //! The steps on passes of the cell: each keeps the rule, and says what has become of the views.
 
-ghost use Rattle.std.specs.Prelude.{◌≡◌, ◌+◌, ◌<◌, ◌≤◌, [], length, true};
+ghost use Rattle.std.specs.Prelude.{◌≡◌, ◌+◌, ◌<◌, ◌≤◌, ◌∷◌, ◌++◌, Contains, IsSome, Some, []};
+ghost use Rattle.std.specs.Prelude.{length, true};
+ghost use Rattle.std.specs.Option.{ForSome};
 ghost use Rattle.crossbeam_utils.specs.Register.{Turns};
 ghost use Rattle.crossbeam_utils.specs.Seq.{IsSamePass, cell_view};
+ghost use Rattle.fdb_history.specs.Chain.{IsChain};
 ghost use Rattle.fdb_history.specs.Register.{after_report, changes};
+ghost use Rattle.fdb_live.specs.Holding.{versions};
 ghost use Rattle.fdb_live.specs.Seen.{IsRecord, last_record};
-ghost use Rattle.fdb_live.specs.private.Token.{IsReported};
-ghost use Rattle.fdb_live.specs.private.Rule.{Adds, InWords, Keeps, Looks, Opens, Settles, copy_of};
+ghost use Rattle.fdb_live.specs.private.Token.{DrawsAny, IsReported, IsServed, epoch_from};
+ghost use Rattle.fdb_live.specs.private.Rule.{Adds, Draws, InWords, Keeps, Looks, Opens, Settles};
+ghost use Rattle.fdb_live.specs.private.Rule.{copy_of};
+ghost use Rattle.fdb_live.specs.private.Rule.{drawer_of, served, without_drawing};
 ghost use Rattle.fdb_live.specs.private.Rule.{first, joined, lowest_of, opened, spent, taken};
 ghost use Rattle.fdb_live.specs.private.Rule.{without_lowest};
 ghost use Rattle.fdb_live.specs.private.Words.{fetched_of};
@@ -14,18 +20,19 @@ ghost use Rattle.fdb_live.specs.private.Words.{fetched_of};
 use crate::ack::Ack;
 use crate::fetched::Fetched;
 use crate::held::Held;
+use crate::live::Live;
 use crate::view;
-use crate::view::{Cell, Reported, View};
+use crate::view::{Answer, Cell, Kind, Reported, View};
 use crossbeam_utils::atomic::seq_cell;
-use fdb_history::{Record, Service};
+use fdb_history::{Issued, Record, Service};
 use std::marker::Brand;
 use std::sync::Wait;
 
 /// A pass of the cell. It has no bytes.
 pub(crate) type Pass = seq_cell::Pass<Held, View>;
 
-/// Opens the service of a name.
-pub(crate) fn open_as<S: Service, R: Wait>(
+/// Opens the service of a name: the first pass writes its first record and gets all numbers.
+pub(crate) fn open_as<S: Service, K: Kind, R: Wait>(
     rt: &R,
     cell: &Cell,
     pass: &mut Pass,
@@ -37,19 +44,19 @@ pub(crate) fn open_as<S: Service, R: Wait>(
     requires named { reporters ≡ S.reporters }
     requires taken { IsRecord start }
     ensures cell { IsSamePass pass.old pass.new }
-    ensures opened { cell_view pass.new ≡ opened start reporters }
+    ensures opened { cell_view pass.new ≡ opened start K.epoch reporters }
 {
-    let words = opening::<S>(pass, start);
-    cell.swap_as::<view::Opens<S>, R>(rt, pass, words);
+    let words = opening::<S, K>(pass, start);
+    cell.swap_as::<view::Opens<S, K>, R>(rt, pass, words);
 }
 
 /// The words with which the first pass may open the service of a name.
-fn opening<S: Service>(pass: &Pass, start: Record) -> Held
+fn opening<S: Service, K: Kind>(pass: &Pass, start: Record) -> Held
     requires first { cell_view pass.now ≡ first }
     requires taken { IsRecord start }
     ensures words { (fetched_of result).rec ≡ start }
     ensures may_open { Turns Keeps pass.now.id (cell_view pass.now) (λ _. result)
-        (InWords (Opens S.reporters)) }
+        (InWords (Opens K.epoch S.reporters)) }
 {
     Held::of(Fetched {
         rec: start,
@@ -90,6 +97,8 @@ pub(crate) fn add<P: Reported, R: Wait>(
         (last_record (cell_view pass.old).start (cell_view pass.old).seen)
         rec }
     requires taken { IsRecord rec }
+    requires issued { IsSome (cell_view pass.old).epoch
+        → Contains (versions (cell_view pass.old).chain.seen) rec.version }
     ensures cell { IsSamePass pass.old pass.new }
     ensures adds { Adds rec (cell_view pass.old) next next (cell_view pass.new) }
 {
@@ -111,12 +120,14 @@ fn adding<P: Reported>(pass: &Pass, rec: Record, next: Fetched) -> Held
         (last_record (cell_view pass.now).start (cell_view pass.now).seen)
         rec }
     requires taken { IsRecord rec }
+    requires issued { IsSome (cell_view pass.now).epoch
+        → Contains (versions (cell_view pass.now).chain.seen) rec.version }
     ensures { Turns Keeps pass.now.id (cell_view pass.now) (λ _. result) (InWords (Adds P.rec)) }
 {
     Held::of(next)
 }
 
-/// Splits off a copy of what was seen.
+/// Splits off a pass that has seen the same, with no number and no right to replace.
 #[tactic(auto, using(crate::proofs::InWords::copies_in_words))]
 pub(crate) fn copy(cell: &Cell, pass: &mut Pass) -> Pass
     requires { pass.old.table_id ≡ cell.now.table.shared.table_id }
@@ -128,7 +139,7 @@ pub(crate) fn copy(cell: &Cell, pass: &mut Pass) -> Pass
     cell.split_pass::<view::Copied>(pass)
 }
 
-/// Splits off the lowest number.
+/// Splits off a pass that has the lowest number alone, and has seen the same.
 #[tactic(auto, using(crate::proofs::InWords::gives_lowest_in_words))]
 pub(crate) fn give_lowest(cell: &Cell, pass: &mut Pass) -> Pass
     requires cell { pass.old.table_id ≡ cell.now.table.shared.table_id }
@@ -142,7 +153,7 @@ pub(crate) fn give_lowest(cell: &Cell, pass: &mut Pass) -> Pass
     cell.split_pass::<view::Lowest>(pass)
 }
 
-/// Splits off all that the pass has.
+/// Splits off a pass that has all that this one had, which is spent then.
 #[tactic(auto, using(crate::proofs::InWords::gives_all_in_words))]
 pub(crate) fn give_all(cell: &Cell, pass: &mut Pass) -> Pass
     requires { pass.old.table_id ≡ cell.now.table.shared.table_id }
@@ -154,7 +165,7 @@ pub(crate) fn give_all(cell: &Cell, pass: &mut Pass) -> Pass
     cell.split_pass::<view::Whole>(pass)
 }
 
-/// Takes in what another pass has seen.
+/// Takes in what another pass has seen. Its numbers and its right stay as they are.
 #[inline(always)]
 pub(crate) fn learn<R: Wait>(rt: &R, cell: &Cell, pass: &mut Pass, other: Pass) -> Fetched
     requires cell { pass.old.table_id ≡ cell.now.table.shared.table_id }
@@ -194,6 +205,7 @@ pub(crate) fn take(cell: &Cell, pass: &mut Pass, other: Pass)
     requires cell { pass.old.table_id ≡ cell.now.table.shared.table_id }
     requires other { (other.table_id ≡ pass.old.table_id) × (other.me.1 ≡ []) }
     requires right { (cell_view pass.old).replaces ≡ true }
+    requires opened { 0 < (cell_view other).reporters }
     ensures { IsSamePass pass.old pass.new
         × (cell_view pass.new ≡ taken (cell_view pass.old) (cell_view other)) }
 {
@@ -209,6 +221,8 @@ pub(crate) fn report<R: Wait>(rt: &R, cell: &Cell, pass: &mut Pass, rec: Record)
     requires right { (cell_view pass.old).replaces ≡ true }
     requires numbered { (cell_view pass.old).low < (cell_view pass.old).high }
     requires taken { IsRecord rec }
+    requires issued { IsSome (cell_view pass.old).epoch
+        → Contains (versions (cell_view pass.old).chain.seen) rec.version }
     ensures cell { IsSamePass pass.old pass.new }
     ensures reported { IsReported (cell_view pass.old) rec
         result.raised result.changed result.position (cell_view pass.new) }
@@ -232,4 +246,106 @@ pub(crate) fn report<R: Wait>(rt: &R, cell: &Cell, pass: &mut Pass, rec: Record)
         changed: true,
         position: next.position,
     }
+}
+
+/// Splits off a pass that has the right to draw, and has seen the same.
+#[tactic(auto, using(crate::proofs::InWords::gives_drawer_in_words))]
+pub(crate) fn give_drawing(cell: &Cell, pass: &mut Pass) -> Pass
+    requires { pass.old.table_id ≡ cell.now.table.shared.table_id }
+    ensures kept { IsSamePass pass.old pass.new
+        × (cell_view pass.new ≡ without_drawing (cell_view pass.old)) }
+    ensures given { (result.table_id ≡ pass.old.table_id)
+        × (cell_view result ≡ drawer_of (cell_view pass.old))
+        × (result.me.1 ≡ []) }
+{
+    cell.split_pass::<view::Drawing>(pass)
+}
+
+/// The pass with the right to draw takes in another one with its number.
+fn serve(cell: &Cell, pass: &mut Pass, other: Pass)
+    requires cell { pass.old.table_id ≡ cell.now.table.shared.table_id }
+    requires other { (other.table_id ≡ pass.old.table_id) × (other.me.1 ≡ []) }
+    requires right { (cell_view pass.old).chain.draws ≡ true }
+    ensures served { IsSamePass pass.old pass.new
+        × (cell_view pass.new ≡ served (cell_view pass.old) (cell_view other)) }
+    ensures may_settle { Turns Keeps pass.new.id (cell_view pass.new) (λ x. x) (InWords Settles) }
+{
+    cell.join_pass::<view::Served>(pass, other);
+}
+
+/// Draws an answer by the pass with the right to draw, under its lowest number.
+#[inline(always)]
+fn draw<P: Answer, J: Live, R: Wait>(
+    rt: &R,
+    cell: &Cell,
+    pass: &mut Pass,
+    answer: Issued,
+) -> Fetched
+    requires named { answer ≡ P.answer }
+    requires cell { pass.old.table_id ≡ cell.now.table.shared.table_id }
+    requires right { (cell_view pass.old).chain.draws ≡ true }
+    requires numbered { (cell_view pass.old).low ≡ answer.proxy }
+    requires numbers { (cell_view pass.old).low < (cell_view pass.old).high }
+    requires epoch { (cell_view pass.old).epoch ≡ Some (epoch_from J.epoch_end J.recovery) }
+    requires legal { IsChain J.epoch_end J.recovery
+        ((cell_view pass.old).chain.seen ++ answer ∷ []) }
+    ensures cell { IsSamePass pass.old pass.new }
+    ensures draws { Draws answer (cell_view pass.old) result result (cell_view pass.new) }
+{
+    let _ = answer;
+    cell.load_as::<view::Draws<P>, R>(rt, pass).fetched()
+}
+
+/// Ends a join of the pass with the right to draw, and draws an answer if there is one.
+#[tactic(auto, using(crate::proofs::Serving::draws_some, crate::proofs::Serving::draws_none))]
+#[inline(always)]
+fn draw_any<J: Live, R: Wait>(rt: &R, cell: &Cell, pass: &mut Pass, drawn: Option<Issued>)
+    requires cell { pass.old.table_id ≡ cell.now.table.shared.table_id }
+    requires right { (cell_view pass.old).chain.draws ≡ true }
+    requires may_settle { Turns Keeps pass.old.id (cell_view pass.old) (λ x. x) (InWords Settles) }
+    requires numbers { (cell_view pass.old).low < (cell_view pass.old).high }
+    requires epoch { (cell_view pass.old).epoch ≡ Some (epoch_from J.epoch_end J.recovery) }
+    requires numbered { ForSome drawn (λ answer. (cell_view pass.old).low ≡ answer.proxy) }
+    requires legal { ForSome drawn (λ answer. IsChain J.epoch_end J.recovery
+        ((cell_view pass.old).chain.seen ++ answer ∷ [])) }
+    ensures cell { IsSamePass pass.old pass.new }
+    ensures draws { DrawsAny drawn (cell_view pass.old) (cell_view pass.new) }
+{
+    match drawn {
+        Some(answer) => {
+            draw::<Brand, J, R>(rt, cell, pass, answer);
+        }
+        None => {
+            settle(rt, cell, pass);
+        }
+    }
+}
+
+/// The pass with the right to draw draws an answer for a token, if there is one. For that, the
+/// token's pass is taken in, and its number is split off again.
+#[inline(always)]
+pub(crate) fn answer<J: Live, R: Wait>(
+    rt: &R,
+    cell: &Cell,
+    right: &mut Pass,
+    token: &mut Pass,
+    drawn: Option<Issued>,
+)
+    requires cell { right.old.table_id ≡ cell.now.table.shared.table_id }
+    requires token { token.old.table_id ≡ cell.now.table.shared.table_id }
+    requires right { (cell_view right.old).chain.draws ≡ true }
+    requires numbers { (cell_view token.old).high ≡ (cell_view token.old).low + 1 }
+    requires epoch { (cell_view token.old).epoch ≡ Some (epoch_from J.epoch_end J.recovery) }
+    requires numbered { ForSome drawn (λ answer. (cell_view token.old).low ≡ answer.proxy) }
+    requires legal { ForSome drawn (λ answer. IsChain J.epoch_end J.recovery
+        ((cell_view right.old).chain.seen ++ answer ∷ [])) }
+    ensures cell { (right.new.table_id ≡ right.old.table_id)
+        × (token.new.table_id ≡ token.old.table_id) }
+    ensures served { IsServed drawn (cell_view right.old) (cell_view token.old)
+        (cell_view right.new) (cell_view token.new) }
+{
+    let mine = give_all(cell, token);
+    serve(cell, right, mine);
+    draw_any::<J, R>(rt, cell, right, drawn);
+    *token = give_lowest(cell, right);
 }

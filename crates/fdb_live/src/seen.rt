@@ -1,4 +1,4 @@
-//! Tokens: what their holders have seen.
+//! Tokens, which prove what their holders have seen of the live record.
 
 ghost use Rattle.std.specs.Prelude.{◌≡◌, length};
 
@@ -25,7 +25,7 @@ impl<J: Live> Model for Seen<J> {
     ghost use Rattle.std.specs.Prelude.{◌≡◌, length};
     ghost use Rattle.crossbeam_utils.specs.Seq.{cell_view};
     ghost use Rattle.fdb_live.specs.Seen.{Sight};
-    ghost use Rattle.fdb_live.specs.private.Token.{IsHolder};
+    ghost use Rattle.fdb_live.specs.private.Token.{IsFree, IsHolder};
 
     ghost Value = { Sight };
 
@@ -33,7 +33,8 @@ impl<J: Live> Model for Seen<J> {
 
     ghost invariant = { λ s. (s.pass.table_id ≡ J.table)
         × (s.position ≡ length (cell_view s.pass).seen)
-        × IsHolder J.start J.reporters s.number (cell_view s.pass) };
+        × IsHolder J.start J.reporters s.number (cell_view s.pass)
+        × IsFree s.number (cell_view s.pass) };
 }
 
 impl<J: Live> Seen<J> {

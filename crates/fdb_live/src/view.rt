@@ -5,31 +5,57 @@ use crate::held::Held;
 use atomic_table::{Join, Split};
 use crossbeam_utils::atomic::seq_cell::RuledSeqCell;
 use crossbeam_utils::rule::{Outcome, Protocol};
-use fdb_history::{Record, Service};
+use fdb_history::{Issued, Record, Service};
 use std::collections::LinkedList;
 use std::marker::{Brand, PhantomData};
 
-/// What a pass knows.
+/// What a pass knows of the service, and what it may do with the record.
 pub(crate) struct View {
-    /// The record before any report.
+    /// The record before any report, once the service is opened.
     pub(crate) start: Record,
     /// How many reporters there are, once the service is opened.
     pub(crate) reporters: u32,
+    /// The epoch of the service's chain of commit versions, of which each reported version is one;
+    /// none, where it has no chain.
+    pub(crate) epoch: Option<Epoch>,
     /// It holds the reporters' numbers from here on.
     pub(crate) low: u32,
-    /// And those below this one.
+    /// It holds none from this number on, so that it holds none at all where this is not above
+    /// `low`.
     pub(crate) high: u32,
     /// Whether it has the right to replace the record.
     pub(crate) replaces: bool,
-    /// The changes that it has seen.
+    /// The changes that it has seen, from the first of all on and in order.
     pub(crate) seen: LinkedList<Change>,
     /// Those that it had itself seen before a join, until it looks.
     pub(crate) mine: LinkedList<Change>,
     /// Those that the other pass of that join had seen.
     pub(crate) theirs: LinkedList<Change>,
+    /// What it knows of the chain, of which a bare live record has none.
+    pub(crate) chain: ChainView,
 }
 
-/// The rule of the cell.
+/// The versions that an epoch begins from.
+pub(crate) struct Epoch {
+    /// The last version of the epoch before.
+    pub(crate) before: u64,
+    /// The first version of this one, its recovery version.
+    pub(crate) recovery: u64,
+}
+
+/// What a pass knows of the chain of commit versions, and what it may do with it.
+pub(crate) struct ChainView {
+    /// Whether it has the right to draw.
+    pub(crate) draws: bool,
+    /// The answers that it has seen, from the first of all on and in order.
+    pub(crate) seen: LinkedList<Issued>,
+    /// Those that it had itself seen before a join, until it looks.
+    pub(crate) mine: LinkedList<Issued>,
+    /// Those that the other pass of that join had seen.
+    pub(crate) theirs: LinkedList<Issued>,
+}
+
+/// The rule of the cell, which each step on a pass keeps: `Keeps` of the words and all views.
 pub(crate) struct Law;
 
 impl Protocol<Held, View> for Law {
@@ -43,18 +69,48 @@ impl Protocol<Held, View> for Law {
 /// The cell: one record and its position, in six words.
 pub(crate) type Cell = RuledSeqCell<Held, View, Law, 6>;
 
-/// A step that opens the service of a name.
-pub(crate) struct Opens<S: Service> {
+/// Stands for the chain that a service is opened with.
+pub(crate) trait Kind {
+    ghost use Rattle.std.specs.Prelude.{Option};
+    ghost use Rattle.fdb_live.specs.declared.view.Epoch.{Epoch};
+
+    // The epoch of its chain, if it has one.
+    ghost epoch: { Option Epoch };
+}
+
+/// A service with no chain, as a live record alone is opened for.
+pub(crate) struct Bare;
+
+impl Kind for Bare {
+    ghost use Rattle.std.specs.Prelude.{None};
+
+    ghost epoch = { None };
+}
+
+/// A service with the chain of a name's epoch.
+pub(crate) struct Chained<S: Service> {
     service: PhantomData<S>,
 }
 
-impl<S: Service> Outcome<Held, View> for Opens<S> {
-    ghost use Rattle.fdb_live.specs.private.Rule.{InWords, Opens as HasOpened};
+impl<S: Service> Kind for Chained<S> {
+    ghost use Rattle.std.specs.Prelude.{Some};
 
-    ghost then = { InWords (HasOpened S.reporters) };
+    ghost epoch = { Some (record { before = S.epoch_end; recovery = S.recovery }) };
 }
 
-/// A look at the record.
+/// A step that opens the service of a name.
+pub(crate) struct Opens<S: Service, K: Kind> {
+    service: PhantomData<S>,
+    kind: PhantomData<K>,
+}
+
+impl<S: Service, K: Kind> Outcome<Held, View> for Opens<S, K> {
+    ghost use Rattle.fdb_live.specs.private.Rule.{InWords, Opens as HasOpened};
+
+    ghost then = { InWords (HasOpened K.epoch S.reporters) };
+}
+
+/// A load of the record, after which its pass has seen all changes so far.
 pub(crate) struct Looks;
 
 impl Outcome<Held, View> for Looks {
@@ -63,7 +119,7 @@ impl Outcome<Held, View> for Looks {
     ghost then = { InWords HasLooked };
 }
 
-/// A look that ends a join.
+/// A load that ends a join, after which its pass has seen what the join left it.
 pub(crate) struct Settles;
 
 impl Outcome<Held, View> for Settles {
@@ -87,7 +143,7 @@ impl Reported for Brand {
     ghost rec = { no_record };
 }
 
-/// A change.
+/// A report that changes the record, under the lowest number of its pass.
 pub(crate) struct Adds<P: Reported> {
     report: PhantomData<P>,
 }
@@ -96,6 +152,32 @@ impl<P: Reported> Outcome<Held, View> for Adds<P> {
     ghost use Rattle.fdb_live.specs.private.Rule.{Adds as HasAdded, InWords};
 
     ghost then = { InWords (HasAdded P.rec) };
+}
+
+/// Stands for an answer that is drawn.
+pub(crate) trait Answer {
+    ghost use Rattle.fdb_history.specs.declared.chain.Issued.{Issued};
+
+    // The answer.
+    ghost answer: { Issued };
+}
+
+/// The draw that a call may pick the answer of.
+impl Answer for Brand {
+    ghost use Rattle.fdb_live.specs.private.Rule.{no_answer};
+
+    ghost answer = { no_answer };
+}
+
+/// A load at which an answer is drawn, under the lowest number of its pass.
+pub(crate) struct Draws<P: Answer> {
+    answer: PhantomData<P>,
+}
+
+impl<P: Answer> Outcome<Held, View> for Draws<P> {
+    ghost use Rattle.fdb_live.specs.private.Rule.{Draws as HasDrawn, InWords};
+
+    ghost then = { InWords (HasDrawn P.answer) };
 }
 
 /// A copy of what was seen is split off.
@@ -109,7 +191,7 @@ impl Split<View> for Copied {
     ghost right = { copy_of };
 }
 
-/// The lowest number is split off.
+/// The lowest number is split off, for a pass that has seen the same.
 pub(crate) struct Lowest;
 
 impl Split<View> for Lowest {
@@ -131,6 +213,17 @@ impl Split<View> for Whole {
     ghost right = { λ v. v };
 }
 
+/// The right to draw is split off.
+pub(crate) struct Drawing;
+
+impl Split<View> for Drawing {
+    ghost use Rattle.fdb_live.specs.private.Rule.{drawer_of, without_drawing};
+
+    ghost left = { without_drawing };
+
+    ghost right = { drawer_of };
+}
+
 /// What the other pass has seen is taken in.
 pub(crate) struct Joined;
 
@@ -149,6 +242,17 @@ impl Join<View> for Numbered {
     ghost use Rattle.fdb_live.specs.private.Rule.{spent, taken};
 
     ghost both = { taken };
+
+    ghost spent = { spent };
+}
+
+/// The pass with the right to draw takes in the other one with its number.
+pub(crate) struct Served;
+
+impl Join<View> for Served {
+    ghost use Rattle.fdb_live.specs.private.Rule.{served, spent};
+
+    ghost both = { served };
 
     ghost spent = { spent };
 }

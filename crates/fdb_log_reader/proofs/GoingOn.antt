@@ -1,11 +1,11 @@
 -- What a reader reads on with, line by line.
-use Rattle.std.proofs.Common.{◌≡◌, ◌⊎◌, ℕ, ◌+◌, ◌<◌, List, [], ◌∷◌, ◌++◌, length, Ok, Err, ap, sym, ◌∙◌, inl, inr, append_assoc, subst}
+use Rattle.std.proofs.Common.{◌≡◌, ◌⊎◌, ℕ, ◌+◌, List, [], ◌∷◌, ◌++◌, length, Ok, Err, ap, sym, ◌∙◌, inl, inr, append_assoc}
 use Rattle.fdb_log_reader.specs.declared.error.ReadError.{ReadError}
 use Rattle.fdb_log_reader.specs.declared.error.Why.TheVariants.{Memory}
 use Rattle.fdb_log_reader.specs.declared.reader.LogReader.{LogReader}
 use Rattle.fdb_log_reader.specs.Reader.{reads_on}
 use Rattle.fdb_log_reader.specs.Reading.{lines_in, reading_of, with_line, with_lines}
-use Rattle.fdb_log_reader.proofs.Splitting.{line_taken, line_refused, last_taken, last_refused}
+use Rattle.fdb_log_reader.proofs.Splitting.{line_taken, line_refused}
 
 -- what a reader that was fed some bytes is to read on with
 abbrev pub GoesOn : LogReader → List ℕ → LogReader → List ℕ → Type 0

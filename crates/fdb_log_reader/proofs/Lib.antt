@@ -2,3 +2,4 @@ pub mod Naming
 pub mod GoingOn
 pub mod Splitting
 pub mod Values
+pub mod Quoting

@@ -1,5 +1,5 @@
 -- The value of a line, and its times.
-use Rattle.std.proofs.Common.{◌≡◌, ℕ, ◌<◌, ◌≤◌, Bool, true, false, cond, nat_le, List, Option, None, Some, IfSome, IsSomeAnd, Ok, Err, refl, ap, sym, ◌∙◌, arith, if◌then◌else◌, leb-true, Result, option_map, option_and_then}
+use Rattle.std.proofs.Common.{◌≡◌, ℕ, ◌<◌, ◌≤◌, Bool, true, false, nat_le, List, Option, None, Some, IfSome, IsSomeAnd, Ok, Err, refl, ap, sym, ◌∙◌, arith, if◌then◌else◌, leb-true, Result, option_map, option_and_then}
 use Rattle.std.proofs.Props.{props}
 use Rattle.std.proofs.lemmas.Bool.Decides.{nat_tests}
 use Rattle.std.proofs.lemmas.Str.{IsUtf8-from_is_utf8, is_utf8-from_IsUtf8}

@@ -80,13 +80,13 @@ call_of names value =
     else (if nat_lt 1 (call_count value) then Err TwoCalls
     else call_named names value)
 
--- ---- when: both members, or none
+-- ---- when a call began and ended: both members, or none
 
 -- when a call ended: a whole number, or null where that is not known
 abbrev pub end_of : Data → Option (Option ℕ)
 end_of value = if is_some (as_null value) then Some None else option_map Some (whole value)
 
--- no call ended before it began
+-- times, unless the call ended before it began
 abbrev pub times_if : (began end : ℕ) (in_order : Bool) → nat_le began end ≡ in_order → Option Times
 times_if began end true is = Some (record { began = began; ended = Some end; in_order = leb-true began end is })
 times_if began end false is = None

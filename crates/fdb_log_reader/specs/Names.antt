@@ -11,7 +11,7 @@ names_of names = map string_bytes names.texts.keys
 abbrev pub number_in : List (List ℕ) → List ℕ → Option ℕ
 number_in names name = position (bytes_eq name) names
 
--- a new name goes last
+-- the names with one more: a new one goes last
 abbrev pub with_name : List (List ℕ) → List ℕ → List (List ℕ)
 with_name names name = if is_some (number_in names name) then names else names ++ name ∷ []
 

@@ -19,7 +19,7 @@ use Rattle.fdb_log_reader.specs.declared.reader.TheConstants.{MAX_LINE_BYTES}
 use Rattle.fdb_log_reader.specs.Members.{and_then, call_of, client_of, times_of}
 use Rattle.fdb_log_reader.specs.Names.{client_in, names_of, with_client}
 
--- ---- the lines of a text
+-- ---- the lines of a text, which line feeds end
 
 abbrev pub is_line_feed : ℕ → Bool
 is_line_feed byte = byte == 10
@@ -33,7 +33,7 @@ without_empty_end (line ∷ next ∷ lines) = line ∷ without_empty_end (next �
 abbrev pub lines_in : List ℕ → List (List ℕ)
 lines_in bytes = without_empty_end (slice_split is_line_feed bytes)
 
--- ---- a line
+-- ---- what has been read with a line more, or why that is refused
 
 -- what has been read: the lines of a log, and the names of its clients
 pub record Reading : Type 0 where
@@ -80,7 +80,7 @@ with_line reading bytes =
     else (if nat_le MAX_LINES (length reading.log.lines) then Err TooMany
     else and_then (value_of bytes) (with_value reading))
 
--- ---- a text
+-- ---- what a text stands for, read line by line
 
 -- what comes of a line that was read, or that it is refused
 abbrev pub or_refused : ℕ → Result Reading Why → (Reading → Result Reading ReadError) → Result Reading ReadError
@@ -96,7 +96,7 @@ with_lines reading (line ∷ lines) =
 abbrev pub nothing : Reading
 nothing = record { log = record { timed = false; lines = [] }; names = [] }
 
--- what a text stands for
+-- what a text stands for: what has been read with all its lines, or the first that is refused
 abbrev pub reading_in : List ℕ → Result Reading ReadError
 reading_in bytes = with_lines nothing (lines_in bytes)
 

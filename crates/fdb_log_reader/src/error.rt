@@ -1,4 +1,4 @@
-//! Why a text is refused.
+//! Why a text is refused: at which line, and what is wrong with it.
 
 ghost use Rattle.std.specs.Prelude.{◌≡◌};
 
@@ -7,10 +7,10 @@ use fdb_lines::LineError;
 use std::alloc::{AllocError, AllocFailed};
 use std::fmt;
 
-/// What is wrong with a line.
+/// What is wrong with a line. docs/FORMATS.md has the order in which this is looked for.
 #[derive(Clone, Copy, Debug, PartialEq, Eq)]
 pub enum Why {
-    /// It has more than [`crate::MAX_LINE_BYTES`] bytes.
+    /// It has more than [`crate::MAX_LINE_BYTES`] bytes, its line feed not counted.
     TooLong,
     /// There are as many lines above it as a log may have.
     TooMany,
@@ -24,7 +24,7 @@ pub enum Why {
     SomeTimes,
     /// A member is missing, of another kind, or not one that may stand there.
     BadMember(Member),
-    /// Memory was refused.
+    /// Memory was refused, which says nothing of the line.
     Memory,
 }
 
@@ -67,12 +67,11 @@ impl<T: Drop> From<AllocFailed<T>> for Why {
     }
 }
 
-/// Why a text is refused: the first line with which something is wrong, counted from 1.
+/// Why a text is refused: the first line with which something is wrong, counted from 1. Where
+/// memory was refused, the line says nothing.
 #[derive(Clone, Copy, Debug, PartialEq, Eq)]
 pub struct ReadError {
-    /// The line.
     pub line: u64,
-    /// What is wrong with it.
     pub why: Why,
 }
 

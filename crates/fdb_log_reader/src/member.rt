@@ -1,22 +1,19 @@
-//! The members of a line.
+//! The members that are read of a line's JSON object.
 
 ghost use Rattle.std.specs.Prelude.{◌≡◌};
 ghost use Rattle.fdb_log_reader.specs.Members.{name_of};
 
 use std::fmt;
 
-/// A member of a line. Others are ignored.
+/// A member of a line. Others are ignored. A line has just one from `Read` to `Learn`, which is a
+/// version, a whole number below 2^64, or for `Learn` a name.
 #[derive(Clone, Copy, Debug, PartialEq, Eq)]
 pub enum Member {
-    /// Whose call it was, a text.
+    /// Whose call it was, a text. It may be left out of a log with times.
     Client,
-    /// The version that a read got.
     Read,
-    /// The version that a commit got.
     Commit,
-    /// A commit version that was drawn.
     Ask,
-    /// A version that was reported as committed.
     Report,
     /// The name of a client: what it had seen by the lines above is known from here on.
     Learn,
@@ -27,7 +24,7 @@ pub enum Member {
 }
 
 impl Member {
-    /// Its name in a line.
+    /// Its name in a line's object: the variant's, in small letters.
     pub fn name(self) -> &'static str
         ensures { result.now ≡ name_of self }
     {

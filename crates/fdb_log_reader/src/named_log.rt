@@ -1,4 +1,4 @@
-//! A log, and the names of its clients.
+//! A log with the names of its clients, and how a line is added to it.
 
 ghost use Rattle.std.specs.Prelude.{◌≡◌, ◌⊎◌, ◌≤◌, ◌<◌, Err, Ok, MatchResult, OnErr, OnOk};
 ghost use Rattle.std.specs.Prelude.{length, option_map};
@@ -16,16 +16,16 @@ use fdb_lines::{Line, Log, MAX_LINES};
 use serde_json::Value;
 use std::alloc::{AllocError, Global};
 
-/// A log, and the names of its clients.
+/// A log, and the names of its clients, as a text has them.
 #[derive(Drop)]
 pub struct NamedLog {
-    /// The log, whose clients have numbers.
     pub log: Log,
-    /// The names that the numbers stand for.
+    /// The names of the log's clients, each at its client's number.
     pub names: Names,
 }
 
-/// Adds a line.
+/// Adds a line, by its bytes. Where memory is refused it may be in the log, without its client's
+/// name.
 pub(crate) fn add_line(named: &mut NamedLog, alloc: Global, bytes: &[u8]) -> Result<(), Why>
     requires has_room { HasRoom named.old }
     requires short { length bytes.now ≤ MAX_LINE_BYTES }

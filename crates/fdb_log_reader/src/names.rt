@@ -1,10 +1,12 @@
-//! The names of clients.
+//! The names of clients, and their numbers in the log.
 
-ghost use Rattle.std.specs.Prelude.{◌≡◌, ◌<◌, ◌≤◌, [], IfSome, OnErr, OnOk, length, option_map};
-ghost use Rattle.std.specs.Prelude.{slice_get, Some};
+ghost use Rattle.std.specs.Prelude.{◌≡◌, ◌<◌, ◌≤◌, [], IfOk, IfSome, OnErr, OnOk, length, map};
+ghost use Rattle.std.specs.Prelude.{option_map, slice_get, Some, string_bytes};
+ghost use Rattle.json.specs.Print.{quoted};
 ghost use Rattle.fdb_log_reader.specs.Names.{names_of, number_in, with_name};
 
 use indexmap::IndexSet;
+use serde_json::Value;
 use std::alloc::{AllocError, Global};
 
 /// The names of the clients of a log. A client's number is the place of its name, counted from 0.
@@ -14,7 +16,6 @@ pub struct Names {
 }
 
 impl Names {
-    /// No names.
     pub(crate) fn new(alloc: Global) -> Self
         ensures { names_of result ≡ [] }
     {
@@ -23,14 +24,14 @@ impl Names {
         }
     }
 
-    /// How many clients there are.
+    /// How many names there are; the numbers of clients are below this.
     pub fn count(&self) -> usize
         ensures { result ≡ length (names_of self.now) }
     {
         self.texts.len()
     }
 
-    /// The name of a client.
+    /// The name of a client, by its number; none where no client has that number.
     pub fn name(&self, client: u32) -> Option<&str>
         ensures { option_map (λ name. name.now) result ≡ slice_get (names_of self.now) client }
     {
@@ -38,7 +39,20 @@ impl Names {
         Some(text.as_str())
     }
 
-    /// The number of the client of a name.
+    /// The names as JSON strings, each at its client's number.
+    pub fn quoted(&self, alloc: Global) -> Result<Vec<String>, AllocError>
+        ensures { IfOk result
+            (λ texts. map string_bytes texts.items ≡ map quoted (names_of self.now)) }
+    {
+        let mut texts = Vec::new(alloc);
+        for place in 0..self.texts.len() {
+            let text = quoted_name(alloc, &self.texts[place])?;
+            texts.push(text)?;
+        }
+        Ok(texts)
+    }
+
+    /// The number of the client of a name; none where no client has that name.
     pub fn number(&self, name: &str) -> Option<usize>
         ensures number { result ≡ number_in (names_of self.now) name.now }
         ensures within { IfSome result (λ number. number < length (names_of self.now)) }
@@ -68,4 +82,12 @@ impl Names {
         }
         Ok(())
     }
+}
+
+/// A text as a JSON string: in quotes, and escaped where `serde_json` does so.
+fn quoted_name(alloc: Global, name: &str) -> Result<String, AllocError>
+    ensures { IfOk result (λ text. string_bytes text ≡ quoted name.now) }
+{
+    let name = String::from_str(alloc, name)?;
+    Value::String(name).to_string(alloc)
 }

@@ -17,7 +17,7 @@ use fdb_lines::{Call, MAX_LINES, Times};
 use serde_json::Value;
 use std::alloc::Global;
 
-/// The members that name a call.
+/// The members that name a call, of which a line has just one.
 const CALLS: [Member; 5] = [
     Member::Read,
     Member::Commit,
@@ -26,7 +26,7 @@ const CALLS: [Member; 5] = [
     Member::Learn,
 ];
 
-/// The JSON value of a line.
+/// The JSON value of a line, as `serde_json` reads it from all of the bytes.
 pub(crate) fn value_of(alloc: Global, bytes: &[u8]) -> Result<Value, Why>
     ensures { MatchResult result (λ value. value_of bytes.now ≡ Ok (view value))
         (λ why. (why ≡ Why.Memory) ⊎ (value_of bytes.now ≡ Err why)) }
@@ -38,14 +38,12 @@ pub(crate) fn value_of(alloc: Global, bytes: &[u8]) -> Result<Value, Why>
     }
 }
 
-/// A member, where it is there.
 fn member_of(value: &Value, member: Member) -> Option<&Value>
     ensures { option_map (λ said. view said.now) result ≡ member_of (view value.now) member }
 {
     value.get(member.name())
 }
 
-/// Whether a member is there.
 fn has(value: &Value, member: Member) -> bool
     ensures { result ≡ has (view value.now) member }
 {
@@ -69,7 +67,7 @@ fn whole_of(value: &Value, member: Member) -> Option<u64>
     member_of(value, member)?.as_u64()
 }
 
-/// Whose call it was.
+/// The name of the client whose call it was; none where that is left out.
 pub(crate) fn client_of(value: &Value) -> Result<Option<&str>, Why>
     ensures { MatchResult result
         (λ client. client_of (view value.now) ≡ Ok (option_map (λ name. name.now) client))
@@ -84,7 +82,7 @@ pub(crate) fn client_of(value: &Value) -> Result<Option<&str>, Why>
     }
 }
 
-/// What was done.
+/// The call of a line, which has to name just one.
 pub(crate) fn call_of(value: &Value, names: &Names) -> Result<Call, Why>
     requires { length (names_of names.now) ≤ MAX_LINES }
     ensures { result ≡ call_of (names_of names.now) (view value.now) }
@@ -96,7 +94,6 @@ pub(crate) fn call_of(value: &Value, names: &Names) -> Result<Call, Why>
     }
 }
 
-/// How many calls a line names.
 fn call_count(value: &Value) -> usize
     ensures { result ≡ call_count (view value.now) }
 {
@@ -126,7 +123,7 @@ fn call_named(value: &Value, names: &Names) -> Result<Call, Why>
     }
 }
 
-/// From whom it was learnt.
+/// The client from whom a line has learnt, which has to have a line above.
 fn teller_of(value: &Value, names: &Names) -> Result<u32, Why>
     requires { length (names_of names.now) ≤ MAX_LINES }
     ensures { result ≡ teller_of (names_of names.now) (view value.now) }
@@ -147,7 +144,7 @@ fn teller_number(value: &Value, names: &Names) -> Option<usize>
     names.number(name)
 }
 
-/// When it was done.
+/// When the call began and ended; none where a line has neither member.
 pub(crate) fn times_of(value: &Value) -> Result<Option<Times>, Why>
     ensures { result ≡ times_of (view value.now) }
 {
@@ -158,7 +155,7 @@ pub(crate) fn times_of(value: &Value) -> Result<Option<Times>, Why>
     }
 }
 
-/// When it was done, in a log with times.
+/// When the call began and ended, of a line that has to have both members.
 fn some_times(value: &Value) -> Result<Option<Times>, Why>
     ensures { result ≡ some_times (view value.now) }
 {

@@ -45,7 +45,7 @@ impl LogReader {
         }
     }
 
-    /// How many lines have been read.
+    /// How many lines have been read, without one that has not ended yet.
     pub fn line_count(&self) -> usize
         ensures { result ≡ length (reading_of self.now.named).log.lines }
     {
@@ -69,7 +69,7 @@ impl LogReader {
         Ok(self)
     }
 
-    /// The log, where the text ends here.
+    /// The log, where the text ends here, with or without a last line feed.
     pub fn finish(mut self) -> Result<NamedLog, ReadError>
         ensures { StandsFor result (reads_on self []) }
     {
@@ -80,7 +80,7 @@ impl LogReader {
         Ok(self.named)
     }
 
-    /// Keeps what has come of a line.
+    /// Keeps what has come of a line, unless that gets too long.
     fn keep(&mut self, bytes: &[u8]) -> Result<(), ReadError>
         requires { IsOneLine bytes.now }
         ensures kept { OnOk result ((self.new.front.items ≡ self.old.front.items ++ bytes.now)

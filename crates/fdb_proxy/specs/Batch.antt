@@ -37,7 +37,7 @@ module _ {J : Type 0} {live : LiveGhosts J} {service : ServiceGhosts J} where
     pub seen : reply.seen.changes ≡ changes
     pub extends : IsPrefix request.payload.seen.changes changes
 
-  -- An answer is such a reply.
+  -- An answer is a reply to this request, and no refusal of it.
   abbrev pub Replies : List Throttle → List Change
       → Req (Request J live service) → Answer J live service → Type 0
   Replies throttles changes request (answer.Reply reply) = IsReplyTo throttles changes request reply

@@ -1,4 +1,4 @@
--- Which causes an answer may have.
+-- For which causes an offer or a request may be refused.
 use Rattle.std.specs.Prelude.{Bool, true, false}
 use Rattle.fdb_proxy.specs.declared.cause.Cause.{Cause}
 use Rattle.fdb_proxy.specs.declared.cause.Cause.TheVariants.{Queue, Closed}

@@ -1,4 +1,4 @@
-//! What a proxy answers a request.
+//! What a proxy answers a request: a reply with the live record, or a refusal.
 
 ghost use Rattle.std.specs.Prelude.{◌≡◌, ◌≤◌, length, None, true};
 ghost use Rattle.fdb_live.specs.Seen.{last_record};
@@ -8,12 +8,12 @@ use crate::cause::Cause;
 use fdb_history::{Record, Sequence, TagLimit};
 use fdb_live::{Live, Seen};
 
-/// The answer to a request for a read version.
+/// What comes back on the channel of a request for a read version.
 #[derive(Drop)]
 pub enum Answer<J: Live> {
     /// The transactions start, and with this read version.
     Reply(Reply<J>),
-    /// They do not start.
+    /// They do not start, and the token comes back.
     Refused(Refused<J>),
 }
 
@@ -21,14 +21,12 @@ pub enum Answer<J: Live> {
 /// FoundationDB 7.1; the request's own numbers, the token and the position are this product's own).
 #[derive(Drop)]
 pub struct Reply<J: Live> {
-    /// The client that asked.
     pub client: u32,
-    /// Its number for the request.
     pub serial: u64,
-    /// The position that it had seen when it asked.
+    /// The position that the client had seen when it asked.
     pub asked: u64,
-    /// What it has seen with this reply: all that it had seen when it asked, and the record that it
-    /// got.
+    /// What the client has seen with this reply: all that it had seen when it asked, and the record
+    /// that it got.
     pub seen: Seen<J>,
     /// The record, with the live committed version and the minimum known committed version: whoever
     /// asked takes the one that its options name.
@@ -46,15 +44,11 @@ pub struct Reply<J: Live> {
 /// A request that does not start, and why. Its token comes back as it was.
 #[derive(Drop)]
 pub struct Refused<J: Live> {
-    /// The client that asked.
     pub client: u32,
-    /// Its number for the request.
     pub serial: u64,
-    /// The position that it had seen when it asked.
+    /// The position that the client had seen when it asked.
     pub asked: u64,
-    /// The token of the request.
     pub seen: Seen<J>,
-    /// Why.
     pub cause: Cause,
     pub ghost unnumbered: { seen.reporter ≡ None },
     pub ghost position: { asked ≡ length seen.changes },

@@ -59,13 +59,13 @@ pub fn serve_batch<J: Live, R: Wait>(
 /// All that a batch takes memory for.
 #[derive(Drop)]
 struct Room<J: Live> {
-    /// The limits of each request.
+    /// The limits of each request's tags, in the order of the requests.
     limits: Vec<Sequence<TagLimit>>,
     /// No answer yet, with room for all.
     answers: Vec<Answer<J>>,
 }
 
-/// Takes the memory for a batch.
+/// Takes all memory for a batch before anything of it happens, so that the rest cannot fail.
 fn room_for<J: Live>(
     alloc: Global,
     queue: &GrvQueue<Request<J>>,
@@ -107,7 +107,7 @@ fn learn_all<J: Live, R: Wait>(
     }
 }
 
-/// Learns what an asker has seen.
+/// Learns what one asker has seen, whose own token stays as it is.
 fn learn_from<J: Live, R: Wait>(
     rt: &R,
     live: &LiveRecord<J>,
@@ -161,7 +161,7 @@ fn reply_all<J: Live>(
     answers
 }
 
-/// Adds a reply behind the others.
+/// Adds a reply behind the others, in the room that was taken for it.
 fn add<J: Live>(answers: &mut Vec<Answer<J>>, reply: Reply<J>)
     requires { vec_len answers.old < vec_capacity answers.old }
     ensures last { answers.new.items ≡ answers.old.items ++ Answer.Reply reply ∷ [] }

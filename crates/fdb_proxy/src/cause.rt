@@ -1,4 +1,4 @@
-//! Why a request is not started.
+//! Why a request is not started, as its refusal says it.
 
 use fdb_queue::QueueError;
 

@@ -23,7 +23,7 @@ pub struct Desk<J: Live> {
     came: Condvar,
 }
 
-/// What was taken from a desk.
+/// What was taken from a desk in one step, and whether more may come.
 #[derive(Drop)]
 pub struct Taken<J: Live> {
     /// All requests that waited there, in the order in which they were submitted.
@@ -90,7 +90,7 @@ impl<J: Live> Desk<J> {
     }
 }
 
-/// What lies on a desk.
+/// What the lock of a desk holds: the requests that wait there, and whether it is closed.
 #[derive(Drop)]
 struct Tray<J: Live> {
     alloc: Global,
@@ -112,7 +112,7 @@ impl<J: Live> Tray<J> {
         }
     }
 
-    /// Adds a request at the end.
+    /// Adds a request behind those that wait, unless the desk is closed.
     fn add(&mut self, request: Req<Request<J>>) -> Result<(), (ProxyError, Req<Request<J>>)>
         requires { has_own_options request ≡ true }
         ensures added { OnOk result
@@ -142,7 +142,7 @@ impl<J: Live> Tray<J> {
         !self.closed && self.waiting.is_empty()
     }
 
-    /// Takes all that is on it.
+    /// Takes all that is on it. An open one stays open.
     fn take(&mut self) -> Taken<J>
         ensures requests { result.requests ≡ self.old.waiting }
         ensures closed { result.closed ≡ self.old.closed }

@@ -6,10 +6,10 @@ use thiserror::Error;
 /// Why a request is not taken, a batch not served, or a proxy not run to its end.
 #[derive(Clone, Copy, Debug, PartialEq, Eq, Error)]
 pub enum ProxyError {
-    /// Memory was refused.
+    /// Memory was refused, to a request at a desk, a batch or a running proxy.
     #[error("want of memory")]
     Memory,
-    /// The desk is closed.
+    /// The desk is closed, and takes no request any more.
     #[error("the proxy's desk is closed")]
     Closed,
 }

@@ -20,7 +20,7 @@ pub(crate) trait Outbox<T> {
         ensures memory { IfErr result (λ cause. cause ≡ ProxyError.Memory) };
 }
 
-/// The channels of the requests.
+/// The channels that the requests brought along, to which a running proxy sends.
 #[derive(Drop)]
 pub(crate) struct Channels;
 

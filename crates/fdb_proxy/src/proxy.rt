@@ -1,4 +1,4 @@
-//! A GRV proxy.
+//! A GRV proxy, which serves its desk in turns until that is closed.
 
 ghost use Rattle.std.specs.Prelude.{◌≡◌, [], All, IfOk, IfErr, OnOk, length, true, vec_len};
 ghost use Rattle.std.specs.List.{FoldsTo};
@@ -130,7 +130,7 @@ fn drop_last<J: Live>(taken: Taken<J>)
     drop(taken);
 }
 
-/// Serves a desk until it is closed.
+/// Has turn after turn with what comes to a desk, until that is closed and nobody is left.
 fn serve_desk<J: Live, R: Wait, O: Outbox<Answer<J>>>(
     rt: &R,
     alloc: Global,
@@ -216,7 +216,7 @@ fn serve_turn<J: Live, R: Wait, O: Outbox<Answer<J>>>(
     }
 }
 
-/// Answers those that a turn turned away.
+/// Sends their refusals to those that a turn turned away, in the order in which it did.
 fn turn_away<J: Live, R: Wait, O: Outbox<Answer<J>>>(
     rt: &R,
     out: &mut O,
@@ -233,7 +233,7 @@ fn turn_away<J: Live, R: Wait, O: Outbox<Answer<J>>>(
     Ok(())
 }
 
-/// Answers all requests that are left.
+/// Answers all requests that are left `Closed`, in the order of the row. None waits after that.
 #[tactic(auto, using(crate::proofs::Turns::nothing_waits))]
 fn close<J: Live, R: Wait, O: Outbox<Answer<J>>>(
     rt: &R,
@@ -251,7 +251,7 @@ fn close<J: Live, R: Wait, O: Outbox<Answer<J>>>(
     Ok(())
 }
 
-/// Answers a request that does not start.
+/// Sends a request its refusal, with this cause, on its own channel.
 fn refuse<J: Live, R: Wait, O: Outbox<Answer<J>>>(
     rt: &R,
     out: &mut O,

@@ -13,15 +13,13 @@ use fdb_live::{Live, Seen};
 /// is this product's own).
 #[derive(Drop)]
 pub struct Request<J: Live> {
-    /// The client that asks.
     pub client: u32,
-    /// Its number for the request.
+    /// The client's own number for the request: in `fdb_client`, the place of the call in its log.
     pub serial: u64,
-    /// The position that it has seen: that of its token.
+    /// The position that the client has seen: that of its token.
     pub asked: u64,
     /// A token of what it has seen, split off its own.
     pub seen: Seen<J>,
-    /// What it asks for.
     pub opts: GrvOpts,
     /// Where the answer goes. The channel is made for this request, with room for one answer.
     pub reply: Sender<Answer<J>>,

@@ -19,14 +19,13 @@ use std::collections::VecDeque;
 pub(crate) struct TurnedAway<T> {
     /// What it was refused for, or `Full` where it was pushed out.
     pub(crate) cause: QueueError,
-    /// The request.
     pub(crate) request: Req<T>,
 }
 
-/// What a turn came to.
+/// What a turn came to: who starts, and who waits no more without a start.
 #[derive(Drop)]
 pub(crate) struct Turn<T> {
-    /// The requests that start, in order.
+    /// The requests that its window starts, in the order of the row.
     pub(crate) started: Vec<Req<T>>,
     /// Those that were turned away, in the order in which they were.
     pub(crate) turned_away: Vec<TurnedAway<T>>,
@@ -131,7 +130,7 @@ impl<T: Drop> Line<T> {
         turned_away.push_reserved(gone);
     }
 
-    /// Holds one window.
+    /// Holds one window. It is refused for memory alone, and the queue is then as it was.
     fn start(&mut self) -> Result<Vec<Req<T>>, ProxyError>
         ensures started { IfOk result (λ started. started.items ≡ window self.old.queue) }
         ensures after { IfOk result
@@ -147,7 +146,7 @@ impl<T: Drop> Line<T> {
         }
     }
 
-    /// Whether nobody waits.
+    /// Whether nobody waits at any priority, so that the proxy may wait at its desk.
     pub(crate) fn is_empty(&self) -> bool
         ensures { result ≡ (length (row self.now.queue.waiting) == 0) }
     {

@@ -19,7 +19,7 @@ is_count config Default count = nat_le 1 count && nat_le count MAX_COUNT
 is_count config Batch count =
     nat_le 1 count && nat_le count MAX_COUNT && nat_le count (config.normal + IDLE_BURST)
 
--- whether no batch request is let in
+-- Whether a batch request meets a batch limit of 0.
 abbrev pub is_throttled : QueueConfig → Priority → Bool
 is_throttled config System = false
 is_throttled config Default = false
@@ -55,7 +55,8 @@ without_oldest waiting =
     if length waiting.batch == 0 then record waiting { default_ = drop 1 waiting.default_ }
     else record waiting { batch = drop 1 waiting.batch }
 
--- The queue with a request that is let in.
+-- The queue once a request was let in. It is the last of its list, and where the queue was full,
+-- the one that it pushes out is gone.
 abbrev pub admitted : {T : Type 0} → Queue T → Req T → Queue T
 admitted queue request =
     let kept = if is_full queue then without_oldest queue.waiting else queue.waiting in

@@ -11,7 +11,7 @@ pub record IsConfig (config : QueueConfig) : Type 0 where
   pub room_some : 1 ≤ config.room
   pub room_in_range : config.room ≤ MAX_ROOM
 
--- A time between two windows is within its limits.
+-- A time between two windows is from 1 to `MAX_ELAPSED` microseconds.
 pub record IsElapsed (elapsed : ℕ) : Type 0 where
   pub some : 1 ≤ elapsed
   pub in_range : elapsed ≤ MAX_ELAPSED

@@ -5,13 +5,13 @@ use Rattle.fdb_history.specs.declared.grv.Priority.TheVariants.{System, Default,
 use Rattle.fdb_queue.specs.declared.request.Req.{Req}
 use Rattle.fdb_queue.specs.Waiting.{Requests}
 
--- the list of a priority
+-- The requests that wait at a priority, the oldest first.
 abbrev pub list_of : {T : Type 0} → Priority → Requests T → List (Req T)
 list_of System waiting = waiting.system
 list_of Default waiting = waiting.default_
 list_of Batch waiting = waiting.batch
 
--- how high a priority is
+-- How high a priority is, from 0 for a batch request on.
 abbrev pub rank : Priority → ℕ
 rank System = 2
 rank Default = 1

@@ -15,11 +15,11 @@ pub record Requests (T : Type 0) : Type 0 where
 abbrev pub row : {T : Type 0} → Requests T → List (Req T)
 row waiting = waiting.system ++ waiting.default_ ++ waiting.batch
 
--- nothing waits
+-- No request waits at any priority, as in a new queue.
 abbrev pub nothing : {T : Type 0} → Requests T
 nothing = record { system = []; default_ = []; batch = [] }
 
--- the sum of some requests' counts
+-- How many transactions some requests stand for: the sum of their counts.
 abbrev pub total : {T : Type 0} → List (Req T) → ℕ
 total requests = sum_by (λ request. request.count) requests
 

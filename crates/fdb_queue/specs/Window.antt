@@ -69,7 +69,7 @@ budgets_after config budgets elapsed started left = record {
       (budget_after elapsed config.batch (total started) budgets.batch);
 }
 
--- The queue after a window.
+-- The queue after a window, so many microseconds after the one before.
 abbrev pub after_window : {T : Type 0} → ℕ → Queue T → Queue T
 after_window elapsed queue =
     let left = without (window queue) queue.waiting in

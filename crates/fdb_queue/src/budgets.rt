@@ -1,4 +1,4 @@
-//! The budgets of the two rates.
+//! The budgets of the two rates: what they let start, and what windows leave of them.
 
 ghost use Rattle.std.specs.Prelude.{◌≡◌, ◌≤◌, ◌*◌, ◌^◌};
 ghost use Rattle.std.specs.Int.{div_ceil};

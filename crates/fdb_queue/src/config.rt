@@ -11,13 +11,13 @@ use fdb_history::Priority;
 /// `RATE_WINDOW` are one. FoundationDB: `START_TRANSACTION_RATE_WINDOW`, 2.0 seconds.
 pub const RATE_WINDOW: u64 = 2_000_000;
 
-/// The greatest limit of a rate.
+/// The greatest limit of a rate, in transactions for each `RATE_WINDOW` of time.
 pub const MAX_RATE: u64 = 100_000;
 
-/// The greatest capacity of a queue.
+/// The greatest capacity of a queue, in requests of all priorities together.
 pub const MAX_ROOM: u64 = 100_000;
 
-/// The greatest count of a request.
+/// The greatest count of a request, in transactions: no more than a rate ever lets start at once.
 pub const MAX_COUNT: u64 = 100_000;
 
 /// The greatest time between two windows, in microseconds.
@@ -32,7 +32,7 @@ pub const MAX_BURST: u64 = 100_000;
 /// The most transactions that the budget of a rate stands for while nothing waits for it.
 pub const IDLE_BURST: u64 = 10;
 
-/// The most bytes of a tag.
+/// The most bytes of a tag (`MAX_TRANSACTION_TAG_LENGTH` of FoundationDB 7.1).
 pub const MAX_TAG: u64 = 16;
 
 /// The rates of a queue, in transactions for each `RATE_WINDOW` of time, and its capacity.
@@ -47,7 +47,7 @@ pub struct QueueConfig {
 }
 
 impl QueueConfig {
-    /// Whether each member is in its range.
+    /// Whether each member is in its range, without which no queue is made.
     pub fn is_in_range(&self) -> bool
         ensures { IsTrue result ↔ IsConfig self.now }
     {
@@ -69,7 +69,7 @@ impl QueueConfig {
     }
 }
 
-/// Whether a time between two windows is in range.
+/// Whether a time between two windows is from 1 to `MAX_ELAPSED` microseconds.
 pub(crate) fn is_elapsed(elapsed: u64) -> bool
     ensures within { OnTrue result (IsElapsed elapsed) }
     ensures without { OnFalse result ((elapsed ≡ 0) ⊎ (MAX_ELAPSED < elapsed)) }

@@ -1,4 +1,4 @@
-//! Why a queue refuses.
+//! Why a queue refuses a configuration, a request, a throttle or a window.
 
 use std::alloc::AllocError;
 use thiserror::Error;
@@ -22,7 +22,7 @@ pub enum QueueError {
     /// A tag has more than `MAX_TAG` bytes.
     #[error("the tag is too long")]
     TagTooLong,
-    /// Memory was refused.
+    /// Memory was refused, and the queue is as it was.
     #[error("want of memory")]
     Memory,
 }

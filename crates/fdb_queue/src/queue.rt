@@ -1,4 +1,4 @@
-//! The queue of a GRV proxy.
+//! The queue of a GRV proxy: what it lets in, what its windows start, and who waits how long.
 
 ghost use Rattle.std.specs.Prelude.{◌≡◌, ℕ, ◌+◌, ◌*◌, ◌<◌, ◌≤◌, ◌⊎◌, ◌↔◌, ◌∷◌, ◌++◌, ◌^◌, ◌==◌, []};
 ghost use Rattle.std.specs.Prelude.{false, length, drop, reverse, if◌then◌else◌, Err, OnOk, OnErr};
@@ -407,7 +407,7 @@ impl<T> GrvQueue<T> {
         self.waiting.len() as u64 == self.config.room
     }
 
-    /// The budgets. Takes no memory.
+    /// What each rate may start beyond its limit, as the last window left it. Takes no memory.
     pub fn budgets(&self) -> Budgets
         ensures value { result ≡ self.now.budgets }
         ensures kept { IsQueue self.now }

@@ -7,8 +7,7 @@ use fdb_history::Priority;
 pub struct Req<T> {
     /// The list that it waits in, and the rates that hold it.
     pub priority: Priority,
-    /// How many transactions it starts.
+    /// How many transactions start with it, which is what the rates count.
     pub count: u64,
-    /// What it carries.
     pub payload: T,
 }

@@ -1,4 +1,4 @@
-//! The throttles of tags.
+//! The throttles of tags: what was last set for each priority and tag.
 
 ghost use Rattle.std.specs.Prelude.{◌≡◌, ◌<◌, [], ◌∷◌, length, reverse, OnOk, OnErr, IfOk};
 ghost use Rattle.std.specs.Prelude.{option_map, option_to_list};
@@ -19,14 +19,14 @@ pub struct Throttle {
     pub priority: Priority,
     /// The tag, of at most `MAX_TAG` bytes.
     pub tag: Tag,
-    /// Transactions per second.
+    /// How many transactions with the tag may start a second.
     pub rate: u64,
     /// The moment from which on it holds no longer, in microseconds.
     pub expires: u64,
 }
 
 impl Throttle {
-    /// Whether its tag is within its limit.
+    /// Whether its tag has at most `MAX_TAG` bytes.
     pub fn is_in_range(&self) -> bool
         ensures { result ≡ is_throttle self.now }
     {
@@ -34,21 +34,22 @@ impl Throttle {
     }
 }
 
-/// Whether the tag of each of these is within its limit.
+/// Whether the tag of each of these has at most `MAX_TAG` bytes.
 pub(crate) fn are_in_range(throttles: &[Throttle]) -> bool
     ensures { result ≡ list_all is_throttle throttles.now }
 {
     throttles.iter().all(|throttle| throttle.is_in_range())
 }
 
-/// A copy of a throttle.
+/// A clone of a throttle, with the clause that it is the same.
 fn copy_of(throttle: &Throttle) -> Result<Throttle, AllocError>
     ensures { IfOk result (λ copy. copy ≡ throttle.now) }
 {
     throttle.clone()
 }
 
-/// What is kept under a tag.
+/// What is kept under a tag: a rate in transactions a second, and the moment in microseconds from
+/// which on it holds no longer.
 #[derive(Clone, Copy)]
 struct Limit {
     rate: u64,
@@ -75,7 +76,7 @@ impl Model for Throttles {
 }
 
 impl Throttles {
-    /// None. Takes no memory.
+    /// No throttle at any priority. Takes no memory.
     pub(crate) fn new(alloc: Global) -> Self
         ensures { result ≡ [] }
     {
@@ -86,7 +87,8 @@ impl Throttles {
         }
     }
 
-    /// These, set one after another.
+    /// The throttles of a list, set one after another: of two for one priority and tag the later
+    /// counts.
     pub(crate) fn of(alloc: Global, throttles: &[Throttle]) -> Result<Self, AllocError>
         ensures { IfOk result (λ kept. SameThrottles kept (reverse throttles.now)) }
     {

@@ -1,4 +1,4 @@
-//! The requests that wait, by priority.
+//! The requests that wait: a list for each priority, and the row that the three make up.
 
 ghost use Rattle.std.specs.Prelude.{◌≡◌, [], ◌+◌, ◌<◌, ◌^◌, ◌==◌, ◌++◌, not, length, take, drop};
 ghost use Rattle.std.specs.Prelude.{vec_len, vec_capacity, IsOk, IfOk, ◌≤◌, if◌then◌else◌, OnOk};
@@ -21,11 +21,8 @@ use std::marker::Model;
 /// How many requests of each priority wait.
 #[derive(Clone, Copy, Debug, PartialEq, Eq)]
 pub struct Lengths {
-    /// System requests.
     pub system: usize,
-    /// Default requests.
     pub default_: usize,
-    /// Batch requests.
     pub batch: usize,
 }
 
@@ -34,9 +31,9 @@ pub struct Lengths {
 pub(crate) struct Reach {
     /// How many requests of each priority it starts.
     pub(crate) counts: Lengths,
-    /// How many transactions of system and default requests.
+    /// How many transactions of system and default requests, for which the normal rate pays.
     pub(crate) unbatched: u64,
-    /// How many transactions.
+    /// How many transactions of all three priorities, for which the batch rate pays.
     pub(crate) all: u64,
 }
 
@@ -64,7 +61,7 @@ impl<T> Model for Waiting<T> {
 }
 
 impl<T> Waiting<T> {
-    /// Nothing. Takes no memory.
+    /// Three lists with no request, which take no memory.
     pub(crate) fn new(alloc: Global) -> Self
         ensures { result ≡ nothing }
     {
@@ -88,12 +85,11 @@ impl<T> Waiting<T> {
         }
     }
 
-    /// The allocator of the lists.
     pub(crate) fn allocator(&self) -> Global {
         *self.system.allocator()
     }
 
-    /// How many requests there are.
+    /// How many requests wait at all priorities together, which the capacity bounds.
     pub(crate) fn len(&self) -> usize
         requires { length (row self.now) < 2 ^ 62 }
         ensures { result ≡ length (row self.now) }
@@ -101,7 +97,7 @@ impl<T> Waiting<T> {
         self.system.len() + self.default_.len() + self.batch.len()
     }
 
-    /// The first of the row.
+    /// The first of the row: the oldest request of the highest priority at which one waits.
     pub(crate) fn head(&self) -> Option<&Req<T>>
         ensures { option_copied result ≡ first (row self.now) }
     {
@@ -149,7 +145,7 @@ impl<T> Waiting<T> {
         self.batch.pop_front()
     }
 
-    /// Takes out the first of the row.
+    /// Takes out the first of the row, whatever the rates say of it.
     pub(crate) fn pop_first(&mut self) -> Option<Req<T>>
         ensures out { result ≡ first (row self.old) }
         ensures rest { self.new ≡ without_first self.old }
@@ -163,7 +159,7 @@ impl<T> Waiting<T> {
         self.default_.pop_front()
     }
 
-    /// How far a window comes.
+    /// How far a window comes in the row. It takes nothing out.
     pub(crate) fn reach(&self, config: &QueueConfig, budgets: &Budgets) -> Reach
         requires { IsQueue {T = T}
             (record {

@@ -13,19 +13,17 @@ use crate::request::Req;
 use fdb_history::Priority;
 use std::collections::VecDeque;
 
-/// What a window has started so far.
+/// What a window has started so far: how many requests, and how many transactions they stand for.
 #[derive(Clone, Copy)]
 pub(crate) struct Walk {
-    /// How many requests.
     pub(crate) requests: u64,
-    /// The sum of their counts.
     pub(crate) transactions: u64,
     /// Whether the next request was one that may not start.
     pub(crate) ended: bool,
 }
 
 impl Walk {
-    /// Nothing has started.
+    /// The walk at the head of the row, before it has started anything.
     pub(crate) const NEW: Walk = Walk {
         requests: 0,
         transactions: 0,
@@ -60,7 +58,7 @@ impl Walk {
         }
     }
 
-    /// The walk after it has gone along a list.
+    /// The walk after it has gone along a list, or has ended in it.
     pub(crate) fn along<T>(
         self,
         config: &QueueConfig,

@@ -1,5 +1,5 @@
 -- What the clients of a run are at its start, and what they leave.
-use Rattle.std.proofs.Common.{◌≡◌, ℕ, zero, suc, ◌+◌, ◌<◌, List, [], ◌∷◌, ◌++◌, Some, length, map, replicate, refl, ap, sym, ◌∙◌, subst, append-nil, arith}
+use Rattle.std.proofs.Common.{◌≡◌, ℕ, zero, suc, ◌+◌, ◌<◌, List, [], ◌∷◌, Some, length, map, replicate, refl, ap, sym, ◌∙◌, subst, arith}
 use Rattle.std.specs.List.{AllByRecursion, slice_get}
 use Rattle.std.specs.Option.{option_map}
 use Rattle.std.proofs.lemmas.Option.{slice_get-map, slice_get_within}
@@ -74,7 +74,3 @@ numbers_kept before after same have k client is =
     sym was.2 ∙ have k was.0 was.1
 
 -- ---- what they leave
-
-pub all_yielded : {X : Type 0} (yielded rest all : List X) → length rest ≡ 0 → yielded ++ rest ≡ all → yielded ≡ all
-all_yielded yielded [] all none whole = sym (append-nil yielded) ∙ whole
-all_yielded yielded (x ∷ rest) all none whole = absurd (omega (arith, none))

@@ -1,11 +1,9 @@
 pub mod Acts
 pub mod Finished
-pub mod Given
 pub mod Grown
 pub mod Learnt
 pub mod Parts
 pub mod Performed
 pub mod Runs
-pub mod Written
 pub mod Throttled
 pub mod Turns

@@ -1,8 +1,10 @@
-pub mod Arguments
 pub mod Outcome
+pub mod Program
 pub mod Replay
+pub use Rattle.fdb_command.specs.Arguments
 pub use Rattle.fdb_command.specs.Input
 pub use Rattle.fdb_command.specs.Output
+pub use Rattle.fdb_command.specs.Driving
 pub use Rattle.fdb_script.specs.Answering
 pub use Rattle.fdb_script.specs.Plan
 pub use Rattle.fdb_script.specs.Reading

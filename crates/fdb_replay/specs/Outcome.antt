@@ -18,12 +18,13 @@ use Rattle.fdb_script.specs.Answering.{Answers}
 use Rattle.fdb_script.specs.Plan.{Plan}
 use Rattle.fdb_script.specs.declared.outcome.Outcome.{Outcome}
 
--- the record before any report: the recovery version, unlocked, with no metadata version, and no
--- minimum known committed version yet
+-- The record before any report: the recovery version, unlocked. It has no metadata version, and no
+-- minimum known committed version yet.
 abbrev pub opening : ℕ → Record
 opening recovery = record { version = recovery; locked = false; metadata = None; min_known = 0 }
 
--- The outcome is that of a run of the script.
+-- The outcome is that of a run of the script: its logs answer the script, and one chain and one
+-- register explain them.
 pub record IsRunOf (plan : Plan) (outcome : Outcome) : Type 0 where
   -- each client did its commands, in their order, learnt what others told it, and did nothing else
   pub answers : Answers plan outcome.logs.items
@@ -49,8 +50,8 @@ abbrev pub run_fault : AuditFault → RunFault
 run_fault audit.Memory = Memory
 run_fault fault = Audit fault
 
--- The clients did what the script says, and the audit of what they were
--- answered finds this fault first. It is no fault of the register's history.
+-- Some logs answer the script, and their audit finds this first. The clients did what the script
+-- says, and the fault is that of what they were answered. It is no fault of the register's history.
 pub record IsFaulty (plan : Plan) (fault : AuditFault) : Type 0 where
   pub chain : List Issued
   pub logs : List ClientLog
@@ -59,7 +60,7 @@ pub record IsFaulty (plan : Plan) (fault : AuditFault) : Type 0 where
   pub first : IsFirstFault (opening plan.setup.recovery) chain logs fault
   pub of_an_answer : IsOfAnAnswer fault
 
--- A run fails where memory runs out, or with a fault of an answer that its audit finds.
+-- A run fails for memory, or with a fault of an answer. Its audit finds that.
 abbrev pub Fails : Plan → RunFault → Type 0
 Fails plan Memory = Unit {0}
 Fails plan (Audit fault) = IsFaulty plan fault

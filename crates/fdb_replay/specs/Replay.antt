@@ -1,5 +1,5 @@
 -- What a replay of some bytes writes, and what a refused one says. (this product's own)
-use Rattle.std.specs.Prelude.{◌≡◌, ◌≢◌, Bool, List, ℕ, Ok, Err, Option}
+use Rattle.std.specs.Prelude.{◌≡◌, Bool, List, ℕ, Ok, Err, Option}
 use Rattle.fdb_command.specs.Output.{TakesSome}
 use Rattle.fdb_replay.specs.Outcome.{IsRunOf, Fails}
 use Rattle.fdb_script.specs.Plan.{Plan}
@@ -7,11 +7,10 @@ use Rattle.fdb_script.specs.Reading.{ReadsAs}
 use Rattle.fdb_script.specs.Text.{text}
 use Rattle.fdb_script.specs.declared.outcome.Outcome.{Outcome}
 use Rattle.fdb_replay.specs.declared.replaying.ReplayFault.{ReplayFault}
-use Rattle.fdb_script.specs.declared.error.ScriptError.{ScriptError}
-use Rattle.fdb_script.specs.declared.error.ScriptError.TheVariants.{Memory}
 use Rattle.fdb_replay.specs.declared.replaying.ReplayFault.TheVariants.{Script, Run, Write}
 
--- The bytes that are written are the text of a run of the script that these bytes stand for.
+-- What is written is the text of a run of the script. The script is the one that these bytes stand
+-- for.
 pub record Replays (bytes : List ℕ) (with_history : Bool) (written : List ℕ) : Type 0 where
   pub plan : Plan
   pub read : ReadsAs bytes (Ok plan)
@@ -19,19 +18,15 @@ pub record Replays (bytes : List ℕ) (with_history : Bool) (written : List ℕ)
   pub ran : IsRunOf plan outcome
   pub printed : written ≡ text plan outcome with_history
 
--- A script is refused as its bytes demand; a run fails as its
--- plan says; and writing fails only where there is a script.
+-- Why there is no text: script, run or writing. A script is refused as its bytes demand; a run
+-- fails as its plan says; and writing fails only where there is a script.
 abbrev pub Refuses : List ℕ → ReplayFault → Type 0
 Refuses bytes (Script error) = ReadsAs bytes (Err error)
 Refuses bytes (Run fault) = (plan : Plan) × ReadsAs bytes (Ok plan) × Fails plan fault
 Refuses bytes Write = (plan : Plan) × ReadsAs bytes (Ok plan)
 
--- These bytes stand for no script. (that memory was refused says nothing of them)
-abbrev pub IsRefused : List ℕ → Type 0
-IsRefused bytes = (error : ScriptError) × (error ≢ Memory) × ReadsAs bytes (Err error)
-
--- A writer took some of the text of a run of the script that
--- these bytes stand for, and not all of it.
+-- A writer took a part of such a text, not all. It is the text of a run of the script that these
+-- bytes stand for.
 pub record IsCut
     (bytes : List ℕ) (with_history : Bool) (before after : Option (List ℕ)) : Type 0 where
   pub written : List ℕ

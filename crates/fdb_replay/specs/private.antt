@@ -1,4 +1,3 @@
-pub mod Asked
 pub mod Rounds
 pub mod Routing
 pub mod Configured

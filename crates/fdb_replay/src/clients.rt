@@ -1,4 +1,4 @@
-//! The clients of a run.
+//! All clients of a run, from before its first round until they are finished.
 
 ghost use Rattle.std.specs.Prelude.{◌≡◌, ◌<◌, ◌≤◌, ℕ, [], IfOk, OnOk, Some, length, slice_get};
 ghost use Rattle.std.specs.Prelude.{vec_len};
@@ -6,6 +6,7 @@ ghost use Rattle.std.specs.List.{FoldsTo};
 ghost use Rattle.fdb_client.specs.Account.{new_account};
 ghost use Rattle.fdb_client.specs.Settling.{logs_of};
 ghost use Rattle.fdb_script.specs.Answering.{AnswersRound};
+ghost use Rattle.fdb_script.specs.declared.script.TheConstants.{MAX_CLIENTS};
 
 use crate::player::Player;
 use crate::rounds::play_rounds;
@@ -61,7 +62,7 @@ impl<'a, J: Live + Send + Sync> Clients<'a, J> {
         world: &World<'_, J, G>,
         rounds: &[Sequence<Command>],
     ) -> Result<(), AllocError>
-        requires { length self.old ≤ 64 }
+        requires { length self.old ≤ MAX_CLIENTS }
         ensures played { OnOk result
             (FoldsTo AnswersRound (logs_of self.old) rounds.now (logs_of self.new)) }
         ensures count { OnOk result (length self.new ≡ length self.old) }
@@ -74,7 +75,8 @@ impl<'a, J: Live + Send + Sync> Clients<'a, J> {
         Ok(())
     }
 
-    /// What the clients leave. It fails only where memory runs out.
+    /// The clients' logs and tokens, which they are given up for. It fails only where memory runs
+    /// out.
     pub(crate) fn finish(
         self,
         alloc: Global,

@@ -1,4 +1,4 @@
-//! Why a run has no outcome.
+//! The faults of a run: a call that is refused is none of them.
 
 ghost use Rattle.std.specs.Prelude.{◌≡◌};
 
@@ -6,13 +6,13 @@ use fdb_history::AuditFault;
 use std::alloc::{AllocError, AllocFailed};
 use thiserror::Error;
 
-/// Why a run has no outcome.
+/// Why a run has no outcome. A refused call is no reason: it is logged, and the run goes on.
 #[derive(Clone, Copy, Debug, PartialEq, Eq, Error)]
 pub enum RunFault {
-    /// Memory was refused.
+    /// Memory was refused, or a thread could not be had.
     #[error("want of memory")]
     Memory,
-    /// The logs have no explanation.
+    /// The audit found this in the logs: `Stray` or `NotAbove`.
     #[error("audit fault: {0}")]
     Audit(AuditFault),
 }

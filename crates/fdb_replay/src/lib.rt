@@ -2,11 +2,10 @@
 //! service from the script's bytes to the printed lines.
 #![tactic(auto)]
 
-mod arguments;
 mod clients;
-mod driving;
 mod fault;
 mod player;
+mod program;
 mod replaying;
 mod rounds;
 mod running;
@@ -14,9 +13,9 @@ mod serving;
 mod tell;
 mod world;
 
-pub use driving::{Fault, drive};
 pub use fault::RunFault;
-pub use fdb_command::command_line;
+pub use fdb_command::{Fault, command_line};
 pub use fdb_script::MAX_SCRIPT_BYTES;
+pub use program::{Replay, ReplayOptions, ScriptRefused, drive};
 pub use replaying::{ReplayFault, replay};
 pub use running::run;

@@ -1,4 +1,4 @@
-//! A client of a run.
+//! A client of a run, which does what commands say.
 
 ghost use Rattle.std.specs.Prelude.{◌≡◌, ◌≢◌, ◌+◌, ◌++◌, [], Err, true, false, OnOk, length};
 ghost use Rattle.fdb_history.specs.Log.{fresh_answers};
@@ -16,7 +16,7 @@ use std::alloc::AllocError;
 use std::marker::Model;
 use std::sync::Wait;
 
-/// A client of a run.
+/// A client of a run, which sends its reads to the GRV proxies in turn.
 ///
 /// Contracts see it as the client that it is.
 #[derive(Drop)]
@@ -49,7 +49,6 @@ impl<'a, J: Live> Player<'a, J> {
         Player { client, reads: 0 }
     }
 
-    /// The client that it is.
     pub(crate) fn into_client(self) -> Client<'a, J>
         ensures { result ≡ self.entry }
     {
@@ -108,7 +107,6 @@ impl<'a, J: Live> Player<'a, J> {
         unless_out_of_memory(answer)
     }
 
-    /// Asks for the next commit version.
     fn ask<R: Wait, G: Gate>(
         &mut self,
         rt: &R,
@@ -123,7 +121,6 @@ impl<'a, J: Live> Player<'a, J> {
         unless_out_of_memory(self.client.ask(rt, world.gate, sequencer, processed, at))
     }
 
-    /// Asks for the commit version under a number.
     fn reask<R: Wait, G: Gate>(
         &mut self,
         rt: &R,
@@ -141,7 +138,6 @@ impl<'a, J: Live> Player<'a, J> {
         )
     }
 
-    /// Reports the commit version under a number.
     fn report<R: Wait, G: Gate>(
         &mut self,
         rt: &R,
@@ -160,7 +156,7 @@ impl<'a, J: Live> Player<'a, J> {
         )
     }
 
-    /// Tells another what it has seen.
+    /// Tells another what it has seen, which is learnt when the round is over.
     fn tell(&mut self, number: u32, to: u32, tells: &mut Vec<Tell<J>>) -> Result<(), AllocError>
         ensures ok { OnOk result (CallsOnce self.old (input.Tell to) self.new) }
         ensures told { OnOk result
@@ -173,7 +169,7 @@ impl<'a, J: Live> Player<'a, J> {
         Ok(())
     }
 
-    /// Learns what it was told.
+    /// Learns what another told it, and logs that as a call. It fails for memory alone.
     pub(crate) fn learn<R: Wait>(&mut self, rt: &R, tell: Tell<J>) -> Result<(), AllocError>
         ensures number { OnOk result (self.new.number ≡ self.old.number) }
         ensures learnt { OnOk result (self.new.calls ≡ learns self.old.calls
@@ -187,7 +183,7 @@ impl<'a, J: Live> Player<'a, J> {
     }
 }
 
-/// Whether a call with this answer is in the log.
+/// Whether a call with this answer is in the log, as all are that were not refused memory.
 fn is_logged<T>(answer: &Result<T, ClientError>) -> bool
     ensures logged { result ≡ true → answer.now ≢ Err ClientError.Memory }
     ensures memory { result ≡ false → answer.now ≡ Err ClientError.Memory }

@@ -2,6 +2,7 @@
 
 ghost use Rattle.std.specs.Prelude.{◌≡◌, ◌≢◌, ℕ, ◌<◌, ◌≤◌, List, OnOk, IfOk, IfErr, Ok};
 ghost use Rattle.std.specs.Io.KnownBytes.{Appends};
+ghost use Rattle.fdb_client.specs.declared.cluster.TheConstants.{MAX_GRV_PROXIES};
 ghost use Rattle.fdb_replay.specs.Replay.{IsCut, Replays, Refuses};
 ghost use Rattle.fdb_script.specs.Reading.{ReadsAs};
 
@@ -16,13 +17,13 @@ use std::sync::Wait;
 use std::thread::Threads;
 use thiserror::Error;
 
-/// Why a replay failed.
+/// Why a replay failed: in its script, in its run or in writing, in this order.
 #[derive(Clone, Copy, Debug, PartialEq, Eq, Error)]
 pub enum ReplayFault {
     /// The script was refused, or memory for its text.
     #[error("script refused: {0}")]
     Script(ScriptError),
-    /// The run was refused.
+    /// The run has no outcome: want of memory, or a fault of the audit.
     #[error(transparent)]
     Run(RunFault),
     /// The writer failed, and took a part of the text before it did, from its start on.
@@ -33,9 +34,9 @@ pub enum ReplayFault {
 /// Reads a script, plays it, and writes the replies, the
 /// audit line and, where it is wanted, the history.
 ///
-/// Refuses bytes that stand for no script, then a run that fails, then a
-/// writer that fails. There are 1 to 16 GRV proxies. Nothing is written
-/// before the run is done, and nothing after a write that failed.
+/// Refuses bytes that stand for no script, then a run that fails, then a writer that fails. There
+/// are 1 to [`MAX_GRV_PROXIES`](fdb_client::MAX_GRV_PROXIES) GRV proxies. Nothing is written before
+/// the run is done, and nothing after a write that failed.
 pub fn replay<R: Threads + Wait + Sync, G: Gate, W: Write>(
     rt: &R,
     alloc: Global,
@@ -46,7 +47,7 @@ pub fn replay<R: Threads + Wait + Sync, G: Gate, W: Write>(
     writer: &mut W,
 ) -> Result<(), ReplayFault>
     requires some_proxy { 0 < proxies }
-    requires few_proxies { proxies ≤ 16 }
+    requires few_proxies { proxies ≤ MAX_GRV_PROXIES }
     ensures ok { OnOk result ((written : List ℕ) × Replays bytes.now with_history written
         × Appends (W.contents writer.old) (W.contents writer.new) written) }
     ensures err { IfErr result (Refuses bytes.now) }
@@ -63,7 +64,7 @@ pub fn replay<R: Threads + Wait + Sync, G: Gate, W: Write>(
 }
 
 /// The text of a run of the script that these bytes stand for.
-fn replayed_text<R: Threads + Wait + Sync, G: Gate>(
+pub(crate) fn replayed_text<R: Threads + Wait + Sync, G: Gate>(
     rt: &R,
     alloc: Global,
     bytes: &[u8],
@@ -72,7 +73,7 @@ fn replayed_text<R: Threads + Wait + Sync, G: Gate>(
     gate: &G,
 ) -> Result<Vec<u8>, ReplayFault>
     requires some_proxy { 0 < proxies }
-    requires few_proxies { proxies ≤ 16 }
+    requires few_proxies { proxies ≤ MAX_GRV_PROXIES }
     ensures ok { IfOk result (λ lines. Replays bytes.now with_history lines.items) }
     ensures err { IfErr result (Refuses bytes.now) }
     ensures unwritten { IfErr result (λ fault. fault ≢ ReplayFault.Write) }
@@ -93,7 +94,7 @@ fn run_text<R: Threads + Wait + Sync, G: Gate>(
     gate: &G,
 ) -> Result<Vec<u8>, ReplayFault>
     requires some_proxy { 0 < proxies }
-    requires few_proxies { proxies ≤ 16 }
+    requires few_proxies { proxies ≤ MAX_GRV_PROXIES }
     ensures ok { (bytes : List ℕ) → ReadsAs bytes (Ok script.now)
         → IfOk result (λ lines. Replays bytes with_history lines.items) }
     ensures err { (bytes : List ℕ) → ReadsAs bytes (Ok script.now) → IfErr result (Refuses bytes) }

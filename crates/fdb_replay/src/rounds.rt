@@ -8,6 +8,7 @@ ghost use Rattle.fdb_client.specs.Settling.{logs_of};
 ghost use Rattle.fdb_replay.specs.private.Rounds.{IsPlayed, numbers_of, teach};
 ghost use Rattle.fdb_replay.specs.private.Rounds.{tells_since};
 ghost use Rattle.fdb_script.specs.Answering.{AnswersCommand, AnswersRound, commands_of};
+ghost use Rattle.fdb_script.specs.declared.script.TheConstants.{MAX_CLIENTS};
 
 use crate::player::Player;
 use crate::tell::Tell;
@@ -21,7 +22,7 @@ use std::sync::Wait;
 use std::thread;
 use std::thread::{Promise, Scope, Threads};
 
-/// The most clients of a run.
+/// The most clients of a run, as the length of an array.
 const CLIENTS: usize = MAX_CLIENTS as usize;
 
 /// What is done in a round, and by whom.
@@ -35,7 +36,7 @@ struct Round<'a> {
 }
 
 impl<'a> Round<'a> {
-    /// The round of these commands.
+    /// The round of these commands, which are looked through once for who acts.
     fn new(commands: &'a [Command]) -> Self
         ensures { result.commands.now ≡ commands.now }
     {
@@ -47,7 +48,7 @@ impl<'a> Round<'a> {
 
     /// Whether any of some clients has a command: so many, from this number on.
     fn acts_among(&self, first: u32, clients: usize) -> bool
-        requires { first + clients ≤ 64 }
+        requires { first + clients ≤ MAX_CLIENTS }
         ensures some { result ≡ true → 0 < clients }
         ensures idle { result ≡ false → (k : ℕ) → k < clients
             → commands_of (first + k) self.now.commands.now ≡ [] }
@@ -87,7 +88,7 @@ struct Playing<'r, R, J: Live, G: Gate> {
     round: Round<'r>,
 }
 
-/// Plays rounds, one after another.
+/// Plays rounds, one after another. Where memory runs out, the clients are lost.
 pub(crate) fn play_rounds<'a, J: Live + Send + Sync, R: Threads + Wait + Sync, G: Gate>(
     rt: &R,
     alloc: Global,
@@ -95,7 +96,7 @@ pub(crate) fn play_rounds<'a, J: Live + Send + Sync, R: Threads + Wait + Sync, G
     mut clients: Vec<Player<'a, J>>,
     rounds: &[Sequence<Command>],
 ) -> Result<Vec<Player<'a, J>>, AllocError>
-    requires few { length clients.items ≤ 64 }
+    requires few { length clients.items ≤ MAX_CLIENTS }
     ensures ok { IfOk result (λ after.
         FoldsTo AnswersRound (logs_of clients.entry.items) rounds.now (logs_of after.items)) }
     ensures numbers { IfOk result
@@ -115,7 +116,7 @@ fn play_round<'a, J: Live + Send + Sync, R: Threads + Wait + Sync, G: Gate>(
     clients: Vec<Player<'a, J>>,
     commands: &[Command],
 ) -> Result<Vec<Player<'a, J>>, AllocError>
-    requires few { length clients.items ≤ 64 }
+    requires few { length clients.items ≤ MAX_CLIENTS }
     ensures ok { IfOk result
         (λ after. AnswersRound (logs_of clients.entry.items) commands.now (logs_of after.items)) }
     ensures numbers { IfOk result
@@ -178,7 +179,7 @@ fn play_all<'a, J: Live + Send + Sync, R: Threads + Wait + Sync, G: Gate>(
     playing: &Playing<'_, R, J, G>,
     clients: Vec<Player<'a, J>>,
 ) -> Result<Part<'a, J>, AllocError>
-    requires few { vec_len clients ≤ 64 }
+    requires few { vec_len clients ≤ MAX_CLIENTS }
     ensures { IfOk result (λ part.
         IsPlayed 0 playing.now.round.commands.now
         clients.entry.items part.clients.items part.tells.items) }
@@ -188,7 +189,7 @@ fn play_all<'a, J: Live + Send + Sync, R: Threads + Wait + Sync, G: Gate>(
         playing.rt,
         move |scope| -> Result<Part<'_, J>, AllocError>
             requires { IsSync R.row × IsSync J.row × IsSend J.row × IsSync G.row
-                × (vec_len clients ≤ 64) }
+                × (vec_len clients ≤ MAX_CLIENTS) }
             ensures { IfOk result (λ part.
                 IsPlayed 0 playing.entry.now.round.commands.now
                 clients.entry.items part.clients.items part.tells.items) }
@@ -209,7 +210,7 @@ fn play_part<'s, 'a: 's, E, J: Live + Send + Sync, R: Threads + Wait + Sync, G: 
     first: u32,
     mut clients: Vec<Player<'a, J>>,
 ) -> Result<Part<'a, J>, AllocError>
-    requires few { first + vec_len clients ≤ 64 }
+    requires few { first + vec_len clients ≤ MAX_CLIENTS }
     ensures { IfOk result (λ part.
         IsPlayed first playing.now.round.commands.now
         clients.entry.items part.clients.items part.tells.items) }
@@ -257,7 +258,7 @@ fn play_halves<'s, 'a: 's, E, J: Live + Send + Sync, R: Threads + Wait + Sync, G
 ) -> Result<(Part<'a, J>, Part<'a, J>), AllocError>
     requires some_front { 0 < vec_len front }
     requires some_back { 0 < vec_len back }
-    requires few { first + (vec_len front + vec_len back) ≤ 64 }
+    requires few { first + (vec_len front + vec_len back) ≤ MAX_CLIENTS }
     ensures front { IfOk result (λ parts. IsPlayed first playing.now.round.commands.now
         front.entry.items parts.0.clients.items parts.0.tells.items) }
     ensures back { IfOk result (λ parts.
@@ -278,7 +279,7 @@ fn play_halves<'s, 'a: 's, E, J: Live + Send + Sync, R: Threads + Wait + Sync, G
     };
     let play_front = move || -> Result<Part<'_, J>, AllocError>
         requires { IsSync R.row × IsSync J.row × IsSend J.row × IsSync G.row
-            × (first + vec_len front ≤ 64) }
+            × (first + vec_len front ≤ MAX_CLIENTS) }
         ensures { IfOk result (λ part.
             IsPlayed first playing.entry.now.round.commands.now
             front.entry.items part.clients.items part.tells.items) }
@@ -291,7 +292,7 @@ fn play_halves<'s, 'a: 's, E, J: Live + Send + Sync, R: Threads + Wait + Sync, G
     Ok((theirs, ours?))
 }
 
-/// Has a client do its commands of a round.
+/// Has a client do its commands of a round, in order, and answers what it told.
 #[tactic(auto, using(crate::proofs::Grown::not_grown))]
 fn play_client<J: Live, R: Wait, G: Gate>(
     playing: &Playing<'_, R, J, G>,
@@ -314,7 +315,7 @@ fn play_client<J: Live, R: Wait, G: Gate>(
     Ok(tells)
 }
 
-/// Has each client learn what it was told.
+/// Has each client learn what it was told, by teller and then by command.
 #[tactic(auto, using(crate::proofs::Learnt::one_learns, crate::proofs::Learnt::nobody_learns, crate::proofs::Learnt::same_numbers))]
 fn learn_all<J: Live, R: Wait>(
     rt: &R,

@@ -1,7 +1,8 @@
-//! A run of a script.
+//! A run of a script, from its plan to its outcome.
 
 ghost use Rattle.std.specs.Prelude.{◌≡◌, ◌<◌, ◌≤◌, ℕ, [], IfOk, IfErr, Some, slice_get, vec_len};
 ghost use Rattle.fdb_client.specs.Cluster.{IsClusterConfig};
+ghost use Rattle.fdb_client.specs.declared.cluster.TheConstants.{MAX_GRV_PROXIES};
 ghost use Rattle.fdb_replay.specs.Outcome.{IsRunOf, Fails, opening};
 ghost use Rattle.fdb_replay.specs.private.Configured.{IsConfigFor};
 ghost use Rattle.fdb_script.specs.Answering.{Answers};
@@ -25,9 +26,9 @@ use std::thread::Threads;
 /// plays the rounds in order. In a round each client that has commands does them in
 /// order, in a thread of its own; what was told in a round is learnt at its end.
 ///
-/// There are 1 to 16 GRV proxies, each in a thread of its own for the whole run. A
-/// client's reads go to them in turn. The gate is passed where the sequencer's lock
-/// is held, where that of the reports is, and where an answer to a read has come.
+/// There are 1 to [`MAX_GRV_PROXIES`](fdb_client::MAX_GRV_PROXIES) GRV proxies, each in a thread of
+/// its own for the whole run. A client's reads go to them in turn. The gate is passed where the
+/// sequencer's lock is held, where that of the reports is, and where an answer to a read has come.
 ///
 /// It fails where memory runs out, or a thread for a proxy or a client cannot be had, or with the
 /// fault that the audit finds: `Stray` or `NotAbove`. No fault of the register's history is looked
@@ -41,7 +42,7 @@ pub fn run<R: Threads + Wait + Sync, G: Gate>(
     gate: &G,
 ) -> Result<Outcome, RunFault>
     requires some_proxy { 0 < proxies }
-    requires few_proxies { proxies ≤ 16 }
+    requires few_proxies { proxies ≤ MAX_GRV_PROXIES }
     ensures ok { IfOk result (IsRunOf script.now) }
     ensures err { IfErr result (Fails script.now) }
 {
@@ -53,7 +54,7 @@ pub fn run<R: Threads + Wait + Sync, G: Gate>(
 #[tactic(auto, using(crate::proofs::Throttled::may_be_set))]
 fn config_of(script: &Script, proxies: u32) -> ClusterConfig<'_>
     requires some_proxy { 0 < proxies }
-    requires few_proxies { proxies ≤ 16 }
+    requires few_proxies { proxies ≤ MAX_GRV_PROXIES }
     ensures script { IsConfigFor script.now result }
     ensures proxies { result.grv_proxies ≡ proxies }
     ensures in_range { IsClusterConfig result }
@@ -127,7 +128,7 @@ fn finished_at<J: Live + Send + Sync, R: Threads + Wait + Sync, G: Gate>(
     served(rt, alloc, &world, first, clients, script.rounds())
 }
 
-/// The record before any report.
+/// The record before any report: the recovery version, unlocked and without metadata.
 fn opening(recovery: u64) -> Record
     ensures { result ≡ opening recovery }
 {

@@ -4,6 +4,7 @@ ghost use Rattle.std.specs.Prelude.{◌≡◌, ◌≤◌, IfOk, length};
 ghost use Rattle.std.specs.List.{FoldsTo};
 ghost use Rattle.fdb_client.specs.Settling.{logs_of};
 ghost use Rattle.fdb_script.specs.Answering.{AnswersRound};
+ghost use Rattle.fdb_script.specs.declared.script.TheConstants.{MAX_CLIENTS};
 
 use crate::clients::Clients;
 use crate::world::World;
@@ -28,7 +29,7 @@ pub(crate) fn served<J: Live + Send + Sync, R: Threads + Wait + Sync, G: Gate>(
     clients: Clients<'_, J>,
     rounds: &[Sequence<Command>],
 ) -> Result<Finished<J>, AllocError>
-    requires few { length clients ≤ 64 }
+    requires few { length clients ≤ MAX_CLIENTS }
     requires count { length clients ≡ J.reporters }
     ensures { IfOk result (FoldsTo AnswersRound (logs_of clients.entry) rounds.now) }
 {
@@ -38,7 +39,7 @@ pub(crate) fn served<J: Live + Send + Sync, R: Threads + Wait + Sync, G: Gate>(
         world.cluster,
         first,
         move || -> Result<Finished<J>, AllocError>
-            requires few { length clients ≤ 64 }
+            requires few { length clients ≤ MAX_CLIENTS }
             requires count { length clients ≡ J.reporters }
             ensures { IfOk result
                 (FoldsTo AnswersRound (logs_of clients.entry) rounds.entry.now) }
@@ -51,7 +52,7 @@ pub(crate) fn served<J: Live + Send + Sync, R: Threads + Wait + Sync, G: Gate>(
     }
 }
 
-/// What the clients leave, once all rounds are played.
+/// What the clients leave, once all rounds are played in this thread.
 fn played<J: Live + Send + Sync, R: Threads + Wait + Sync, G: Gate>(
     rt: &R,
     alloc: Global,
@@ -59,7 +60,7 @@ fn played<J: Live + Send + Sync, R: Threads + Wait + Sync, G: Gate>(
     mut clients: Clients<'_, J>,
     rounds: &[Sequence<Command>],
 ) -> Result<Finished<J>, AllocError>
-    requires few { length clients ≤ 64 }
+    requires few { length clients ≤ MAX_CLIENTS }
     requires count { length clients ≡ J.reporters }
     ensures { IfOk result (FoldsTo AnswersRound (logs_of clients.entry) rounds.now) }
 {

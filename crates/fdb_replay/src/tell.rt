@@ -10,9 +10,7 @@ use std::marker::Model;
 /// Contracts see it as who is told, who tells, and the position that the teller had come to.
 #[derive(Drop)]
 pub(crate) struct Tell<J: Live> {
-    /// Who is told.
     pub(crate) to: u32,
-    /// Who tells.
     pub(crate) from: u32,
     /// What the teller had seen, as a token with no number.
     pub(crate) seen: Seen<J>,

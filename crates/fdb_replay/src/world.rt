@@ -1,4 +1,4 @@
-//! What the clients of a run call.
+//! The cluster that the clients of a run call, and the desk for each read.
 
 ghost use Rattle.std.specs.Prelude.{◌≡◌};
 ghost use Rattle.fdb_replay.specs.private.Routing.{desk_for};
@@ -7,7 +7,7 @@ use fdb_client::Cluster;
 use fdb_history::Gate;
 use fdb_live::Live;
 
-/// What the clients of a run call, and the gate that they pass by that.
+/// What the clients of a run call, and the gate that their calls pass.
 #[derive(Drop)]
 pub(crate) struct World<'a, J: Live, G: Gate> {
     pub(crate) cluster: &'a Cluster<'a, J>,

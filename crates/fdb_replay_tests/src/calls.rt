@@ -50,7 +50,7 @@ pub(crate) fn text_of(
     }
 }
 
-/// Replays a script.
+/// Replays a script through a gate that holds nobody, and writes its text.
 pub(crate) fn replays<R: Threads + Wait + Sync, W: Write>(
     rt: &R,
     alloc: Global,
@@ -73,7 +73,7 @@ pub(crate) fn replays<R: Threads + Wait + Sync, W: Write>(
     )
 }
 
-/// Drives the program, and answers its status.
+/// Drives the program over its arguments and its three streams, and answers its exit status.
 pub(crate) fn drives<R: Threads + Wait + Sync + Files, I: Read, O: Write, E: Write>(
     rt: &R,
     alloc: Global,

@@ -6,13 +6,15 @@ mod counting;
 mod crossing;
 pub(crate) mod side_by_side;
 
+ghost use Rattle.std.specs.Prelude.{◌<◌, ◌≤◌};
+
 use crate::calls::{runs_through, script_of};
 use crate::gated::alone::Alone;
 use crate::gated::crossing::Crossing;
+use fdb_checks::holds;
 use fdb_history::Place;
 use fdb_script::Script;
 use std::alloc::{AllocError, Global};
-use std::process::Abort;
 use std::sync::Wait;
 use std::test::Fail;
 use std::thread::Threads;
@@ -80,9 +82,8 @@ fn reads_pass_held_locks(rt: HostRuntime) -> Result<(), Fail> {
     for text in [BESIDE_READS, AFTER_A_RAISE] {
         let script = script_of(rt.alloc(), text)?;
         for at in [Place::SequencerHeld, Place::ReportHeld] {
-            for proxies in [1, 2] {
-                crosses(&rt, rt.alloc(), &script, (at, Place::ReadAnswered), proxies);
-            }
+            crosses(&rt, rt.alloc(), &script, at, Place::ReadAnswered, 1)?;
+            crosses(&rt, rt.alloc(), &script, at, Place::ReadAnswered, 2)?;
         }
     }
     Ok(())
@@ -94,29 +95,31 @@ fn reads_pass_held_locks(rt: HostRuntime) -> Result<(), Fail> {
 fn each_lock_passes_the_other(rt: HostRuntime) -> Result<(), Fail> {
     let (sequencer, reports) = (Place::SequencerHeld, Place::ReportHeld);
     let report = script_of(rt.alloc(), BESIDE_A_REPORT)?;
-    crosses(&rt, rt.alloc(), &report, (sequencer, reports), 1);
+    crosses(&rt, rt.alloc(), &report, sequencer, reports, 1)?;
     let ask = script_of(rt.alloc(), BESIDE_AN_ASK)?;
-    crosses(&rt, rt.alloc(), &ask, (reports, sequencer), 1);
-    Ok(())
+    crosses(&rt, rt.alloc(), &ask, reports, sequencer, 1)
 }
 
 /// Runs a script through so many GRV proxies, with client 0 held in a lock while client 1 passes
 /// beside it.
-fn crosses<R: Threads + Wait + Abort + Sync>(
+fn crosses<R: Threads + Wait + Sync>(
     rt: &R,
     alloc: Global,
     script: &Script,
-    (at, beside): (Place, Place),
+    at: Place,
+    beside: Place,
     proxies: u32,
-) {
-    assert!(rt; proxies > 0 && proxies <= 16, "GRV proxies in range");
+) -> Result<(), Fail>
+    requires some_proxy { 0 < proxies }
+    requires few_proxies { proxies ≤ 16 }
+{
     let gate = Crossing::new(at, beside);
     let ran = runs_through(rt, alloc, script, proxies, &gate);
-    assert!(rt; ran, "{at:?}: no outcome");
-    assert!(rt;
+    holds(ran, &format_args!("{at:?}: no outcome"))?;
+    holds(
         gate.is_passed(),
-        "{at:?} beside {beside:?}: somebody waited in vain"
-    );
+        &format_args!("{at:?} beside {beside:?}: somebody waited in vain"),
+    )
 }
 
 /// Nobody is in a lock where another is.
@@ -124,10 +127,7 @@ fn crosses<R: Threads + Wait + Abort + Sync>(
 fn nobody_meets_another_in_a_lock(rt: HostRuntime) -> Result<(), Fail> {
     let script = script_of(rt.alloc(), &both_report(rt.alloc())?)?;
     let gate = Alone::new();
-    assert!(rt;
-        runs_through(&rt, rt.alloc(), &script, 2, &gate),
-        "no outcome"
-    );
-    assert!(rt; gate.is_kept(), "two were in one lock");
-    Ok(())
+    let ran = runs_through(&rt, rt.alloc(), &script, 2, &gate);
+    holds(ran, &"an outcome")?;
+    holds(gate.is_kept(), &"two were in one lock")
 }

@@ -14,5 +14,3 @@ mod many;
 mod refused_memory;
 #[cfg(test)]
 mod replay;
-#[cfg(test)]
-mod same;

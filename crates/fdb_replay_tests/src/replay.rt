@@ -7,12 +7,11 @@ mod values;
 ghost use Rattle.std.specs.Prelude.{◌<◌, ◌≤◌};
 
 use crate::calls::{drives, replays};
-use crate::same::{same, same_text};
+use fdb_checks::{same, same_text};
 use std::alloc::Global;
 use std::fs::Files;
 use std::io;
 use std::io::Read;
-use std::process::Abort;
 use std::str::from_utf8;
 use std::sync::Wait;
 use std::test::Fail;
@@ -73,13 +72,12 @@ fn driven<R: Threads + Wait + Sync + Files, I: Read>(
 }
 
 /// Checks what the program wrote: all to one of its writers, and to which of them, its status says.
-fn assert_ran(rt: &impl Abort, ran: &Ran, status: u8, text: &str, case: &str) -> Result<(), Fail> {
+fn assert_ran(ran: &Ran, status: u8, text: &str, case: &str) -> Result<(), Fail> {
     let (out, err) = (from_utf8(&ran.out)?, from_utf8(&ran.err)?);
     let (wanted_out, wanted_err) = if status == 0 { (text, "") } else { ("", text) };
-    same_text(rt, out, wanted_out, case);
-    same_text(rt, err, wanted_err, case);
-    same(rt, &ran.status, &status, &case);
-    Ok(())
+    same_text(out, wanted_out, case)?;
+    same_text(err, wanted_err, case)?;
+    same(&ran.status, &status, &case)
 }
 
 #[test]
@@ -90,7 +88,7 @@ fn the_first_script_as_text(rt: HostRuntime) -> Result<(), Fail> {
 }
 
 /// Replays the first script, and compares what is written behind the replies.
-fn first_writes<R: Threads + Wait + Abort + Sync>(
+fn first_writes<R: Threads + Wait + Sync>(
     rt: &R,
     alloc: Global,
     proxies: u32,
@@ -103,6 +101,5 @@ fn first_writes<R: Threads + Wait + Abort + Sync>(
     let mut out = Vec::new(alloc);
     replays(rt, alloc, SCRIPT, proxies, with_history, &mut out)?;
     let history = from_utf8(&out)?.strip_prefix(REPLIES);
-    same_text(rt, history.unwrap_or("no replies"), wanted, "the history");
-    Ok(())
+    same_text(history.unwrap_or("no replies"), wanted, "the history")
 }

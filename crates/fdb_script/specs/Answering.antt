@@ -14,8 +14,6 @@ use Rattle.fdb_script.specs.declared.script.Act.{Act}
 use Rattle.fdb_script.specs.declared.script.Act.TheVariants.{Grv, Ask, Reask, Report, Tell}
 use Rattle.fdb_script.specs.declared.script.Command.{Command}
 
--- ---- commands
-
 -- What a client calls for an act, after its calls so far. To ask is to ask for the commit version
 -- after those that it has got.
 abbrev pub input_of : List Call → Act → Input
@@ -26,7 +24,7 @@ input_of before (Report num locked metadata min_known) =
     input.Report num locked metadata min_known
 input_of before (Tell to) = input.Tell to
 
--- one more call, for a command
+-- One more call was made, the one that this command says.
 abbrev pub AnswersCommand : List Call → Command → List Call → Type 0
 AnswersCommand before command after = AddsCall before (input_of before command.act) after
 
@@ -34,7 +32,8 @@ AnswersCommand before command after = AddsCall before (input_of before command.a
 abbrev pub commands_of : ℕ → List Command → List Command
 commands_of client commands = filter (λ command. command.client == client) commands
 
--- each client has one more call for each of its commands of the round, in their order
+-- Each client has a call more for each of its commands. These are those of the round, in their
+-- order.
 pub record Performs (before : List ClientLog) (commands : List Command)
     (after : List ClientLog) : Type 0 where
   pub same_clients : length after ≡ length before
@@ -42,15 +41,14 @@ pub record Performs (before : List ClientLog) (commands : List Command)
       → FoldsTo AnswersCommand (calls_of before client) (commands_of client commands)
       (calls_of after client)
 
--- ---- learning
-
--- what a client was told: by whom, and up to which position the teller had seen the register
+-- What a client was told: by whom, and up to which position. So far the teller had seen the
+-- register.
 pub record Told : Type 0 where
   pub teller : ℕ
   pub position : ℕ
 
--- a client's calls, with one more, by which it learns what it was told: from then on it has seen
--- what the teller had seen, too
+-- A client's calls, with one more, by which it learns. From then on it has seen what the teller had
+-- seen, too.
 abbrev pub learns : List Call → Told → List Call
 learns before told =
     before ++ record {
@@ -60,7 +58,7 @@ learns before told =
       answer = answer.Told;
     } ∷ []
 
--- whether a call tells this client
+-- whether a call tells this client what its caller has seen
 abbrev pub tells : ℕ → Input → Bool
 tells client (input.Grv opts) = false
 tells client (input.Ask num processed at) = false
@@ -68,8 +66,8 @@ tells client (input.Report num locked metadata min_known) = false
 tells client (input.Tell to) = to == client
 tells client (input.Learn from) = false
 
--- what a client was told in these clients' calls, from this teller on: by teller, and then in the
--- order of its calls
+-- What a client was told in these calls, by teller. They are those of the clients from this one on,
+-- and of each in order.
 abbrev pub told_from : ℕ → ℕ → List (List Call) → List Told
 told_from client teller [] = []
 told_from client teller (calls ∷ others) =
@@ -84,17 +82,15 @@ added_calls (log ∷ before) [] = []
 added_calls (log ∷ before) (after ∷ logs) =
     drop (length log.calls) after.calls ∷ added_calls before logs
 
--- the logs from this client on, with what each learns of these calls
+-- The logs, with what each client learns of these calls. They are those of the clients from this
+-- one on.
 abbrev pub learnt_from : ℕ → List (List Call) → List ClientLog → List ClientLog
 learnt_from client calls [] = []
 learnt_from client calls (log ∷ logs) =
     record { calls = fold learns log.calls (told_from client 0 calls) }
     ∷ learnt_from (client + 1) calls logs
 
--- ---- rounds
-
--- The commands of the round are performed, and then each client learns what it was told in the
--- round.
+-- A round's commands are performed, then what was told is learnt.
 pub record AnswersRound (before : List ClientLog) (commands : List Command)
     (after : List ClientLog) : Type 0 where
   pub performed : List ClientLog

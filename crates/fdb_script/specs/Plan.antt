@@ -10,9 +10,9 @@ use Rattle.fdb_script.specs.declared.script.Command.{Command}
 use Rattle.fdb_script.specs.declared.script.Setup.{Setup}
 use Rattle.fdb_script.specs.declared.script.TheConstants.{MAX_CLIENTS, MAX_THROTTLES, MAX_ROUNDS, MAX_COMMANDS, MAX_TAGS}
 
--- What contracts see of a script: what it says besides its rounds (where the service starts, how
--- many clients there are, what its GRV proxies are made with), and the rounds, each the list of its
--- commands.
+-- What contracts see of a script: its setup and its rounds. The setup says where the service
+-- starts, how many clients there are, and what its GRV proxies are made with; each round is the
+-- list of its commands.
 pub record Plan : Type 0 where
   pub setup : Setup
   pub rounds : List (List Command)
@@ -39,7 +39,8 @@ abbrev pub is_command : ℕ → Command → Bool
 is_command clients command =
     nat_lt command.client clients && is_act clients command.client command.act
 
--- The plan is within the limits.
+-- The plan is within the limits of a script: its numbers, the lengths of its lists, and each
+-- command.
 pub record IsPlan (plan : Plan) : Type 0 where
   pub epoch_ends_before : plan.setup.epoch_end < plan.setup.recovery
   pub recovery_in_range : plan.setup.recovery ≤ MAX_VERSION

@@ -24,26 +24,25 @@ use Rattle.fdb_script.specs.declared.script.Command.{Command}
 abbrev pub line : List ℕ → List ℕ
 line text = text ++ 10 ∷ []
 
--- ---- replies
-
--- a limit; of its tag each byte as the character of that number
+-- A limit, with each byte of its tag as a character. The character is the one of that number.
 abbrev pub limit_text : TagLimit → List ℕ
 limit_text limit =
     codes " limit " ++ flat_map encode_utf8 limit.tag ++ codes " " ++ decimal limit.rate
     ++ codes " " ++ decimal limit.expires
 
+-- `fresh` for a version that this request drew, `kept` for an earlier answer given again
 abbrev pub fresh_text : Bool → List ℕ
 fresh_text true = codes "fresh"
 fresh_text false = codes "kept"
 
--- whether a report raised the live committed version, or the minimum known committed version alone,
--- or neither
+-- Whether a report raised the version, the minimum alone, or neither. These are the live committed
+-- version and the minimum known committed version.
 abbrev pub raised_text : Bool → Bool → List ℕ
 raised_text true changed = codes "raised"
 raised_text false true = codes "min raised"
 raised_text false false = codes "not raised"
 
--- the version that a read got, which is told where it asked for the minimum known committed version
+-- The version that a read with `use_min` got. For any other read it is not told.
 abbrev pub used_text : Input → Record → List ℕ
 used_text (input.Grv opts) rec =
     if opts.use_min then codes " used " ++ decimal (version_for opts.use_min rec) else []
@@ -52,7 +51,7 @@ used_text (input.Report num locked metadata min_known) rec = []
 used_text (input.Tell to) rec = []
 used_text (input.Learn from) rec = []
 
--- whom a call told or learnt from, if it did, and the position
+-- Whom a call told or learnt from, and the position.
 abbrev pub told_text : Input → ℕ → List ℕ
 told_text (input.Tell to) position = decimal to ++ codes " pos " ++ decimal position
 told_text (input.Learn from) position = decimal from ++ codes " pos " ++ decimal position
@@ -84,7 +83,7 @@ act_text (Reask num processed at) = codes "reask"
 act_text (Report num locked metadata min_known) = codes "report"
 act_text (Tell to) = codes "tell"
 
--- the reply to a command: its round, client, number in the round and word, and the answer
+-- The reply to a command: round, client, number, word and answer. The number is that in the round.
 abbrev pub reply_text : ℕ → ℕ → ℕ → Act → Call → List ℕ
 reply_text round client number act call =
     decimal round ++ codes " " ++ decimal client ++ codes " " ++ decimal number ++ codes " "
@@ -98,12 +97,12 @@ is_learn (input.Report num locked metadata min_known) = false
 is_learn (input.Tell to) = false
 is_learn (input.Learn from) = true
 
--- the calls that answer commands
+-- the calls that answer commands: all but those that learn
 abbrev pub replies_of : List Call → List Call
 replies_of calls = filter (λ call. not (is_learn call.input)) calls
 
--- the replies to a client's commands among those of a round, from this number on; its calls are the
--- answers, in order
+-- The replies to a client's commands of a round. They are those from this number on; its calls are
+-- the answers, in order.
 abbrev pub client_lines : ℕ → ℕ → ℕ → List Command → List Call → List ℕ
 client_lines round client number [] calls = []
 client_lines round client number (command ∷ commands) [] = []
@@ -133,17 +132,17 @@ reply_lines round (commands ∷ rounds) logs =
     round_lines round 0 commands logs
     ++ reply_lines (round + 1) rounds (calls_after 0 commands logs)
 
--- ---- the audit line and the history
-
+-- the audit line with its counts: of events, of raises among them, and of commit versions
 abbrev pub counts_text : ℕ → ℕ → ℕ → List ℕ
 counts_text events raised versions =
     codes "audit ok events " ++ decimal events ++ codes " raised " ++ decimal raised
     ++ codes " versions " ++ decimal versions
 
+-- the audit line of a history, beside so many commit versions
 abbrev pub audit_text : List Event → ℕ → List ℕ
 audit_text events versions = counts_text (length events) (raise_count events) versions
 
--- an event, with its place in the history
+-- the line of an event, read or report, with its place in the history
 abbrev pub history_text : ℕ → Event → List ℕ
 history_text number (event.Read client call rec) =
     codes "history " ++ decimal number ++ codes " client " ++ decimal client ++ codes " call "
@@ -153,17 +152,20 @@ history_text number (event.Report client call rec raised changed) =
     ++ decimal call ++ codes " report " ++ record_text rec ++ codes " "
     ++ raised_text raised changed
 
+-- The history's lines, from this place on.
 abbrev pub history_lines : ℕ → List Event → List ℕ
 history_lines number [] = []
 history_lines number (event ∷ events) =
     line (history_text number event) ++ history_lines (number + 1) events
 
--- What an audit found in logs without a fault: the audit line, and the history where it is wanted.
+-- The audit line, and the history where it is wanted. That is what an audit found in logs without a
+-- fault.
 abbrev pub verdict_text : List Event → ℕ → Bool → List ℕ
 verdict_text events versions with_history =
     line (audit_text events versions) ++ (if with_history then history_lines 0 events else [])
 
--- The whole text: the replies by round, client and command, and the audit's verdict.
+-- The whole text: the replies, and the audit's verdict. The replies go by round, client and
+-- command.
 abbrev pub text : Plan → Outcome → Bool → List ℕ
 text plan outcome with_history =
     reply_lines 0 plan.rounds (map (λ log. replies_of log.calls) outcome.logs.items)

@@ -1,4 +1,4 @@
-//! Why a script is refused.
+//! The refusals of a script, under the names that the program prints.
 
 ghost use Rattle.std.specs.Prelude.{◌≡◌};
 
@@ -8,13 +8,13 @@ use thiserror::Error;
 /// Why a script is refused, or its text not made.
 #[derive(Clone, Copy, Debug, PartialEq, Eq, Error)]
 pub enum ScriptError {
-    /// The bytes are no JSON text.
+    /// The bytes are no UTF-8, or no JSON text that `serde_json` reads.
     #[error("NotJson")]
     NotJson,
     /// A command has a fault: the first that has one is named.
     #[error("BadField {round} {command}")]
     BadField {
-        /// The round, counted from 0.
+        /// The round that it stands in, counted from 0.
         round: u64,
         /// The command's place in the round, counted from 0.
         command: u64,
@@ -23,7 +23,7 @@ pub enum ScriptError {
     /// limit, or a round is no list.
     #[error("BadLimit")]
     BadLimit,
-    /// Memory was refused.
+    /// Memory was refused, which says nothing of the script.
     #[error("want of memory")]
     Memory,
 }

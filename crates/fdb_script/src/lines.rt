@@ -50,9 +50,7 @@ impl fmt::Display for LimitsText<'_> {
 /// version, with a space before it.
 #[derive(Clone, Copy)]
 struct UsedText<'a> {
-    /// What was called.
     input: &'a Input,
-    /// What was read.
     rec: Record,
 }
 
@@ -73,7 +71,7 @@ impl fmt::Display for UsedText<'_> {
     }
 }
 
-/// What is printed of a call's answer.
+/// What is printed of a call's answer, after the word of its act.
 #[derive(Clone, Copy)]
 struct AnswerText<'a>(&'a Call);
 
@@ -129,7 +127,7 @@ impl fmt::Display for AnswerText<'_> {
     }
 }
 
-/// Whether an answer was a new one.
+/// `fresh` where this request drew the version, `kept` where an earlier answer is given again.
 fn fresh_word(fresh: bool) -> &'static str
     ensures { result.now ≡ fresh_text fresh }
 {
@@ -161,18 +159,15 @@ fn act_word(act: &Act) -> &'static str
     }
 }
 
-/// The reply to a command.
+/// The line of a command: who did what where, and the reply.
 #[derive(Clone, Copy)]
 pub(crate) struct ReplyLine<'a> {
-    /// The round.
     pub(crate) round: u64,
-    /// The client.
     pub(crate) client: u64,
-    /// The command's place in the round.
+    /// The command's place in the round, counted from 0.
     pub(crate) number: u64,
-    /// What the client was to do.
     pub(crate) act: &'a Act,
-    /// What it called, and was answered.
+    /// The call by which the client did it, with its answer.
     pub(crate) call: &'a Call,
 }
 
@@ -191,14 +186,14 @@ impl fmt::Display for ReplyLine<'_> {
     }
 }
 
-/// The audit line.
+/// The line of an audit that found no fault.
 #[derive(Clone, Copy)]
 pub(crate) struct AuditLine {
-    /// How many events there are.
+    /// How many reads and reports were answered.
     pub(crate) events: u64,
     /// How many of them are reports that raised the live committed version.
     pub(crate) raised: u64,
-    /// How many commit versions were issued.
+    /// How many commit versions were drawn, reported or not.
     pub(crate) versions: u64,
 }
 
@@ -217,12 +212,11 @@ impl fmt::Display for AuditLine {
     }
 }
 
-/// An event of the history.
+/// The line of an event, read or report, in the history.
 #[derive(Clone, Copy)]
 pub(crate) struct HistoryLine<'a> {
-    /// The event's place in the history.
+    /// The event's place in the history, counted from 0.
     pub(crate) number: u64,
-    /// The event.
     pub(crate) event: &'a Event,
 }
 

@@ -1,4 +1,4 @@
-//! What a run leaves.
+//! What a run leaves, from which its text is made.
 
 use fdb_history::{ClientLog, History, Issued};
 
@@ -6,10 +6,10 @@ use fdb_history::{ClientLog, History, Issued};
 /// explains them.
 #[derive(Debug, Drop)]
 pub struct Outcome {
-    /// The fresh commit version answers, in order.
+    /// The answers that drew a commit version, each above the one before.
     pub chain: Vec<Issued>,
     /// The log of each client, by its number.
     pub logs: Vec<ClientLog>,
-    /// The history.
+    /// One order of all answered reads and reports that explains the logs.
     pub history: History,
 }

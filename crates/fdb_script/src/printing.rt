@@ -65,7 +65,7 @@ pub fn push_verdict(
     Ok(())
 }
 
-/// The calls of each log.
+/// The calls of each log, of which none is printed yet.
 fn logged_calls(alloc: Global, logs: &[ClientLog]) -> Result<Vec<&[Call]>, AllocError>
     ensures { IfOk result
         (λ all. map (λ calls. replies_of calls.now) all.items
@@ -179,7 +179,7 @@ fn is_learn(input: &Input) -> bool
     matches!(input, Input::Learn { .. })
 }
 
-/// Appends the audit line.
+/// Appends the audit line, with the counts of the history's events.
 fn push_audit(printed: &mut String, events: &[Event], versions: u64) -> Result<(), AllocError>
     ensures { OnOk result
         (string_bytes printed.new

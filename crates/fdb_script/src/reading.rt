@@ -1,4 +1,4 @@
-//! From the bytes of a script to the script.
+//! From the bytes of a script to the script: first the whole, then its commands.
 
 ghost use Rattle.std.specs.Prelude.{◌≡◌};
 ghost use Rattle.serde_json.specs.View.{view};

@@ -1,4 +1,4 @@
-//! Scripts, their commands and their limits.
+//! A script as data: its setup, its rounds of commands, and its limits.
 
 ghost use Rattle.std.specs.Prelude.{◌≡◌};
 
@@ -6,16 +6,16 @@ use fdb_history::{GrvOpts, Sequence};
 use fdb_queue::{QueueConfig, Throttle};
 use std::marker::Model;
 
-/// The most bytes of a script.
+/// The most bytes of a script: to the program a longer input is a failure of reading.
 pub const MAX_SCRIPT_BYTES: usize = 16_777_216;
 
-/// The most clients of a script.
+/// The most clients of a script, each of which may have a thread of its own in a round.
 pub const MAX_CLIENTS: u64 = 64;
 
-/// The most throttles of a script.
+/// The most throttles of a script, all of which each GRV proxy is given.
 pub const MAX_THROTTLES: usize = 1_000;
 
-/// The most rounds of a script.
+/// The most rounds of a script, with commands or without.
 pub const MAX_ROUNDS: usize = 10_000;
 
 /// The most commands of a script, over all rounds.
@@ -24,30 +24,30 @@ pub const MAX_COMMANDS: usize = 10_000;
 /// The most tags of a read in a script.
 pub const MAX_TAGS: usize = 5;
 
-/// What a client is to do.
+/// What a client is to do, with the default for each member that the script left out.
 #[derive(Debug, Drop, PartialEq, Eq)]
 pub enum Act {
-    /// Read the read version.
+    /// Read the read version through a GRV proxy.
     Grv(GrvOpts),
-    /// Ask for the next commit version.
+    /// Ask the sequencer for the client's next commit version.
     Ask {
         /// The number up to which the client has processed its answers.
         processed: u64,
-        /// The moment, in microseconds.
+        /// The moment of the request, in microseconds.
         at: u64,
     },
-    /// Ask for the commit version under a number.
+    /// Ask the sequencer for the client's commit version under a number, as after a lost answer.
     Reask {
-        /// The number.
+        /// The number of that version, the client's first being 1.
         num: u64,
         /// The number up to which the client has processed its answers.
         processed: u64,
-        /// The moment, in microseconds.
+        /// The moment of the request, in microseconds.
         at: u64,
     },
     /// Report the commit version that the client got under a number.
     Report {
-        /// The number.
+        /// The number under which the client got it, from 1 on.
         num: u64,
         /// Whether the database is locked from this version on.
         locked: bool,
@@ -56,19 +56,19 @@ pub enum Act {
         /// The minimum known committed version, 0 where none is told.
         min_known: u64,
     },
-    /// Tell another client what was seen.
+    /// Tell another client what was seen, which that one learns when the round is over.
     Tell {
-        /// The other client.
+        /// The client that is told, another than the one that tells.
         to: u32,
     },
 }
 
-/// A command of a script.
+/// A command of a script, which one client does in one round.
 #[derive(Debug, Drop, PartialEq, Eq)]
 pub struct Command {
-    /// The client that is to do it.
+    /// The client that is to do it, counted from 0.
     pub client: u32,
-    /// What it is to do.
+    /// What it is to do, once it has done its commands before.
     pub act: Act,
 }
 
@@ -78,11 +78,11 @@ pub struct Command {
 pub struct Setup {
     /// The end of the epoch before: the version before the first commit version.
     pub epoch_end: u64,
-    /// The version at which the service starts.
+    /// The version at which the service starts: the first commit version, above `epoch_end`.
     pub recovery: u64,
-    /// How many clients there are.
+    /// How many clients there are, 1 to [`MAX_CLIENTS`].
     pub clients: u32,
-    /// What the queue of each GRV proxy is made with.
+    /// The rates and the capacity of the queue that each GRV proxy has of its own.
     pub config: QueueConfig,
     /// The time between two windows of a GRV proxy, in microseconds.
     pub elapsed: u64,
@@ -115,7 +115,7 @@ impl Model for Script {
 impl Script {
     ghost use Rattle.fdb_script.specs.Plan.{IsPlan, Plan};
 
-    /// The script of these parts.
+    /// The script of these parts, which are within the limits.
     pub(crate) fn new(setup: Setup, rounds: Sequence<Sequence<Command>>) -> Script
         requires { IsPlan (record { setup = setup; rounds = rounds }) }
         ensures { result ≡ record { setup = setup; rounds = rounds } }
@@ -123,7 +123,8 @@ impl Script {
         Script { setup, rounds }
     }
 
-    /// What it says besides its rounds.
+    /// Where the service starts, how many clients there are, and what its GRV proxies are made
+    /// with.
     pub fn setup(&self) -> &Setup
         ensures value { result.now ≡ self.now.setup }
         ensures plan { IsPlan self.now }

@@ -7,18 +7,13 @@
 
 mod desks;
 mod live_records;
+mod masters;
 
-use std::alloc::{AllocError, Global};
-use std::process::Abort;
+use fdb_checks::cases;
 use std::test::Fail;
 
-/// What `few` stands for.
-const FEW: &str = "1 2 5 6 64 101";
-
-/// What `many` stands for: numbers beside 2^16.
-const MANY: &str = "65535 65536 65537";
-
-/// `fdb_live`.
+/// `fdb_live`: live records that are opened, for up to 64 reporters and with versions up to the
+/// greatest.
 const LIVE_RECORDS: &str = "
 LiveRecord::open, Opened::parts | reporters | 1 2 5 6 63 64
 LiveRecord::open, Opened::parts | a start with a minimum as great | 0 few many 9223372036854775807
@@ -27,7 +22,15 @@ LiveRecord::open, Opened::parts | a start with a minimum of 0 | 0 few many 92233
 LiveRecord::open, Opened::parts | a locked start with metadata | 0 few many 9223372036854775807
 ";
 
-/// `fdb_proxy`.
+/// `fdb_live`: masters that are opened, and asked with the tokens of up to 64 commit proxies.
+const MASTERS: &str = "
+Master::open, OpenedMaster::parts, Master::ask | commit proxies | 1 2 5 6 63 64
+Master::open, OpenedMaster::parts, Master::ask | a recovery version | few many 9223372036854775807
+Master::ask | answers of one commit proxy | 0 few many
+Master::ask | answers of 64 commit proxies | 0 few
+";
+
+/// `fdb_proxy`: desks, batches of what was left there, and proxies that run until all have heard.
 const DESKS: &str = "
 Desk::submit | system requests that wait | 65538
 Desk::submit | default requests that wait | 65538
@@ -43,85 +46,29 @@ GrvProxy::run | requests that find no place | few 10000 10001 20000 20001 many
 GrvProxy::run | requests that wait when the desk is closed | few 10000 10001 20000 20001 many
 ";
 
-/// Some calls, and a number at which they are made.
-#[derive(Clone, Copy)]
-struct Case<'a> {
-    /// The calls, and behind a bar what there is so many of or is so great.
-    calls: &'a str,
-    /// What that is.
-    of: &'a str,
-    number: u64,
-}
-
-impl Case<'_> {
-    /// Fails the test where a call was refused, or something came of it that should not.
-    fn came_to(self, rt: &impl Abort, found: Option<bool>) {
-        let Case { calls, number, .. } = self;
-        assert!(rt; found.is_some(), "refused: {calls}: {number}");
-        assert!(rt; found == Some(true), "wrong: {calls}: {number}");
-    }
-}
-
-/// The cases of a table.
-fn cases<'a>(rt: &impl Abort, alloc: Global, table: &'a str) -> Result<Vec<Case<'a>>, AllocError> {
-    let mut cases = Vec::new(alloc);
-    for line in table.lines() {
-        if let Some((calls, numbers)) = line.rsplit_once('|') {
-            add_line(rt, &mut cases, calls.trim(), numbers)?;
-        }
-    }
-    assert!(rt; !cases.is_empty(), "a table without a line");
-    Ok(cases)
-}
-
-/// Adds the cases of a line.
-fn add_line<'a>(
-    rt: &impl Abort,
-    cases: &mut Vec<Case<'a>>,
-    calls: &'a str,
-    numbers: &str,
-) -> Result<(), AllocError> {
-    for word in numbers.split_whitespace() {
-        match word {
-            "few" => add_each(rt, cases, calls, FEW)?,
-            "many" => add_each(rt, cases, calls, MANY)?,
-            _ => add_each(rt, cases, calls, word)?,
-        }
-    }
-    Ok(())
-}
-
-/// Adds a case for each number.
-fn add_each<'a>(
-    rt: &impl Abort,
-    cases: &mut Vec<Case<'a>>,
-    calls: &'a str,
-    numbers: &str,
-) -> Result<(), AllocError> {
-    let of = calls.rsplit_once('|').map_or("", |parts| parts.1.trim());
-    for word in numbers.split_whitespace() {
-        match word.parse() {
-            Ok(number) => cases.push(Case { calls, of, number })?,
-            Err(_) => panic!(rt; "{word} is no number: {calls}"),
-        }
+#[test]
+fn live_records_have_memory(rt: HostRuntime) -> Result<(), Fail> {
+    for case in cases(rt.alloc(), LIVE_RECORDS)? {
+        let found = live_records::called(&rt, rt.alloc(), case.of, case.number);
+        case.came_to(found)?;
     }
     Ok(())
 }
 
 #[test]
-fn live_records_have_memory(rt: HostRuntime) -> Result<(), Fail> {
-    for case in cases(&rt, rt.alloc(), LIVE_RECORDS)? {
-        let found = live_records::called(&rt, rt.alloc(), case.of, case.number);
-        case.came_to(&rt, found);
+fn masters_have_memory(rt: HostRuntime) -> Result<(), Fail> {
+    for case in cases(rt.alloc(), MASTERS)? {
+        let found = masters::called(&rt, rt.alloc(), case.of, case.number);
+        case.came_to(found)?;
     }
     Ok(())
 }
 
 #[test]
 fn desks_have_memory(rt: HostRuntime) -> Result<(), Fail> {
-    for case in cases(&rt, rt.alloc(), DESKS)? {
+    for case in cases(rt.alloc(), DESKS)? {
         let found = desks::called(&rt, rt.alloc(), case);
-        case.came_to(&rt, found);
+        case.came_to(found)?;
     }
     Ok(())
 }

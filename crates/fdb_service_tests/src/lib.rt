@@ -5,12 +5,8 @@
 #[cfg(test)]
 mod ample_memory;
 #[cfg(test)]
-mod line;
-#[cfg(test)]
 mod live;
 #[cfg(test)]
 mod proxy;
 #[cfg(test)]
 mod refused_memory;
-#[cfg(test)]
-mod same;

@@ -1,12 +1,11 @@
 //! The live record and its tokens. Each case is played on a
 //! record that was opened with version 100.
 
-ghost use Rattle.std.specs.Prelude.{◌≡◌};
+ghost use Rattle.std.specs.Prelude.{◌≡◌, ◌<◌, ◌≤◌};
 
 mod gates;
 pub mod gathered;
 mod held;
-mod holding;
 mod kinds;
 mod minimum;
 pub mod steps;
@@ -19,12 +18,11 @@ use crate::live::kinds::{Numbers, report_each_kind};
 use crate::live::minimum::keep_the_greatest;
 use crate::live::steps::{learn_crosswise, unlocked, work_through};
 use crate::live::threads::run_all;
-use crate::same::{same, says};
+use fdb_checks::{CaseError, same, says};
 use fdb_history::Record;
 use fdb_live::{Live, LiveError, LiveRecord, Opened, Seen};
-use std::alloc::{AllocError, Global};
+use std::alloc::Global;
 use std::marker::Brand;
-use std::process::Abort;
 use std::sync::Wait;
 use std::test::Fail;
 use std::thread::Threads;
@@ -32,15 +30,15 @@ use std::thread::Threads;
 /// What a test does with a live record and its tokens.
 #[derive(Clone, Copy)]
 pub(crate) enum Case {
-    /// Reads and reports of one thread.
+    /// Two reporters and the first token read and report in one thread, one after another.
     Worked,
-    /// Two tokens learn of one another.
+    /// Two reporters learn what the other has seen, first told and then by meeting.
     Crosswise,
     /// Reports that tell a minimum known committed version.
     Minimum,
     /// A call with two tokens while a reporter holds the lock of the reports.
     Beside(Call, Holder, Holder),
-    /// Reports of each kind pass the gate.
+    /// Reports of each kind pass the gate once, and those that are refused do not.
     EachKind(Numbers),
     /// All reporters report, each in a thread of its own, and pass the gate one by one.
     PassOneByOne,
@@ -52,76 +50,89 @@ pub(crate) enum Case {
 #[derive(Drop)]
 pub(crate) struct Parts<J: Live> {
     live: LiveRecord<J>,
-    /// The token with no number.
+    /// The token with no number, from which readers split theirs off.
     first: Seen<J>,
-    /// Those of the reporters.
+    /// Those of the reporters that no step has taken out yet.
     tokens: Vec<Seen<J>>,
 }
 
 impl<J: Live> Parts<J> {
     /// The token of the last reporter that is left.
-    fn last(&mut self, rt: &impl Abort) -> Seen<J> {
-        self.tokens.pop().expect(rt, "a token is left")
+    fn last(&mut self) -> Result<Seen<J>, Fail> {
+        Ok(self.tokens.pop().ok_or("no token is left")?)
     }
 
     /// Takes out the token of a reporter. The last one takes its place.
-    fn token_of(&mut self, rt: &impl Abort, number: u32) -> Seen<J> {
+    fn token_of(&mut self, number: u32) -> Result<Seen<J>, Fail> {
         for place in 0..self.tokens.len() {
             if self.tokens[place].reporter() == Some(number) {
-                return self.tokens.swap_remove(place);
+                return Ok(self.tokens.swap_remove(place));
             }
         }
-        panic!(rt; "reporter {number} has no token left")
+        Err(Fail::new(format_args!("reporter {number} has no token left")))
     }
 }
 
 /// Plays a case. It fails where memory is refused, and passes else.
-pub(crate) fn play<R: Threads + Wait + Abort + Sync>(
+pub(crate) fn play<R: Threads + Wait + Sync>(
     rt: &R,
     alloc: Global,
     reporters: u32,
     case: Case,
-) -> Result<(), LiveError> {
-    assert!(rt; reporters > 0 && reporters <= 64, "reporters in range");
-    let opened = LiveRecord::<Brand>::open(rt, alloc, unlocked(100), reporters)?;
-    play_named::<Brand, R>(rt, alloc, opened, case)
+) -> Result<(), CaseError>
+    requires some_reporter { 0 < reporters }
+    requires few_reporters { reporters ≤ 64 }
+{
+    match LiveRecord::<Brand>::open(rt, alloc, unlocked(100), reporters) {
+        Ok(opened) => play_named::<Brand, R>(rt, alloc, opened, case),
+        Err(cause) => Err(refusal(cause)),
+    }
+}
+
+/// That memory was refused, or a failure that says what else a live record was refused for.
+pub(crate) fn refusal(cause: LiveError) -> CaseError {
+    match cause {
+        LiveError::Memory => CaseError::Memory,
+        _ => CaseError::Failed(Fail::new(cause)),
+    }
 }
 
 /// Plays a case under the name of the service.
-fn play_named<J: Live + Send + Sync, R: Threads + Wait + Abort + Sync>(
+fn play_named<J: Live + Send + Sync, R: Threads + Wait + Sync>(
     rt: &R,
     alloc: Global,
     opened: Opened,
     case: Case,
-) -> Result<(), LiveError>
+) -> Result<(), CaseError>
     requires { opened ≡ record { table = J.table; start = J.start; reporters = J.reporters } }
 {
-    let (live, first, tokens) = opened.parts::<J>()?;
+    let (live, first, tokens) = match opened.parts::<J>() {
+        Ok(parts) => parts,
+        Err(cause) => return Err(refusal(cause)),
+    };
     let mut parts = Parts {
         live,
         first,
         tokens,
     };
-    play_at(rt, alloc, &mut parts, case)?;
-    Ok(())
+    play_at(rt, alloc, &mut parts, case)
 }
 
-/// Plays a case on a record.
-fn play_at<J: Live + Send + Sync, R: Threads + Wait + Abort + Sync>(
+fn play_at<J: Live + Send + Sync, R: Threads + Wait + Sync>(
     rt: &R,
     alloc: Global,
     parts: &mut Parts<J>,
     case: Case,
-) -> Result<(), AllocError> {
+) -> Result<(), CaseError> {
     match case {
-        Case::Worked => work_through(rt, parts),
-        Case::Crosswise => learn_crosswise(rt, parts),
-        Case::Minimum => keep_the_greatest(rt, parts),
+        Case::Worked => work_through(rt, parts)?,
+        Case::Crosswise => learn_crosswise(rt, parts)?,
+        Case::Minimum => keep_the_greatest(rt, parts)?,
         Case::Beside(call, one, other) => {
             return call_beside(rt, alloc, parts, call, (one, other));
         }
         Case::EachKind(numbers) => return report_each_kind(rt, alloc, parts, numbers),
-        Case::PassOneByOne => pass_one_by_one(rt, parts),
+        Case::PassOneByOne => pass_one_by_one(rt, parts)?,
         Case::Threads { readers } => return run_all(rt, alloc, parts, readers),
     }
     Ok(())
@@ -217,25 +228,25 @@ fn reporters_and_readers_in_threads(rt: HostRuntime) -> Result<(), Fail> {
 
 #[test]
 fn versions_in_and_out_of_range(rt: HostRuntime) -> Result<(), Fail> {
-    same(&rt, &refusal_of(&rt, rt.alloc(), 0), &None, &0);
+    same(&refusal_of(&rt, rt.alloc(), 0), &None, &0)?;
     let greatest = refusal_of(&rt, rt.alloc(), 9_223_372_036_854_775_807);
-    same(&rt, &greatest, &None, &"the greatest");
+    same(&greatest, &None, &"the greatest")?;
     let above = refusal_of(&rt, rt.alloc(), 9_223_372_036_854_775_808);
-    same(&rt, &above, &Some(LiveError::TooLarge), &"above");
-    says(&rt, rt.alloc(), &LiveError::Memory, "want of memory")?;
+    same(&above, &Some(LiveError::TooLarge), &"above")?;
+    says(rt.alloc(), &LiveError::Memory, "want of memory")?;
     let text = "the version is out of range";
-    says(&rt, rt.alloc(), &LiveError::TooLarge, text)
+    says(rt.alloc(), &LiveError::TooLarge, text)
 }
 
 #[test]
 fn minimum_above_the_version(rt: HostRuntime) -> Result<(), Fail> {
     let as_great = refusal_of_minimum(&rt, rt.alloc(), 100, 100);
-    same(&rt, &as_great, &None, &"as great");
+    same(&as_great, &None, &"as great")?;
     let above = refusal_of_minimum(&rt, rt.alloc(), 100, 101);
-    same(&rt, &above, &Some(LiveError::MinAbove), &"above");
+    same(&above, &Some(LiveError::MinAbove), &"above")?;
     let greatest = 9_223_372_036_854_775_807;
     let both = refusal_of_minimum(&rt, rt.alloc(), greatest + 1, greatest + 2);
-    same(&rt, &both, &Some(LiveError::TooLarge), &"too large, too");
+    same(&both, &Some(LiveError::TooLarge), &"too large, too")?;
     let text = "the minimum known committed version is above the version";
-    says(&rt, rt.alloc(), &LiveError::MinAbove, text)
+    says(rt.alloc(), &LiveError::MinAbove, text)
 }

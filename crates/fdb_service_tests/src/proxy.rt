@@ -22,15 +22,15 @@ use crate::proxy::long::answer_many;
 use crate::proxy::options::{Fate, close_each};
 use crate::proxy::refused::{run_refused, serve_refused};
 use crate::proxy::stand::Stand;
+use fdb_checks::CaseError;
 use fdb_live::{Live, LiveRecord, Opened};
-use std::alloc::{AllocError, Global};
+use std::alloc::Global;
 use std::marker::Brand;
-use std::process::Abort;
 use std::sync::Wait;
 use std::sync::atomic::AtomicU64;
 use std::thread::Threads;
 
-/// How many reporters the record has.
+/// How many reporters the record has, each of whom is a client in `crowd`.
 const REPORTERS: u32 = 4;
 
 /// What a test does at a desk and with its proxy.
@@ -46,7 +46,7 @@ pub(crate) enum Case<'a> {
     },
     /// The desk is closed while a request of each kind of options waits.
     Closing(Fate),
-    /// One proxy answers so many requests.
+    /// One proxy answers so many requests, with a report before each batch of them.
     Long(u64),
     /// A batch is served that may be refused memory, once or from then on.
     ServeRefused {
@@ -65,39 +65,38 @@ pub(crate) enum Case<'a> {
 }
 
 /// Plays a case. It fails where memory is refused, and passes else.
-pub(crate) fn play<R: Threads + Wait + Abort + Sync>(
+pub(crate) fn play<R: Threads + Wait + Sync>(
     rt: &R,
     alloc: Global,
     case: Case<'_>,
-) -> Result<(), AllocError> {
+) -> Result<(), CaseError> {
     match LiveRecord::<Brand>::open(rt, alloc, unlocked(100), REPORTERS) {
         Ok(opened) => play_named::<Brand, R>(rt, alloc, opened, case),
-        Err(_) => Err(AllocError),
+        Err(_) => Err(CaseError::Memory),
     }
 }
 
 /// Plays a case under the name of the service.
-fn play_named<J: Live + Send + Sync, R: Threads + Wait + Abort + Sync>(
+fn play_named<J: Live + Send + Sync, R: Threads + Wait + Sync>(
     rt: &R,
     alloc: Global,
     opened: Opened,
     case: Case<'_>,
-) -> Result<(), AllocError>
+) -> Result<(), CaseError>
     requires { opened ≡ record { table = J.table; start = J.start; reporters = J.reporters } }
 {
     let Ok((live, seen, reporters)) = opened.parts::<J>() else {
-        return Err(AllocError);
+        return Err(CaseError::Memory);
     };
     let mut stand = Stand::new(alloc, live, seen, reporters);
     play_at(rt, &mut stand, case)
 }
 
-/// Plays a case at a desk.
-fn play_at<J: Live + Send + Sync, R: Threads + Wait + Abort + Sync>(
+fn play_at<J: Live + Send + Sync, R: Threads + Wait + Sync>(
     rt: &R,
     stand: &mut Stand<J>,
     case: Case<'_>,
-) -> Result<(), AllocError> {
+) -> Result<(), CaseError> {
     match case {
         Case::Lines(text) => play_lines(rt, stand, text),
         Case::Crowd => ask_all(rt, stand),

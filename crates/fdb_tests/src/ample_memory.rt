@@ -12,17 +12,11 @@ mod queues;
 mod throttles;
 mod windows;
 
-use std::alloc::{AllocError, Global};
-use std::process::Abort;
+use fdb_checks::cases;
 use std::test::Fail;
 
-/// What `few` stands for.
-const FEW: &str = "1 2 5 6 64 101";
-
-/// What `many` stands for: numbers beside 2^16.
-const MANY: &str = "65535 65536 65537";
-
-/// `fdb_history`, but for the audit.
+/// Where `fdb_history` allocates beside the audit: lists, their copies, and the replies that are
+/// kept.
 const LISTS: &str = "
 Sequence::push | items | 65538
 Sequence::clone | items | 0 few many
@@ -51,7 +45,7 @@ audit, history_of | a start with a minimum as great | 0 few many 922337203685477
 audit, history_of | a start with a minimum of 0 | 0 few many 9223372036854775807
 ";
 
-/// `fdb_chain`.
+/// `fdb_chain`: new chains, and requests for versions, alone and behind the sequencer's lock.
 const CHAINS: &str = "
 ChainCore::new | commit proxies | 1 2 5 6 63 64
 ChainCore::new, ChainCore::ask | a recovery version | few many 9223372036854775807
@@ -62,7 +56,7 @@ Sequencer::ask | answers of one commit proxy | 65538
 Sequencer::ask | answers of 64 commit proxies | 65538
 ";
 
-/// `fdb_queue`: what is let in.
+/// `fdb_queue`: requests that are let in up to the greatest room, and those that they push out.
 const QUEUES: &str = "
 GrvQueue::offer | system requests that wait | 100000
 GrvQueue::offer | default requests that wait | 100000
@@ -73,7 +67,7 @@ GrvQueue::offer | a count | few many 99999 100000
 GrvQueue::offer | a batch limit | few many 99999 100000
 ";
 
-/// `fdb_queue`: what starts.
+/// `fdb_queue`: windows, each of which starts at most 10,000 requests.
 const WINDOWS: &str = "
 GrvQueue::window | system requests that wait | few 9999 10000 10001 20000 20001 many 99999 100000
 GrvQueue::window | default requests that wait | few 9999 10000 10001 20000 20001 many 99999 100000
@@ -84,7 +78,7 @@ GrvQueue::window | windows | 65538
 GrvQueue::window | a time | few many 9999999 10000000
 ";
 
-/// `fdb_queue`: throttles.
+/// `fdb_queue`: throttles that a queue is made with or is given later, and the limits by them.
 const THROTTLES: &str = "
 GrvQueue::with_throttles | throttles | 0 few 999 1000 1001 many
 GrvQueue::with_throttles | throttles of one tag | 0 few 999 1000 1001 many
@@ -99,116 +93,51 @@ GrvQueue::throttles | tags, each with a limit | 0 few many
 GrvQueue::throttles | a moment before the last one | 0 few many 18446744073709551614
 ";
 
-/// Some calls, and a number at which they are made.
-#[derive(Clone, Copy)]
-struct Case<'a> {
-    /// The calls, and behind a bar what there is so many of or is so great.
-    calls: &'a str,
-    /// What that is.
-    of: &'a str,
-    number: u64,
-}
-
-impl Case<'_> {
-    /// Fails the test where a call was refused, or something came of it that should not.
-    fn came_to(self, rt: &impl Abort, found: Option<bool>) {
-        let Case { calls, number, .. } = self;
-        assert!(rt; found.is_some(), "refused: {calls}: {number}");
-        assert!(rt; found == Some(true), "wrong: {calls}: {number}");
-    }
-}
-
-/// The cases of a table.
-fn cases<'a>(rt: &impl Abort, alloc: Global, table: &'a str) -> Result<Vec<Case<'a>>, AllocError> {
-    let mut cases = Vec::new(alloc);
-    for line in table.lines() {
-        if let Some((calls, numbers)) = line.rsplit_once('|') {
-            add_line(rt, &mut cases, calls.trim(), numbers)?;
-        }
-    }
-    assert!(rt; !cases.is_empty(), "a table without a line");
-    Ok(cases)
-}
-
-/// Adds the cases of a line.
-fn add_line<'a>(
-    rt: &impl Abort,
-    cases: &mut Vec<Case<'a>>,
-    calls: &'a str,
-    numbers: &str,
-) -> Result<(), AllocError> {
-    for word in numbers.split_whitespace() {
-        match word {
-            "few" => add_each(rt, cases, calls, FEW)?,
-            "many" => add_each(rt, cases, calls, MANY)?,
-            _ => add_each(rt, cases, calls, word)?,
-        }
-    }
-    Ok(())
-}
-
-/// Adds a case for each number.
-fn add_each<'a>(
-    rt: &impl Abort,
-    cases: &mut Vec<Case<'a>>,
-    calls: &'a str,
-    numbers: &str,
-) -> Result<(), AllocError> {
-    let of = calls.rsplit_once('|').map_or("", |parts| parts.1.trim());
-    for word in numbers.split_whitespace() {
-        match word.parse() {
-            Ok(number) => cases.push(Case { calls, of, number })?,
-            Err(_) => panic!(rt; "{word} is no number: {calls}"),
-        }
-    }
-    Ok(())
-}
-
 #[test]
 fn lists_have_memory(rt: HostRuntime) -> Result<(), Fail> {
-    for case in cases(&rt, rt.alloc(), LISTS)? {
-        case.came_to(&rt, lists::called(rt.alloc(), case.calls, case.number));
+    for case in cases(rt.alloc(), LISTS)? {
+        case.came_to(lists::called(rt.alloc(), case.calls, case.number))?;
     }
     Ok(())
 }
 
 #[test]
 fn audits_have_memory(rt: HostRuntime) -> Result<(), Fail> {
-    for case in cases(&rt, rt.alloc(), AUDITS)? {
-        case.came_to(&rt, audits::called(rt.alloc(), case.of, case.number));
+    for case in cases(rt.alloc(), AUDITS)? {
+        case.came_to(audits::called(rt.alloc(), case.of, case.number))?;
     }
     Ok(())
 }
 
 #[test]
 fn chains_have_memory(rt: HostRuntime) -> Result<(), Fail> {
-    for case in cases(&rt, rt.alloc(), CHAINS)? {
+    for case in cases(rt.alloc(), CHAINS)? {
         let found = chains::called(&rt, rt.alloc(), case.calls, case.number);
-        case.came_to(&rt, found);
+        case.came_to(found)?;
     }
     Ok(())
 }
 
 #[test]
 fn queues_have_memory(rt: HostRuntime) -> Result<(), Fail> {
-    for case in cases(&rt, rt.alloc(), QUEUES)? {
-        case.came_to(&rt, queues::called(rt.alloc(), case.calls, case.number));
+    for case in cases(rt.alloc(), QUEUES)? {
+        case.came_to(queues::called(rt.alloc(), case.calls, case.number))?;
     }
     Ok(())
 }
 
 #[test]
 fn windows_have_memory(rt: HostRuntime) -> Result<(), Fail> {
-    for case in cases(&rt, rt.alloc(), WINDOWS)? {
-        case.came_to(&rt, windows::called(rt.alloc(), case.calls, case.number));
+    for case in cases(rt.alloc(), WINDOWS)? {
+        case.came_to(windows::called(rt.alloc(), case.calls, case.number))?;
     }
     Ok(())
 }
 
 #[test]
 fn throttles_have_memory(rt: HostRuntime) -> Result<(), Fail> {
-    for case in cases(&rt, rt.alloc(), THROTTLES)? {
-        case.came_to(&rt, throttles::called(rt.alloc(), case.calls, case.number));
+    for case in cases(rt.alloc(), THROTTLES)? {
+        case.came_to(throttles::called(rt.alloc(), case.calls, case.number))?;
     }
     Ok(())
 }

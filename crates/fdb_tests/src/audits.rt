@@ -18,11 +18,9 @@ mod strays;
 mod versions;
 pub mod words;
 
-use crate::line::Line;
-use crate::same::{holds, same_text};
+use fdb_checks::{CaseError, Line, holds, same_text};
 use fdb_history::{AuditFault, ClientLog, Event, History, Issued, Record, Sequence, audit};
 use std::alloc::{AllocError, Global};
-use std::process::Abort;
 use std::test::Fail;
 
 /// The record that every audit of the tests begins with.
@@ -33,130 +31,115 @@ const START: Record = Record {
     min_known: 0,
 };
 
-/// A chain and logs to be audited.
+/// A chain, and the logs to be audited with it, client 0's first.
 #[derive(Drop)]
 pub(crate) struct Case {
-    /// The entries of the chain.
     pub(crate) chain: Vec<Issued>,
-    /// The logs of the clients.
     pub(crate) logs: Vec<ClientLog>,
 }
 
 /// Plays the cases of a text, each of which begins with the same items.
-fn audits(rt: &impl Abort, alloc: Global, begin: &str, text: &str) -> Result<(), Fail> {
-    let mut case = begun(rt, alloc, begin)?;
+fn audits(alloc: Global, begin: &str, text: &str) -> Result<(), Fail> {
+    let mut case = begun(alloc, begin)?;
     for line in text.lines() {
-        if plays(rt, alloc, &mut case, line)? {
-            case = begun(rt, alloc, begin)?;
+        if plays(alloc, &mut case, line)? {
+            case = begun(alloc, begin)?;
         }
     }
-    holds(rt, text.contains("=>"), &"a text with a case");
-    Ok(())
+    holds(text.contains("=>"), &"a text with a case")
 }
 
 /// Plays the cases of some texts, which begin with nothing.
-fn audits_each(rt: &impl Abort, alloc: Global, texts: &[&str]) -> Result<(), Fail> {
+fn audits_each(alloc: Global, texts: &[&str]) -> Result<(), Fail> {
     for text in texts {
-        audits(rt, alloc, "", text)?;
+        audits(alloc, "", text)?;
     }
     Ok(())
 }
 
 /// A case of these items, of which none ends it.
-pub(crate) fn begun(rt: &impl Abort, alloc: Global, begin: &str) -> Result<Case, AllocError> {
+pub(crate) fn begun(alloc: Global, begin: &str) -> Result<Case, CaseError> {
     let mut case = Case {
         chain: Vec::new(alloc),
         logs: Vec::new(alloc),
     };
     for line in begin.lines() {
-        add_each(rt, alloc, &mut case, line)?;
+        add_each(alloc, &mut case, line)?;
     }
     Ok(case)
 }
 
-/// Adds the items of a line to a case.
-fn add_each(rt: &impl Abort, alloc: Global, case: &mut Case, line: &str) -> Result<(), AllocError> {
+/// Adds the items of a line, which stand between semicolons, to a case.
+fn add_each(alloc: Global, case: &mut Case, line: &str) -> Result<(), CaseError> {
     for item in line.split(';') {
-        add(rt, alloc, case, item)?;
+        add(alloc, case, item)?;
     }
     Ok(())
 }
 
-/// Adds an item to a case.
-fn add(rt: &impl Abort, alloc: Global, case: &mut Case, item: &str) -> Result<(), AllocError> {
+/// Adds an item to a case, but for an empty one and for one that begins with `#`.
+fn add(alloc: Global, case: &mut Case, item: &str) -> Result<(), CaseError> {
     let mut line = Line::new(item);
     match line.next_word() {
         None | Some("#") => {}
-        Some("entry") => case.chain.push(words::issued(rt, &mut line))?,
+        Some("entry") => case.chain.push(words::issued(&mut line)?)?,
         Some("log") => case.logs.push(ClientLog {
             calls: Sequence::new(alloc),
         })?,
-        Some(kind) => add_call(rt, alloc, case, kind, &mut line)?,
+        Some(kind) => add_call(alloc, case, kind, &mut line)?,
     }
     Ok(())
 }
 
-/// Adds a call to the last log.
+/// Adds a call to the last log, and fails where none has begun.
 fn add_call(
-    rt: &impl Abort,
     alloc: Global,
     case: &mut Case,
     kind: &str,
     line: &mut Line<'_>,
-) -> Result<(), AllocError> {
+) -> Result<(), CaseError> {
     let Some(log) = case.logs.last_mut() else {
-        line.fails(rt, "no log")
+        return Err(CaseError::Failed(line.fail("no log")));
     };
-    log.calls.push(words::call(rt, alloc, kind, line))?;
+    log.calls.push(words::call(alloc, kind, line)?)?;
     Ok(())
 }
 
 /// Plays the items of a line, and says whether it ended a case.
-fn plays(rt: &impl Abort, alloc: Global, case: &mut Case, text: &str) -> Result<bool, Fail> {
+fn plays(alloc: Global, case: &mut Case, text: &str) -> Result<bool, Fail> {
     let mut ended = false;
     for item in text.split(';') {
-        ended |= plays_item(rt, alloc, case, text, item)?;
+        ended |= plays_item(alloc, case, text, item)?;
     }
     Ok(ended)
 }
 
 /// Plays an item of a line, and says whether it ends a case.
-fn plays_item(
-    rt: &impl Abort,
-    alloc: Global,
-    case: &mut Case,
-    text: &str,
-    item: &str,
-) -> Result<bool, Fail> {
+fn plays_item(alloc: Global, case: &mut Case, text: &str, item: &str) -> Result<bool, Fail> {
     let mut line = Line::new(item);
     match line.next_word() {
         Some("=>") => {
-            finds(rt, alloc, case, text, item)?;
+            finds(alloc, case, text, item)?;
             return Ok(true);
         }
-        Some("event") => explains(rt, alloc, &audited(rt, alloc, case)?, &mut line)?,
-        _ => add(rt, alloc, case, item)?,
+        Some("event") => explains(alloc, &audited(alloc, case)??, &mut line)?,
+        _ => add(alloc, case, item)?,
     }
     Ok(false)
 }
 
-/// The audit of a case.
-pub(crate) fn audited(rt: &impl Abort, alloc: Global, case: &Case) -> Result<History, AuditFault> {
-    assert!(rt; case.logs.len() <= 64, "more logs than an audit takes");
-    audit(alloc, START, &case.chain, &case.logs)
+/// The audit of a case, which may have no more logs than an audit takes.
+pub(crate) fn audited(alloc: Global, case: &Case) -> Result<Result<History, AuditFault>, Fail> {
+    if case.logs.len() > 64 {
+        return Err(Fail::new("more logs than an audit takes"));
+    }
+    Ok(audit(alloc, START, &case.chain, &case.logs))
 }
 
-/// Audits a case, and compares the fault.
-fn finds(
-    rt: &impl Abort,
-    alloc: Global,
-    case: &Case,
-    text: &str,
-    item: &str,
-) -> Result<(), AllocError> {
-    let found = found_text(alloc, audited(rt, alloc, case).err())?;
-    same_text(rt, &found, item.trim(), text);
-    Ok(())
+/// Audits a case, and compares the fault with the item that ends the case.
+fn finds(alloc: Global, case: &Case, text: &str, item: &str) -> Result<(), Fail> {
+    let found = found_text(alloc, audited(alloc, case)?.err())?;
+    same_text(&found, item.trim(), text)
 }
 
 /// What an audit finds, as the item that ends a case.
@@ -167,22 +150,16 @@ fn found_text(alloc: Global, found: Option<AuditFault>) -> Result<String, AllocE
     }
 }
 
-/// Compares an event of a history.
-fn explains(
-    rt: &impl Abort,
-    alloc: Global,
-    history: &History,
-    line: &mut Line<'_>,
-) -> Result<(), AllocError> {
-    let place = line.number(rt);
+/// Compares the event at the place that an item names, or `none` where the history has fewer.
+fn explains(alloc: Global, history: &History, line: &mut Line<'_>) -> Result<(), Fail> {
+    let place = line.number()?;
     let event = history.events.as_slice().get(place as usize);
     let shown = match event {
         None => String::from_str(alloc, "none")?,
         Some(event) => event_text(alloc, event)?,
     };
     let wanted = format!(in alloc; "event {place} {shown}")?;
-    same_text(rt, line.text.trim(), &wanted, "an event");
-    Ok(())
+    same_text(line.text.trim(), &wanted, "an event")
 }
 
 fn event_text(alloc: Global, event: &Event) -> Result<String, AllocError> {

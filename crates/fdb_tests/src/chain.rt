@@ -5,81 +5,66 @@
 //! proxy, the number, what was processed, the moment). Its answer is how many answers
 //! stand after it, and the members of the one that was given, or why there is none.
 
-use crate::line::Line;
-use crate::same::{same, says};
 use fdb_chain::{ChainCore, ChainError, MAX_PROXIES};
+use fdb_checks::{Line, calls, same, says};
 use fdb_history::{Ask, Issued};
 use std::alloc::{AllocError, Global};
-use std::process::Abort;
 use std::test::Fail;
 
-/// Plays the lines of a text.
-fn play(rt: &impl Abort, alloc: Global, text: &str) -> Result<(), Fail> {
+/// Plays the lines of a text, at a chain for one proxy until the first `new`.
+fn play(alloc: Global, text: &str) -> Result<(), Fail> {
     let mut chain = ChainCore::new(alloc, 0, 1, 1)?;
-    for line in text.lines() {
-        play_line(rt, alloc, &mut chain, Line::new(line))?;
+    for (call, mut line) in calls(alloc, text)? {
+        let found = called(alloc, &mut chain, call, &mut line)?;
+        line.wants(&found)?;
     }
     Ok(())
 }
 
-/// Plays a line, if it is no comment.
-fn play_line(
-    rt: &impl Abort,
+/// What a call is answered, as the words behind `=>`.
+fn called(
     alloc: Global,
     chain: &mut ChainCore,
-    mut line: Line<'_>,
-) -> Result<(), AllocError> {
-    let found = match line.next_word() {
-        None | Some("#") => return Ok(()),
-        Some("new") => opened(rt, alloc, chain, &mut line)?,
-        Some("ask") => asked(rt, alloc, chain, &mut line)?,
-        Some(_) => line.fails(rt, "no call"),
-    };
-    line.wants(rt, &found);
-    Ok(())
+    call: &str,
+    line: &mut Line<'_>,
+) -> Result<String, Fail> {
+    match call {
+        "new" => opened(alloc, chain, line),
+        "ask" => asked(alloc, chain, line),
+        _ => Err(line.fail("no call")),
+    }
 }
 
 /// Opens a chain in the place of another.
-fn opened(
-    rt: &impl Abort,
-    alloc: Global,
-    chain: &mut ChainCore,
-    line: &mut Line<'_>,
-) -> Result<String, AllocError> {
-    let (epoch_end, recovery) = (line.number(rt), line.number(rt));
-    match ChainCore::new(alloc, epoch_end, recovery, line.who(rt)) {
+fn opened(alloc: Global, chain: &mut ChainCore, line: &mut Line<'_>) -> Result<String, Fail> {
+    let (epoch_end, recovery) = (line.number()?, line.number()?);
+    match ChainCore::new(alloc, epoch_end, recovery, line.who()?) {
         Ok(made) => {
             *chain = made;
-            String::from_str(alloc, "ok")
+            Ok(String::from_str(alloc, "ok")?)
         }
-        Err(cause) => cause.to_string(alloc),
+        Err(cause) => Ok(cause.to_string(alloc)?),
     }
 }
 
-/// The members of a request.
-pub(crate) fn ask_of(rt: &impl Abort, line: &mut Line<'_>) -> Ask {
-    Ask {
-        proxy: line.who(rt),
-        num: line.number(rt),
-        processed: line.number(rt),
-        at: line.number(rt),
-    }
+/// A request: its proxy, its number, what was processed, and the moment.
+pub(crate) fn ask_of(line: &mut Line<'_>) -> Result<Ask, Fail> {
+    Ok(Ask {
+        proxy: line.who()?,
+        num: line.number()?,
+        processed: line.number()?,
+        at: line.number()?,
+    })
 }
 
-/// Asks a chain.
-fn asked(
-    rt: &impl Abort,
-    alloc: Global,
-    chain: &mut ChainCore,
-    line: &mut Line<'_>,
-) -> Result<String, AllocError> {
-    let ask = ask_of(rt, line);
+/// What an `ask` is answered, behind the number of answers that stand after it.
+fn asked(alloc: Global, chain: &mut ChainCore, line: &mut Line<'_>) -> Result<String, Fail> {
+    let ask = ask_of(line)?;
     let answer = answer_text(alloc, answered(chain, ask))?;
     let standing = chain.answers().len();
-    format!(in alloc; "{standing}: {answer}")
+    Ok(format!(in alloc; "{standing}: {answer}")?)
 }
 
-/// What a chain answers.
 fn answered(chain: &mut ChainCore, ask: Ask) -> Result<Issued, ChainError> {
     chain.ask(ask)
 }
@@ -95,7 +80,7 @@ pub(crate) fn answer_text(
     }
 }
 
-/// The members of an answer.
+/// The members of an answer in their order, with `fresh` or `kept` as the last.
 fn issued_text(alloc: Global, issued: Issued) -> Result<String, AllocError> {
     let mut text = issued.ordinal.to_string(alloc)?;
     push_numbers(alloc, &mut text, issued)?;
@@ -113,7 +98,6 @@ fn push_numbers(alloc: Global, text: &mut String, issued: Issued) -> Result<(), 
     push_number(alloc, text, issued.at)
 }
 
-/// Pushes a space and a number.
 fn push_number(alloc: Global, text: &mut String, number: u64) -> Result<(), AllocError> {
     text.push_str(&format!(in alloc; " {number}")?)
 }
@@ -187,12 +171,12 @@ const TEXTS: &[&str] = &[VERSIONS, KEPT, LAST, MEMBERS];
 #[test]
 fn requests_for_commit_versions(rt: HostRuntime) -> Result<(), Fail> {
     for text in TEXTS {
-        play(&rt, rt.alloc(), text)?;
+        play(rt.alloc(), text)?;
     }
-    says(&rt, rt.alloc(), &ChainError::Memory, "want of memory")
+    says(rt.alloc(), &ChainError::Memory, "want of memory")
 }
 
-/// Asks for the first commit version of a proxy.
+/// Asks for a proxy's number 1 at moment 0, and answers the version.
 fn first_of(chain: &mut ChainCore, proxy: u32) -> Result<u64, ChainError> {
     let ask = Ask {
         proxy,
@@ -210,9 +194,9 @@ fn chains_of_each_number_of_proxies(rt: HostRuntime) -> Result<(), Fail> {
     for proxies in 1..=MAX_PROXIES {
         let mut chain = ChainCore::new(rt.alloc(), 0, 100, proxies)?;
         let last = first_of(&mut chain, proxies - 1);
-        same(&rt, &last, &Ok(100), &proxies);
+        same(&last, &Ok(100), &proxies)?;
         let beyond = first_of(&mut chain, proxies);
-        same(&rt, &beyond, &Err(ChainError::UnknownProxy), &proxies);
+        same(&beyond, &Err(ChainError::UnknownProxy), &proxies)?;
     }
     Ok(())
 }

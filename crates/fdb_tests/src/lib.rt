@@ -1,6 +1,6 @@
-//! The tests of the crates that run no thread of their own: `fdb_history`,
-//! `fdb_chain`, `fdb_queue`, `fdb_script` and `fdb_audit`. Like those in the crates of
-//! tests above, they are of what no clause says, by values from outside.
+//! The tests of the crates that run no thread of their own: `fdb_history`, `fdb_chain`,
+//! `fdb_queue`, `fdb_script`, `fdb_lines` and `fdb_log_reader`. Like those in the crates of tests
+//! above, they are of what no clause says, by values from outside.
 //!
 //! Tests stand in crates of their own, so that no library is proved twice. Most are texts, one case
 //! after another, that a small reader for each subject plays when the test runs: a literal in the
@@ -14,7 +14,7 @@ mod audits;
 #[cfg(test)]
 mod chain;
 #[cfg(test)]
-mod line;
+mod logs;
 #[cfg(test)]
 mod queue;
 #[cfg(test)]
@@ -22,10 +22,6 @@ mod refused_memory;
 #[cfg(test)]
 mod register;
 #[cfg(test)]
-mod same;
-#[cfg(test)]
 mod script;
 #[cfg(test)]
 mod sequencer;
-#[cfg(test)]
-mod traces;

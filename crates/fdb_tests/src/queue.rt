@@ -20,15 +20,14 @@ mod rows;
 mod throttles;
 mod waits;
 
-use crate::line::{Line, tag};
+use fdb_checks::{Line, calls, tag};
 use fdb_history::{Priority, Tag, TagLimit};
 use fdb_queue::{GrvQueue, QueueConfig, QueueError, Req};
 use std::alloc::{AllocError, Global};
-use std::process::Abort;
 use std::str::from_utf8;
 use std::test::Fail;
 
-/// A queue of these limits and this room.
+/// A queue of these limits and this room, with no throttles.
 pub(crate) fn queue(
     alloc: Global,
     normal: u64,
@@ -45,122 +44,80 @@ pub(crate) fn queue(
     )
 }
 
-/// Plays the lines of a text.
-fn play(rt: &impl Abort, alloc: Global, text: &str) -> Result<(), Fail> {
+/// Plays the lines of a text, at a queue with limits and a room of 1 until the first `new`.
+fn play(alloc: Global, text: &str) -> Result<(), Fail> {
     let mut queue = queue(alloc, 1, 1, 1)?;
-    for line in text.lines() {
-        play_line(rt, alloc, &mut queue, Line::new(line))?;
+    for (call, mut line) in calls(alloc, text)? {
+        let found = called(alloc, &mut queue, call, &mut line)?;
+        line.wants(&found)?;
     }
     Ok(())
 }
 
-/// Plays a line, if it is no comment.
-fn play_line(
-    rt: &impl Abort,
-    alloc: Global,
-    queue: &mut GrvQueue<u32>,
-    mut line: Line<'_>,
-) -> Result<(), AllocError> {
-    match line.next_word() {
-        None | Some("#") => Ok(()),
-        Some(call) => {
-            let found = called(rt, alloc, queue, call, &mut line)?;
-            line.wants(rt, &found);
-            Ok(())
-        }
-    }
-}
-
 /// Opens a queue in the place of another.
-fn opened(
-    rt: &impl Abort,
-    alloc: Global,
-    it: &mut GrvQueue<u32>,
-    line: &mut Line<'_>,
-) -> Result<String, AllocError> {
-    match queue(alloc, line.number(rt), line.number(rt), line.number(rt)) {
+fn opened(alloc: Global, it: &mut GrvQueue<u32>, line: &mut Line<'_>) -> Result<String, Fail> {
+    match queue(alloc, line.number()?, line.number()?, line.number()?) {
         Ok(made) => {
             *it = made;
-            String::from_str(alloc, "ok")
+            Ok(String::from_str(alloc, "ok")?)
         }
-        Err(cause) => cause.to_string(alloc),
+        Err(cause) => Ok(cause.to_string(alloc)?),
     }
 }
 
-/// Calls a queue.
+/// What a call is answered, as the words behind `=>`.
 fn called(
-    rt: &impl Abort,
     alloc: Global,
     queue: &mut GrvQueue<u32>,
     call: &str,
     line: &mut Line<'_>,
-) -> Result<String, AllocError> {
+) -> Result<String, Fail> {
     match call {
-        "new" => opened(rt, alloc, queue, line),
-        "offer" => offered(rt, alloc, queue, line),
-        "window" => held(rt, alloc, queue, line),
-        "waits" => waited(rt, alloc, queue, line),
-        "skip" => skipped(rt, alloc, queue, line),
-        "lengths" => lengths_text(alloc, queue),
-        "throttle" => throttled(rt, alloc, queue, line),
-        "limits" => limited(rt, alloc, queue, line),
-        _ => line.fails(rt, "no call"),
+        "new" => opened(alloc, queue, line),
+        "offer" => offered(alloc, queue, line),
+        "window" => held(alloc, queue, line),
+        "waits" => waited(alloc, queue, line),
+        "skip" => skipped(alloc, queue, line),
+        "lengths" => Ok(lengths_text(alloc, queue)?),
+        "throttle" => throttled(alloc, queue, line),
+        "limits" => limited(alloc, queue, line),
+        _ => Err(line.fail("no call")),
     }
 }
 
-fn offered(
-    rt: &impl Abort,
-    alloc: Global,
-    queue: &mut GrvQueue<u32>,
-    line: &mut Line<'_>,
-) -> Result<String, AllocError> {
+fn offered(alloc: Global, queue: &mut GrvQueue<u32>, line: &mut Line<'_>) -> Result<String, Fail> {
     let request = Req {
-        priority: line.priority(rt),
-        count: line.number(rt),
-        payload: line.who(rt),
+        priority: line.priority()?,
+        count: line.number()?,
+        payload: line.who()?,
     };
     match queue.offer(request) {
-        Ok(None) => String::from_str(alloc, "in"),
-        Ok(Some(Req { payload, .. })) => format!(in alloc; "out {payload}"),
-        Err((cause, _)) => cause.to_string(alloc),
+        Ok(None) => Ok(String::from_str(alloc, "in")?),
+        Ok(Some(Req { payload, .. })) => Ok(format!(in alloc; "out {payload}")?),
+        Err((cause, _)) => Ok(cause.to_string(alloc)?),
     }
 }
 
-fn held(
-    rt: &impl Abort,
-    alloc: Global,
-    queue: &mut GrvQueue<u32>,
-    line: &mut Line<'_>,
-) -> Result<String, AllocError> {
-    let started = match queue.window(line.number(rt)) {
+fn held(alloc: Global, queue: &mut GrvQueue<u32>, line: &mut Line<'_>) -> Result<String, Fail> {
+    let started = match queue.window(line.number()?) {
         Ok(started) => payloads_text(alloc, &started)?,
         Err(cause) => format!(in alloc; "{cause} ")?,
     };
     let (normal, batch) = (queue.budgets().normal, queue.budgets().batch);
-    format!(in alloc; "{started}| {normal} {batch}")
+    Ok(format!(in alloc; "{started}| {normal} {batch}")?)
 }
 
-fn waited(
-    rt: &impl Abort,
-    alloc: Global,
-    queue: &GrvQueue<u32>,
-    line: &mut Line<'_>,
-) -> Result<String, AllocError> {
-    match queue.waits(line.number(rt)) {
-        None => String::from_str(alloc, "none"),
-        Some(windows) => windows.to_string(alloc),
+fn waited(alloc: Global, queue: &GrvQueue<u32>, line: &mut Line<'_>) -> Result<String, Fail> {
+    match queue.waits(line.number()?) {
+        None => Ok(String::from_str(alloc, "none")?),
+        Some(windows) => Ok(windows.to_string(alloc)?),
     }
 }
 
-fn skipped(
-    rt: &impl Abort,
-    alloc: Global,
-    queue: &mut GrvQueue<u32>,
-    line: &mut Line<'_>,
-) -> Result<String, AllocError> {
-    let windows = queue.skip_idle(line.number(rt));
+fn skipped(alloc: Global, queue: &mut GrvQueue<u32>, line: &mut Line<'_>) -> Result<String, Fail> {
+    let windows = queue.skip_idle(line.number()?);
     let (normal, batch) = (queue.budgets().normal, queue.budgets().batch);
-    format!(in alloc; "{windows} | {normal} {batch}")
+    Ok(format!(in alloc; "{windows} | {normal} {batch}")?)
 }
 
 /// The payloads of requests, each with a space behind it.
@@ -179,7 +136,7 @@ fn lengths_text(alloc: Global, queue: &GrvQueue<u32>) -> Result<String, AllocErr
     format!(in alloc; "{system} {default} {batch}")
 }
 
-/// The tags of the words in front of `=>`.
+/// The tags in front of `=>`, which stand behind the call, the priority and the moment.
 fn tags(alloc: Global, line: &mut Line<'_>) -> Result<Vec<Tag>, AllocError> {
     let mut tags = Vec::new(alloc);
     let words = line.text.split_once("=>").map_or("", |parts| parts.0);
@@ -190,34 +147,27 @@ fn tags(alloc: Global, line: &mut Line<'_>) -> Result<Vec<Tag>, AllocError> {
 }
 
 fn throttled(
-    rt: &impl Abort,
     alloc: Global,
     queue: &mut GrvQueue<u32>,
     line: &mut Line<'_>,
-) -> Result<String, AllocError> {
-    let priority = line.priority(rt);
-    let tag = tag(alloc, line.word(rt))?;
-    match queue.set_throttle(priority, tag, line.number(rt), line.number(rt)) {
-        Ok(()) => String::from_str(alloc, "ok"),
-        Err(cause) => cause.to_string(alloc),
+) -> Result<String, Fail> {
+    let priority = line.priority()?;
+    let tag = tag(alloc, line.word()?)?;
+    match queue.set_throttle(priority, tag, line.number()?, line.number()?) {
+        Ok(()) => Ok(String::from_str(alloc, "ok")?),
+        Err(cause) => Ok(cause.to_string(alloc)?),
     }
 }
 
-fn limited(
-    rt: &impl Abort,
-    alloc: Global,
-    queue: &GrvQueue<u32>,
-    line: &mut Line<'_>,
-) -> Result<String, AllocError> {
-    let (priority, at) = (line.priority(rt), line.number(rt));
+fn limited(alloc: Global, queue: &GrvQueue<u32>, line: &mut Line<'_>) -> Result<String, Fail> {
+    let (priority, at) = (line.priority()?, line.number()?);
     let tags = tags(alloc, line)?;
     match limits(queue, priority, &tags, at) {
-        Ok(limits) => limits_text(alloc, &limits),
-        Err(cause) => cause.to_string(alloc),
+        Ok(limits) => Ok(limits_text(alloc, &limits)?),
+        Err(cause) => Ok(cause.to_string(alloc)?),
     }
 }
 
-/// The limits of some tags.
 fn limits(
     queue: &GrvQueue<u32>,
     priority: Priority,
@@ -235,7 +185,7 @@ fn limits_text(alloc: Global, limits: &[TagLimit]) -> Result<String, AllocError>
     Ok(text)
 }
 
-/// A limit, behind a comma.
+/// The tag, the rate and the expiry of a limit, behind a comma.
 fn limit_text(alloc: Global, limit: &TagLimit) -> Result<String, AllocError> {
     let tag = from_utf8(limit.tag.as_slice()).unwrap_or("no text");
     let (rate, expires) = (limit.rate, limit.expires);

@@ -9,4 +9,3 @@ mod records;
 mod scripts;
 mod sequencers;
 mod throttles;
-mod traces;

@@ -1,10 +1,9 @@
 //! The register after reports, and the gate that holds nobody.
 
 use crate::audits::words::{flags, record};
-use crate::line::Line;
+use fdb_checks::Line;
 use fdb_history::{Event, Gate, OpenGate, Place, Record, register_after};
 use std::alloc::Global;
-use std::process::Abort;
 use std::test::Fail;
 
 /// In each line the record before, the events (`read` with its call and
@@ -31,35 +30,35 @@ report 5 100 unlocked none min 50 unraised => 2100 unlocked none min 2000
 2100 locked 0102030405060708090a report 0 0 unlocked none min 18446744073709551615 unraised => 2100 locked 0102030405060708090a min 18446744073709551615
 ";
 
-/// The events of a line.
-fn events(rt: &impl Abort, alloc: Global, line: &mut Line<'_>) -> Result<Vec<Event>, Fail> {
+/// The events of a line up to its `=>`, or the first ten.
+fn events(alloc: Global, line: &mut Line<'_>) -> Result<Vec<Event>, Fail> {
     let mut events = Vec::new(alloc);
     for _ in 0..10 {
-        let event = match line.word(rt) {
+        let event = match line.word()? {
             "=>" => break,
             "read" => Event::Read {
                 client: 0,
-                call: line.number(rt),
-                rec: record(rt, line),
+                call: line.number()?,
+                rec: record(line)?,
             },
-            _ => report(rt, line),
+            _ => report(line)?,
         };
         events.push(event)?;
     }
     Ok(events)
 }
 
-/// A report, behind its word.
-fn report(rt: &impl Abort, line: &mut Line<'_>) -> Event {
-    let (call, rec) = (line.number(rt), record(rt, line));
-    let (raised, changed) = flags(rt, line);
-    Event::Report {
+/// A report of client 0: its call, the record, and what it claims to have changed.
+fn report(line: &mut Line<'_>) -> Result<Event, Fail> {
+    let (call, rec) = (line.number()?, record(line)?);
+    let (raised, changed) = flags(line)?;
+    Ok(Event::Report {
         client: 0,
         call,
         rec,
         raised,
         changed,
-    }
+    })
 }
 
 /// The record after the reports among the events, one by one.
@@ -74,23 +73,22 @@ fn after_each(start: Record, events: &[Event]) -> Record {
 }
 
 /// Compares the record after the events of a line, taken at once and one by one, with its end.
-fn plays(rt: &impl Abort, alloc: Global, mut line: Line<'_>) -> Result<(), Fail> {
-    let start = record(rt, &mut line);
-    let events = events(rt, alloc, &mut line)?;
-    wants(rt, alloc, &line, register_after(start, &events))?;
-    wants(rt, alloc, &line, after_each(start, &events))
+fn plays(alloc: Global, mut line: Line<'_>) -> Result<(), Fail> {
+    let start = record(&mut line)?;
+    let events = events(alloc, &mut line)?;
+    wants(alloc, &line, register_after(start, &events))?;
+    wants(alloc, &line, after_each(start, &events))
 }
 
 /// Compares a record with the one that the line wants.
-fn wants(rt: &impl Abort, alloc: Global, line: &Line<'_>, rec: Record) -> Result<(), Fail> {
-    line.wants(rt, &rec.to_string(alloc)?);
-    Ok(())
+fn wants(alloc: Global, line: &Line<'_>, rec: Record) -> Result<(), Fail> {
+    line.wants(&rec.to_string(alloc)?)
 }
 
 #[test]
 fn the_register_after_reports(rt: HostRuntime) -> Result<(), Fail> {
     for text in CASES.lines() {
-        plays(&rt, rt.alloc(), Line::new(text))?;
+        plays(rt.alloc(), Line::new(text))?;
     }
     Ok(())
 }

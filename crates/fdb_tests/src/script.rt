@@ -1,11 +1,10 @@
-//! Scripts, and their parts as lines.
+//! Scripts that are read from JSON, and their parts as the lines of a text.
 
-use crate::same::same_text;
+use fdb_checks::same_text;
 use fdb_history::{GrvOpts, Tag};
 use fdb_queue::{QueueConfig, Throttle};
 use fdb_script::{Act, Command, Script, ScriptError, Setup, read_script};
 use std::alloc::{AllocError, Global};
-use std::process::Abort;
 use std::str::from_utf8;
 use std::test::Fail;
 
@@ -86,12 +85,11 @@ fn read_text(alloc: Global, opts: &GrvOpts) -> Result<String, AllocError> {
     Ok(text)
 }
 
-/// Reads a script, and compares its parts.
-fn says(rt: &impl Abort, alloc: Global, script: &str, wanted: &str) -> Result<(), Fail> {
+/// Reads a script, and compares its parts with the lines of a text.
+fn says(alloc: Global, script: &str, wanted: &str) -> Result<(), Fail> {
     let script = script_of(alloc, script)?;
     let found = script_text(alloc, &script)?;
-    same_text(rt, found.as_str(), wanted, "a script");
-    Ok(())
+    same_text(found.as_str(), wanted, "a script")
 }
 
 /// Commands with no member but those that are required, and with all.
@@ -127,7 +125,7 @@ round
 
 #[test]
 fn commands_and_their_members(rt: HostRuntime) -> Result<(), Fail> {
-    says(&rt, rt.alloc(), COMMANDS, COMMANDS_SAY)
+    says(rt.alloc(), COMMANDS, COMMANDS_SAY)
 }
 
 /// A script with no member but those that are required.
@@ -155,6 +153,6 @@ round
 
 #[test]
 fn a_script_and_its_parts(rt: HostRuntime) -> Result<(), Fail> {
-    says(&rt, rt.alloc(), LEAST, LEAST_SAYS)?;
-    says(&rt, rt.alloc(), FULL, FULL_SAYS)
+    says(rt.alloc(), LEAST, LEAST_SAYS)?;
+    says(rt.alloc(), FULL, FULL_SAYS)
 }

@@ -1,17 +1,12 @@
 //! The sequencer. Each line of a text is a request that goes through its lock, as in the tests of
-//! chains, but that what stands is looked at once the sequencer is closed. While a request is at the
-//! gate, with the lock, another one comes, which has to wait.
-
-mod held;
+//! chains, but that what stands is looked at once the sequencer is closed. While a request is at
+//! the gate, with the lock, another one comes, which has to wait.
 
 use crate::chain::{answer_text, ask_of};
-use crate::line::Line;
-use crate::same::same;
-use crate::sequencer::held::HoldsFirst;
 use fdb_chain::{ChainCore, ChainError, Sequencer};
-use fdb_history::{Ask, Issued, OpenGate, Service};
+use fdb_checks::{HoldsFirst, Line, calls, same};
+use fdb_history::{Ask, Issued, OpenGate, Place, Service};
 use std::alloc::{AllocError, Global};
-use std::process::Abort;
 use std::sync::Wait;
 use std::test::Fail;
 use std::thread;
@@ -51,46 +46,42 @@ impl Service for AtTheEnd {
 const STRANGER: u32 = 1_000;
 
 /// Plays the lines of a text, and looks at how many answers stand at the end.
-fn play<S: Service + Send + Sync, R: Threads + Wait + Abort + Sync>(
+fn play<S: Service + Send + Sync, R: Threads + Wait + Sync>(
     rt: &R,
     alloc: Global,
     sequencer: Sequencer<S>,
     text: &str,
     standing: usize,
 ) -> Result<(), Fail> {
-    for line in text.lines() {
-        play_line(rt, alloc, &sequencer, Line::new(line))?;
+    for (call, line) in calls(alloc, text)? {
+        if call != "ask" {
+            return Err(line.fail("no request"));
+        }
+        play_line(rt, alloc, &sequencer, line)?;
     }
-    same(rt, &sequencer.close().answers().len(), &standing, &text);
-    Ok(())
+    same(&sequencer.close().answers().len(), &standing, &text)
 }
 
-/// Plays a line, if it is no comment. The request passes the gate once.
-fn play_line<S: Service + Send + Sync, R: Threads + Wait + Abort + Sync>(
+/// Plays a request, which passes the gate once.
+fn play_line<S: Service + Send + Sync, R: Threads + Wait + Sync>(
     rt: &R,
     alloc: Global,
     sequencer: &Sequencer<S>,
     mut line: Line<'_>,
-) -> Result<(), AllocError> {
-    match line.next_word() {
-        None | Some("#") => return Ok(()),
-        Some("ask") => {}
-        Some(_) => line.fails(rt, "no request"),
-    }
-    let ask = ask_of(rt, &mut line);
-    let gate = HoldsFirst::new(ask.proxy, STRANGER);
+) -> Result<(), Fail> {
+    let ask = ask_of(&mut line)?;
+    let gate = HoldsFirst::new(Place::SequencerHeld, ask.proxy, STRANGER);
     let (found, behind) = thread::join(
         rt,
         || answered(rt, sequencer, &gate, ask),
         || refused_behind(rt, sequencer, &gate, ask),
     );
-    line.wants(rt, &answer_text(alloc, found)?);
-    same(rt, &behind, &Err(ChainError::UnknownProxy), &line.text);
-    gate.was_passed(rt, line.text);
-    Ok(())
+    line.wants(&answer_text(alloc, found)?)?;
+    same(&behind, &Err(ChainError::UnknownProxy), &line.text)?;
+    gate.was_passed((1, 1), &line.text)
 }
 
-/// What a sequencer answers.
+/// Asks a sequencer, and tells the gate that the answer has come.
 fn answered<S: Service, R: Wait>(
     rt: &R,
     sequencer: &Sequencer<S>,
@@ -115,7 +106,8 @@ fn refused_behind<S: Service, R: Wait>(
         processed: u64::from(ask.processed == 0),
         ..ask
     };
-    gate.comes_behind();
+    gate.waits_until_held();
+    gate.is_done_beside();
     sequencer.ask(rt, gate, ask)
 }
 
@@ -259,19 +251,19 @@ fn asks_hundred_times<R: Wait>(
 }
 
 /// The number of answers in a list that are for this proxy. It numbered them 1, 2, 3 and so on.
-fn counted(rt: &impl Abort, answers: &[Issued], proxy: u32) -> u64 {
+fn counted(answers: &[Issued], proxy: u32) -> Result<u64, Fail> {
     let mut last = 0u64;
     for answer in answers {
         if answer.proxy == proxy {
-            same(rt, &answer.num, &last.saturating_add(1), &proxy);
+            same(&answer.num, &last.saturating_add(1), &proxy)?;
             last = answer.num;
         }
     }
-    last
+    Ok(last)
 }
 
 /// Two threads ask 100 times each, for a proxy each.
-fn two_threads<R: Threads + Wait + Abort + Sync>(rt: &R, alloc: Global) -> Result<(), Fail> {
+fn two_threads<R: Threads + Wait + Sync>(rt: &R, alloc: Global) -> Result<(), Fail> {
     let sequencer = from_hundred(alloc)?;
     let (first, second) = thread::join(
         rt,
@@ -280,23 +272,17 @@ fn two_threads<R: Threads + Wait + Abort + Sync>(rt: &R, alloc: Global) -> Resul
     );
     first?;
     second?;
-    are_of_both(rt, &sequencer.close().into_answers());
-    Ok(())
+    are_of_both(&sequencer.close().into_answers())
 }
 
 /// Checks that these are 100 answers for each of two proxies,
 /// with a version for each request, since no time passes.
-fn are_of_both(rt: &impl Abort, answers: &[Issued]) {
-    same(rt, &answers.len(), &200, &"all answers");
+fn are_of_both(answers: &[Issued]) -> Result<(), Fail> {
+    same(&answers.len(), &200, &"all answers")?;
     let last = answers.last().map(|last| (last.version, last.ordinal));
-    same(
-        rt,
-        &last,
-        &Some((299, 199)),
-        &"the last version and ordinal",
-    );
-    same(rt, &counted(rt, answers, 0), &100, &"of 0");
-    same(rt, &counted(rt, answers, 1), &100, &"of 1");
+    same(&last, &Some((299, 199)), &"the last version and ordinal")?;
+    same(&counted(answers, 0)?, &100, &"of 0")?;
+    same(&counted(answers, 1)?, &100, &"of 1")
 }
 
 #[test]

@@ -1,11 +1,11 @@
-//! A chain of commit versions.
+//! Commit versions drawn from a chain, with no sequencer before it.
 
 use anyhow::Result;
 use fdb_chain::ChainCore;
 use fdb_history::Ask;
 use std::alloc::Global;
 
-/// A chain for one proxy, which asks three times.
+/// Has one commit proxy ask a chain three times; its first commit version is 100.
 pub(crate) fn commit_versions(rt: &impl Print, alloc: Global) -> Result<()> {
     let mut chain = ChainCore::new(alloc, 0, 100, 1)?;
     three_requests(rt, &mut chain)

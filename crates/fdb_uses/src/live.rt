@@ -14,7 +14,7 @@ pub(crate) fn two_reporters<R: Print + Wait>(rt: &R, alloc: Global) -> Result<()
     opened.named(rt, 0, 100, TwoReporters)
 }
 
-/// What two reporters do.
+/// Two reporters, to be run under a name that stands for their record.
 #[derive(Drop)]
 struct TwoReporters;
 
@@ -79,7 +79,6 @@ fn report<J: Live, R: Print + Wait>(
     Ok(())
 }
 
-/// A record with this version.
 fn unlocked(version: u64) -> Record {
     Record {
         version,

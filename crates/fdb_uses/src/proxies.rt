@@ -10,7 +10,7 @@ use std::alloc::Global;
 use std::sync::Wait;
 use std::thread::Threads;
 
-/// The live committed version before any report.
+/// The live committed version before any report, 100, which is the first commit version too.
 const START: Record = Record {
     version: 100,
     locked: false,
@@ -59,7 +59,7 @@ struct CommitAndRead {
 impl<R: Print + Wait> Workload<R> for CommitAndRead {
     type Output = Result<()>;
 
-    /// Has the clients make their calls.
+    /// Has the first client commit, and the second come to know of it.
     fn start<J: Live>(
         self,
         rt: &R,
@@ -104,7 +104,7 @@ fn commit<J: Live, R: Print + Wait>(
     Ok(())
 }
 
-/// Tells another client what one has seen.
+/// Has one client tell another what it has seen, and that one learn it at once.
 fn tell<J: Live, R: Wait>(
     rt: &R,
     teller: &mut Client<'_, J>,
@@ -117,7 +117,7 @@ fn tell<J: Live, R: Wait>(
     }
 }
 
-/// Reads the read version for one transaction.
+/// Reads the read version for one transaction, and tells version and position.
 fn read<J: Live, R: Print + Wait>(
     rt: &R,
     alloc: Global,

@@ -1,11 +1,11 @@
-//! The queue of a GRV proxy.
+//! Requests that wait in the queue of a GRV proxy, and a window that starts some.
 
 use anyhow::{Result, anyhow};
 use fdb_history::Priority;
 use fdb_queue::{GrvQueue, QueueConfig, Req};
 use std::alloc::Global;
 
-/// The time between two windows, in microseconds.
+/// The time between two windows, in microseconds: a second.
 const ELAPSED: u64 = 1_000_000;
 
 /// What a window grants, and how many requests may wait.
@@ -49,7 +49,7 @@ fn offer(queue: &mut Queue, payload: &'static str, count: u64) -> Result<()> {
     }
 }
 
-/// Starts what one window grants.
+/// Holds one window, and tells which requests it starts.
 fn start(rt: &impl Print, queue: &mut Queue) -> Result<()> {
     for request in queue.window(ELAPSED)? {
         println!(rt; "started the {} request", request.payload)?;

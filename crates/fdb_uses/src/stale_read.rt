@@ -1,4 +1,4 @@
-//! An audit that catches a stale read.
+//! An audit that catches a client reading what it knows to be old.
 
 use anyhow::Result;
 use fdb_history::{
@@ -7,7 +7,7 @@ use fdb_history::{
 use std::alloc::{AllocError, Global};
 use std::io;
 
-/// The live committed version before any report.
+/// The live committed version before any report, which the stale read gets.
 const START: Record = Record {
     version: 100,
     locked: false,
@@ -15,7 +15,7 @@ const START: Record = Record {
     min_known: 0,
 };
 
-/// The one commit version that was issued.
+/// The one commit version that was issued, 200, as the first answer of the chain.
 const COMMIT: Issued = Issued {
     ordinal: 0,
     proxy: 0,
@@ -59,7 +59,7 @@ fn log_of(alloc: Global, first: Call, second: Call) -> Result<ClientLog, AllocEr
     Ok(ClientLog { calls })
 }
 
-/// Draws the commit version.
+/// Client 0 draws the commit version, before it has seen a change.
 fn ask() -> Call {
     Call {
         input: Input::Ask {
@@ -73,7 +73,7 @@ fn ask() -> Call {
     }
 }
 
-/// Reports it, which is the first change.
+/// Client 0 reports it, which is the first change.
 fn report() -> Call {
     Call {
         input: Input::Report {
@@ -95,7 +95,7 @@ fn report() -> Call {
     }
 }
 
-/// Learns what client 0 has seen.
+/// Client 1 learns what client 0 has seen, and comes to position 1.
 fn learn() -> Call {
     Call {
         input: Input::Learn { from: 0 },
@@ -105,7 +105,7 @@ fn learn() -> Call {
     }
 }
 
-/// Reads 100, though it knows of the commit.
+/// Client 1 reads 100, though it knows of the commit.
 fn read(alloc: Global) -> Call {
     Call {
         input: Input::Grv(GrvOpts {

@@ -1,71 +1,50 @@
-//! An audit of a list of logs.
+//! An audit of calls that stand in the code: put your own in their place.
 
-use anyhow::{Result, anyhow};
-use fdb_history::{
-    Call, CallAnswer, ClientLog, GrvOpts, Input, Issued, Priority, Record, Sequence, audit,
-};
+use anyhow::Result;
+use fdb_audit::{Wanted, judge};
+use fdb_lines::{AuditOpts, Call, Line, LineError, Log, Times};
 use std::alloc::{AllocError, Global};
 
-/// The live committed version before any report.
-pub(crate) const START: Record = Record {
-    version: 100,
-    locked: false,
-    metadata: None,
-    min_known: 0,
-};
-
-/// Audits the logs of three clients, of which each reads once: the last one reads an old version.
+/// Audits two calls, and prints what is found: client 1 still reads 100 after client 0 has committed
+/// at 200.
 pub(crate) fn explained(rt: &impl Print, alloc: Global) -> Result<()> {
-    let logs = logs(alloc, &[100, 100, 90])?;
-    explain(rt, alloc, &[], &logs)
-}
-
-/// Tells the history of some logs, or the first fault.
-fn explain(rt: &impl Print, alloc: Global, chain: &[Issued], logs: &[ClientLog]) -> Result<()> {
-    if logs.len() > u32::MAX as usize {
-        return Err(anyhow!("more logs than clients have numbers"));
-    }
-    match audit(alloc, START, chain, logs) {
-        Ok(history) => println!(rt; "explained by {} events", history.events.len())?,
-        Err(fault) => println!(rt; "fault: {fault}")?,
-    }
+    let lines = [
+        at(0, Call::Commit(200), Times::new(10, Some(14))),
+        at(1, Call::Read(100), Times::new(15, Some(16))),
+    ];
+    let log = log_of(alloc, &lines)?;
+    let said = said_of(alloc, &log, 0)?;
+    print!(rt; "{said}")?;
     Ok(())
 }
 
-/// A log for each client, of one read of this version.
-fn logs(alloc: Global, versions: &[u64]) -> Result<Vec<ClientLog>, AllocError> {
-    let mut logs = Vec::new(alloc);
-    for version in versions {
-        logs.push(log_of(alloc, *version)?)?;
-    }
-    Ok(logs)
-}
-
-/// The log of a client that read this version.
-fn log_of(alloc: Global, version: u64) -> Result<ClientLog, AllocError> {
-    let mut calls = Sequence::new(alloc);
-    calls.push(read(alloc, version))?;
-    Ok(ClientLog { calls })
-}
-
-/// A read that was answered this version.
-fn read(alloc: Global, version: u64) -> Call {
-    let opts = GrvOpts {
-        priority: Priority::Default,
-        count: 1,
-        tags: Sequence::new(alloc),
-        lock_aware: false,
-        at: 0,
-        use_min: false,
+/// What an audit says of a log, where the clocks of two clients are at most so far apart.
+fn said_of(alloc: Global, log: &Log, margin: u64) -> Result<String, AllocError> {
+    let opts = AuditOpts {
+        complete: None,
+        margin,
     };
-    Call {
-        input: Input::Grv(opts),
-        asked: 0,
-        position: 0,
-        answer: CallAnswer::Version {
-            rec: Record { version, ..START },
-            limits: Sequence::new(alloc),
-            locked_out: false,
-        },
+    let wanted = Wanted {
+        history: false,
+        all: true,
+    };
+    Ok(judge(alloc, log, &[], &opts, wanted)?.text)
+}
+
+/// A call of the client with this number, and when it began and ended.
+fn at(client: u32, call: Call, times: Option<Times>) -> Line {
+    Line {
+        client: Some(client),
+        call,
+        times,
     }
+}
+
+/// A log that has these lines, each checked as it comes.
+fn log_of(alloc: Global, lines: &[Line]) -> Result<Log, LineError> {
+    let mut log = Log::new(alloc);
+    for line in lines {
+        log.push(*line)?;
+    }
+    Ok(log)
 }

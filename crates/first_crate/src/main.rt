@@ -1,4 +1,4 @@
-//! A crate to begin with: copy this folder, and write your own logs and calls in place of these.
+//! A crate to begin with: copy this folder, and write your own calls in place of these.
 #![tactic(auto)]
 
 mod logs;

@@ -3,13 +3,12 @@
 
 ghost use Rattle.std.specs.Prelude.{◌≡◌};
 
-use crate::logs::START;
 use anyhow::{Result, anyhow};
 use fdb_client::{
     Client, Cluster, ClusterConfig, ClusterParts, Finished, OpenedCluster, Served, clients_of,
     serve_while,
 };
-use fdb_history::{GrvOpts, OpenGate, Priority, Sequence};
+use fdb_history::{GrvOpts, OpenGate, Priority, Record, Sequence};
 use fdb_live::Live;
 use fdb_proxy::Desk;
 use fdb_queue::QueueConfig;
@@ -18,6 +17,14 @@ use std::marker::Brand;
 use std::sync::Wait;
 use std::thread;
 use std::thread::Threads;
+
+/// The live committed version before any report, which both clients read here.
+const START: Record = Record {
+    version: 100,
+    locked: false,
+    metadata: None,
+    min_known: 0,
+};
 
 /// Two clients read at once, while two GRV proxies serve.
 pub(crate) fn two_readers<R: Print + Threads + Wait + Sync>(rt: &R, alloc: Global) -> Result<()> {
@@ -88,7 +95,7 @@ fn read_both<J: Live + Send + Sync, R: Print + Threads + Wait + Sync>(
     Ok(cluster.finish(alloc, clients)?)
 }
 
-/// The read version for one transaction.
+/// Reads through this desk for one transaction, and answers the version.
 fn read<J: Live, R: Wait>(
     rt: &R,
     alloc: Global,

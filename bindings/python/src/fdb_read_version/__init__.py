@@ -2,7 +2,8 @@
 
 `Chain` issues commit versions as the sequencer does, `Record` is the live committed version with
 what belongs to it, and `GrvQueue` says which requests for a read version wait at a GRV proxy and
-which start. `answers` and `outcomes` take all requests of a run at once.
+which start. `answers` and `outcomes` take all requests of a run at once. `audit` finds the faults of
+a log of calls, of any system, and `audit_text` says what it found.
 
 A handle is used by one thread at a time, and by the one that made it.
 """
@@ -20,24 +21,46 @@ from .grv_queue import (
     Window,
     outcomes,
 )
+from .log import (
+    Call,
+    Fault,
+    FaultKind,
+    Known,
+    LogRefused,
+    Means,
+    Member,
+    Reason,
+    audit,
+    audit_text,
+)
 from .register import Record
 
 __all__ = [
     "Ask",
+    "Call",
     "Chain",
+    "Fault",
+    "FaultKind",
     "GrvQueue",
     "Issued",
+    "Known",
     "Limit",
+    "LogRefused",
+    "Means",
+    "Member",
     "Offer",
     "Outcome",
     "Pop",
     "Priority",
     "QueueConfig",
+    "Reason",
     "Record",
     "Refused",
     "Request",
     "Status",
     "Window",
     "answers",
+    "audit",
+    "audit_text",
     "outcomes",
 ]

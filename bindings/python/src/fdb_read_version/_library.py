@@ -15,6 +15,7 @@ from ctypes import (
     c_void_p,
 )
 from pathlib import Path
+from typing import Any, List, Tuple
 
 
 def _path() -> Path:
@@ -25,6 +26,7 @@ def _path() -> Path:
     if len(here.parents) > 4:
         built.append(here.parents[4] / "crates" / "fdb_c" / "out" / "libfdb_c.so")
     places = [Path(named)] if named else built
+    places = [it / "libfdb_c.so" if it.is_dir() else it for it in places]
     for place in places:
         if place.is_file():
             return place
@@ -104,6 +106,53 @@ class RawLimit(Structure):
     _fields_ = [("rate", c_uint64), ("expires", c_uint64), ("holds", c_bool)]
 
 
+class RawCall(Structure):
+    _fields_ = [
+        ("version", c_uint64),
+        ("began", c_uint64),
+        ("ended", c_uint64),
+        ("client", c_uint32),
+        ("teller", c_uint32),
+        ("kind", c_uint8),
+        ("has_client", c_bool),
+        ("has_times", c_bool),
+        ("has_ended", c_bool),
+    ]
+
+
+class RawOptions(Structure):
+    _fields_ = [
+        ("start", c_uint64),
+        ("margin", c_uint64),
+        ("complete", c_bool),
+        ("all", c_bool),
+        ("history", c_bool),
+    ]
+
+
+class RawRefused(Structure):
+    _fields_ = [("line", c_uint64), ("member", c_uint8)]
+
+
+class RawFault(Structure):
+    _fields_ = [
+        ("known", c_uint64),
+        ("line", c_uint32),
+        ("other", c_uint32),
+        ("by", c_uint32),
+        ("learnt", c_uint32),
+        ("kind", c_uint8),
+        ("reason", c_uint8),
+        ("means", c_uint8),
+    ]
+
+
+def _audits(log: Any, found: Any) -> Tuple[Any, List[Any]]:
+    """What an audit of such a log is given, which writes such elements."""
+    told = [POINTER(found), c_size_t, POINTER(c_uint64), POINTER(RawRefused)]
+    return c_uint8, [log, c_size_t, POINTER(RawOptions), *told]
+
+
 _DECLARED = {
     "fdb_chain_new": (c_uint8, [c_uint64, c_uint64, c_uint32, POINTER(RawHandle)]),
     "fdb_chain_ask": (c_uint8, [POINTER(RawHandle), POINTER(RawAsk), POINTER(RawAnswer)]),
@@ -152,6 +201,10 @@ _DECLARED = {
             POINTER(c_uint64),
         ],
     ),
+    "fdb_audit_log_text": _audits(c_char_p, c_uint8),
+    "fdb_audit_log_faults": _audits(c_char_p, RawFault),
+    "fdb_audit_calls_text": _audits(POINTER(RawCall), c_uint8),
+    "fdb_audit_calls_faults": _audits(POINTER(RawCall), RawFault),
 }
 
 

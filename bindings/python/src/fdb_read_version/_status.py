@@ -22,6 +22,14 @@ class Status(IntEnum):
     BATCH_THROTTLED = 19
     FULL = 20
     TAG_TOO_LONG = 21
+    FAULT = 32
+    TOO_LONG = 33
+    TOO_MANY = 34
+    NOT_JSON = 35
+    NO_CALL = 36
+    TWO_CALLS = 37
+    SOME_TIMES = 38
+    BAD_MEMBER = 39
 
 
 class Refused(Exception):

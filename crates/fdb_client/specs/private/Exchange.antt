@@ -11,31 +11,32 @@ use Rattle.fdb_proxy.specs.declared.answer.Reply.{Reply}
 use Rattle.fdb_client.specs.Returned.{error_of_proxy}
 use Rattle.fdb_client.specs.declared.error.ClientError.{ClientError}
 use Rattle.fdb_client.specs.declared.error.ClientError.TheVariants.{Stranger}
-use Rattle.fdb_client.specs.declared.exchange.Mark.{Mark}
+use Rattle.fdb_client.specs.declared.exchange.RequestId.{RequestId}
 
--- two marks are one
-abbrev pub is_same : Mark → Mark → Bool
+-- whether two ids are of one request: client, serial and position are the same
+abbrev pub is_same : RequestId → RequestId → Bool
 is_same these those =
     (these.client == those.client)
     && ((these.serial == those.serial) && (these.asked == those.asked))
 
 module _ {J : Type 0} {live : LiveGhosts J} {service : ServiceGhosts J} where
-  -- the mark of the request that an answer is to
-  abbrev pub mark_of : Answer J live service → Mark
-  mark_of (answer.Reply reply) =
+  -- the id of the request that an answer is to
+  abbrev pub id_of : Answer J live service → RequestId
+  id_of (answer.Reply reply) =
       record { client = reply.client; serial = reply.serial; asked = reply.asked }
-  mark_of (answer.Refused refused) =
+  id_of (answer.Refused refused) =
       record { client = refused.client; serial = refused.serial; asked = refused.asked }
 
-  -- what an answer says that is one's own
+  -- what an answer says that is to one's own request: its reply, or the error for what refused it
   abbrev pub said : Answer J live service → Result (Reply J live service) ClientError
   said (answer.Reply reply) = Ok reply
   said (answer.Refused refused) = Err (error_of_proxy refused.cause)
 
-  -- What an answer comes to: another's is that before all else.
-  abbrev pub judged : Mark → Answer J live service → Result (Reply J live service) ClientError
-  judged own answer = if is_same (mark_of answer) own then said answer else Err Stranger
+  -- What an answer comes to: `Stranger` where it is to another request, whatever it says.
+  abbrev pub reply_to : RequestId → Answer J live service → Result (Reply J live service) ClientError
+  reply_to own answer = if is_same (id_of answer) own then said answer else Err Stranger
 
-  -- how a reply is logged
+  -- How a reply is logged: it is turned away where the record is locked and the read not
+  -- lock-aware.
   abbrev pub answer_of : Reply J live service → GrvOpts → CallAnswer
   answer_of reply opts = Version reply.rec reply.limits (reply.rec.locked && not opts.lock_aware)

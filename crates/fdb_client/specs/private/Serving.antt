@@ -1,4 +1,4 @@
--- The GRV proxies of a cluster. (this product's own)
+-- How the GRV proxies of a cluster are made from its configuration. (this product's own)
 use Rattle.std.specs.Prelude.{◌≡◌, reverse}
 use Rattle.fdb_proxy.specs.Proxy.{Proxy}
 use Rattle.fdb_queue.specs.Throttles.{SameThrottles}

@@ -1,7 +1,7 @@
 //! Calls of clients at a cluster. At moment 0 each version is one above the one before it.
 
 use crate::ample_memory::clusters::at_throttled;
-use crate::line::tag;
+use fdb_checks::tag;
 use fdb_client::{Client, Cluster, Workload};
 use fdb_history::{Ask, GrvOpts, OpenGate, Priority, Sequence, Tag};
 use fdb_live::Live;
@@ -98,7 +98,7 @@ fn opts_of(alloc: Global, count: u64, tags: u64) -> Option<GrvOpts> {
     })
 }
 
-/// Whether each client makes its calls.
+/// Whether each client makes its calls, one client after another.
 fn each_reads<J: Live, R: Wait>(
     rt: &R,
     alloc: Global,
@@ -145,7 +145,7 @@ fn asked<J: Live, R: Wait>(
     Some(in_turn && client.calls().len() as u64 == number)
 }
 
-/// A request that is repeated so often.
+/// A request that is repeated so often, and answered each time with the version that is kept.
 fn repeated<J: Live, R: Wait>(
     rt: &R,
     cluster: &Cluster<'_, J>,

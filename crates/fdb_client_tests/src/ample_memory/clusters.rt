@@ -1,11 +1,11 @@
-//! Clusters, at which clients make calls.
+//! Clusters of so many clients and GRV proxies, up to the history of what the clients called.
 
 ghost use Rattle.std.specs.Prelude.{◌≡◌};
 ghost use Rattle.std.specs.List.{list_all};
 ghost use Rattle.fdb_queue.specs.Throttles.{is_throttle};
 
 use crate::ample_memory::calls::Calls;
-use crate::line::tag;
+use fdb_checks::tag;
 use fdb_client::{ClusterConfig, run_workload};
 use fdb_history::{AuditFault, MAX_VERSION, Priority, Record, Tag};
 use fdb_queue::{QueueConfig, Throttle};
@@ -37,7 +37,7 @@ pub(crate) fn called<R: Threads + Wait + Sync>(
     }
 }
 
-/// A record with a minimum known committed version.
+/// A record with no lock and no metadata version, but a minimum known committed version.
 fn known(version: u64, min_known: u64) -> Record {
     Record {
         version,
@@ -47,7 +47,7 @@ fn known(version: u64, min_known: u64) -> Record {
     }
 }
 
-/// A throttle of default requests.
+/// A throttle of default requests, at rate 5 and until moment 5,000.
 fn throttle_of(tag: Tag) -> Throttle {
     Throttle {
         priority: Priority::Default,

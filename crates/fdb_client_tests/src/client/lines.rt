@@ -3,149 +3,128 @@
 use crate::client::Stand;
 use crate::client::noting::Noting;
 use crate::client::served::{Reading, Way, Whom, read_served};
-use crate::line::{Line, tag};
+use fdb_checks::{CaseError, Line, calls, tag};
 use fdb_client::{Client, ClientError, ReadVersion};
 use fdb_history::{Call, CallAnswer, GrvOpts, Issued, Place, Priority, Sequence};
 use fdb_live::{Ack, Live, Seen};
 use std::alloc::{AllocError, Global};
-use std::process::Abort;
 use std::sync::Wait;
+use std::test::Fail;
 use std::thread::Threads;
 
-/// Plays the lines of a text.
-pub(crate) fn play_lines<J: Live + Send + Sync, R: Threads + Wait + Abort + Sync>(
+/// Plays the lines of a text at one stand, and compares what comes of each call.
+pub(crate) fn play_lines<J: Live + Send + Sync, R: Threads + Wait + Sync>(
     rt: &R,
     stand: &mut Stand<'_, J>,
     text: &str,
-) -> Result<(), AllocError> {
-    for line in text.lines() {
-        play_line(rt, stand, Line::new(line))?;
+) -> Result<(), CaseError> {
+    for (call, mut line) in calls(stand.service.alloc, text)? {
+        let found = called(rt, stand, call, &mut line)?;
+        line.wants(&found)?;
     }
     Ok(())
 }
 
-/// Plays a line, if it is no comment.
-fn play_line<J: Live + Send + Sync, R: Threads + Wait + Abort + Sync>(
-    rt: &R,
-    stand: &mut Stand<'_, J>,
-    mut line: Line<'_>,
-) -> Result<(), AllocError> {
-    match line.next_word() {
-        None | Some("#") => Ok(()),
-        Some(call) => {
-            let found = called(rt, stand, call, &mut line)?;
-            line.wants(rt, &found);
-            Ok(())
-        }
-    }
-}
-
-/// What comes of a call.
-fn called<J: Live + Send + Sync, R: Threads + Wait + Abort + Sync>(
+/// What comes of a call, as the words behind `=>`.
+fn called<J: Live + Send + Sync, R: Threads + Wait + Sync>(
     rt: &R,
     stand: &mut Stand<'_, J>,
     call: &str,
     line: &mut Line<'_>,
-) -> Result<String, AllocError> {
+) -> Result<String, CaseError> {
     match call {
         "ask" => asked(rt, stand, line),
         "reask" => reasked(rt, stand, line),
         "report" | "lock" | "least" => reported(rt, stand, call, line),
         "read" | "aware" | "aside" | "known" => read(rt, stand, call, line),
-        "tell" => told(rt, stand, line),
+        "tell" => told(stand, line),
         "learn" => learnt(rt, stand, line),
-        "log" => logged(rt, stand, line),
-        "last" => last_answered(rt, stand, line),
+        "log" => logged(stand, line),
+        "last" => last_answered(stand, line),
         "meet" => meet(rt, stand),
         "shut" => shut(rt, stand),
-        _ => line.fails(rt, "no call"),
+        _ => Err(CaseError::Failed(line.fail("no call"))),
     }
 }
 
-/// The client of the next word.
+/// The client whose number is the next word.
 fn client_at<'s, 'a, J: Live>(
-    rt: &impl Abort,
     stand: &'s mut Stand<'a, J>,
     line: &mut Line<'_>,
-) -> &'s mut Client<'a, J> {
-    match stand.clients.get_mut(line.who(rt) as usize) {
-        Some(client) => client,
-        None => line.fails(rt, "no client"),
+) -> Result<&'s mut Client<'a, J>, Fail> {
+    match stand.clients.get_mut(line.who()? as usize) {
+        Some(client) => Ok(client),
+        None => Err(line.fail("no client")),
     }
 }
 
 /// A request for a commit version, which passes the gate once, whatever it is answered.
-fn asked<J: Live, R: Wait + Abort>(
+fn asked<J: Live, R: Wait>(
     rt: &R,
     stand: &mut Stand<'_, J>,
     line: &mut Line<'_>,
-) -> Result<String, AllocError> {
+) -> Result<String, CaseError> {
     let service = stand.service;
-    let client = client_at(rt, stand, line);
+    let client = client_at(stand, line)?;
     let gate = Noting::new(client.number(), Place::SequencerHeld);
-    let (processed, at) = (line.number(rt), line.number(rt));
+    let (processed, at) = (line.number()?, line.number()?);
     let found = client.ask(rt, &gate, &service.sequencer, processed, at);
-    gate.was_passed(rt, 1, line.text);
-    issued_text(service.alloc, found)
+    gate.was_passed(1, line.text)?;
+    Ok(issued_text(service.alloc, found)?)
 }
 
-fn reasked<J: Live, R: Wait + Abort>(
+fn reasked<J: Live, R: Wait>(
     rt: &R,
     stand: &mut Stand<'_, J>,
     line: &mut Line<'_>,
-) -> Result<String, AllocError> {
+) -> Result<String, CaseError> {
     let service = stand.service;
-    let client = client_at(rt, stand, line);
+    let client = client_at(stand, line)?;
     let gate = Noting::new(client.number(), Place::SequencerHeld);
-    let (num, processed, at) = (line.number(rt), line.number(rt), line.number(rt));
+    let (num, processed, at) = (line.number()?, line.number()?, line.number()?);
     let found = client.reask(rt, &gate, &service.sequencer, num, processed, at);
-    gate.was_passed(rt, 1, line.text);
-    issued_text(service.alloc, found)
+    gate.was_passed(1, line.text)?;
+    Ok(issued_text(service.alloc, found)?)
 }
 
 /// A report, which passes the gate once, unless it is refused.
-fn reported<J: Live, R: Wait + Abort>(
+fn reported<J: Live, R: Wait>(
     rt: &R,
     stand: &mut Stand<'_, J>,
     call: &str,
     line: &mut Line<'_>,
-) -> Result<String, AllocError> {
+) -> Result<String, CaseError> {
     let alloc = stand.service.alloc;
-    let client = client_at(rt, stand, line);
+    let client = client_at(stand, line)?;
     let gate = Noting::new(client.number(), Place::ReportHeld);
-    let num = line.number(rt);
-    let min_known = if call == "least" { line.number(rt) } else { 0 };
+    let num = line.number()?;
+    let min_known = if call == "least" { line.number()? } else { 0 };
     let (locked, metadata) = (call == "lock", (call == "lock").then_some([8; 10]));
     let found = client.report(rt, &gate, num, locked, metadata, min_known);
-    gate.was_passed(rt, u64::from(found.is_ok()), line.text);
-    acked_text(alloc, found)
+    gate.was_passed(u64::from(found.is_ok()), line.text)?;
+    Ok(acked_text(alloc, found)?)
 }
 
 /// A read at a desk that the test serves.
-fn read<J: Live + Send + Sync, R: Threads + Wait + Abort + Sync>(
+fn read<J: Live + Send + Sync, R: Threads + Wait + Sync>(
     rt: &R,
     stand: &mut Stand<'_, J>,
     call: &str,
     line: &mut Line<'_>,
-) -> Result<String, AllocError> {
+) -> Result<String, CaseError> {
     let alloc = stand.service.alloc;
-    let place = line.who(rt) as usize;
-    let reading = reading(rt, alloc, call, line)?;
+    let place = line.who()? as usize;
+    let reading = reading(alloc, call, line)?;
     let Some(client) = stand.clients.get_mut(place) else {
-        line.fails(rt, "no client")
+        return Err(CaseError::Failed(line.fail("no client")));
     };
-    let found = read_served(rt, stand.service, &mut stand.served, client, reading);
-    read_text(alloc, found)
+    let found = read_served(rt, stand.service, &mut stand.served, client, reading)?;
+    Ok(read_text(alloc, found)?)
 }
 
 /// What is read, where, and how that is answered.
-fn reading(
-    rt: &impl Abort,
-    alloc: Global,
-    call: &str,
-    line: &mut Line<'_>,
-) -> Result<Reading, AllocError> {
-    let (way, whom) = answering(rt, line);
+fn reading(alloc: Global, call: &str, line: &mut Line<'_>) -> Result<Reading, CaseError> {
+    let (way, whom) = answering(line)?;
     Ok(Reading {
         aside: call == "aside",
         opts: told_apart(alloc, call)?,
@@ -155,18 +134,18 @@ fn reading(
 }
 
 /// How the server of the desk is to answer, and whom.
-fn answering(rt: &impl Abort, line: &mut Line<'_>) -> (Way, Whom) {
-    match line.word(rt) {
-        "served" => (Way::Served, Whom::Asker),
-        "client" => (Way::Served, Whom::AnotherClient),
-        "serial" => (Way::Served, Whom::AnotherSerial),
-        "asked" => (Way::FromAnotherPosition, Whom::Asker),
-        "dropped" => (Way::Dropped, Whom::Asker),
-        "closed" => (Way::Closed, Whom::Asker),
-        "full" => (Way::Full, Whom::Asker),
-        "full_serial" => (Way::Full, Whom::AnotherSerial),
-        "memory" => (Way::OutOfMemory, Whom::Asker),
-        _ => line.fails(rt, "no way to answer"),
+fn answering(line: &mut Line<'_>) -> Result<(Way, Whom), Fail> {
+    match line.word()? {
+        "served" => Ok((Way::Served, Whom::Asker)),
+        "client" => Ok((Way::Served, Whom::AnotherClient)),
+        "serial" => Ok((Way::Served, Whom::AnotherSerial)),
+        "asked" => Ok((Way::FromAnotherPosition, Whom::Asker)),
+        "dropped" => Ok((Way::Dropped, Whom::Asker)),
+        "closed" => Ok((Way::Closed, Whom::Asker)),
+        "full" => Ok((Way::Full, Whom::Asker)),
+        "full_serial" => Ok((Way::Full, Whom::AnotherSerial)),
+        "memory" => Ok((Way::OutOfMemory, Whom::Asker)),
+        _ => Err(line.fail("no way to answer")),
     }
 }
 
@@ -184,19 +163,15 @@ fn told_apart(alloc: Global, call: &str) -> Result<GrvOpts, AllocError> {
     })
 }
 
-fn told<J: Live>(
-    rt: &impl Abort,
-    stand: &mut Stand<'_, J>,
-    line: &mut Line<'_>,
-) -> Result<String, AllocError> {
-    let client = client_at(rt, stand, line);
-    match client.tell(line.who(rt)) {
-        Ok(token) => keeps(stand, token),
-        Err(_) => Err(AllocError),
+fn told<J: Live>(stand: &mut Stand<'_, J>, line: &mut Line<'_>) -> Result<String, CaseError> {
+    let client = client_at(stand, line)?;
+    match client.tell(line.who()?) {
+        Ok(token) => Ok(keeps(stand, token)?),
+        Err(_) => Err(CaseError::Memory),
     }
 }
 
-/// Keeps what was told.
+/// Keeps what was told for the next `learn`, and answers its position.
 fn keeps<J: Live>(stand: &mut Stand<'_, J>, token: Seen<J>) -> Result<String, AllocError> {
     let position = token.position();
     stand.told.push(token)?;
@@ -204,17 +179,17 @@ fn keeps<J: Live>(stand: &mut Stand<'_, J>, token: Seen<J>) -> Result<String, Al
 }
 
 /// A client learns what was told last.
-fn learnt<J: Live, R: Wait + Abort>(
+fn learnt<J: Live, R: Wait>(
     rt: &R,
     stand: &mut Stand<'_, J>,
     line: &mut Line<'_>,
-) -> Result<String, AllocError> {
+) -> Result<String, CaseError> {
     let alloc = stand.service.alloc;
     let Some(token) = stand.told.pop() else {
-        return String::from_str(alloc, "nothing was told");
+        return Ok(String::from_str(alloc, "nothing was told")?);
     };
-    let client = client_at(rt, stand, line);
-    learns(rt, alloc, client, line.who(rt), token)
+    let client = client_at(stand, line)?;
+    Ok(learns(rt, alloc, client, line.who()?, token)?)
 }
 
 fn learns<J: Live, R: Wait>(
@@ -235,32 +210,27 @@ fn learns<J: Live, R: Wait>(
 
 /// How many calls a client has logged, and the position that
 /// it has come to, by its last call and by its token.
-fn logged<J: Live>(
-    rt: &impl Abort,
-    stand: &mut Stand<'_, J>,
-    line: &mut Line<'_>,
-) -> Result<String, AllocError> {
+fn logged<J: Live>(stand: &mut Stand<'_, J>, line: &mut Line<'_>) -> Result<String, CaseError> {
     let alloc = stand.service.alloc;
-    let client = client_at(rt, stand, line);
+    let client = client_at(stand, line)?;
     let (calls, position) = (client.calls(), client.position());
     let last = match calls.last() {
         Some(call) => call.position,
         None => client.begun(),
     };
     if last != position {
-        return String::from_str(alloc, "the log and the token differ");
+        return Ok(String::from_str(alloc, "the log and the token differ")?);
     }
-    format!(in alloc; "{} calls, at {position}", calls.len())
+    Ok(format!(in alloc; "{} calls, at {position}", calls.len())?)
 }
 
 /// What the last call in a client's log was refused for, if it was.
 fn last_answered<J: Live>(
-    rt: &impl Abort,
     stand: &mut Stand<'_, J>,
     line: &mut Line<'_>,
-) -> Result<String, AllocError> {
+) -> Result<String, CaseError> {
     let alloc = stand.service.alloc;
-    match client_at(rt, stand, line).calls().last() {
+    let text = match client_at(stand, line)?.calls().last() {
         Some(
             Call {
                 answer: CallAnswer::Refused(cause),
@@ -269,39 +239,40 @@ fn last_answered<J: Live>(
         ) => format!(in alloc; "refused {cause}"),
         Some(_) => String::from_str(alloc, "answered"),
         None => String::from_str(alloc, "no call"),
-    }
+    };
+    Ok(text?)
 }
 
-/// The clients finish, and their tokens meet.
-fn meet<J: Live, R: Wait + Abort>(rt: &R, stand: &mut Stand<'_, J>) -> Result<String, AllocError> {
-    let (one, zero) = meet_at_the_end(rt, stand);
+/// Both clients finish and their tokens meet, which have their own numbers still.
+fn meet<J: Live, R: Wait>(rt: &R, stand: &mut Stand<'_, J>) -> Result<String, CaseError> {
+    let (one, zero) = meet_at_the_end(rt, stand)?;
     let own = (one.reporter(), zero.reporter()) == (Some(1), Some(0));
     let found = if own { "ok" } else { "the tokens of others" };
-    String::from_str(stand.service.alloc, found)
+    Ok(String::from_str(stand.service.alloc, found)?)
 }
 
 /// Both clients finish. Their tokens, that of client 1 first, meet.
-pub(crate) fn meet_at_the_end<J: Live, R: Wait + Abort>(
+pub(crate) fn meet_at_the_end<J: Live, R: Wait>(
     rt: &R,
     stand: &mut Stand<'_, J>,
-) -> (Seen<J>, Seen<J>) {
-    let (mut one, mut zero) = (finished(rt, stand), finished(rt, stand));
+) -> Result<(Seen<J>, Seen<J>), Fail> {
+    let (mut one, mut zero) = (finished(stand)?, finished(stand)?);
     stand.service.live.meet(rt, &mut one, &mut zero);
-    (one, zero)
+    Ok((one, zero))
 }
 
 /// The token of the last client that is left, which finishes.
-fn finished<J: Live>(rt: &impl Abort, stand: &mut Stand<'_, J>) -> Seen<J> {
+fn finished<J: Live>(stand: &mut Stand<'_, J>) -> Result<Seen<J>, Fail> {
     match stand.clients.pop() {
-        Some(client) => client.finish().1,
-        None => panic!(rt; "two clients are wanted"),
+        Some(client) => Ok(client.finish().1),
+        None => Err(Fail::new("two clients are wanted")),
     }
 }
 
-/// Closes the desk.
-fn shut<J: Live, R: Wait>(rt: &R, stand: &Stand<'_, J>) -> Result<String, AllocError> {
+/// Closes the desk, and leaves the other one open, at which `aside` reads.
+fn shut<J: Live, R: Wait>(rt: &R, stand: &Stand<'_, J>) -> Result<String, CaseError> {
     stand.service.desk.close(rt);
-    String::from_str(stand.service.alloc, "ok")
+    Ok(String::from_str(stand.service.alloc, "ok")?)
 }
 
 fn issued_text(alloc: Global, found: Result<Issued, ClientError>) -> Result<String, AllocError> {

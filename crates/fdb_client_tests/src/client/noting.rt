@@ -1,9 +1,9 @@
 //! A gate that counts who passes it.
 
-use crate::same::same;
+use fdb_checks::same;
 use fdb_history::{Gate, Place};
-use std::process::Abort;
 use std::sync::atomic::{AtomicU64, Ordering};
+use std::test::Fail;
 
 /// Counts how often a client passes at a place, and all other passes.
 #[derive(Drop)]
@@ -15,7 +15,6 @@ pub(crate) struct Noting {
 }
 
 impl Noting {
-    /// Has counted nobody yet.
     pub(crate) fn new(client: u32, place: Place) -> Noting {
         Noting {
             client,
@@ -26,10 +25,10 @@ impl Noting {
     }
 
     /// Checks that the client has passed so often at the place, and nobody elsewhere.
-    pub(crate) fn was_passed(&self, rt: &impl Abort, times: u64, case: &str) {
+    pub(crate) fn was_passed(&self, times: u64, case: &str) -> Result<(), Fail> {
         let there = self.there.load(Ordering::SeqCst);
         let elsewhere = self.elsewhere.load(Ordering::SeqCst);
-        same(rt, &(there, elsewhere), &(times, 0), &case);
+        same(&(there, elsewhere), &(times, 0), &case)
     }
 }
 

@@ -2,33 +2,34 @@
 
 use crate::client::lines::meet_at_the_end;
 use crate::client::{Service, Stand};
-use crate::same::holds;
+use fdb_checks::{CaseError, holds, same};
 use fdb_client::{Client, ClientError, ReadVersion};
 use fdb_history::{GrvOpts, OpenGate, Priority, Sequence};
-use fdb_live::{Live, Seen};
+use fdb_live::{Ack, Live, Seen};
 use fdb_proxy::{Desk, GrvProxy};
 use fdb_queue::{GrvQueue, QueueConfig};
 use std::alloc::{AllocError, Global};
-use std::process::Abort;
 use std::sync::Wait;
+use std::test::Fail;
 use std::thread;
 use std::thread::Threads;
 
 /// Both report, tell each other, and read. Each has then come at
 /// least as far as the other had told, and their tokens meet.
-pub(crate) fn over_two_proxies<J: Live + Send + Sync, R: Threads + Wait + Abort + Sync>(
+pub(crate) fn over_two_proxies<J: Live + Send + Sync, R: Threads + Wait + Sync>(
     rt: &R,
     stand: &mut Stand<'_, J>,
-) -> Result<(), AllocError> {
+) -> Result<(), CaseError> {
     let service = stand.service;
     let first = proxy_of(service, &service.desk, &mut stand.served)?;
     let second = proxy_of(service, &service.other, &mut stand.served)?;
-    let (ended, ()) = thread::join(
+    let (ended, worked) = thread::join(
         rt,
         || run_both(rt, first, second),
         || work_and_close(rt, stand),
     );
-    holds(rt, ended, &"the proxies have memory");
+    worked?;
+    holds(ended, &"the proxies have memory")?;
     Ok(())
 }
 
@@ -50,8 +51,7 @@ fn proxy_of<'a, J: Live>(
     Ok(GrvProxy::new(service.alloc, live, desk, queue, 1_000_000, token))
 }
 
-/// Runs two proxies, each in a thread of its own, and answers
-/// whether both ended because their desks were closed.
+/// Whether two proxies, each in a thread of its own, end because their desks are closed.
 fn run_both<J: Live + Send + Sync, R: Threads + Wait + Sync>(
     rt: &R,
     first: GrvProxy<'_, J>,
@@ -62,112 +62,125 @@ fn run_both<J: Live + Send + Sync, R: Threads + Wait + Sync>(
 }
 
 /// Has both clients work, each at its own desk, and closes the desks.
-fn work_and_close<J: Live + Send + Sync, R: Threads + Wait + Abort + Sync>(
+fn work_and_close<J: Live + Send + Sync, R: Threads + Wait + Sync>(
     rt: &R,
     stand: &mut Stand<'_, J>,
-) {
+) -> Result<(), Fail> {
     let service = stand.service;
     let Some((zero, others)) = stand.clients.split_first_mut() else {
-        panic!(rt; "two clients are wanted")
+        return Err(Fail::new("two clients are wanted"));
     };
-    let one = others.first_mut().expect(rt, "two clients");
+    let one = others.first_mut().ok_or("two clients are wanted")?;
     let told = work(rt, service, zero, one);
     service.desk.close(rt);
     service.other.close(rt);
-    meet(rt, stand, told);
+    meet(rt, stand, told?)
 }
 
 /// Both commit, tell each other what they have seen, and read. Answers the position that was told.
-fn work<J: Live + Send + Sync, R: Threads + Wait + Abort + Sync>(
+fn work<J: Live + Send + Sync, R: Threads + Wait + Sync>(
     rt: &R,
     service: &Service<J>,
     zero: &mut Client<'_, J>,
     one: &mut Client<'_, J>,
-) -> u64 {
-    thread::join(
+) -> Result<u64, Fail> {
+    let committed = thread::join(
         rt,
-        || commit(rt, service, zero),
-        || commit(rt, service, one),
+        || commit(rt, service, zero).is_ok(),
+        || commit(rt, service, one).is_ok(),
     );
-    let told = exchange_both(rt, zero, one);
-    thread::join(
+    same(
+        &committed,
+        &(true, true),
+        &"two versions and a report of each",
+    )?;
+    let told = exchange_both(rt, zero, one)?;
+    let read = thread::join(
         rt,
         || reads(rt, service, &service.desk, zero, told),
         || reads(rt, service, &service.other, one, told),
     );
-    told
+    same(&read, &(true, true), &"a read comes as far as was told")?;
+    Ok(told)
 }
 
 /// The clients finish, and their tokens meet, which have come as far as was told.
-fn meet<J: Live, R: Wait + Abort>(rt: &R, stand: &mut Stand<'_, J>, told: u64) {
-    let (one, zero) = meet_at_the_end(rt, stand);
-    holds(rt, zero.position() >= told, &"client 0 at the end");
-    holds(rt, one.position() >= told, &"client 1 at the end");
+fn meet<J: Live, R: Wait>(rt: &R, stand: &mut Stand<'_, J>, told: u64) -> Result<(), Fail> {
+    let (one, zero) = meet_at_the_end(rt, stand)?;
+    holds(zero.position() >= told, &"client 0 at the end")?;
+    holds(one.position() >= told, &"client 1 at the end")
 }
 
 /// Draws a commit version twice, and reports the second one.
-fn commit<J: Live, R: Wait + Abort>(rt: &R, service: &Service<J>, client: &mut Client<'_, J>) {
+fn commit<J: Live, R: Wait>(
+    rt: &R,
+    service: &Service<J>,
+    client: &mut Client<'_, J>,
+) -> Result<Ack, ClientError> {
     for at in [1_000, 2_000] {
-        let drawn = client.ask(rt, &OpenGate, &service.sequencer, 0, at).is_ok();
-        holds(rt, drawn, &at);
+        client.ask(rt, &OpenGate, &service.sequencer, 0, at)?;
     }
-    let acked = client.report(rt, &OpenGate, 2, false, None, 0).is_ok();
-    holds(rt, acked, &"a report");
+    client.report(rt, &OpenGate, 2, false, None, 0)
 }
 
 /// Each client tells the other. Answers the position that both have come to then.
-fn exchange_both<J: Live, R: Wait + Abort>(
+fn exchange_both<J: Live, R: Wait>(
     rt: &R,
     zero: &mut Client<'_, J>,
     one: &mut Client<'_, J>,
-) -> u64 {
-    let told = exchange(rt, zero, one).max(exchange(rt, one, zero));
-    holds(rt, told == 1 || told == 2, &"one raise is certain");
-    told
+) -> Result<u64, Fail> {
+    let told = exchange(rt, zero, one)?.max(exchange(rt, one, zero)?);
+    holds(told == 1 || told == 2, &"one raise is certain")?;
+    Ok(told)
 }
 
 /// One client tells another, who learns. Answers the position that was told.
-fn exchange<J: Live, R: Wait + Abort>(
+fn exchange<J: Live, R: Wait>(
     rt: &R,
     teller: &mut Client<'_, J>,
     other: &mut Client<'_, J>,
-) -> u64 {
-    let token = told(rt, teller, other.number());
+) -> Result<u64, Fail> {
+    let token = told(teller, other.number())?;
     let position = token.position();
-    learnt(rt, other, teller.number(), token);
-    holds(rt, other.position() >= position, &"as far as was told");
-    position
+    learnt(rt, other, teller.number(), token)?;
+    holds(other.position() >= position, &"as far as was told")?;
+    Ok(position)
 }
 
-/// What a client tells another.
-fn told<J: Live>(rt: &impl Abort, teller: &mut Client<'_, J>, to: u32) -> Seen<J> {
+/// The token that a client tells another, or a failure where the tell is refused memory.
+fn told<J: Live>(teller: &mut Client<'_, J>, to: u32) -> Result<Seen<J>, Fail> {
     match teller.tell(to) {
-        Ok(token) => token,
-        Err(_) => panic!(rt; "a tell is refused"),
+        Ok(token) => Ok(token),
+        Err(_) => Err(Fail::new("a tell is refused")),
     }
 }
 
 /// A client learns what it was told by another.
-fn learnt<J: Live, R: Wait + Abort>(rt: &R, client: &mut Client<'_, J>, from: u32, token: Seen<J>) {
+fn learnt<J: Live, R: Wait>(
+    rt: &R,
+    client: &mut Client<'_, J>,
+    from: u32,
+    token: Seen<J>,
+) -> Result<(), Fail> {
     if token.reporter().is_none() {
         let learnt = client.learn(rt, from, token).is_ok();
-        holds(rt, learnt, &"a learn");
+        holds(learnt, &"a learn")?;
     }
+    Ok(())
 }
 
-/// Reads at a desk, as far as was told or further.
-fn reads<J: Live, R: Wait + Abort>(
+/// Whether a read at a desk comes as far as was told or further.
+fn reads<J: Live, R: Wait>(
     rt: &R,
     service: &Service<J>,
     desk: &Desk<J>,
     client: &mut Client<'_, J>,
     told: u64,
-) {
-    let position = match read(rt, service.alloc, desk, client) {
-        Ok(read) => read.position,
-        Err(_) => 0,
-    };
-    holds(rt, position >= told, &"a read comes as far as was told");
+) -> bool {
+    match read(rt, service.alloc, desk, client) {
+        Ok(read) => read.position >= told,
+        Err(_) => false,
+    }
 }
 
 /// A read of one transaction without tags.

@@ -5,44 +5,41 @@ ghost use Rattle.fdb_proxy.specs.Cause.{may_be_refused_for};
 
 use crate::client::Service;
 use crate::client::noting::Noting;
-use crate::same::holds;
 use crossbeam_channel::Sender;
+use fdb_checks::{CaseError, holds};
 use fdb_client::{Client, ClientError, ReadVersion};
 use fdb_history::{GrvOpts, Place, Sequence};
 use fdb_live::{Live, Seen};
 use fdb_proxy::{Answer, Cause, Desk, Refused, Reply, Request};
 use fdb_queue::QueueError;
 use std::alloc::AllocError;
-use std::process::Abort;
 use std::sync::Wait;
+use std::test::Fail;
 use std::thread;
 use std::thread::Threads;
 
-/// How a request is answered.
+/// How the test answers a request, in the place of a GRV proxy.
 #[derive(Clone, Copy)]
 pub(crate) enum Way {
-    /// With what is read.
+    /// With what is read then, which goes as far as the asker has seen.
     Served,
     /// With that, as if it had been asked one position later.
     FromAnotherPosition,
-    /// It is not.
+    /// Not at all: the request is dropped, and its channel with it.
     Dropped,
-    /// The proxy is closed.
     Closed,
-    /// Its queue is full.
     Full,
-    /// Its queue is refused memory.
+    /// With a refusal, since the proxy's queue is refused memory.
     OutOfMemory,
 }
 
-/// Whom an answer is for.
+/// Whom an answer is for, by the client and the serial number in it.
 #[derive(Clone, Copy)]
 pub(crate) enum Whom {
-    /// The request that came.
     Asker,
-    /// Another client's request.
+    /// A request of the other of two clients, under the same serial number.
     AnotherClient,
-    /// The client's next request.
+    /// The client's next request, which it has not made yet.
     AnotherSerial,
 }
 
@@ -76,7 +73,7 @@ impl Wanted {
         })
     }
 
-    /// Whether this is such a request.
+    /// Whether this is such a request, with a token that has come to the asked position.
     fn is_met<J: Live>(&self, request: &Request<J>) -> bool {
         request.client == self.client
             && request.serial == self.serial
@@ -89,13 +86,13 @@ impl Wanted {
 /// A client's read, while its desk is served in another thread. It leaves one request
 /// there, under the number of the calls before it, and with what the client has seen and
 /// was told to ask. It passes the gate once where an answer came, and else not at all.
-pub(crate) fn read_served<J: Live + Send + Sync, R: Threads + Wait + Abort + Sync>(
+pub(crate) fn read_served<J: Live + Send + Sync, R: Threads + Wait + Sync>(
     rt: &R,
     service: &Service<J>,
     served: &mut Seen<J>,
     client: &mut Client<'_, J>,
     reading: Reading,
-) -> Result<ReadVersion, ClientError> {
+) -> Result<Result<ReadVersion, ClientError>, CaseError> {
     let wanted = Wanted::of(client, &reading.opts)?;
     let Reading {
         aside,
@@ -110,14 +107,15 @@ pub(crate) fn read_served<J: Live + Send + Sync, R: Threads + Wait + Abort + Syn
         || serve(rt, service, desk, served, &wanted, way, whom),
         || client.read_version(rt, &gate, desk, opts),
     );
+    let answered = answered?;
     let left = desk.take(rt, false);
-    holds(rt, left.requests.is_empty(), &"one request is left");
-    gate.was_passed(rt, u64::from(answered), "passes of the gate");
-    found
+    holds(left.requests.is_empty(), &"one request is left")?;
+    gate.was_passed(u64::from(answered), "passes of the gate")?;
+    Ok(found)
 }
 
 /// Takes what comes to the desk first, and answers it. Says whether an answer was sent.
-fn serve<J: Live, R: Wait + Abort>(
+fn serve<J: Live, R: Wait>(
     rt: &R,
     service: &Service<J>,
     desk: &Desk<J>,
@@ -125,17 +123,17 @@ fn serve<J: Live, R: Wait + Abort>(
     wanted: &Wanted,
     way: Way,
     whom: Whom,
-) -> bool {
+) -> Result<bool, Fail> {
     let mut taken = desk.take(rt, true);
     let Some(request) = taken.requests.pop() else {
-        return false;
+        return Ok(false);
     };
-    holds(rt, wanted.is_met(&request.payload), &"the request");
-    holds(rt, taken.requests.is_empty(), &"one request");
-    answer(rt, service, served, addressed(request.payload, whom), way)
+    holds(wanted.is_met(&request.payload), &"the request")?;
+    holds(taken.requests.is_empty(), &"one request")?;
+    Ok(answer(rt, service, served, addressed(request.payload, whom), way))
 }
 
-/// A request as its answer has it.
+/// A request with the client and the serial number that its answer is to have.
 fn addressed<J: Live>(mut request: Request<J>, whom: Whom) -> Request<J> {
     let (client, serial) = (request.client, request.serial);
     (request.client, request.serial) = match whom {
@@ -161,7 +159,7 @@ fn answer<J: Live, R: Wait>(
     }
 }
 
-/// The answer to a request, if there is one.
+/// The answer to a request in this way, if there is one to send.
 fn answer_of<J: Live, R: Wait>(
     rt: &R,
     service: &Service<J>,
@@ -179,7 +177,7 @@ fn answer_of<J: Live, R: Wait>(
     }
 }
 
-/// That a request does not start.
+/// The answer that a request does not start and why, which hands the token back.
 fn refused<J: Live>(request: Request<J>, cause: Cause) -> Answer<J>
     requires { may_be_refused_for cause ≡ true }
 {

@@ -3,9 +3,8 @@
 ghost use Rattle.std.specs.Prelude.{◌≡◌};
 
 use crate::client::{Case, Service, client_of, play, unlocked};
-use crate::line::tag;
-use crate::same::{holds, same};
 use fdb_chain::ChainError;
+use fdb_checks::{CaseError, holds, same, tag};
 use fdb_client::{Client, ClientError, ReadVersion};
 use fdb_history::{GrvOpts, OpenGate, Priority, Sequence};
 use fdb_live::{Ack, Fetched, Live, Seen};
@@ -13,7 +12,6 @@ use fdb_proxy::{GrvProxy, Request};
 use fdb_queue::{GrvQueue, QueueConfig};
 use std::alloc::{AllocError, Global};
 use std::fmt::Debug;
-use std::process::Abort;
 use std::sync::Wait;
 use std::test::Fail;
 use std::thread;
@@ -30,45 +28,45 @@ pub(crate) struct Caller<'a, J: Live> {
 
 impl<'a, J: Live> Caller<'a, J> {
     /// The client of the last of some tokens of reporters.
-    pub(crate) fn new(rt: &impl Abort, service: &'a Service<J>, tokens: &mut Vec<Seen<J>>) -> Self {
-        let mut token = tokens.pop().expect(rt, "a token is left");
+    pub(crate) fn new(service: &'a Service<J>, tokens: &mut Vec<Seen<J>>) -> Result<Self, Fail> {
+        let mut token = tokens.pop().ok_or("no token is left")?;
         let witness = service.live.split(&mut token);
-        let client = client_of(rt, service, token);
-        Caller {
+        let client = client_of(service, token)?;
+        Ok(Caller {
             service,
             client,
             witness,
-        }
+        })
     }
 
-    /// What stands in the live record.
+    /// What stands in the live record, as the witness reads it.
     fn looks<R: Wait>(&mut self, rt: &R) -> Fetched {
         self.service.live.read(rt, &mut self.witness)
     }
 
     /// Checks that its log has so many calls, and comes to this position.
-    pub(crate) fn is_at(&self, rt: &impl Abort, calls: usize, position: u64) {
+    pub(crate) fn is_at(&self, calls: usize, position: u64) -> Result<(), Fail> {
         let found = (self.client.calls().len(), self.client.position());
-        same(rt, &found, &(calls, position), &"calls and position");
+        same(&found, &(calls, position), &"calls and position")
     }
 
-    /// Asks for a version under a number.
-    pub(crate) fn asks<R: Wait + Abort>(
+    /// Asks for a version under a number, or under the next one where that is 0.
+    pub(crate) fn asks<R: Wait>(
         &mut self,
         rt: &R,
         num: u64,
         wanted: Result<u64, ClientError>,
-    ) -> Result<(), AllocError> {
+    ) -> Result<(), CaseError> {
         let (calls, position) = (self.client.calls().len(), self.client.position());
         let mut found = self.asked(rt, num);
         if found == Err(ClientError::Memory) {
-            self.is_at(rt, calls, position);
+            self.is_at(calls, position)?;
             found = self.asked(rt, num);
         }
-        self.is_wanted(rt, found, wanted, "ask")
+        self.is_wanted(found, wanted, "ask")
     }
 
-    /// The version under a number: the next one, where the number is.
+    /// The version under a number, or under the next one where that is 0.
     fn asked<R: Wait>(&mut self, rt: &R, num: u64) -> Result<u64, ClientError> {
         let sequencer = &self.service.sequencer;
         let issued = match num {
@@ -79,43 +77,38 @@ impl<'a, J: Live> Caller<'a, J> {
     }
 
     /// Reports the version under a number. Where it is refused memory, nobody reads anything of it.
-    pub(crate) fn reports<R: Wait + Abort>(
+    pub(crate) fn reports<R: Wait>(
         &mut self,
         rt: &R,
         num: u64,
         wanted: Result<Ack, ClientError>,
-    ) -> Result<(), AllocError> {
+    ) -> Result<(), CaseError> {
         let (calls, position) = (self.client.calls().len(), self.client.position());
         let before = self.looks(rt);
         let mut found = self.client.report(rt, &OpenGate, num, false, None, 0);
         if found == Err(ClientError::Memory) {
-            same(rt, &self.looks(rt), &before, &"after a refused report");
-            self.is_at(rt, calls, position);
+            same(&self.looks(rt), &before, &"after a refused report")?;
+            self.is_at(calls, position)?;
             found = self.client.report(rt, &OpenGate, num, false, None, 0);
         }
-        self.is_wanted(rt, found, wanted, "report")
+        self.is_wanted(found, wanted, "report")
     }
 
-    /// Tells another client.
-    fn tells(&mut self, rt: &impl Abort, to: u32) -> Result<Seen<J>, AllocError> {
+    /// Tells another client. A tell that is refused memory is not logged.
+    fn tells(&mut self, to: u32) -> Result<Seen<J>, CaseError> {
         let (calls, position) = (self.client.calls().len(), self.client.position());
         let told = match self.client.tell(to) {
             Err(_) => {
-                self.is_at(rt, calls, position);
+                self.is_at(calls, position)?;
                 self.client.tell(to)
             }
             told => told,
         };
-        self.unless_again(rt, told.ok(), "tell")
+        self.unless_again(told.ok(), "tell")
     }
 
     /// Learns what another client told. A token that comes back is the one that was told.
-    fn learns<R: Wait + Abort>(
-        &mut self,
-        rt: &R,
-        from: u32,
-        told: Seen<J>,
-    ) -> Result<(), AllocError>
+    fn learns<R: Wait>(&mut self, rt: &R, from: u32, told: Seen<J>) -> Result<(), CaseError>
         requires { told.reporter ≡ None }
     {
         let (calls, position) = (self.client.calls().len(), self.client.position());
@@ -123,10 +116,10 @@ impl<'a, J: Live> Caller<'a, J> {
         match self.client.learn(rt, from, told) {
             Ok(()) => Ok(()),
             Err((_, told)) => {
-                self.is_at(rt, calls, position);
-                same(rt, &told.position(), &at, &"is handed back");
+                self.is_at(calls, position)?;
+                same(&told.position(), &at, &"is handed back")?;
                 let learnt = self.client.learn(rt, from, told);
-                self.unless_again(rt, learnt.ok(), "learn")
+                self.unless_again(learnt.ok(), "learn")
             }
         }
     }
@@ -134,43 +127,38 @@ impl<'a, J: Live> Caller<'a, J> {
     /// Fails the test where a call did not end as it should, unless it was refused memory again.
     fn is_wanted<T: PartialEq + Debug + Drop>(
         &self,
-        rt: &impl Abort,
         found: Result<T, ClientError>,
         wanted: Result<T, ClientError>,
         call: &str,
-    ) -> Result<(), AllocError> {
+    ) -> Result<(), CaseError> {
         if found == Err(ClientError::Memory) {
-            return self.unless_again(rt, None, call);
+            return self.unless_again(None, call);
         }
-        same(rt, &found, &wanted, &call);
+        same(&found, &wanted, &call)?;
         Ok(())
     }
 
     /// What came of a call that was made once more, which has memory where that is refused at most
     /// once.
-    fn unless_again<T>(
-        &self,
-        rt: &impl Abort,
-        found: Option<T>,
-        call: &str,
-    ) -> Result<T, AllocError> {
-        holds(rt, found.is_some() || !self.service.once, &call);
-        found.ok_or(AllocError)
+    fn unless_again<T: Drop>(&self, found: Option<T>, call: &str) -> Result<T, CaseError> {
+        holds(found.is_some() || !self.service.once, &call)?;
+        Ok(found.ok_or(AllocError)?)
     }
 
-    /// Reads while the desk is served.
-    fn reads<R: Wait + Abort>(&mut self, rt: &R) -> Result<ReadVersion, ClientError> {
+    /// Reads while the desk is served. A read that is refused memory is not logged, and made once
+    /// more.
+    fn reads<R: Wait>(&mut self, rt: &R) -> Result<Result<ReadVersion, ClientError>, Fail> {
         let (calls, position) = (self.client.calls().len(), self.client.position());
         match self.read(rt) {
             Err(ClientError::Memory) => {
-                self.is_at(rt, calls, position);
-                self.read(rt)
+                self.is_at(calls, position)?;
+                Ok(self.read(rt))
             }
-            found => found,
+            found => Ok(found),
         }
     }
 
-    /// A read of a tag.
+    /// A read at the service's desk, with the tag `t`.
     fn read<R: Wait>(&mut self, rt: &R) -> Result<ReadVersion, ClientError> {
         let opts = tagged(self.service.alloc)?;
         self.client
@@ -194,51 +182,51 @@ fn tagged(alloc: Global) -> Result<GrvOpts, AllocError> {
 
 /// Each of six clients begins with another call. It fails where memory is refused twice to one of
 /// them, or once to what stands round them.
-pub(crate) fn begin_each<J: Live + Send + Sync, R: Threads + Wait + Abort + Sync>(
+pub(crate) fn begin_each<J: Live + Send + Sync, R: Threads + Wait + Sync>(
     rt: &R,
     service: &Service<J>,
     mut served: Seen<J>,
     mut tokens: Vec<Seen<J>>,
     once: bool,
-) -> Result<(), AllocError> {
+) -> Result<(), CaseError> {
     commit_and_tell(rt, service, &mut tokens)?;
     begin_otherwise(rt, service, &mut tokens)?;
     ask_again(rt, service, &mut tokens)?;
-    let mut reader = Caller::new(rt, service, &mut tokens);
+    let mut reader = Caller::new(service, &mut tokens)?;
     let token = service.live.split(&mut served);
     serve(rt, &mut reader, token, once)
 }
 
 /// One client asks, reports and tells, and another learns.
-fn commit_and_tell<J: Live, R: Wait + Abort>(
+fn commit_and_tell<J: Live, R: Wait>(
     rt: &R,
     service: &Service<J>,
     tokens: &mut Vec<Seen<J>>,
-) -> Result<(), AllocError> {
-    let mut first = Caller::new(rt, service, tokens);
+) -> Result<(), CaseError> {
+    let mut first = Caller::new(service, tokens)?;
     commit(rt, &mut first)?;
-    let mut learner = Caller::new(rt, service, tokens);
+    let mut learner = Caller::new(service, tokens)?;
     exchange(rt, &mut first, &mut learner)?;
-    first.is_at(rt, 6, 1);
-    learner.is_at(rt, 1, 1);
-    leaves(rt, first, 6);
-    leaves(rt, learner, 1);
+    first.is_at(6, 1)?;
+    learner.is_at(1, 1)?;
+    leaves(first, 6)?;
+    leaves(learner, 1)?;
     Ok(())
 }
 
 /// Checks that a client leaves a log of so many calls and a token at position 1, for which it
 /// takes no memory.
-fn leaves<J: Live>(rt: &impl Abort, caller: Caller<'_, J>, calls: usize) {
+fn leaves<J: Live>(caller: Caller<'_, J>, calls: usize) -> Result<(), Fail> {
     let number = caller.client.number();
     let (log, token) = caller.client.finish();
-    same(rt, &log.calls.len(), &calls, &"the log that is left");
+    same(&log.calls.len(), &calls, &"the log that is left")?;
     let left = (token.reporter(), token.position());
-    same(rt, &left, &(Some(number), 1), &"the token that is left");
+    same(&left, &(Some(number), 1), &"the token that is left")
 }
 
 /// A client asks for four versions and reports the last one. No time passes, so that each is one
 /// above the one before; a request that is refused draws none.
-fn commit<J: Live, R: Wait + Abort>(rt: &R, client: &mut Caller<'_, J>) -> Result<(), AllocError> {
+fn commit<J: Live, R: Wait>(rt: &R, client: &mut Caller<'_, J>) -> Result<(), CaseError> {
     for version in 100..104 {
         client.asks(rt, 0, Ok(version))?;
     }
@@ -250,13 +238,13 @@ fn commit<J: Live, R: Wait + Abort>(rt: &R, client: &mut Caller<'_, J>) -> Resul
     client.reports(rt, 4, Ok(first))
 }
 
-/// One client tells another, which learns.
-fn exchange<J: Live, R: Wait + Abort>(
+/// One client tells another, which learns unless the token is a reporter's.
+fn exchange<J: Live, R: Wait>(
     rt: &R,
     teller: &mut Caller<'_, J>,
     learner: &mut Caller<'_, J>,
-) -> Result<(), AllocError> {
-    let told = teller.tells(rt, learner.client.number())?;
+) -> Result<(), CaseError> {
+    let told = teller.tells(learner.client.number())?;
     if told.reporter().is_none() {
         learner.learns(rt, teller.client.number(), told)?;
     }
@@ -264,43 +252,43 @@ fn exchange<J: Live, R: Wait + Abort>(
 }
 
 /// Two clients begin with a tell and with a report.
-fn begin_otherwise<J: Live, R: Wait + Abort>(
+fn begin_otherwise<J: Live, R: Wait>(
     rt: &R,
     service: &Service<J>,
     tokens: &mut Vec<Seen<J>>,
-) -> Result<(), AllocError> {
-    let mut teller = Caller::new(rt, service, tokens);
-    teller.tells(rt, 5)?;
-    teller.is_at(rt, 1, 0);
-    let mut reporter = Caller::new(rt, service, tokens);
+) -> Result<(), CaseError> {
+    let mut teller = Caller::new(service, tokens)?;
+    teller.tells(5)?;
+    teller.is_at(1, 0)?;
+    let mut reporter = Caller::new(service, tokens)?;
     reporter.reports(rt, 1, Err(ClientError::NotIssued))?;
-    reporter.is_at(rt, 1, 0);
+    reporter.is_at(1, 0)?;
     Ok(())
 }
 
 /// A client asks under numbers of its own choice: its next, the same again, and one ahead.
-fn ask_again<J: Live, R: Wait + Abort>(
+fn ask_again<J: Live, R: Wait>(
     rt: &R,
     service: &Service<J>,
     tokens: &mut Vec<Seen<J>>,
-) -> Result<(), AllocError> {
-    let mut asking = Caller::new(rt, service, tokens);
+) -> Result<(), CaseError> {
+    let mut asking = Caller::new(service, tokens)?;
     asking.asks(rt, 1, Ok(104))?;
     asking.asks(rt, 1, Ok(104))?;
     let early = ChainError::Early { expected: 2 };
     asking.asks(rt, 9, Err(ClientError::Chain(early)))?;
-    asking.is_at(rt, 3, 0);
+    asking.is_at(3, 0)?;
     Ok(())
 }
 
 /// A client reads through a proxy in a thread of its own. It hears nothing where the proxy is
 /// refused memory, which then ends.
-fn serve<J: Live + Send + Sync, R: Threads + Wait + Abort + Sync>(
+fn serve<J: Live + Send + Sync, R: Threads + Wait + Sync>(
     rt: &R,
     reader: &mut Caller<'_, J>,
     token: Seen<J>,
     once: bool,
-) -> Result<(), AllocError> {
+) -> Result<(), CaseError> {
     let service = reader.service;
     let (alloc, live, desk) = (service.alloc, &service.live, &service.desk);
     let queue = throttled_queue(alloc)?;
@@ -310,22 +298,18 @@ fn serve<J: Live + Send + Sync, R: Threads + Wait + Abort + Sync>(
         let found = reader.reads(rt);
         desk.close(rt);
         let served = running.join(rt);
-        match found {
-            Ok(read) => is_read(rt, reader, &read),
-            Err(cause) => is_refused(rt, reader, cause, served, once),
+        match found? {
+            Ok(read) => is_read(reader, &read),
+            Err(cause) => is_refused(reader, cause, served, once),
         }
     })
 }
 
 /// Checks what was read, and what of it is logged.
-fn is_read<J: Live>(
-    rt: &impl Abort,
-    reader: &Caller<'_, J>,
-    read: &ReadVersion,
-) -> Result<(), AllocError> {
-    same(rt, &(read.rec, read.position), &(unlocked(103), 1), &"read");
-    same(rt, &read.limits.len(), &1, &"limits");
-    reader.is_at(rt, 1, 1);
+fn is_read<J: Live>(reader: &Caller<'_, J>, read: &ReadVersion) -> Result<(), CaseError> {
+    same(&(read.rec, read.position), &(unlocked(103), 1), &"read")?;
+    same(&read.limits.len(), &1, &"limits")?;
+    reader.is_at(1, 1)?;
     Ok(())
 }
 
@@ -333,17 +317,16 @@ fn is_read<J: Live>(
 /// proxy is closed. Where memory is refused more than once, the read itself may have failed for it,
 /// of which the log has nothing.
 fn is_refused<J: Live>(
-    rt: &impl Abort,
     reader: &Caller<'_, J>,
     cause: ClientError,
     served: bool,
     once: bool,
-) -> Result<(), AllocError> {
+) -> Result<(), CaseError> {
     let closed = cause == ClientError::ProxyClosed;
-    holds(rt, closed || !once && cause == ClientError::Memory, &cause);
-    holds(rt, !closed || !served, &"closed, though it served");
-    reader.is_at(rt, usize::from(closed), 0);
-    Err(AllocError)
+    holds(closed || !once && cause == ClientError::Memory, &cause)?;
+    holds(!closed || !served, &"closed, though it served")?;
+    reader.is_at(usize::from(closed), 0)?;
+    Err(CaseError::Memory)
 }
 
 /// A queue with a throttle of the tag `t`.
@@ -364,9 +347,9 @@ fn throttled_queue<J: Live>(alloc: Global) -> Result<GrvQueue<Request<J>>, Alloc
 #[test]
 fn a_client_bears_it(rt: HostRuntime) -> Result<(), Fail> {
     let once = Case::BeginEach { once: true };
-    match play(&rt, rt.alloc(), 6, 6, once) {
-        Err(_) => play(&rt, rt.alloc(), 6, 6, once)?,
-        Ok(()) => {}
+    if let Err(error) = play(&rt, rt.alloc(), 6, 6, once) {
+        error.was_refusal()?;
+        play(&rt, rt.alloc(), 6, 6, once)?;
     }
     Ok(())
 }
@@ -375,6 +358,8 @@ fn a_client_bears_it(rt: HostRuntime) -> Result<(), Fail> {
 /// memory, or as ever.
 #[test]
 fn without_memory(rt: HostRuntime) -> Result<(), Fail> {
-    let _ended = play(&rt, rt.alloc(), 6, 6, Case::BeginEach { once: false });
+    if let Err(error) = play(&rt, rt.alloc(), 6, 6, Case::BeginEach { once: false }) {
+        error.was_refusal()?;
+    }
     Ok(())
 }

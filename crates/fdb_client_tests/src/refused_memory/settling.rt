@@ -4,37 +4,36 @@ ghost use Rattle.std.specs.Prelude.{◌≡◌};
 
 use crate::client::{Service, unlocked};
 use crate::refused_memory::clients::Caller;
-use crate::same::same;
 use fdb_chain::{ChainCore, Sequencer};
+use fdb_checks::{CaseError, same};
 use fdb_client::{Client, settle};
 use fdb_live::{Ack, Live, LiveRecord, Opened, Seen};
 use fdb_proxy::Desk;
-use std::alloc::{AllocError, Global};
+use std::alloc::Global;
 use std::marker::Brand;
-use std::process::Abort;
 use std::sync::Wait;
 use std::test::Fail;
 
 /// Opens a service for two clients, who make calls, and settles their logs. It fails where memory
 /// is refused twice to one of them, or once to what stands round them, and passes else.
-fn settle_two<R: Wait + Abort>(rt: &R, alloc: Global, once: bool) -> Result<(), AllocError> {
+fn settle_two<R: Wait>(rt: &R, alloc: Global, once: bool) -> Result<(), CaseError> {
     let Ok(opened) = LiveRecord::<Brand>::open(rt, alloc, unlocked(100), 2) else {
-        return Err(AllocError);
+        return Err(CaseError::Memory);
     };
     match ChainCore::new(alloc, 0, 100, 2) {
         Ok(core) => settle_named::<Brand, R>(rt, alloc, opened, core, once),
-        Err(_) => Err(AllocError),
+        Err(_) => Err(CaseError::Memory),
     }
 }
 
 /// The same under the name of the service.
-fn settle_named<J: Live, R: Wait + Abort>(
+fn settle_named<J: Live, R: Wait>(
     rt: &R,
     alloc: Global,
     opened: Opened,
     core: ChainCore,
     once: bool,
-) -> Result<(), AllocError>
+) -> Result<(), CaseError>
     requires opened { opened
         ≡ record { table = J.table; start = J.start; reporters = J.reporters } }
     requires two { opened.reporters ≡ 2 }
@@ -42,7 +41,7 @@ fn settle_named<J: Live, R: Wait + Abort>(
     requires recovery { core.recovery ≡ J.recovery }
 {
     let Ok((live, first, mut tokens)) = opened.parts::<J>() else {
-        return Err(AllocError);
+        return Err(CaseError::Memory);
     };
     let service = Service {
         alloc,
@@ -52,32 +51,32 @@ fn settle_named<J: Live, R: Wait + Abort>(
         other: Desk::new(alloc),
         once,
     };
-    let mut one = Caller::new(rt, &service, &mut tokens);
-    let mut zero = Caller::new(rt, &service, &mut tokens);
+    let mut one = Caller::new(&service, &mut tokens)?;
+    let mut zero = Caller::new(&service, &mut tokens)?;
     report_in_turn(rt, &mut zero, &mut one)?;
-    settle_both(rt, &service.live, first, zero.client, one.client);
+    settle_both(rt, &service.live, first, zero.client, one.client)?;
     Ok(())
 }
 
 /// Each client draws a version and reports it: the first is that of the recovery, which raises
 /// nothing, and each of the others raises the record.
-fn report_in_turn<J: Live, R: Wait + Abort>(
+fn report_in_turn<J: Live, R: Wait>(
     rt: &R,
     zero: &mut Caller<'_, J>,
     one: &mut Caller<'_, J>,
-) -> Result<(), AllocError> {
+) -> Result<(), CaseError> {
     commit(rt, zero, 1, (100, 0))?;
     commit(rt, one, 1, (101, 1))?;
     commit(rt, zero, 2, (102, 2))
 }
 
 /// A client draws a version under a number and reports it, which is to come to a position.
-fn commit<J: Live, R: Wait + Abort>(
+fn commit<J: Live, R: Wait>(
     rt: &R,
     client: &mut Caller<'_, J>,
     num: u64,
     (version, position): (u64, u64),
-) -> Result<(), AllocError> {
+) -> Result<(), CaseError> {
     client.asks(rt, 0, Ok(version))?;
     let ack = Ack {
         raised: position > 0,
@@ -89,30 +88,31 @@ fn commit<J: Live, R: Wait + Abort>(
 
 /// Two clients leave their logs, which are settled. Each is the one in its place, and had seen
 /// nothing when it began.
-fn settle_both<J: Live, R: Wait + Abort>(
+fn settle_both<J: Live, R: Wait>(
     rt: &R,
     live: &LiveRecord<J>,
     first: Seen<J>,
     zero: Client<'_, J>,
     one: Client<'_, J>,
-)
+) -> Result<(), Fail>
     requires two { J.reporters ≡ 2 }
 {
     let is_zero = zero.number() == 0 && zero.begun() == 0;
-    assert!(rt; is_zero, "client 0 from position 0 on");
     let is_one = one.number() == 1 && one.begun() == 0;
-    assert!(rt; is_one, "client 1 from position 0 on");
-    settled(rt, live, first, zero, one);
+    if !is_zero || !is_one {
+        return Err(Fail::new("clients 0 and 1 from position 0 on are wanted"));
+    }
+    settled(rt, live, first, zero, one)
 }
 
 /// Checks what comes of it: two reports changed the record, and all have seen both.
-fn settled<J: Live, R: Wait + Abort>(
+fn settled<J: Live, R: Wait>(
     rt: &R,
     live: &LiveRecord<J>,
     mut first: Seen<J>,
     zero: Client<'_, J>,
     one: Client<'_, J>,
-)
+) -> Result<(), Fail>
     requires two { J.reporters ≡ 2 }
     requires zero { (zero.number ≡ 0) × (zero.begun ≡ 0) }
     requires one { (one.number ≡ 1) × (one.begun ≡ 0) }
@@ -122,19 +122,19 @@ fn settled<J: Live, R: Wait + Abort>(
     let logs = [log, other_log];
     let mut tokens = [token, other_token];
     let changes = settle(rt, live, &mut first, &mut tokens, &logs);
-    same(rt, &changes, &2, &"reports that changed the record");
+    same(&changes, &2, &"reports that changed the record")?;
     for token in &tokens {
-        same(rt, &token.position(), &2, &"what each has then seen");
+        same(&token.position(), &2, &"what each has then seen")?;
     }
-    same(rt, &first.position(), &2, &"the token with no number");
+    same(&first.position(), &2, &"the token with no number")
 }
 
 /// Logs that are settled take no memory.
 #[test]
 fn settling_bears_it(rt: HostRuntime) -> Result<(), Fail> {
-    match settle_two(&rt, rt.alloc(), true) {
-        Err(_) => settle_two(&rt, rt.alloc(), true)?,
-        Ok(()) => {}
+    if let Err(error) = settle_two(&rt, rt.alloc(), true) {
+        error.was_refusal()?;
+        settle_two(&rt, rt.alloc(), true)?;
     }
     Ok(())
 }
@@ -143,6 +143,8 @@ fn settling_bears_it(rt: HostRuntime) -> Result<(), Fail> {
 /// of memory, or the logs are settled as ever.
 #[test]
 fn without_memory(rt: HostRuntime) -> Result<(), Fail> {
-    let _ended = settle_two(&rt, rt.alloc(), false);
+    if let Err(error) = settle_two(&rt, rt.alloc(), false) {
+        error.was_refusal()?;
+    }
     Ok(())
 }

@@ -43,10 +43,6 @@ audited_complete start chain logs (Ok answered) audited history explains no_stra
 audited_complete start chain logs (Err fault) audited history explains no_stray none_low =
     fault_of_linear start chain logs (faultless start logs history explains) no_stray none_low fault audited
 
--- nothing stands where nothing is found
-pub nothing_found : (Stands : ℕ → ℕ → Type 0) (found : Option CallName) → found ≡ None → IsFirstCall Stands found → Nowhere Stands
-nothing_found Stands found none first = let P : Option CallName → Type 0 = λ o. IsFirstCall Stands o in subst P none first
-
 -- where the history has no fault, the first that stands is one of an answer
 of_an_answer : (start : Record) (chain : List Issued) (logs : List ClientLog) (fault : AuditFault) → IsFaultless start logs → IsFirstFault start chain logs fault → fault ≢ Memory
     → IsOfAnAnswer fault

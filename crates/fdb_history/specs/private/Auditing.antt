@@ -47,7 +47,7 @@ AreByPosition changes = IsNonDecreasingBy (λ (change : PlacedChange). change.po
 abbrev pub AreChangesOf : List ClientLog → List PlacedChange → Type 0
 AreChangesOf logs changes = (position : ℕ) → at_position position changes ≡ changes_at logs position
 
--- two changes have a position
+-- two or more changes of the list have this position
 abbrev pub AreTwoAt : List PlacedChange → ℕ → Type 0
 AreTwoAt changes position = 1 < length (at_position position changes)
 

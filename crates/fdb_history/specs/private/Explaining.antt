@@ -18,6 +18,6 @@ change_of_event position (Report client call rec raised true) =
 change_of_event position (Report client call rec raised false) = []
 change_of_event position (Read client call rec) = []
 
--- the changes among some events
+-- the changes among some events, each with the position of its event
 abbrev pub changes_of : List Placed → List PlacedChange
 changes_of events = flat_map (λ p. change_of_event p.position p.event) events

@@ -10,12 +10,11 @@ use crate::event::{Event, Placed};
 use crate::register::Record;
 use std::alloc::{AllocError, Global};
 
-/// A report that changed the register, and its position.
+/// A report that changed the register, as it was reported, and its position: it is the change of
+/// this number, counted from 1.
 #[derive(Clone, Copy)]
 pub struct PlacedChange {
-    /// The position.
     pub position: u64,
-    /// What was reported.
     pub rec: Record,
 }
 

@@ -18,7 +18,7 @@ pub(crate) struct CallName {
 pub(crate) trait CallFault {
     ghost Stands: { Self → List Call → Call → Type 0 };
 
-    /// Whether the call has the fault.
+    /// Whether the call has the fault; `before` are all calls before it in its log.
     fn stands_at(&self, before: &[Call], call: &Call) -> bool
         ensures { IsTrue result ↔ Stands self.now before.now call.now };
 }

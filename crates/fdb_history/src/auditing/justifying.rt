@@ -14,7 +14,7 @@ use crate::log::{Call, CallAnswer, Input, Refusal};
 use crate::register::MAX_VERSION;
 use crate::replies::{Replies, answer_at};
 
-/// Whether a call's answer is justified.
+/// Whether a call's answer is justified, where `own` is what its client drew before it.
 pub(crate) fn is_justified_by(chain: &[Issued], client: u32, own: &Replies, call: &Call) -> bool
     ensures { result ≡ is_justified_by chain.now client (length own.now.places)
         (reply chain.now own.now (number_of call.now.input))
@@ -40,7 +40,7 @@ fn goes_with(input: &Input, answer: &CallAnswer) -> bool
     }
 }
 
-/// Whether a call may be refused so.
+/// Whether a call of this kind may ever meet this refusal.
 fn may_refuse(input: &Input, cause: Refusal) -> bool
     ensures { result ≡ may_refuse input.now cause }
 {
@@ -169,7 +169,7 @@ fn is_fresh_answer(chain: &[Issued], processed: u64, at: u64, answer: &CallAnswe
     }
 }
 
-/// Whether the versions are used up, or nearly so.
+/// Whether the next version would be above the greatest one at the greatest step.
 fn is_near_the_end(chain: &[Issued]) -> bool
     ensures { result ≡ is_near_the_end chain.now }
 {

@@ -8,7 +8,7 @@ ghost use Rattle.fdb_history.specs.Log.{answer_changes, position_after_calls};
 use crate::auditing::found::{self, CallFault, CallName};
 use crate::log::{Call, CallAnswer, ClientLog};
 
-/// The first call that is out of order.
+/// The first call, by client and then by place, that goes back behind what its client had seen.
 pub(crate) fn first_out_of_order(logs: &[ClientLog]) -> Option<CallName>
     requires { length logs.now ≤ 2 ^ 32 }
     ensures { IsFirstCall (OutOfOrder logs.now) result }
@@ -16,7 +16,6 @@ pub(crate) fn first_out_of_order(logs: &[ClientLog]) -> Option<CallName>
     found::first_call(&Order {}, logs)
 }
 
-/// The fault of a call that is out of order.
 #[derive(Drop)]
 struct Order {}
 

@@ -16,14 +16,14 @@ use std::alloc::{AllocError, Global};
 /// The register at each position that a call has reached.
 #[derive(Drop)]
 pub(crate) struct Registers {
-    /// The register before any change.
+    /// The register before any change, which the table has at 0 too.
     pub(crate) start: Record,
     /// The register at each position, from 0 on.
     pub(crate) table: Vec<Record>,
 }
 
 impl Registers {
-    /// The register at a position.
+    /// The register at a position that a call has reached. Beyond the table it is the start record.
     pub(crate) fn at(&self, position: u64) -> Record
         ensures { result ≡ by_table self.now position }
     {

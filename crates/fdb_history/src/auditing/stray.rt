@@ -1,4 +1,4 @@
-//! The first answer that nothing justifies.
+//! The first answer that nothing justifies, or the first client with an entry that no call drew.
 
 ghost use Rattle.std.specs.Prelude.{◌≡◌, ◌<◌, ◌≤◌, ◌^◌, ◌==◌, ◌&&◌, ◌||◌, ℕ, Bool, true, false};
 ghost use Rattle.std.specs.Prelude.{length, slice_get, IfOk, OnOk, IsTrue};
@@ -44,7 +44,7 @@ pub(crate) fn first_stray(
     }
 }
 
-/// The first call whose answer is not justified.
+/// The first call whose answer is not justified, whatever entries of the chain no call drew.
 fn first_not_justified(
     alloc: Global,
     chain: &[Issued],
@@ -178,7 +178,7 @@ fn least_undrawn(chain: &[Issued], drawn: &[bool]) -> Option<u32>
     least
 }
 
-/// How many calls a client has.
+/// How many calls a client has: 0 where it has no log.
 fn count_calls(logs: &[ClientLog], client: u32) -> u64
     ensures { result ≡ length (calls_of logs.now client) }
 {

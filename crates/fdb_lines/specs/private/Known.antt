@@ -24,7 +24,7 @@ abbrev pub AreKnown : (ℕ → ℕ → Bool) → Seen → List Line → List ℕ
 AreKnown before seen lines known =
     (length known ≡ length lines) × ((k : ℕ) → k < length lines → slice_index known k ≡ newest_known before seen lines k)
 
--- ---- the tables
+-- ---- the tables of ends, of all clients or by client
 
 -- All lines stand in one group, or those of each client in its own.
 abbrev pub in_group : Bool → Option ℕ → ℕ → Bool
@@ -49,7 +49,7 @@ abbrev pub IsTable : Bool → Seen → List Line → ℕ → List End → Type 0
 IsTable by_client seen lines n ends =
     (group time place : ℕ) → newest_before ends group time place ≡ newest_in by_client seen lines group time place n
 
--- what one end adds
+-- what one end adds: its version, where it comes before the moment, or 0
 abbrev pub newest_of_end : Option End → ℕ → ℕ → ℕ → ℕ
 newest_of_end None group time place = 0
 newest_of_end (Some end) group time place = cond (end.group == group && is_earlier end.time end.place time place) end.version 0

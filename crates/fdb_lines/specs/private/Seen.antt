@@ -1,4 +1,4 @@
--- What lines let others know.
+-- What lines let others know of their versions: that they were shown, or drawn.
 use Rattle.std.specs.Prelude.{Bool}
 use Rattle.fdb_lines.specs.declared.seen.Seen.{Seen}
 use Rattle.fdb_lines.specs.declared.seen.Seen.TheVariants.{Shown, Drawn}

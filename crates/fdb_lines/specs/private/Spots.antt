@@ -1,5 +1,5 @@
 -- Spots: acts, and where they stand in an order.
-use Rattle.std.specs.Prelude.{◌≡◌, ℕ, zero, suc, ◌+◌, ◌*◌, ◌^◌, ◌<◌, ◌==◌, ◌&&◌, ◌||◌, Bool, true, false, cond, List, [], ◌∷◌, ◌++◌, map, Option, None, Some, is_some, length, ◌-◌, nat_lt, slice_get, All, IsTrue, ◌⊎◌}
+use Rattle.std.specs.Prelude.{◌≡◌, ℕ, zero, suc, ◌+◌, ◌*◌, ◌^◌, ◌==◌, ◌&&◌, ◌||◌, Bool, true, false, cond, List, [], ◌∷◌, ◌++◌, Option, None, Some, is_some, ◌-◌, nat_lt, slice_get, All, IsTrue, ◌⊎◌}
 use Rattle.fdb_lines.specs.declared.act.Act.{Act}
 use Rattle.fdb_lines.specs.declared.act.Act.TheVariants.{Asks}
 use Rattle.fdb_lines.specs.declared.line.Line.{Line}
@@ -9,7 +9,7 @@ use Rattle.fdb_lines.specs.declared.spot.Stage.TheVariants.{Asked, Shared, Raisi
 use Rattle.fdb_lines.specs.declared.turn.Turn.{Turn}
 use Rattle.fdb_lines.specs.Before.{began}
 use Rattle.fdb_lines.specs.Lines.{Case, kind_at, version_at, line_at, shows, draws, kind_of, version_of}
-use Rattle.fdb_lines.specs.Explained.{taken_by}
+use Rattle.fdb_lines.specs.Explained.{taken, taken_by}
 use Rattle.fdb_lines.specs.Turns.{IsActOf}
 use Rattle.fdb_lines.specs.Order.{Item, ask_item, shared_item, take_item, needs_ask, needs_report}
 use Rattle.fdb_lines.specs.private.Late.{late}
@@ -45,7 +45,7 @@ item_of spot = record {
 abbrev pub spot_rank : List Line → ℕ → ℕ
 spot_rank lines k = began (line_at lines k) * 2 ^ 33 + k
 
--- whether two spots stand for one act
+-- whether two spots stand for one act: those of a stage that lines share, or those of one line
 abbrev pub is_one : Spot → Spot → Bool
 is_one x y =
     level_of x == level_of y && (may_share x.stage || (x.began == y.began && late x.line == late y.line))
@@ -62,7 +62,18 @@ IsActBy line place act (Some k) =
 abbrev pub AreSpotsOf : Case → List Spot → Type 0
 AreSpotsOf c spots = All (λ spot. IsActOf c spot.act spot.line) spots
 
--- ---- the items of lines
+-- a spot of a line with this act
+abbrev pub HasSpot : List Spot → ℕ → Act → Type 0
+HasSpot [] k act = ⊥
+HasSpot (spot ∷ spots) k act = ((spot.line ≡ Some k) × (spot.act ≡ act)) ⊎ HasSpot spots k act
+
+-- the line at a place has a spot for its ask, and one for its read or report
+abbrev pub HasSpots : Case → List Spot → ℕ → Type 0
+HasSpots c spots k =
+    (IsTrue (draws (kind_at c k)) → HasSpot spots k (Asks (version_at c k)))
+    × (IsTrue (shows (kind_at c k)) → HasSpot spots k (taken c k))
+
+-- ---- the items of lines, as `Order` puts them in their places
 
 abbrev pub one_if : Bool → Item → List Item
 one_if b x = cond b (x ∷ []) []
@@ -77,14 +88,14 @@ abbrev pub items_below : Case → ℕ → List Item
 items_below c zero = []
 items_below c (suc k) = items_below c k ++ items_at c k
 
--- ---- the turns of spots
+-- ---- the turns of spots: others have none beside a line
 
 -- The turn of a spot, where this one stands above it; others have none beside a line.
 abbrev pub turn_by : Bool → Spot → List Turn
 turn_by false spot = record { act = spot.act; line = spot.line; shared = false } ∷ []
 turn_by true spot = cond (is_some spot.line) (record { act = spot.act; line = spot.line; shared = true } ∷ []) []
 
--- the spot above a place
+-- the spot above a place, and none above the first
 abbrev pub above_at : List Spot → ℕ → Option Spot
 above_at spots i = cond (nat_lt 0 i) (slice_get spots (i - 1)) None
 

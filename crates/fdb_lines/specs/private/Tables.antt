@@ -1,5 +1,5 @@
 -- The tables of a log, for a case.
-use Rattle.std.specs.Prelude.{◌≡◌, ℕ, max, ◌<◌, List, length, slice_index}
+use Rattle.std.specs.Prelude.{length}
 use Rattle.std.specs.List.Sorted.{IsNonDecreasingBy}
 use Rattle.fdb_lines.specs.declared.choice.Choice.TheVariants.{Reports, Raises, Draws, Asks}
 use Rattle.fdb_lines.specs.declared.seen.Seen.TheVariants.{Shown, Drawn}

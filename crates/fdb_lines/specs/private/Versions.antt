@@ -1,17 +1,13 @@
--- The versions of some of the lines.
-use Rattle.std.specs.Prelude.{◌≡◌, ℕ, zero, suc, max, ◌+◌, ◌==◌, ◌&&◌, nat_lt, Bool, cond, List, length, count_by, slice_index}
+-- How often each version stands at the lines of a choice.
+use Rattle.std.specs.Prelude.{◌≡◌, ℕ, max, ◌==◌, ◌&&◌, nat_lt, Bool, List, length, count_by, slice_index}
 use Rattle.fdb_lines.specs.declared.choice.Choice.{Choice}
 use Rattle.fdb_lines.specs.declared.choice.Choice.TheVariants.{Reports, Raises, Draws, Asks}
 use Rattle.fdb_lines.specs.declared.line.Line.{Line}
+use Rattle.fdb_lines.specs.Summary.{tally}
 use Rattle.fdb_lines.specs.Lines.{Kind, line_at, kind_of, version_of, is_ask, draws, reports}
 
 abbrev pub times_in : ℕ → List ℕ → ℕ
 times_in version versions = count_by (λ v. v == version) versions
-
--- how many of the numbers below n pass a test
-abbrev pub tally : (ℕ → Bool) → ℕ → ℕ
-tally test zero = 0
-tally test (suc n) = cond (test n) 1 0 + tally test n
 
 abbrev pub is_chosen : Choice → Kind → ℕ → ℕ → Bool
 is_chosen Reports kind version known = reports kind

@@ -85,6 +85,6 @@ pub record IsTurn {T : Type 0} (elapsed : ℕ) (before : Queue T) (offered start
   pub starts : started ≡ window ready
   pub leaves : after ≡ after_window elapsed ready
 
--- a queue that all have left
+-- a queue that all who waited have left, with its budgets and throttles as they were
 abbrev pub emptied : {T : Type 0} → Queue T → Queue T
 emptied queue = record queue { waiting = nothing }

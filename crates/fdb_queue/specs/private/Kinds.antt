@@ -7,7 +7,7 @@ use Rattle.fdb_history.specs.declared.grv.Priority.TheVariants.{System, Default,
 use Rattle.fdb_queue.specs.declared.throttles.Limit.{Limit}
 use Rattle.fdb_queue.specs.declared.throttles.Throttle.{Throttle}
 
--- those of one priority
+-- the throttles of one priority, as the entries of its map have them
 abbrev pub kept_for : Priority → List (Vec ℕ × Limit) → List Throttle
 kept_for priority entries =
     map (λ entry. record {

@@ -18,7 +18,7 @@ pub record Tell : Type 0 where
   pub from : ℕ
   pub position : ℕ
 
--- the clients' numbers
+-- the clients' numbers, which a round leaves as they are
 abbrev pub numbers_of : List Account → List ℕ
 numbers_of clients = map (λ client. client.number) clients
 

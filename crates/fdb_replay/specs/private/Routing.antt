@@ -9,7 +9,7 @@ use Rattle.fdb_history.specs.declared.log.Input.TheVariants.{Grv}
 abbrev pub desk_for : ℕ → ℕ → ℕ → ℕ
 desk_for proxies client reads = (client + reads) % proxies
 
--- how many of some calls are reads
+-- whether a call is a read: only these are routed in turn
 abbrev pub is_read : Input → Bool
 is_read (Grv opts) = true
 is_read _ = false

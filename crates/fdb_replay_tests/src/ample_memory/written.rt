@@ -27,7 +27,7 @@ const READS: &str = r#"[{"do":"grv","client":0}]"#;
 
 const THROTTLE: &str = r#"{"priority":"default","tag":"t#","rate":5,"expires":5000}"#;
 
-/// A script with so much of something.
+/// A script with so much of something, or nothing where no table has that or memory is refused.
 pub(crate) fn script_with(alloc: Global, of: &str, number: u64) -> Option<String> {
     match of {
         "a recovery version" => script_of(alloc, (number, 1), "", READS),
@@ -93,7 +93,7 @@ fn items(alloc: Global, item: &str, first: u64, number: u64) -> Option<String> {
     Some(text)
 }
 
-/// Adds an item, with its number.
+/// Adds an item, with this number in the place of each `#`.
 fn push_item(alloc: Global, text: &mut String, item: &str, number: u64) -> Option<()> {
     let digits = number.to_string(alloc).ok()?;
     for (place, part) in item.split('#').enumerate() {
@@ -105,7 +105,7 @@ fn push_item(alloc: Global, text: &mut String, item: &str, number: u64) -> Optio
     Some(())
 }
 
-/// So many letters.
+/// So many letters `t`, for a tag of as many bytes.
 fn letters(alloc: Global, number: u64) -> Option<String> {
     let mut text = String::new(alloc);
     for _ in 0..number {

@@ -1,6 +1,6 @@
 //! A gate at which whoever has a lock looks for another in it.
 
-use crossbeam_utils::Backoff;
+use fdb_checks::stays_away;
 use fdb_history::{Gate, Place};
 use std::sync::atomic::{AtomicBool, Ordering};
 
@@ -49,21 +49,17 @@ impl Alone {
         }
     }
 
-    /// Whether nobody saw another.
+    /// Whether nobody saw another in the lock where it was itself.
     pub(crate) fn is_kept(&self) -> bool {
         !self.met.load(Ordering::SeqCst)
     }
 
-    /// Looks for the other.
+    /// Looks whether the other is there too, while its own flag is up.
     fn look(&self, pair: &Pair, who: u32) {
         let (own, other) = pair.of(who);
         own.store(true, Ordering::SeqCst);
-        let pause = Backoff::new();
-        for _ in 0..LOOKS {
-            if other.load(Ordering::SeqCst) {
-                self.met.store(true, Ordering::SeqCst);
-            }
-            pause.snooze();
+        if !stays_away(LOOKS, || other.load(Ordering::SeqCst)) {
+            self.met.store(true, Ordering::SeqCst);
         }
         own.store(false, Ordering::SeqCst);
     }

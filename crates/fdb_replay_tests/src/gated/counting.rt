@@ -1,10 +1,9 @@
 //! A gate that counts passes, and a run of each kind of call through it.
 
 use crate::calls::{runs_through, script_of};
-use crate::same::{holds, same};
+use fdb_checks::{holds, same};
 use fdb_history::{Gate, Place};
 use std::alloc::{AllocError, Global};
-use std::process::Abort;
 use std::sync::atomic::{AtomicU64, Ordering};
 use std::test::Fail;
 
@@ -31,12 +30,12 @@ impl Counting {
 
     /// Checks how often the client has passed with the sequencer's lock, with that of the reports,
     /// and where an answer to a read has come, and that nobody else has passed.
-    pub(crate) fn was_passed(&self, rt: &impl Abort, asks: u64, reports: u64, answers: u64) {
+    pub(crate) fn was_passed(&self, asks: u64, reports: u64, answers: u64) -> Result<(), Fail> {
         let counted = |count: &AtomicU64| count.load(Ordering::SeqCst);
-        same(rt, &counted(&self.asks), &asks, &"asks");
-        same(rt, &counted(&self.reports), &reports, &"reports");
-        same(rt, &counted(&self.answers), &answers, &"answers");
-        same(rt, &counted(&self.others), &0, &"others");
+        same(&counted(&self.asks), &asks, &"asks")?;
+        same(&counted(&self.reports), &reports, &"reports")?;
+        same(&counted(&self.answers), &answers, &"answers")?;
+        same(&counted(&self.others), &0, &"others")
     }
 }
 
@@ -104,8 +103,8 @@ fn each_call_passes_its_gate(rt: HostRuntime) -> Result<(), Fail> {
         let script = script_of(rt.alloc(), &calls_of(rt.alloc(), client)?)?;
         let gate = Counting::new(client);
         let ran = runs_through(&rt, rt.alloc(), &script, 2, &gate);
-        holds(&rt, ran, &client);
-        gate.was_passed(&rt, 7, 5, 6);
+        holds(ran, &client)?;
+        gate.was_passed(7, 5, 6)?;
     }
     Ok(())
 }

@@ -1,27 +1,24 @@
 //! A gate where two clients have to cross.
 
-use crossbeam_utils::Backoff;
+use fdb_checks::comes;
 use fdb_history::{Gate, Place};
 use std::sync::atomic::{AtomicBool, Ordering};
-
-/// How often a thread looks whether another has come so far.
-const LOOKS: u32 = 1_000_000;
 
 /// Holds client 1 at its first answer until client 0 is in a lock, and holds that one there until
 /// client 1 passes another place: where its next answer has come, or in the other lock.
 #[derive(Drop)]
 pub(crate) struct Crossing {
-    /// Where client 0 is held.
+    /// The lock in which client 0 is held.
     at: Place,
-    /// Where client 1 passes meanwhile.
+    /// The place that client 1 passes while client 0 is held.
     beside: Place,
-    /// Client 0 is held.
+    /// Client 0 has the lock, so that client 1 may go on.
     locked: AtomicBool,
-    /// Client 1 has its first answer.
+    /// Client 1 has had its first answer, at which it is held.
     answered: AtomicBool,
-    /// It has passed meanwhile.
+    /// Client 1 has passed the other place, so that client 0 may go on.
     passed: AtomicBool,
-    /// Somebody looked in vain.
+    /// Somebody was held and gave up, since the other did not come.
     failed: AtomicBool,
 }
 
@@ -46,14 +43,9 @@ impl Crossing {
 
     /// Waits for a flag of its own, and notes a failure where it does not come.
     fn waits_for(&self, flag: &AtomicBool) {
-        let pause = Backoff::new();
-        for _ in 0..LOOKS {
-            if flag.load(Ordering::SeqCst) {
-                return;
-            }
-            pause.snooze();
+        if !comes(|| flag.load(Ordering::SeqCst)) {
+            self.failed.store(true, Ordering::SeqCst);
         }
-        self.failed.store(true, Ordering::SeqCst);
     }
 }
 

@@ -1,11 +1,8 @@
 //! A gate that lets nobody have more answers than others.
 
-use crossbeam_utils::Backoff;
+use fdb_checks::comes;
 use fdb_history::{Gate, Place};
 use std::sync::atomic::{AtomicBool, AtomicU64, Ordering};
-
-/// How often a thread looks whether the others have come so far.
-const LOOKS: u32 = 1_000_000;
 
 /// Holds each client where an answer to a read has come, until each other has as many.
 #[derive(Drop)]
@@ -33,15 +30,12 @@ impl SideBySide {
 
     /// Waits until there are so many answers.
     fn waits_for(&self, answers: u64) {
-        let pause = Backoff::new();
-        for _ in 0..LOOKS {
-            let come = self.answers.load(Ordering::SeqCst);
-            if come >= answers || self.failed.load(Ordering::SeqCst) {
-                return;
-            }
-            pause.snooze();
+        let has_come = || {
+            self.answers.load(Ordering::SeqCst) >= answers || self.failed.load(Ordering::SeqCst)
+        };
+        if !comes(has_come) {
+            self.failed.store(true, Ordering::SeqCst);
         }
-        self.failed.store(true, Ordering::SeqCst);
     }
 }
 

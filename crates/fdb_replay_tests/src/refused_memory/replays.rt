@@ -1,14 +1,13 @@
-//! Scripts, runs and replays.
+//! Scripts, runs, texts and replays that are refused memory, and are then right the second time.
 
 use crate::calls::{outcome_of, replays, script_of, text_of};
 use crate::replay::{REPLIES, SCRIPT};
-use crate::same::{holds, same, same_text};
+use fdb_checks::{holds, same, same_text};
 use fdb_replay::{ReplayFault, RunFault};
 use fdb_script::ScriptError;
 use std::alloc::Global;
 use std::io;
 use std::io::Write;
-use std::process::Abort;
 use std::str::from_utf8;
 use std::sync::Wait;
 use std::test::Fail;
@@ -18,9 +17,8 @@ use std::thread::Threads;
 fn a_run_bears_it(rt: HostRuntime) -> Result<(), Fail> {
     let script = script_of(rt.alloc(), SCRIPT)?;
     let outcome = outcome_of(&rt, rt.alloc(), &script)?;
-    same(&rt, &outcome.chain.len(), &2, &"the chain");
-    same(&rt, &outcome.history.events.len(), &4, &"the history");
-    Ok(())
+    same(&outcome.chain.len(), &2, &"the chain")?;
+    same(&outcome.history.events.len(), &4, &"the history")
 }
 
 /// Two clients, of whom the first tells the second. A locked
@@ -61,8 +59,7 @@ fn a_text_bears_it(rt: HostRuntime) -> Result<(), Fail> {
     let script = script_of(rt.alloc(), script)?;
     let outcome = outcome_of(&rt, rt.alloc(), &script)?;
     let bytes = text_of(rt.alloc(), &script, &outcome)?;
-    same_text(&rt, from_utf8(&bytes)?, wanted, "two clients");
-    Ok(())
+    same_text(from_utf8(&bytes)?, wanted, "two clients")
 }
 
 /// A writer that keeps what it takes in memory of its own.
@@ -80,7 +77,7 @@ impl Page {
         }
     }
 
-    /// What it has taken.
+    /// What it has taken so far, of at most 1,000 bytes.
     fn taken(&self) -> &[u8] {
         self.bytes.get(..self.written).unwrap_or_default()
     }
@@ -112,7 +109,7 @@ fn wants_memory(fault: ReplayFault) -> bool {
 
 /// Replays a script through two GRV proxies, and compares what is written: the whole text, or where
 /// memory is refused nothing, and then the whole text by a second call.
-fn writes<R: Threads + Wait + Sync + Abort>(
+fn writes<R: Threads + Wait + Sync>(
     rt: &R,
     alloc: Global,
     script: &str,
@@ -121,12 +118,11 @@ fn writes<R: Threads + Wait + Sync + Abort>(
 ) -> Result<(), Fail> {
     let mut out = Page::new();
     if let Err(fault) = replays(rt, alloc, script, 2, with_history, &mut out) {
-        holds(rt, wants_memory(fault), &fault);
-        holds(rt, out.taken().is_empty(), &"after a refused replay");
+        holds(wants_memory(fault), &fault)?;
+        holds(out.taken().is_empty(), &"after a refused replay")?;
         replays(rt, alloc, script, 2, with_history, &mut out)?;
     }
-    same_text(rt, from_utf8(out.taken())?, wanted, "what is written");
-    Ok(())
+    same_text(from_utf8(out.taken())?, wanted, "what is written")
 }
 
 #[test]

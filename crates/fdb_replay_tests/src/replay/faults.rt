@@ -1,18 +1,19 @@
 //! Faults: the line and the status that the program ends with.
 
-use crate::same::{same, says};
+use fdb_checks::{same, says};
 use fdb_history::AuditFault;
-use fdb_replay::Fault;
+use fdb_replay::ScriptRefused;
 use fdb_script::ScriptError;
 use std::alloc::Global;
-use std::process::Abort;
 use std::test::Fail;
 
-/// The text of a fault, and its status.
-fn ends(rt: &impl Abort, alloc: Global, fault: Fault, text: &str, status: u8) -> Result<(), Fail> {
-    says(rt, alloc, &fault, text)?;
-    same(rt, &fault.status(), &status, &text);
-    Ok(())
+/// Why a replay ends with another status than 0.
+type Fault = fdb_replay::Fault<ScriptRefused, AuditFault>;
+
+/// Checks the line that a fault is written as, and the status that the program ends with.
+fn ends(alloc: Global, fault: Fault, text: &str, status: u8) -> Result<(), Fail> {
+    says(alloc, &fault, text)?;
+    same(&fault.status(), &status, &text)
 }
 
 /// Faults that an audit found, which no script brings about, with what is said of them.
@@ -48,7 +49,7 @@ const FOUND: &[(AuditFault, &str)] = &[
 #[test]
 fn faults_of_an_audit(rt: HostRuntime) -> Result<(), Fail> {
     for (found, text) in FOUND {
-        ends(&rt, rt.alloc(), Fault::Audit(*found), text, 4)?;
+        ends(rt.alloc(), Fault::Found(*found), text, 4)?;
     }
     Ok(())
 }
@@ -56,15 +57,19 @@ fn faults_of_an_audit(rt: HostRuntime) -> Result<(), Fail> {
 #[test]
 fn other_faults(rt: HostRuntime) -> Result<(), Fail> {
     let alloc = rt.alloc();
-    let no_json = Fault::Script(ScriptError::NotJson);
-    ends(&rt, alloc, no_json, "script refused: NotJson", 1)?;
-    let limit = Fault::Script(ScriptError::BadLimit);
-    ends(&rt, alloc, limit, "script refused: BadLimit", 1)?;
     let (round, command) = (10_000, 9_999);
-    let field = Fault::Script(ScriptError::BadField { round, command });
-    ends(&rt, alloc, field, "script refused: BadField 10000 9999", 1)?;
-    ends(&rt, alloc, Fault::Arguments, "words refused", 2)?;
-    ends(&rt, alloc, Fault::Memory, "want of memory", 3)?;
-    ends(&rt, alloc, Fault::Reading, "reading failed", 5)?;
-    ends(&rt, alloc, Fault::Writing, "writing failed", 5)
+    for (error, text) in [
+        (ScriptError::NotJson, "script refused: NotJson"),
+        (ScriptError::BadLimit, "script refused: BadLimit"),
+        (
+            ScriptError::BadField { round, command },
+            "script refused: BadField 10000 9999",
+        ),
+    ] {
+        ends(alloc, Fault::Refused(ScriptRefused { error }), text, 1)?;
+    }
+    ends(alloc, Fault::Arguments, "words refused: see --help", 2)?;
+    ends(alloc, Fault::Memory, "want of memory", 3)?;
+    ends(alloc, Fault::Reading, "reading failed", 5)?;
+    ends(alloc, Fault::Writing, "writing failed", 5)
 }

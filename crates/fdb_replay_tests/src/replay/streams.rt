@@ -2,13 +2,12 @@
 
 use super::{REPLIES, Ran, SCRIPT, arguments_of, assert_ran, driven};
 use crate::calls::{drives, replays};
-use crate::same::{holds, same, same_text};
+use fdb_checks::{holds, same, same_text};
 use fdb_replay::{MAX_SCRIPT_BYTES, ReplayFault};
 use std::alloc::Global;
 use std::fs::Files;
 use std::io;
 use std::io::{ErrorKind, Read, Write};
-use std::process::Abort;
 use std::str::from_utf8;
 use std::sync::Wait;
 use std::test::Fail;
@@ -105,7 +104,7 @@ impl Read for Endless {
 const READING_FAILED: &str = "fdb_replay: reading failed\n";
 
 /// Drives the program over the first script in pieces.
-fn in_pieces<R: Threads + Wait + Sync + Files + Abort>(
+fn in_pieces<R: Threads + Wait + Sync + Files>(
     rt: &R,
     alloc: Global,
     most: usize,
@@ -121,18 +120,18 @@ fn in_pieces<R: Threads + Wait + Sync + Files + Abort>(
     };
     let ran = driven(rt, alloc, arguments_of(alloc, ""), &mut input);
     match fails {
-        None => assert_ran(rt, &ran, 0, REPLIES, "in pieces"),
-        Some(kind) => assert_failed(rt, alloc, &ran, kind),
+        None => assert_ran(&ran, 0, REPLIES, "in pieces"),
+        Some(kind) => assert_failed(alloc, &ran, kind),
     }
 }
 
 /// Checks how the program ended whose reader failed.
-fn assert_failed(rt: &impl Abort, alloc: Global, ran: &Ran, kind: ErrorKind) -> Result<(), Fail> {
+fn assert_failed(alloc: Global, ran: &Ran, kind: ErrorKind) -> Result<(), Fail> {
     let case = format!(in alloc; "a reader that fails with {kind}")?;
     if kind == ErrorKind::OutOfMemory {
-        assert_ran(rt, ran, 3, "fdb_replay: want of memory\n", case.as_str())
+        assert_ran(ran, 3, "fdb_replay: want of memory\n", case.as_str())
     } else {
-        assert_ran(rt, ran, 5, READING_FAILED, case.as_str())
+        assert_ran(ran, 5, READING_FAILED, case.as_str())
     }
 }
 
@@ -162,9 +161,8 @@ fn readers_that_fail(rt: HostRuntime) -> Result<(), Fail> {
 fn a_reader_without_an_end(rt: HostRuntime) -> Result<(), Fail> {
     let mut input = Endless { taken: 0 };
     let ran = driven(&rt, rt.alloc(), arguments_of(rt.alloc(), ""), &mut input);
-    assert_ran(&rt, &ran, 5, READING_FAILED, "without an end")?;
-    holds(&rt, input.taken <= 16_777_217, &input.taken);
-    Ok(())
+    assert_ran(&ran, 5, READING_FAILED, "without an end")?;
+    holds(input.taken <= 16_777_217, &input.taken)
 }
 
 /// A writer that takes a hundred bytes at a call, and fails
@@ -174,7 +172,6 @@ struct Hundreds {
     taken: Vec<u8>,
     calls: usize,
     fails_at: usize,
-    /// The kind of its error.
     kind: ErrorKind,
     /// Whether something was written after the call that failed.
     late: bool,
@@ -235,7 +232,7 @@ fn taken_before(fails_at: usize) -> usize {
 }
 
 /// Replays the first script over a writer that fails at a call.
-fn replayed<R: Threads + Wait + Sync + Abort>(rt: &R, alloc: Global, fails_at: usize) {
+fn replayed<R: Threads + Wait + Sync>(rt: &R, alloc: Global, fails_at: usize) -> Result<(), Fail> {
     let mut out = Hundreds::new(alloc, fails_at);
     let outcome = replays(rt, alloc, SCRIPT, 1, false, &mut out);
     let wanted = if fails_at <= 3 {
@@ -243,18 +240,18 @@ fn replayed<R: Threads + Wait + Sync + Abort>(rt: &R, alloc: Global, fails_at: u
     } else {
         Ok(())
     };
-    same(rt, &outcome, &wanted, &fails_at);
-    has_taken(rt, &out, fails_at);
+    same(&outcome, &wanted, &fails_at)?;
+    has_taken(&out, fails_at)
 }
 
 /// Checks what such a writer has taken of the first script's text.
-fn has_taken(rt: &impl Abort, out: &Hundreds, fails_at: usize) {
-    same(rt, &out.taken.len(), &taken_before(fails_at), &fails_at);
-    holds(rt, out.has_begun(REPLIES.as_bytes()), &fails_at);
+fn has_taken(out: &Hundreds, fails_at: usize) -> Result<(), Fail> {
+    same(&out.taken.len(), &taken_before(fails_at), &fails_at)?;
+    holds(out.has_begun(REPLIES.as_bytes()), &fails_at)
 }
 
 /// Drives the program over the first script and such a writer. A fourth call flushes.
-fn flushed<R: Threads + Wait + Sync + Files + Abort>(
+fn flushed<R: Threads + Wait + Sync + Files>(
     rt: &R,
     alloc: Global,
     fails_at: usize,
@@ -275,16 +272,15 @@ fn flushed<R: Threads + Wait + Sync + Files + Abort>(
     } else {
         (0, "")
     };
-    same(rt, &status, &wanted, &kind);
-    same_text(rt, from_utf8(&err)?, said, "standard error");
-    has_taken(rt, &out, fails_at);
-    Ok(())
+    same(&status, &wanted, &kind)?;
+    same_text(from_utf8(&err)?, said, "standard error")?;
+    has_taken(&out, fails_at)
 }
 
 #[test]
 fn writers_that_fail(rt: HostRuntime) -> Result<(), Fail> {
     for fails_at in 1..=5 {
-        replayed(&rt, rt.alloc(), fails_at);
+        replayed(&rt, rt.alloc(), fails_at)?;
         flushed(&rt, rt.alloc(), fails_at, ErrorKind::BrokenPipe)?;
     }
     Ok(())
@@ -304,13 +300,13 @@ fn writers_that_fail_in_any_way(rt: HostRuntime) -> Result<(), Fail> {
 
 /// The status is the same where the fault's line cannot be written.
 #[test]
-fn a_standard_error_that_fails(rt: HostRuntime) {
+fn a_standard_error_that_fails(rt: HostRuntime) -> Result<(), Fail> {
     let (mut out, mut err) = (Vec::new(rt.alloc()), Hundreds::new(rt.alloc(), 1));
     let arguments = arguments_of(rt.alloc(), "");
     let mut input = b"{".as_slice();
     let status = drives(&rt, rt.alloc(), arguments, &mut input, &mut out, &mut err);
-    same(&rt, &status, &1, &"a fault that cannot be written");
-    holds(&rt, out.is_empty(), &"a fault that cannot be written");
+    same(&status, &1, &"a fault that cannot be written")?;
+    holds(out.is_empty(), &"a fault that cannot be written")
 }
 
 /// Asks for the help, over a writer that fails at a call.
@@ -327,15 +323,16 @@ fn helped<R: Threads + Wait + Sync + Files>(
 
 /// The last call is the flush, before which the whole help is taken.
 #[test]
-fn help_that_cannot_be_written(rt: HostRuntime) {
+fn help_that_cannot_be_written(rt: HostRuntime) -> Result<(), Fail> {
     let (status, whole) = helped(&rt, rt.alloc(), 0);
-    same(&rt, &status, &0, &"the whole help");
-    holds(&rt, whole.calls > 1, &"the whole help");
+    same(&status, &0, &"the whole help")?;
+    holds(whole.calls > 1, &"the whole help")?;
     for fails_at in 1..=whole.calls {
         let (status, cut) = helped(&rt, rt.alloc(), fails_at);
-        same(&rt, &status, &5, &fails_at);
-        holds(&rt, cut.has_begun(whole.taken.as_slice()), &fails_at);
+        same(&status, &5, &fails_at)?;
+        holds(cut.has_begun(whole.taken.as_slice()), &fails_at)?;
         let is_whole = cut.taken.len() == whole.taken.len();
-        same(&rt, &is_whole, &(fails_at == whole.calls), &fails_at);
+        same(&is_whole, &(fails_at == whole.calls), &fails_at)?;
     }
+    Ok(())
 }

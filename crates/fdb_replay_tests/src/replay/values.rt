@@ -2,12 +2,11 @@
 
 use super::SCRIPT;
 use crate::calls::{outcome_of, script_of, text_of};
-use crate::same::{same_text, says};
+use fdb_checks::{same_text, says};
 use fdb_history::{AuditFault, Call};
 use fdb_replay::{ReplayFault, RunFault};
 use fdb_script::{Outcome, ScriptError};
 use std::alloc::{AllocError, Global};
-use std::process::Abort;
 use std::str::from_utf8;
 use std::sync::Wait;
 use std::test::Fail;
@@ -39,7 +38,7 @@ fn push_calls(alloc: Global, text: &mut String, calls: &[Call]) -> Result<(), Al
 }
 
 /// Runs a script, and compares what that left.
-fn leaves<R: Threads + Wait + Abort + Sync>(
+fn leaves<R: Threads + Wait + Sync>(
     rt: &R,
     alloc: Global,
     script: &str,
@@ -48,8 +47,7 @@ fn leaves<R: Threads + Wait + Abort + Sync>(
     let script = script_of(alloc, script)?;
     let outcome = outcome_of(rt, alloc, &script)?;
     let found = outcome_text(alloc, &outcome)?;
-    same_text(rt, found.as_str(), wanted, "what a run left");
-    Ok(())
+    same_text(found.as_str(), wanted, "what a run left")
 }
 
 const FIRST_LEFT: &str = "\
@@ -107,8 +105,7 @@ fn a_run_of_no_rounds_as_text(rt: HostRuntime) -> Result<(), Fail> {
     let outcome = outcome_of(&rt, rt.alloc(), &script)?;
     let bytes = text_of(rt.alloc(), &script, &outcome)?;
     let wanted = "audit ok events 0 raised 0 versions 0\n";
-    same_text(&rt, from_utf8(&bytes)?, wanted, "no rounds");
-    Ok(())
+    same_text(from_utf8(&bytes)?, wanted, "no rounds")
 }
 
 #[test]
@@ -116,11 +113,11 @@ fn faults_of_a_replay_as_text(rt: HostRuntime) -> Result<(), Fail> {
     let (round, command) = (10_000, 9_999);
     let refused = ReplayFault::Script(ScriptError::BadField { round, command });
     let text = "script refused: BadField 10000 9999";
-    says(&rt, rt.alloc(), &refused, text)?;
+    says(rt.alloc(), &refused, text)?;
     let memory = ReplayFault::Run(RunFault::Memory);
-    says(&rt, rt.alloc(), &memory, "want of memory")?;
+    says(rt.alloc(), &memory, "want of memory")?;
     let clash = RunFault::Audit(AuditFault::Clash { position: 3 });
     let found = ReplayFault::Run(clash);
-    says(&rt, rt.alloc(), &found, "audit fault: Clash 3")?;
-    says(&rt, rt.alloc(), &ReplayFault::Write, "writing failed")
+    says(rt.alloc(), &found, "audit fault: Clash 3")?;
+    says(rt.alloc(), &ReplayFault::Write, "writing failed")
 }

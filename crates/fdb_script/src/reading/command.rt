@@ -1,4 +1,4 @@
-//! The commands of a script.
+//! The commands of a script: objects with `do`, `client` and the members of that act.
 
 ghost use Rattle.std.specs.Prelude.{◌≡◌, IfOk, map};
 ghost use Rattle.serde_json.specs.View.{view};
@@ -19,7 +19,7 @@ use fdb_history::{GrvOpts, Priority, Sequence, Tag};
 use serde_json::Value;
 use std::alloc::{AllocError, Global};
 
-/// The priority of a read.
+/// The priority of a read, `default` where it names none.
 fn priority_or_default(value: &Value) -> Option<Priority>
     ensures { result ≡ member_or Default priority_of (codes "priority") (view value.now) }
 {
@@ -29,7 +29,7 @@ fn priority_or_default(value: &Value) -> Option<Priority>
     }
 }
 
-/// A read with these tags.
+/// A read with these tags, if its other members can be read.
 fn grv_with(value: &Value, tags: Sequence<Tag>) -> Option<Act>
     ensures { result ≡ grv_with (Some tags) (member_or 0 whole (codes "at") (view value.now))
         (member_or Default priority_of (codes "priority") (view value.now))
@@ -52,7 +52,7 @@ fn grv_with(value: &Value, tags: Sequence<Tag>) -> Option<Act>
     }))
 }
 
-/// A read.
+/// A read, if all its members can be read; each may be missing.
 fn grv_of(alloc: Global, value: &Value) -> Result<Option<Act>, AllocError>
     ensures { IfOk result (λ act. act ≡ grv_of (view value.now)) }
 {
@@ -62,7 +62,7 @@ fn grv_of(alloc: Global, value: &Value) -> Result<Option<Act>, AllocError>
     Ok(grv_with(value, tags))
 }
 
-/// A request for the next commit version.
+/// A request for the next commit version, of which `at` is required.
 fn ask_of(value: &Value) -> Option<Act>
     ensures { result ≡ ask_of (view value.now) }
 {
@@ -71,7 +71,7 @@ fn ask_of(value: &Value) -> Option<Act>
     Some(Act::Ask { processed, at })
 }
 
-/// A request for the commit version under a number.
+/// A request for the commit version under a number; `num` and `at` are required.
 fn reask_of(value: &Value) -> Option<Act>
     ensures { result ≡ reask_of (view value.now) }
 {
@@ -81,7 +81,7 @@ fn reask_of(value: &Value) -> Option<Act>
     Some(Act::Reask { num, processed, at })
 }
 
-/// A report.
+/// A report, of which `num` alone is required.
 fn report_of(value: &Value) -> Option<Act>
     ensures { result ≡ report_of (view value.now) }
 {
@@ -97,7 +97,7 @@ fn report_of(value: &Value) -> Option<Act>
     })
 }
 
-/// A tell to another client.
+/// A tell to another client; to tell oneself is a fault.
 fn tell_of(value: &Value, client: u32, clients: u32) -> Option<Act>
     ensures { result ≡ tell_of clients client (view value.now) }
 {

@@ -10,7 +10,7 @@ ghost use Rattle.fdb_script.specs.Reading.{metadata_or_null, whole, whole_below,
 use hex::FromHex;
 use serde_json::Value;
 
-/// The items of an array.
+/// The items of an array; any other value has none.
 pub fn items(value: &Value) -> Option<&[Value]>
     ensures { option_map (λ items. map view items.now) result ≡ array_of (view value.now) }
 {
@@ -28,7 +28,7 @@ pub fn items_within(value: &Value, most: usize) -> Option<&[Value]>
     Some(items)
 }
 
-/// A whole number from one number to another.
+/// A whole number from `low` to `high`, both included.
 pub fn whole_within(value: &Value, low: u64, high: u64) -> Option<u64>
     ensures value { result ≡ whole_within low high (view value.now) }
     ensures within { IfSome result (λ number. (low ≤ number) × (number ≤ high)) }
@@ -40,7 +40,7 @@ pub fn whole_within(value: &Value, low: u64, high: u64) -> Option<u64>
     Some(number)
 }
 
-/// A whole number below a limit.
+/// A whole number below a limit, as the number of a client is.
 pub fn whole_below(value: &Value, limit: u64) -> Option<u64>
     ensures value { result ≡ whole_below limit (view value.now) }
     ensures below { IfSome result (λ number. number < limit) }
@@ -52,7 +52,7 @@ pub fn whole_below(value: &Value, limit: u64) -> Option<u64>
     Some(number)
 }
 
-/// A member that is a whole number.
+/// A member that has to be there and is a whole number.
 pub fn whole_member(value: &Value, name: &str) -> Option<u64>
     ensures { result ≡ member whole name.now (view value.now) }
 {
@@ -128,7 +128,7 @@ fn metadata_or_null(value: &Value) -> Option<Option<[u8; 10]>>
     Some(Some(metadata))
 }
 
-/// The metadata version of a report, if it has one.
+/// The metadata version of a report: none where the member is absent or null.
 pub(crate) fn metadata_or_none(value: &Value) -> Option<Option<[u8; 10]>>
     ensures { result ≡ member_or None metadata_or_null (codes "metadata") (view value.now) }
 {
@@ -138,7 +138,7 @@ pub(crate) fn metadata_or_none(value: &Value) -> Option<Option<[u8; 10]>>
     }
 }
 
-/// A member that is a text.
+/// A member that has to be there and is a text.
 pub(crate) fn text_member<'a>(value: &'a Value, name: &str) -> Option<&'a str>
     ensures { option_map (λ text. text.now) result ≡ member as_str name.now (view value.now) }
 {

@@ -1,4 +1,4 @@
-//! Tags and priorities.
+//! Tags and priorities, as reads and throttles have them.
 
 ghost use Rattle.std.specs.Prelude.{◌≡◌, IfOk, [], map};
 ghost use Rattle.std.specs.List.{list_all};
@@ -13,7 +13,7 @@ use fdb_queue::MAX_TAG;
 use serde_json::Value;
 use std::alloc::{AllocError, Global};
 
-/// A priority, by its word.
+/// A priority by its word: `system`, `default` or `batch`.
 pub(crate) fn priority_of(value: &Value) -> Option<Priority>
     ensures { result ≡ priority_of (view value.now) }
 {
@@ -25,28 +25,27 @@ pub(crate) fn priority_of(value: &Value) -> Option<Priority>
     }
 }
 
-/// Whether a byte may stand in a tag.
+/// Whether a byte may stand in a tag: a visible character of ASCII.
 fn is_tag_byte(byte: u8) -> bool
     ensures { result ≡ is_tag_byte byte }
 {
     (b'!'..=b'~').contains(&byte)
 }
 
-/// Whether each of these bytes may stand in a tag.
 fn are_tag_bytes(bytes: &[u8]) -> bool
     ensures { result ≡ list_all is_tag_byte bytes.now }
 {
     bytes.iter().all(|byte| is_tag_byte(*byte))
 }
 
-/// Whether these are the bytes of a tag.
+/// Whether these are the bytes of a tag: 1 to [`MAX_TAG`] visible characters.
 fn is_tag(bytes: &[u8]) -> bool
     ensures { result ≡ is_tag bytes.now }
 {
     !bytes.is_empty() && bytes.len() as u64 <= MAX_TAG && are_tag_bytes(bytes)
 }
 
-/// A tag.
+/// A tag, if the value is a text that is one.
 pub(crate) fn tag_of(alloc: Global, value: &Value) -> Result<Option<Tag>, AllocError>
     ensures { IfOk result (λ tag. tag ≡ tag_of (view value.now)) }
 {
@@ -60,7 +59,7 @@ pub(crate) fn tag_of(alloc: Global, value: &Value) -> Result<Option<Tag>, AllocE
     Ok(Some(Sequence::from(bytes)))
 }
 
-/// The tags of a list of them.
+/// The tags of a list of at most [`MAX_TAGS`], if each is one.
 fn tags_of(alloc: Global, value: &Value) -> Result<Option<Sequence<Tag>>, AllocError>
     ensures { IfOk result (λ tags. tags ≡ tags_of (view value.now)) }
 {

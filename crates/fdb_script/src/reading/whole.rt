@@ -23,9 +23,8 @@ use std::alloc::{AllocError, Global};
 /// A script whose commands are not read yet, its numbers within their limits.
 #[derive(Drop)]
 pub(crate) struct Frame<'a> {
-    /// What it says besides its rounds.
     pub(crate) setup: Setup,
-    /// The values of each round.
+    /// The values of each round, from which its commands are read.
     pub(crate) rounds: Vec<&'a [Value]>,
     ghost epoch_ends_before: { setup.epoch_end < setup.recovery },
     ghost recovery_in_range: { setup.recovery ≤ MAX_VERSION },
@@ -35,7 +34,7 @@ pub(crate) struct Frame<'a> {
     ghost elapsed_in_range: { IsElapsed setup.elapsed },
 }
 
-/// What the queues are made with.
+/// The rates and the capacity of the queues, with a default for each.
 fn config_of(value: &Value) -> Option<QueueConfig>
     ensures value { result ≡ config_of (view value.now) }
     ensures in_range { IfSome result IsConfig }
@@ -50,7 +49,7 @@ fn config_of(value: &Value) -> Option<QueueConfig>
     })
 }
 
-/// The time between two windows.
+/// The microseconds between two windows, a second where nothing else is said.
 fn elapsed_of(value: &Value) -> Option<u64>
     ensures value { result
         ≡ member_or 1000000 (whole_within 1 MAX_ELAPSED) (codes "elapsed") (view value.now) }
@@ -59,7 +58,7 @@ fn elapsed_of(value: &Value) -> Option<u64>
     within_or(value, "elapsed", 1_000_000, 1, MAX_ELAPSED)
 }
 
-/// A throttle of this tag.
+/// A throttle of this tag, if its other members can be read; all are required.
 fn throttle_with(value: &Value, tag: Tag) -> Option<Throttle>
     ensures { result ≡ throttle_with (Some tag)
         (member priority_of (codes "priority") (view value.now))
@@ -77,7 +76,7 @@ fn throttle_with(value: &Value, tag: Tag) -> Option<Throttle>
     })
 }
 
-/// A throttle.
+/// A throttle, if all its members are there and can be read.
 fn throttle_of(alloc: Global, value: &Value) -> Result<Option<Throttle>, AllocError>
     ensures { IfOk result (λ throttle. throttle ≡ throttle_of (view value.now)) }
 {
@@ -90,7 +89,7 @@ fn throttle_of(alloc: Global, value: &Value) -> Result<Option<Throttle>, AllocEr
     Ok(throttle_with(value, tag))
 }
 
-/// The throttles of a list of them.
+/// The throttles of a list of at most [`MAX_THROTTLES`], if each can be read.
 fn throttles_of(alloc: Global, value: &Value) -> Result<Option<Sequence<Throttle>>, AllocError>
     ensures { IfOk result (λ throttles. throttles ≡ throttles_of (view value.now)) }
 {
@@ -118,7 +117,7 @@ fn throttles_or_none(alloc: Global, value: &Value) -> Result<Option<Sequence<Thr
     }
 }
 
-/// The items of each of a list of arrays.
+/// The values of each round, if the rounds are at most [`MAX_ROUNDS`] and each is an array.
 fn arrays_of(alloc: Global, value: &Value) -> Result<Option<Vec<&[Value]>>, AllocError>
     ensures { IfOk result
         (λ found. option_map (λ arrays. map (λ array. map view array.now) arrays.items) found
@@ -160,7 +159,7 @@ fn is_frame(epoch_end: u64, recovery: u64, rounds: &[&[Value]]) -> bool
     epoch_end < recovery && has_few_commands(rounds)
 }
 
-/// A script of these throttles and rounds.
+/// A script of these throttles and rounds, if its numbers are there and within their limits.
 fn frame_with<'a>(
     value: &Value,
     throttles: Sequence<Throttle>,
@@ -199,7 +198,7 @@ fn frame_with<'a>(
     Some(Frame { setup, rounds })
 }
 
-/// What a JSON value says as a whole.
+/// What a JSON value says as a whole, or nothing where that is a `BadLimit`.
 pub(crate) fn frame_of(alloc: Global, value: &Value) -> Result<Option<Frame<'_>>, AllocError>
     ensures { IfOk result
         (λ found. option_map

@@ -1,11 +1,10 @@
-//! Desks, batches, and proxies that run.
+//! Requests that are left at a desk, batches that are served, and proxies that run with a queue.
 
 ghost use Rattle.std.specs.Prelude.{◌≡◌};
 
-use crate::ample_memory::Case;
-use crate::line::tag;
 use crate::live::steps::unlocked;
 use crate::proxy::stand::{Queue, Stand, Waiter, opts_of, queue_of, submit};
+use fdb_checks::{Case, tag};
 use fdb_history::{Priority, Tag};
 use fdb_live::{Live, LiveRecord, Opened};
 use fdb_proxy::{Answer, Cause, Desk, GrvProxy, serve_batch};
@@ -40,7 +39,7 @@ fn called_named<J: Live + Send + Sync, R: Threads + Wait + Sync>(
     called_at(rt, &mut stand, case)
 }
 
-/// The same at a desk.
+/// The same, at a desk on which nothing has been left yet.
 fn called_at<J: Live + Send + Sync, R: Threads + Wait + Sync>(
     rt: &R,
     stand: &mut Stand<J>,
@@ -72,7 +71,7 @@ fn called_at<J: Live + Send + Sync, R: Threads + Wait + Sync>(
     }
 }
 
-/// So many times the tag `t`.
+/// The tag `t` so many times, for which a queue by `throttled` has a limit each.
 fn tags_of(alloc: Global, number: u64) -> Option<Vec<Tag>> {
     let mut tags = Vec::new(alloc);
     for _ in 0..number {
@@ -110,7 +109,7 @@ fn throttled<J: Live>(alloc: Global, limit: u64, room: u64) -> Option<Queue<J>> 
     Some(queue)
 }
 
-/// So many requests are left.
+/// Leaves so many requests, and takes as many from the desk.
 fn left<J: Live, R: Wait>(
     rt: &R,
     stand: &mut Stand<J>,
@@ -159,7 +158,7 @@ struct Heard {
 }
 
 impl Heard {
-    /// Adds an answer.
+    /// Counts an answer, and leaves out one that is none of the three.
     fn add<J: Live>(&mut self, answer: &Answer<J>, limits: u64) {
         let place = match answer {
             Answer::Reply(reply) if reply.limits.len() as u64 == limits => &mut self.replies,

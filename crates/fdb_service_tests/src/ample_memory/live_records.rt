@@ -23,7 +23,7 @@ pub(crate) fn called<R: Wait>(rt: &R, alloc: Global, of: &str, number: u64) -> O
     }
 }
 
-/// A record with a minimum known committed version.
+/// A record with no lock and no metadata version, but a minimum known committed version.
 fn known(version: u64, min_known: u64) -> Record {
     Record {
         min_known,

@@ -2,21 +2,17 @@
 
 use crate::live::Parts;
 use crate::live::steps::report_at;
-use crate::same::{holds, same};
-use crossbeam_utils::Backoff;
+use fdb_checks::{comes, holds, same, stays_away};
 use fdb_history::{Gate, Place};
 use fdb_live::{Live, LiveRecord, Seen};
-use std::process::Abort;
 use std::sync::Wait;
 use std::sync::atomic::{AtomicBool, AtomicU64, Ordering};
+use std::test::Fail;
 use std::thread;
 use std::thread::Threads;
 
-/// How often each reporter reports.
+/// How often each reporter reports, with the versions from 101 on.
 const TURNS: u64 = 500;
-
-/// How often one looks whether those before it are done.
-const LOOKS: u32 = 1_000_000;
 
 /// How often one looks whether another comes while it is at the gate.
 const GLANCES: u32 = 20;
@@ -28,7 +24,7 @@ struct OneByOne {
     reported: AtomicU64,
     /// The sum of the numbers that passed, less those of the reporters who have reported.
     numbers: AtomicU64,
-    /// Somebody was not alone, or passed another place.
+    /// Somebody was not alone, or passed another place, or was refused.
     failed: AtomicBool,
 }
 
@@ -42,12 +38,11 @@ impl OneByOne {
         }
     }
 
-    /// Notes a failure.
     fn fails(&self) {
         self.failed.store(true, Ordering::SeqCst);
     }
 
-    /// Notes that a reporter has reported.
+    /// Notes that the reporter of this number has reported, so that the next one may pass.
     fn reports(&self, number: Option<u32>) {
         let number = u64::from(number.unwrap_or(u32::MAX));
         self.numbers.fetch_sub(number, Ordering::SeqCst);
@@ -57,33 +52,27 @@ impl OneByOne {
     /// Waits until so many have reported, and notes a failure where they do not come so far. It
     /// does not wait after a failure.
     fn waits_for(&self, before: u64) {
-        let pause = Backoff::new();
-        for _ in 0..LOOKS {
-            let reported = self.reported.load(Ordering::SeqCst);
-            if reported >= before || self.failed.load(Ordering::SeqCst) {
-                return;
-            }
-            pause.snooze();
+        let has_come = || {
+            self.reported.load(Ordering::SeqCst) >= before || self.failed.load(Ordering::SeqCst)
+        };
+        if !comes(has_come) {
+            self.fails();
         }
-        self.fails();
     }
 
     /// Looks whether somebody else passes, and notes that as a failure.
     fn glances(&self, own: u64) {
-        let pause = Backoff::new();
-        for _ in 0..GLANCES {
-            if self.passed.load(Ordering::SeqCst) != own.saturating_add(1) {
-                self.fails();
-            }
-            pause.snooze();
+        let alone = own.saturating_add(1);
+        if !stays_away(GLANCES, || self.passed.load(Ordering::SeqCst) != alone) {
+            self.fails();
         }
     }
 
     /// Checks that so many have passed, each alone, and those who reported.
-    fn was_passed(&self, rt: &impl Abort, passes: u64, case: &str) {
-        same(rt, &self.passed.load(Ordering::SeqCst), &passes, &case);
-        same(rt, &self.numbers.load(Ordering::SeqCst), &0, &case);
-        holds(rt, !self.failed.load(Ordering::SeqCst), &case);
+    fn was_passed(&self, passes: u64, case: &str) -> Result<(), Fail> {
+        same(&self.passed.load(Ordering::SeqCst), &passes, &case)?;
+        same(&self.numbers.load(Ordering::SeqCst), &0, &case)?;
+        holds(!self.failed.load(Ordering::SeqCst), &case)
     }
 }
 
@@ -101,10 +90,10 @@ impl Gate for OneByOne {
 
 /// All reporters report, each in a thread of its own. Whoever is at the gate has the lock until its
 /// report is done.
-pub(crate) fn pass_one_by_one<J: Live + Send + Sync, R: Threads + Wait + Abort + Sync>(
+pub(crate) fn pass_one_by_one<J: Live + Send + Sync, R: Threads + Wait + Sync>(
     rt: &R,
     parts: &mut Parts<J>,
-) {
+) -> Result<(), Fail> {
     let gate = OneByOne::new();
     let (live, tokens) = (&parts.live, parts.tokens.as_mut_slice());
     let reporters = tokens.len().max(1);
@@ -117,19 +106,16 @@ pub(crate) fn pass_one_by_one<J: Live + Send + Sync, R: Threads + Wait + Abort +
         },
     );
     let passes = TURNS.saturating_mul(reporters as u64);
-    gate.was_passed(rt, passes, "each passes alone");
+    gate.was_passed(passes, "each passes alone")
 }
 
-/// Reports rising versions.
-fn report_on<J: Live, R: Wait + Abort>(
-    rt: &R,
-    live: &LiveRecord<J>,
-    gate: &OneByOne,
-    token: &mut Seen<J>,
-) {
+/// Reports rising versions, none of which is refused.
+fn report_on<J: Live, R: Wait>(rt: &R, live: &LiveRecord<J>, gate: &OneByOne, token: &mut Seen<J>) {
     for version in 101..=TURNS + 100 {
-        let acked = report_at(rt, live, gate, token, version).is_ok();
+        let acked = report_at(rt, live, gate, token, version);
         gate.reports(token.reporter());
-        holds(rt, acked, &version);
+        if !matches!(acked, Some(Ok(_))) {
+            gate.fails();
+        }
     }
 }

@@ -2,14 +2,13 @@
 //! that. (`gather` needs the tokens of all reporters, so that none of them can be held meanwhile.)
 
 use crate::live::Parts;
-use crate::live::holding::HoldsFirst;
 use crate::live::steps::report_at;
-use crate::same::same;
-use fdb_history::OpenGate;
+use fdb_checks::{CaseError, HoldsFirst, same};
+use fdb_history::{OpenGate, Place};
 use fdb_live::{Live, LiveRecord, Seen};
-use std::alloc::{AllocError, Global};
-use std::process::Abort;
+use std::alloc::Global;
 use std::sync::Wait;
+use std::test::Fail;
 use std::thread;
 use std::thread::Threads;
 
@@ -32,7 +31,7 @@ pub(crate) enum Holder {
 }
 
 impl Holder {
-    /// How many changes it has seen.
+    /// How many changes it has seen before the reporter is held.
     fn position(self) -> u64 {
         match self {
             Holder::Nobody | Holder::Reporter => 0,
@@ -40,41 +39,41 @@ impl Holder {
         }
     }
 
-    /// Its token.
-    fn token<J: Live, R: Wait + Abort>(self, rt: &R, parts: &mut Parts<J>) -> Seen<J> {
+    /// Its token, which has read the record if it is ahead.
+    fn token<J: Live, R: Wait>(self, rt: &R, parts: &mut Parts<J>) -> Result<Seen<J>, Fail> {
         let mut token = match self {
             Holder::Nobody | Holder::NobodyAhead => parts.live.split(&mut parts.first),
-            Holder::Reporter | Holder::ReporterAhead => parts.last(rt),
+            Holder::Reporter | Holder::ReporterAhead => parts.last()?,
         };
         if self.position() > 0 {
             parts.live.read(rt, &mut token);
         }
-        same(rt, &token.position(), &self.position(), &"a token");
-        token
+        same(&token.position(), &self.position(), &"a token")?;
+        Ok(token)
     }
 }
 
 /// Makes a call with two tokens while reporter 0 is held at the gate, after one change.
-pub(crate) fn call_beside<J: Live + Send + Sync, R: Threads + Wait + Abort + Sync>(
+pub(crate) fn call_beside<J: Live + Send + Sync, R: Threads + Wait + Sync>(
     rt: &R,
     alloc: Global,
     parts: &mut Parts<J>,
     call: Call,
     (one, other): (Holder, Holder),
-) -> Result<(), AllocError> {
-    let mut zero = parts.token_of(rt, 0);
-    report_at(rt, &parts.live, &OpenGate, &mut zero, 200).ok();
-    let (mut token, mut second) = (one.token(rt, parts), other.token(rt, parts));
-    let (live, gate) = (&parts.live, HoldsFirst::new(0, 1));
+) -> Result<(), CaseError> {
+    let mut zero = parts.token_of(0)?;
+    report_at(rt, &parts.live, &OpenGate, &mut zero, 200);
+    let (mut token, mut second) = (one.token(rt, parts)?, other.token(rt, parts)?);
+    let (live, gate) = (&parts.live, HoldsFirst::new(Place::ReportHeld, 0, 1));
     let (acked, found) = thread::join(
         rt,
-        || report_at(rt, live, &gate, &mut zero, 300).is_ok(),
+        || matches!(report_at(rt, live, &gate, &mut zero, 300), Some(Ok(_))),
         || called(rt, live, &gate, call, &mut token, &mut second),
     );
     let case = format!(in alloc; "{call:?} {one:?} {other:?}")?;
-    same(rt, &acked, &true, &case);
-    same(rt, &found, &position_after(call, one, other), &case);
-    gate.was_passed(rt, (1, 0), &case);
+    same(&acked, &true, &case)?;
+    same(&found, &position_after(call, one, other), &case)?;
+    gate.was_passed((1, 0), &case)?;
     Ok(())
 }
 
@@ -93,7 +92,7 @@ fn called<J: Live, R: Wait>(
     position
 }
 
-/// The position that a call leads to.
+/// The position of what a call reads or splits off, or else of the first token after it.
 fn position_by<J: Live, R: Wait>(
     rt: &R,
     live: &LiveRecord<J>,

@@ -1,16 +1,15 @@
 //! Reports of each kind, and the gate that each passes: once, with the lock of the reports, before
 //! the record is looked at, and under the number that is given. One that is refused passes none.
 
-use crate::line::Line;
 use crate::live::Parts;
-use crate::live::holding::HoldsFirst;
-use crate::same::same;
-use fdb_history::Record;
+use crate::live::steps::report_as;
+use fdb_checks::{CaseError, HoldsFirst, Line, same};
+use fdb_history::{Place, Record};
 use fdb_live::{Ack, Fetched, Live, LiveError, LiveRecord, Seen};
 use hex::FromHex;
 use std::alloc::{AllocError, Global};
-use std::process::Abort;
 use std::sync::Wait;
+use std::test::Fail;
 use std::thread;
 use std::thread::Threads;
 
@@ -65,15 +64,15 @@ struct Tokens<J: Live> {
 
 /// Reports of each kind by the first. While it is at the gate, the reader sees nothing of its
 /// report. The second reports the same behind it, which changes nothing more.
-pub(crate) fn report_each_kind<J: Live + Send + Sync, R: Threads + Wait + Abort + Sync>(
+pub(crate) fn report_each_kind<J: Live + Send + Sync, R: Threads + Wait + Sync>(
     rt: &R,
     alloc: Global,
     parts: &mut Parts<J>,
     numbers: Numbers,
-) -> Result<(), AllocError> {
+) -> Result<(), CaseError> {
     let mut tokens = Tokens {
-        first: parts.token_of(rt, numbers.first),
-        second: parts.token_of(rt, numbers.second),
+        first: parts.token_of(numbers.first)?,
+        second: parts.token_of(numbers.second)?,
         reader: parts.live.split(&mut parts.first),
     };
     for line in REPORTS.lines().skip(1) {
@@ -90,80 +89,82 @@ pub(crate) fn report_each_kind<J: Live + Send + Sync, R: Threads + Wait + Abort 
 }
 
 /// Has both report what a line says. Its report passes the gate once, unless it is refused.
-fn report_line<J: Live + Send + Sync, R: Threads + Wait + Abort + Sync>(
+fn report_line<J: Live + Send + Sync, R: Threads + Wait + Sync>(
     rt: &R,
     alloc: Global,
     live: &LiveRecord<J>,
     tokens: &mut Tokens<J>,
     who: u32,
     mut line: Line<'_>,
-) -> Result<(), AllocError> {
-    let rec = record(rt, &mut line);
+) -> Result<(), CaseError> {
+    let rec = record(&mut line)?;
     let Tokens {
         first,
         second,
         reader,
     } = tokens;
     let before = live.read(rt, reader);
-    let gate = HoldsFirst::new(who, number_of(rt, second));
+    let gate = HoldsFirst::new(Place::ReportHeld, who, number_of(second)?);
     let (found, (seen, again)) = thread::join(
         rt,
         || reported(rt, live, &gate, who, first, rec),
         || reported_behind(rt, live, &gate, reader, second, rec),
     );
-    same(rt, &seen, &before, &line.text);
-    same(rt, &again, &once_more(found), &line.text);
+    let Some(found) = found else {
+        return Err(CaseError::Failed(line.fail("a reporter's token is wanted")));
+    };
+    same(&seen, &before, &line.text)?;
+    same(&again, &Some(once_more(found)), &line.text)?;
     let passes = u64::from(found.is_ok());
-    gate.was_passed(rt, (passes, passes), line.text);
-    line.wants(rt, &ack_text(alloc, found)?);
+    gate.was_passed((passes, passes), &line.text)?;
+    line.wants(&ack_text(alloc, found)?)?;
     Ok(())
 }
 
-/// The record that is reported.
-fn record(rt: &impl Abort, line: &mut Line<'_>) -> Record {
-    Record {
-        version: line.number(rt),
-        min_known: line.number(rt),
-        locked: line.word(rt) == "locked",
-        metadata: <[u8; 10]>::from_hex(line.word(rt)).ok(),
-    }
+/// The record that a line reports. A word that is not ten bytes in hex stands for no metadata
+/// version.
+fn record(line: &mut Line<'_>) -> Result<Record, Fail> {
+    Ok(Record {
+        version: line.number()?,
+        min_known: line.number()?,
+        locked: line.word()? == "locked",
+        metadata: <[u8; 10]>::from_hex(line.word()?).ok(),
+    })
 }
 
-/// The number of a reporter's token.
-fn number_of<J: Live>(rt: &impl Abort, token: &Seen<J>) -> u32 {
-    token.reporter().expect(rt, "a reporter's token")
+/// The number of a reporter's token, or a failure where the token is nobody's.
+fn number_of<J: Live>(token: &Seen<J>) -> Result<u32, Fail> {
+    Ok(token.reporter().ok_or("a reporter's token is wanted")?)
 }
 
-/// Reports, and says so once that is done.
-fn reported<J: Live, R: Wait + Abort>(
+/// Reports, and says so once that is done. Answers nothing where the token is nobody's.
+fn reported<J: Live, R: Wait>(
     rt: &R,
     live: &LiveRecord<J>,
     gate: &HoldsFirst,
     who: u32,
     token: &mut Seen<J>,
     rec: Record,
-) -> Result<Ack, LiveError> {
-    assert!(rt; token.reporter().is_some(), "a reporter's token");
+) -> Option<Result<Ack, LiveError>> {
+    token.reporter()?;
     let found = live.report(rt, gate, who, token, rec);
-    gate.is_reported();
-    found
+    gate.is_answered();
+    Some(found)
 }
 
 /// Reads while the first is at the gate, and then reports the same behind it.
-fn reported_behind<J: Live, R: Wait + Abort>(
+fn reported_behind<J: Live, R: Wait>(
     rt: &R,
     live: &LiveRecord<J>,
     gate: &HoldsFirst,
     reader: &mut Seen<J>,
     token: &mut Seen<J>,
     rec: Record,
-) -> (Fetched, Result<Ack, LiveError>) {
-    let who = number_of(rt, token);
+) -> (Fetched, Option<Result<Ack, LiveError>>) {
     gate.waits_until_held();
     let seen = live.read(rt, reader);
     gate.is_done_beside();
-    assert!(rt; token.reporter().is_some(), "a reporter's token");
-    (seen, live.report(rt, gate, who, token, rec))
+    (seen, report_as(rt, live, gate, token, rec))
 }
 
 /// What the same report is answered once more.
@@ -175,7 +176,7 @@ fn once_more(found: Result<Ack, LiveError>) -> Result<Ack, LiveError> {
     })
 }
 
-/// What a report is answered.
+/// What a report is answered, as the words behind `=>`.
 fn ack_text(alloc: Global, found: Result<Ack, LiveError>) -> Result<String, AllocError> {
     match found {
         Ok(ack) => format!(in alloc; "{} at {}", word_of(ack), ack.position),

@@ -2,23 +2,23 @@
 
 use crate::live::Parts;
 use crate::live::steps::{reads, unlocked};
-use crate::same::{holds, same};
+use fdb_checks::{CaseError, holds, same};
 use fdb_history::OpenGate;
 use fdb_live::{Live, LiveRecord, Seen};
 use std::alloc::{AllocError, Global};
-use std::process::Abort;
 use std::sync::Wait;
+use std::test::Fail;
 use std::thread::Threads;
 use std::{mem, thread};
 
 /// How many reports or reads each thread makes.
 const TURNS: u64 = 1000;
 
-/// One that reports or reads.
+/// One that reports if its token has a number, and reads if it has none.
 #[derive(Drop)]
 struct Worker<J: Live> {
     token: Seen<J>,
-    /// The version that it read last.
+    /// The version that it read last, and 0 before it has read.
     version: u64,
     /// How many of its reports raised the record.
     raises: u64,
@@ -91,19 +91,19 @@ fn workers_of<J: Live>(
 
 /// Every reporter reports rising versions that no other has, and readers read beside them. Then
 /// the greatest version stands, at the position that counts the raises, and all tokens meet.
-pub(crate) fn run_all<J: Live + Send + Sync, R: Threads + Wait + Abort + Sync>(
+pub(crate) fn run_all<J: Live + Send + Sync, R: Threads + Wait + Sync>(
     rt: &R,
     alloc: Global,
     parts: &mut Parts<J>,
     readers: u32,
-) -> Result<(), AllocError> {
+) -> Result<(), CaseError> {
     let reporters = parts.tokens.len() as u64;
     let mut workers = workers_of(alloc, parts, readers)?;
     let (live, first) = (&parts.live, &mut parts.first);
     work_side_by_side(rt, live, workers.as_mut_slice(), reporters);
     let greatest = TURNS.saturating_mul(reporters).saturating_add(100);
-    reads(rt, live, first, greatest, raises_of(rt, &workers));
-    all_meet(rt, live, first, workers);
+    reads(rt, live, first, greatest, raises_of(&workers)?)?;
+    all_meet(rt, live, first, workers)?;
     Ok(())
 }
 
@@ -126,22 +126,22 @@ fn work_side_by_side<J: Live + Send + Sync, R: Threads + Wait + Sync>(
 }
 
 /// How many reports raised the record. No worker failed.
-fn raises_of<J: Live>(rt: &impl Abort, workers: &[Worker<J>]) -> u64 {
+fn raises_of<J: Live>(workers: &[Worker<J>]) -> Result<u64, Fail> {
     let mut raises = 0u64;
     for worker in workers {
-        holds(rt, !worker.failed, &"what was seen fell, or was refused");
+        holds(!worker.failed, &"what was seen fell, or was refused")?;
         raises = raises.saturating_add(worker.raises);
     }
-    raises
+    Ok(raises)
 }
 
 /// Any two of the tokens meet, and the first, which has seen all, learns of no more.
-fn all_meet<J: Live, R: Wait + Abort>(
+fn all_meet<J: Live, R: Wait>(
     rt: &R,
     live: &LiveRecord<J>,
     first: &mut Seen<J>,
     mut workers: Vec<Worker<J>>,
-) {
+) -> Result<(), Fail> {
     let all = first.position();
     for _ in 0..workers.len() {
         let Some(mut one) = workers.pop() else {
@@ -149,8 +149,9 @@ fn all_meet<J: Live, R: Wait + Abort>(
         };
         meets(rt, live, &mut one.token, &mut workers);
         tells(rt, live, first, &mut one.token);
-        same(rt, &first.position(), &all, &"told of no more");
+        same(&first.position(), &all, &"told of no more")?;
     }
+    Ok(())
 }
 
 /// A token meets those of some workers.

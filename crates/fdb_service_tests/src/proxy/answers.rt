@@ -35,7 +35,7 @@ pub(crate) fn answer_to<J: Live, R: Wait>(
     Ok(text)
 }
 
-/// Adds the answer that comes.
+/// Adds the answer that comes, or `none` or `several` where it is not one.
 fn add_awaited<J: Live, R: Wait>(
     rt: &R,
     alloc: Global,
@@ -49,7 +49,7 @@ fn add_awaited<J: Live, R: Wait>(
     }
 }
 
-/// Some answers.
+/// Answers in their order, with a semicolon between any two.
 pub(crate) fn answers_text<J: Live>(
     alloc: Global,
     answers: &[Answer<J>],
@@ -91,7 +91,6 @@ fn add_reply<J: Live>(
     Ok(())
 }
 
-/// Adds a record and its position.
 fn add_record(
     alloc: Global,
     text: &mut String,
@@ -119,7 +118,7 @@ fn add_refused<J: Live>(
     }
 }
 
-/// Adds whom an answer answers.
+/// Adds whom an answer is for: the client, the serial number, and the position that it asked from.
 pub(crate) fn add_asker(
     alloc: Global,
     text: &mut String,

@@ -2,13 +2,13 @@
 
 use crate::live::steps::report_at;
 use crate::proxy::stand::{Stand, Waiter, opts_of, queue_of, request_of, submit};
-use crate::same::{holds, same};
+use fdb_checks::{CaseError, holds, same};
 use fdb_history::{OpenGate, Priority};
 use fdb_live::{Live, LiveRecord, Seen};
 use fdb_proxy::{Answer, Desk, GrvProxy};
 use std::alloc::{AllocError, Global};
-use std::process::Abort;
 use std::sync::Wait;
+use std::test::Fail;
 use std::thread::Threads;
 use std::{mem, thread};
 
@@ -27,37 +27,36 @@ struct Service<'a, J: Live> {
     other: &'a Desk<J>,
 }
 
-/// One that reports and asks.
+/// One that reports with its own token, and then asks from the position that this has come to.
 #[derive(Drop)]
 struct Client<J: Live> {
     number: u32,
     token: Seen<J>,
     /// How many of its requests were answered as they should be, and once.
     answered: u64,
+    /// Whether a report of its was refused, or memory.
+    failed: bool,
 }
 
 impl<J: Live> Client<J> {
-    /// The client of a reporter's token.
+    /// The client of a reporter's token, who has the reporter's number.
     fn new(token: Seen<J>) -> Self {
         Client {
             number: token.reporter().unwrap_or(0),
             token,
             answered: 0,
+            failed: false,
         }
     }
 
     /// Reports versions that no other client reports, and asks. It stops where memory is refused.
-    fn work<R: Wait + Abort>(
-        &mut self,
-        rt: &R,
-        service: &Service<'_, J>,
-    ) -> Result<(), AllocError> {
+    fn work<R: Wait>(&mut self, rt: &R, service: &Service<'_, J>) -> Result<(), AllocError> {
         for turn in 0..TURNS {
             let version = turn
                 .saturating_mul(4)
                 .saturating_add(u64::from(self.number) + 200);
-            let acked = report_at(rt, service.live, &OpenGate, &mut self.token, version).is_ok();
-            holds(rt, acked, &version);
+            let acked = report_at(rt, service.live, &OpenGate, &mut self.token, version);
+            self.failed |= !matches!(acked, Some(Ok(_)));
             let first = turn.saturating_mul(REQUESTS);
             let asked = self.token.position();
             let waiters = self.ask(rt, service, first)?;
@@ -145,7 +144,7 @@ impl<J: Live> Client<J> {
     }
 }
 
-/// A client for each token.
+/// A client for each reporter's token, which the stand hands over.
 fn clients_of<J: Live>(stand: &mut Stand<J>) -> Result<Vec<Client<J>>, AllocError> {
     let mut clients = Vec::new(stand.alloc);
     for token in mem::replace(&mut stand.reporters, Vec::new(stand.alloc)) {
@@ -155,10 +154,10 @@ fn clients_of<J: Live>(stand: &mut Stand<J>) -> Result<Vec<Client<J>>, AllocErro
 }
 
 /// Four clients ask two proxies, and each of their requests is answered.
-pub(crate) fn ask_all<J: Live + Send + Sync, R: Threads + Wait + Abort + Sync>(
+pub(crate) fn ask_all<J: Live + Send + Sync, R: Threads + Wait + Sync>(
     rt: &R,
     stand: &mut Stand<J>,
-) -> Result<(), AllocError> {
+) -> Result<(), CaseError> {
     let mut clients = clients_of(stand)?;
     let token = stand.live.split(&mut stand.seen);
     let other_token = stand.live.split(&mut stand.seen);
@@ -175,8 +174,8 @@ pub(crate) fn ask_all<J: Live + Send + Sync, R: Threads + Wait + Abort + Sync>(
         || run_both(rt, first, second),
         || ask_side_by_side(rt, &service, clients.as_mut_slice()),
     );
-    holds(rt, ended, &"the proxies have memory");
-    are_answered(rt, clients.as_slice());
+    holds(ended, &"the proxies have memory")?;
+    are_answered(clients.as_slice())?;
     Ok(())
 }
 
@@ -203,7 +202,7 @@ fn run_both<J: Live + Send + Sync, R: Threads + Wait + Sync>(
 }
 
 /// Lets each client work in a thread of its own, and closes the desks.
-fn ask_side_by_side<J: Live + Send + Sync, R: Threads + Wait + Abort + Sync>(
+fn ask_side_by_side<J: Live + Send + Sync, R: Threads + Wait + Sync>(
     rt: &R,
     service: &Service<'_, J>,
     clients: &mut [Client<J>],
@@ -214,18 +213,21 @@ fn ask_side_by_side<J: Live + Send + Sync, R: Threads + Wait + Abort + Sync>(
         clients,
         threads,
         &|_, client| {
-            let worked = client.work(rt, service).is_ok();
-            holds(rt, worked, &"memory for a client");
+            if client.work(rt, service).is_err() {
+                client.failed = true;
+            }
         },
     );
     service.one.close(rt);
     service.other.close(rt);
 }
 
-/// Checks that each request was answered.
-fn are_answered<J: Live>(rt: &impl Abort, clients: &[Client<J>]) {
+/// Checks that nothing was refused, and that each request was answered.
+fn are_answered<J: Live>(clients: &[Client<J>]) -> Result<(), Fail> {
     let wanted = TURNS.saturating_mul(REQUESTS);
     for client in clients {
-        same(rt, &client.answered, &wanted, &client.number);
+        holds(!client.failed, &"reports, and memory for a client")?;
+        same(&client.answered, &wanted, &client.number)?;
     }
+    Ok(())
 }

@@ -3,15 +3,14 @@
 //! the proxy gets no further than the test has heard.
 
 use crate::proxy::stand::{Stand, Waiter, opts_of, queue_of, submit};
-use crate::same::holds;
 use crossbeam_channel::bounded;
-use crossbeam_utils::Backoff;
+use fdb_checks::{CaseError, holds};
 use fdb_history::Priority;
 use fdb_live::Live;
 use fdb_proxy::{Answer, Desk, GrvProxy, Request};
 use std::alloc::AllocError;
-use std::process::Abort;
 use std::sync::Wait;
+use std::test::Fail;
 use std::thread;
 use std::thread::Threads;
 
@@ -32,11 +31,11 @@ struct Place<'a, J: Live> {
 }
 
 /// Has a system request come behind so many default ones. It fails where memory is refused.
-pub(crate) fn come_late<J: Live + Send + Sync, R: Threads + Wait + Abort + Sync>(
+pub(crate) fn come_late<J: Live + Send + Sync, R: Threads + Wait + Sync>(
     rt: &R,
     stand: &mut Stand<J>,
     waiting: u64,
-) -> Result<(), AllocError> {
+) -> Result<(), CaseError> {
     for serial in 0..waiting {
         leave(rt, stand, serial)?;
     }
@@ -58,8 +57,9 @@ pub(crate) fn come_late<J: Live + Send + Sync, R: Threads + Wait + Abort + Sync>
         waiters: stand.waiters.as_slice(),
         late,
     };
-    let (ended, ()) = thread::join(rt, || proxy.run(rt).is_ok(), || hear(rt, place, request));
-    holds(rt, ended, &"the proxy has memory");
+    let (ended, heard) = thread::join(rt, || proxy.run(rt).is_ok(), || hear(rt, place, request));
+    heard?;
+    holds(ended, &"the proxy has memory")?;
     Ok(())
 }
 
@@ -76,38 +76,32 @@ fn leave<J: Live, R: Wait>(rt: &R, stand: &mut Stand<J>, serial: u64) -> Result<
 
 /// Hears the first of those that wait, leaves the system request, and hears the next one: the
 /// proxy has another turn then, in which it answers the system request. Then the desk is closed.
-fn hear<J: Live, R: Wait + Abort>(rt: &R, place: Place<'_, J>, request: Request<J>) {
-    let Some((first, others)) = place.waiters.split_first() else {
-        panic!(rt; "one waits")
+fn hear<J: Live, R: Wait>(rt: &R, place: Place<'_, J>, request: Request<J>) -> Result<(), Fail> {
+    let mut waiters = place.waiters.iter();
+    let (Some(first), Some(second)) = (waiters.next(), waiters.next()) else {
+        place.desk.close(rt);
+        return Err(Fail::new("two that wait are wanted"));
     };
-    let Some((second, others)) = others.split_first() else {
-        panic!(rt; "two wait")
-    };
-    is_answered(rt, first);
+    let mut answered = first.recv(rt).is_ok();
     let left = submit(rt, place.desk, request).is_ok();
-    holds(rt, left, &"left at an open desk");
-    is_answered(rt, second);
+    answered &= second.recv(rt).is_ok();
     let heard = is_heard(rt, &place.late);
     place.desk.close(rt);
-    for waiter in others {
-        is_answered(rt, waiter);
+    for waiter in waiters {
+        answered &= waiter.recv(rt).is_ok();
     }
-    holds(rt, heard, &"a request that comes while others wait");
+    holds(left, &"left at an open desk")?;
+    holds(answered, &"each has an answer")?;
+    holds(heard, &"a request that comes while others wait")
 }
 
-/// Waits for an answer.
-fn is_answered<J: Live, R: Wait + Abort>(rt: &R, waiter: &Waiter<J>) {
-    holds(rt, waiter.recv(rt).is_ok(), &"each has an answer");
-}
-
-/// Looks for a reply.
+/// Whether a reply comes, and no refusal, before the looks are used up.
 fn is_heard<J: Live, R: Wait>(rt: &R, waiter: &Waiter<J>) -> bool {
-    let pause = Backoff::new();
     for _ in 0..LOOKS {
         if let Ok(answer) = waiter.try_recv(rt) {
             return matches!(answer, Answer::Reply(_));
         }
-        pause.snooze();
+        thread::yield_now();
     }
     false
 }

@@ -20,89 +20,99 @@
 //! The queues have a throttle of the tag `t` at the default
 //! priority: 5 transactions a second until the moment 5000.
 
-use crate::line::{Line, tag};
 use crate::proxy::answers::{add_asker, answers_text, awaited};
 use crate::proxy::many::{left_many, together};
 use crate::proxy::stand::{Ended, Queue, Stand, Waiter, opts_of, queue_of, submit};
+use fdb_checks::{CaseError, Line, calls, tag};
 use fdb_history::{GrvOpts, Priority, Record, Tag};
 use fdb_live::Live;
 use fdb_proxy::{GrvProxy, ProxyError, Request, Taken, serve_batch};
 use hex::FromHex;
 use std::alloc::{AllocError, Global};
-use std::process::Abort;
 use std::sync::Wait;
+use std::test::Fail;
 use std::thread;
 use std::thread::Threads;
 
-/// Plays the lines of a text.
-pub(crate) fn play_lines<J: Live + Send + Sync, R: Threads + Wait + Abort + Sync>(
+/// Plays the lines of a text at one stand, and compares what each call is answered.
+pub(crate) fn play_lines<J: Live + Send + Sync, R: Threads + Wait + Sync>(
     rt: &R,
     stand: &mut Stand<J>,
     text: &str,
-) -> Result<(), AllocError> {
-    for line in text.lines() {
-        play_line(rt, stand, Line::new(line))?;
+) -> Result<(), CaseError> {
+    for (call, mut line) in calls(stand.alloc, text)? {
+        let found = called(rt, stand, call, &mut line)?;
+        line.wants(&found)?;
     }
     Ok(())
 }
 
-/// Plays a line, if it is no comment.
-fn play_line<J: Live + Send + Sync, R: Threads + Wait + Abort + Sync>(
-    rt: &R,
-    stand: &mut Stand<J>,
-    mut line: Line<'_>,
-) -> Result<(), AllocError> {
-    match line.next_word() {
-        None | Some("#") => Ok(()),
-        Some(call) => {
-            let found = called(rt, stand, call, &mut line)?;
-            line.wants(rt, &found);
-            Ok(())
-        }
-    }
-}
-
-/// What a call is answered.
-fn called<J: Live + Send + Sync, R: Threads + Wait + Abort + Sync>(
+/// What a call is answered, as the words behind `=>`.
+fn called<J: Live + Send + Sync, R: Threads + Wait + Sync>(
     rt: &R,
     stand: &mut Stand<J>,
     call: &str,
     line: &mut Line<'_>,
-) -> Result<String, AllocError> {
-    let alloc = stand.alloc;
+) -> Result<String, CaseError> {
     match call {
-        "report" => stand.report(rt, record(rt, line)).to_string(alloc),
-        "see" => seen(rt, stand),
+        "report" => reported(rt, stand, line),
         "submit" => submitted(rt, stand, line),
         "many" => left_many(rt, stand, line),
-        "leave" => left(stand),
-        "close" => closed(rt, stand),
-        "serve" => served(rt, stand),
         "run" => run(rt, stand, line),
-        "answers" => awaited(rt, alloc, stand.waiters.as_slice()),
-        "serve_many" => {
-            let answers = served(rt, stand)?;
-            together(stand, &answers)
-        }
-        "answers_many" => {
-            let answers = awaited(rt, alloc, stand.waiters.as_slice())?;
-            together(stand, &answers)
-        }
-        "position" => stand.served.position().to_string(alloc),
-        _ => line.fails(rt, "no call"),
+        _ => match called_alone(rt, stand, call)? {
+            Some(found) => Ok(found),
+            None => Err(CaseError::Failed(line.fail("no call"))),
+        },
     }
 }
 
-/// The record that is reported.
-fn record(rt: &impl Abort, line: &mut Line<'_>) -> Record {
-    let version = line.number(rt);
-    let locked = line.word(rt) == "locked";
-    Record {
+/// What a call of one word is answered, if there is such a call.
+fn called_alone<J: Live, R: Wait>(
+    rt: &R,
+    stand: &mut Stand<J>,
+    call: &str,
+) -> Result<Option<String>, AllocError> {
+    let alloc = stand.alloc;
+    let found = match call {
+        "see" => seen(rt, stand)?,
+        "leave" => left(stand)?,
+        "close" => closed(rt, stand)?,
+        "serve" => served(rt, stand)?,
+        "answers" => awaited(rt, alloc, stand.waiters.as_slice())?,
+        "serve_many" => {
+            let answers = served(rt, stand)?;
+            together(stand, &answers)?
+        }
+        "answers_many" => {
+            let answers = awaited(rt, alloc, stand.waiters.as_slice())?;
+            together(stand, &answers)?
+        }
+        "position" => stand.served.position().to_string(alloc)?,
+        _ => return Ok(None),
+    };
+    Ok(Some(found))
+}
+
+/// The position after a report by the next reporter, each of whom reports once.
+fn reported<J: Live, R: Wait>(
+    rt: &R,
+    stand: &mut Stand<J>,
+    line: &mut Line<'_>,
+) -> Result<String, CaseError> {
+    let position = stand.report(rt, record(line)?)?;
+    Ok(position.to_string(stand.alloc)?)
+}
+
+/// The record that is reported, whose minimum known committed version is 0.
+fn record(line: &mut Line<'_>) -> Result<Record, Fail> {
+    let version = line.number()?;
+    let locked = line.word()? == "locked";
+    Ok(Record {
         version,
         locked,
-        metadata: <[u8; 10]>::from_hex(line.word(rt)).ok(),
+        metadata: <[u8; 10]>::from_hex(line.word()?).ok(),
         min_known: 0,
-    }
+    })
 }
 
 fn seen<J: Live, R: Wait>(rt: &R, stand: &mut Stand<J>) -> Result<String, AllocError> {
@@ -110,30 +120,30 @@ fn seen<J: Live, R: Wait>(rt: &R, stand: &mut Stand<J>) -> Result<String, AllocE
     stand.seen.position().to_string(stand.alloc)
 }
 
-fn submitted<J: Live, R: Wait + Abort>(
+fn submitted<J: Live, R: Wait>(
     rt: &R,
     stand: &mut Stand<J>,
     line: &mut Line<'_>,
-) -> Result<String, AllocError> {
-    let (client, serial) = (line.who(rt), line.number(rt));
-    let opts = opts(rt, stand.alloc, line)?;
+) -> Result<String, CaseError> {
+    let (client, serial) = (line.who()?, line.number()?);
+    let opts = opts(stand.alloc, line)?;
     let (request, waiter) = stand.request(client, serial, opts)?;
     match submit(rt, &stand.desk, request) {
-        Ok(()) => waits(stand, waiter),
-        Err((cause, back)) => handed_back(stand.alloc, cause, &back.payload),
+        Ok(()) => Ok(waits(stand, waiter)?),
+        Err((cause, back)) => Ok(handed_back(stand.alloc, cause, &back.payload)?),
     }
 }
 
-/// Keeps where an answer comes.
+/// Keeps where the answer comes to the request that was left last.
 fn waits<J: Live>(stand: &mut Stand<J>, waiter: Waiter<J>) -> Result<String, AllocError> {
     stand.waiters.push(waiter)?;
     String::from_str(stand.alloc, "in")
 }
 
-/// What a client asks for.
-fn opts(rt: &impl Abort, alloc: Global, line: &mut Line<'_>) -> Result<GrvOpts, AllocError> {
-    let (priority, count) = (line.priority(rt), line.number(rt));
-    let at = line.number(rt);
+/// The options of a request: its priority, its count, the moment and the tags.
+fn opts(alloc: Global, line: &mut Line<'_>) -> Result<GrvOpts, CaseError> {
+    let (priority, count) = (line.priority()?, line.number()?);
+    let at = line.number()?;
     Ok(opts_of(priority, count, tags(alloc, line)?, at))
 }
 
@@ -149,7 +159,7 @@ fn tags(alloc: Global, line: &mut Line<'_>) -> Result<Vec<Tag>, AllocError> {
     Ok(tags)
 }
 
-/// A request that the desk does not take.
+/// Who asked in a request that the desk does not take, and why it does not.
 fn handed_back<J: Live>(
     alloc: Global,
     cause: ProxyError,
@@ -181,23 +191,23 @@ fn served<J: Live, R: Wait>(rt: &R, stand: &mut Stand<J>) -> Result<String, Allo
     }
 }
 
-fn run<J: Live + Send + Sync, R: Threads + Wait + Abort + Sync>(
+fn run<J: Live + Send + Sync, R: Threads + Wait + Sync>(
     rt: &R,
     stand: &mut Stand<J>,
     line: &mut Line<'_>,
-) -> Result<String, AllocError> {
-    let (normal, batch) = (line.number(rt), line.number(rt));
-    let queue = throttled_queue(stand.alloc, normal, batch, line.number(rt))?;
+) -> Result<String, CaseError> {
+    let (normal, batch) = (line.number()?, line.number()?);
+    let queue = throttled_queue(stand.alloc, normal, batch, line.number()?)?;
     match run_in_thread(rt, stand.proxy(queue)) {
         Ok(token) => {
             stand.served = token;
-            String::from_str(stand.alloc, "ok")
+            Ok(String::from_str(stand.alloc, "ok")?)
         }
-        Err((cause, _)) => cause.to_string(stand.alloc),
+        Err((cause, _)) => Ok(cause.to_string(stand.alloc)?),
     }
 }
 
-/// Runs a proxy in a thread of its own.
+/// Runs a proxy in a thread of its own until its desk is closed or it is refused memory.
 pub(crate) fn run_in_thread<J: Live + Send + Sync, R: Threads + Wait + Sync>(
     rt: &R,
     proxy: GrvProxy<'_, J>,
@@ -205,7 +215,7 @@ pub(crate) fn run_in_thread<J: Live + Send + Sync, R: Threads + Wait + Sync>(
     thread::join(rt, || proxy.run(rt), || ()).0
 }
 
-/// A queue with the throttle.
+/// A queue of these limits and this room, with the throttle that the top of this file tells.
 pub(crate) fn throttled_queue<J: Live>(
     alloc: Global,
     normal: u64,

@@ -1,28 +1,27 @@
 //! Many requests at once, and their answers put together.
 
-use crate::line::Line;
 use crate::proxy::stand::{Stand, opts_of, submit};
+use fdb_checks::{CaseError, Line};
 use fdb_history::Priority;
 use fdb_live::Live;
 use std::alloc::{AllocError, Global};
-use std::process::Abort;
 use std::sync::Wait;
 
 /// Leaves so many requests of client 0 on the desk, of a priority and a count. Their serial numbers
 /// go on from those that wait.
-pub(crate) fn left_many<J: Live, R: Wait + Abort>(
+pub(crate) fn left_many<J: Live, R: Wait>(
     rt: &R,
     stand: &mut Stand<J>,
     line: &mut Line<'_>,
-) -> Result<String, AllocError> {
-    let requests = line.number(rt);
-    let (priority, count) = (line.priority(rt), line.number(rt));
+) -> Result<String, CaseError> {
+    let requests = line.number()?;
+    let (priority, count) = (line.priority()?, line.number()?);
     for _ in 0..requests {
         if !left_next(rt, stand, priority, count)? {
-            return format!(in stand.alloc; "{} refused", stand.waiters.len());
+            return Ok(format!(in stand.alloc; "{} refused", stand.waiters.len())?);
         }
     }
-    String::from_str(stand.alloc, "in")
+    Ok(String::from_str(stand.alloc, "in")?)
 }
 
 /// Leaves the next request of client 0 on the desk. Answers whether it was taken.
@@ -49,7 +48,7 @@ struct Said {
 }
 
 impl Said {
-    /// Adds what was said next.
+    /// Adds what was said next, to the row that goes on or as the first of another.
     fn add(&mut self, said: &str) -> Result<(), AllocError> {
         if said != self.last.as_str() {
             self.ends()?;
@@ -89,7 +88,8 @@ pub(crate) fn together<J: Live>(stand: &mut Stand<J>, answers: &str) -> Result<S
     Ok(said.before)
 }
 
-/// What an answer says to client 0 under this serial number, and the whole of one that is to others.
+/// What an answer says to client 0 under this serial number, and the whole of one that is to
+/// others.
 fn said_to<'a>(alloc: Global, serial: usize, answer: &'a str) -> Result<&'a str, AllocError> {
     let own = format!(in alloc; "0/{serial} ")?;
     Ok(answer.strip_prefix(own.as_str()).unwrap_or(answer))

@@ -1,30 +1,28 @@
-//! A desk that is closed while a request of each kind of options waits: there, or in the queue of its
-//! proxy. Each is there still, and is answered once.
+//! A desk that is closed while a request of each kind of options waits: there, or in the queue of
+//! its proxy. Each is there still, and is answered once.
 
-use crate::line::tag;
 use crate::proxy::answers::answer_to;
 use crate::proxy::lines::{run_in_thread, throttled_queue};
 use crate::proxy::stand::{Stand, Waiter, opts_of, request_of, submit};
-use crate::same::{holds, same, same_text};
 use crossbeam_channel::bounded;
+use fdb_checks::{CaseError, holds, same, same_text, tag};
 use fdb_history::{GrvOpts, Priority, Record, Tag};
 use fdb_live::{Live, Seen};
 use fdb_proxy::{Desk, GrvProxy, Request};
 use fdb_queue::Req;
 use std::alloc::{AllocError, Global};
-use std::process::Abort;
 use std::sync::Wait;
 use std::thread;
 use std::thread::Threads;
 
-/// The client that asks.
+/// The client that asks for each kind of options, and not the two requests that are held.
 const CLIENT: u32 = 3;
 
 /// How many kinds there are: by priority, tags, moment, number of transactions, both flags, and the
 /// position that was seen.
 const KINDS: u64 = 3 * 3 * 2 * 2 * 2 * 2 * 2;
 
-/// The record that is read.
+/// The record that each reply reads, at position 1.
 const LOCKED: Record = Record {
     version: 2_100,
     locked: true,
@@ -32,16 +30,15 @@ const LOCKED: Record = Record {
     min_known: 50,
 };
 
-/// What becomes of the requests.
+/// What becomes of the requests that wait where their desk is closed.
 #[derive(Clone, Copy, Debug, PartialEq)]
 pub(crate) enum Fate {
-    /// All are taken from the closed desk.
+    /// All are taken from the closed desk, which has no proxy.
     Taken,
-    /// All start.
     Start,
     /// System requests use up the limits, so that the others are closed.
     Starve,
-    /// Batch requests are not let in.
+    /// The batch limit is 0, so that no batch request is let in.
     NoBatch,
     /// The first one has room, and is a system request.
     NoRoom,
@@ -91,7 +88,7 @@ impl Kind {
         }
     }
 
-    /// The next choice, of so many.
+    /// The next choice: a number from 0 on, of so many that there are.
     fn choice(&mut self, of: u64) -> u64 {
         let choice = self.left % of.max(1);
         self.left /= of.max(1);
@@ -130,11 +127,11 @@ fn tags_of(alloc: Global, choice: u64) -> Result<Vec<Tag>, AllocError> {
 }
 
 /// Leaves a request of each kind at the desk, closes that, and sees what becomes of them.
-pub(crate) fn close_each<J: Live + Send + Sync, R: Threads + Wait + Abort + Sync>(
+pub(crate) fn close_each<J: Live + Send + Sync, R: Threads + Wait + Sync>(
     rt: &R,
     stand: &mut Stand<J>,
     fate: Fate,
-) -> Result<(), AllocError> {
+) -> Result<(), CaseError> {
     leave_each(rt, stand)?;
     match fate {
         Fate::Taken => {
@@ -147,7 +144,7 @@ pub(crate) fn close_each<J: Live + Send + Sync, R: Threads + Wait + Abort + Sync
             let (normal, batch, room) = fate.config();
             let queue = throttled_queue(stand.alloc, normal, batch, room)?;
             let ended = run_in_thread(rt, stand.proxy(queue)).is_ok();
-            holds(rt, ended, &"the proxy has memory");
+            holds(ended, &"the proxy has memory")?;
         }
     }
     are_answered(rt, stand, fate)
@@ -163,59 +160,54 @@ fn of_two<'t, J: Live>(
 }
 
 /// Leaves a request of each kind, half of them from a position after a report.
-fn leave_each<J: Live, R: Wait + Abort>(rt: &R, stand: &mut Stand<J>) -> Result<(), AllocError> {
+fn leave_each<J: Live, R: Wait>(rt: &R, stand: &mut Stand<J>) -> Result<(), CaseError> {
     let mut ahead = stand.live.split(&mut stand.seen);
-    same(rt, &stand.report(rt, LOCKED), &1, &"a report");
-    same(rt, &stand.live.read(rt, &mut ahead).position, &1, &"a read");
+    same(&stand.report(rt, LOCKED)?, &1, &"a report")?;
+    same(&stand.live.read(rt, &mut ahead).position, &1, &"a read")?;
     for serial in 0..KINDS {
         let (opts, is_ahead) = Kind::new(serial).opts(stand.alloc)?;
         let seen = of_two(&mut ahead, &mut stand.seen, is_ahead);
         let (request, waiter) = request_of(stand.alloc, &stand.live, seen, CLIENT, serial, opts)?;
         stand.waiters.push(waiter)?;
         let left = submit(rt, &stand.desk, request).is_ok();
-        holds(rt, left, &serial);
+        holds(left, &serial)?;
     }
     Ok(())
 }
 
 /// Takes all from the closed desk, and checks that they are what was left, in order.
-fn are_taken<J: Live, R: Wait + Abort>(rt: &R, stand: &Stand<J>) -> Result<(), AllocError> {
+fn are_taken<J: Live, R: Wait>(rt: &R, stand: &Stand<J>) -> Result<(), CaseError> {
     let taken = stand.desk.take(rt, true);
-    holds(rt, taken.closed, &"the desk is closed");
-    same(rt, &(taken.requests.len() as u64), &KINDS, &"all are left");
+    holds(taken.closed, &"the desk is closed")?;
+    same(&(taken.requests.len() as u64), &KINDS, &"all are left")?;
     for (serial, request) in taken.requests.iter().enumerate() {
-        is_as_left(rt, stand.alloc, request, serial as u64)?;
+        is_as_left(stand.alloc, request, serial as u64)?;
     }
     Ok(())
 }
 
-/// Checks that a request is what was left.
+/// Checks that a request is of the kind of its number, in all its members.
 fn is_as_left<J: Live>(
-    rt: &impl Abort,
     alloc: Global,
     request: &Req<Request<J>>,
     serial: u64,
-) -> Result<(), AllocError> {
+) -> Result<(), CaseError> {
     let (opts, is_ahead) = Kind::new(serial).opts(alloc)?;
     let asked = u64::from(is_ahead);
     let payload = &request.payload;
     let found = (payload.client, payload.serial, payload.asked);
-    same(rt, &found, &(CLIENT, serial, asked), &serial);
-    same(rt, &payload.seen.position(), &asked, &serial);
-    same(rt, &payload.opts, &opts, &serial);
+    same(&found, &(CLIENT, serial, asked), &serial)?;
+    same(&payload.seen.position(), &asked, &serial)?;
+    same(&payload.opts, &opts, &serial)?;
     Ok(())
 }
 
 /// Checks that each has the answer that is due, and once.
-fn are_answered<J: Live, R: Wait + Abort>(
-    rt: &R,
-    stand: &Stand<J>,
-    fate: Fate,
-) -> Result<(), AllocError> {
+fn are_answered<J: Live, R: Wait>(rt: &R, stand: &Stand<J>, fate: Fate) -> Result<(), CaseError> {
     for (serial, waiter) in stand.waiters.iter().enumerate() {
         let found = answer_to(rt, stand.alloc, waiter)?;
         let wanted = due(stand.alloc, fate, serial as u64)?;
-        same_text(rt, &found, &wanted, "each kind of options");
+        same_text(&found, &wanted, "each kind of options")?;
     }
     Ok(())
 }
@@ -241,11 +233,11 @@ fn due(alloc: Global, fate: Fate, serial: u64) -> Result<String, AllocError> {
 
 /// Has the proxy run, which is held at the answer to one more system request until its desk is
 /// closed.
-fn run_while_held<J: Live + Send + Sync, R: Threads + Wait + Abort + Sync>(
+fn run_while_held<J: Live + Send + Sync, R: Threads + Wait + Sync>(
     rt: &R,
     stand: &mut Stand<J>,
     fate: Fate,
-) -> Result<(), AllocError> {
+) -> Result<(), CaseError> {
     let (normal, batch, room) = fate.config();
     let queue = throttled_queue(stand.alloc, normal, batch, room)?;
     let held = leave_held(rt, stand)?;
@@ -253,30 +245,27 @@ fn run_while_held<J: Live + Send + Sync, R: Threads + Wait + Abort + Sync>(
     let (live, desk) = (&stand.live, &stand.desk);
     let proxy = GrvProxy::new(stand.alloc, live, desk, queue, 1_000_000, token);
     let (ended, heard) = thread::join(rt, || proxy.run(rt).is_ok(), || close_held(rt, desk, held));
-    holds(rt, ended && heard, &"the proxy has memory");
+    holds(ended && heard, &"the proxy has memory")?;
     Ok(())
 }
 
 /// Leaves two more system requests, whose answers are handed over.
-fn leave_held<J: Live, R: Wait + Abort>(
-    rt: &R,
-    stand: &mut Stand<J>,
-) -> Result<[Waiter<J>; 2], AllocError> {
+fn leave_held<J: Live, R: Wait>(rt: &R, stand: &mut Stand<J>) -> Result<[Waiter<J>; 2], CaseError> {
     Ok([handed_over(rt, stand, 0)?, handed_over(rt, stand, 1)?])
 }
 
 /// Leaves a system request of another client, whose answer is handed over.
-fn handed_over<J: Live, R: Wait + Abort>(
+fn handed_over<J: Live, R: Wait>(
     rt: &R,
     stand: &mut Stand<J>,
     serial: u64,
-) -> Result<Waiter<J>, AllocError> {
+) -> Result<Waiter<J>, CaseError> {
     let opts = opts_of(Priority::System, 1, Vec::new(stand.alloc), 0);
     let (mut request, _) = stand.request(CLIENT + 1, serial, opts)?;
     let (reply, waiter) = bounded(stand.alloc, 0)?;
     request.reply = reply;
     let left = submit(rt, &stand.desk, request).is_ok();
-    holds(rt, left, &"left at an open desk");
+    holds(left, &"left at an open desk")?;
     Ok(waiter)
 }
 

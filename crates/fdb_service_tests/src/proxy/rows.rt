@@ -1,4 +1,4 @@
-//! The cases that are texts.
+//! The tests of desks, batches and proxies: texts first, and then clients in threads of their own.
 
 use crate::proxy::options::Fate;
 use crate::proxy::{Case, play};
@@ -85,7 +85,7 @@ run 1 1 1 => ok
 answers => 0/0 from 0: the queue is full; 1/0 from 0: the queue is full; 2/0 from 0: 100 unlocked none at 0
 ";
 
-/// The same, the highest first.
+/// The same, the highest first, so that nobody is pushed out.
 const HIGHEST_FIRST: &str = "
 submit 0 0 system 1 0 => in
 submit 1 0 default 1 0 => in
@@ -95,7 +95,8 @@ run 1 1 1 => ok
 answers => 0/0 from 0: 100 unlocked none at 0; 1/0 from 0: the queue is full; 2/0 from 0: the queue is full
 ";
 
-/// Requests that the queue does not let in.
+/// Requests that the queue does not let in, for a count of 0 and a batch limit of 0, and one that
+/// it does.
 const NOT_LET_IN: &str = "
 submit 0 0 default 0 0 => in
 submit 0 1 batch 1 0 => in
@@ -190,7 +191,7 @@ run 1 1 100000 => ok
 answers_many => 10000 from 0: 100 unlocked none at 0; 1 from 0: closed
 ";
 
-/// Each that came before is pushed out.
+/// As many system requests as there is room for push out each that came before.
 const PUSHED_OUT: &str = "
 many 101 batch 1 => in
 many 64 default 1 => in
@@ -259,7 +260,7 @@ fn a_desk_is_closed_while_each_kind_of_options_waits(rt: HostRuntime) -> Result<
     Ok(())
 }
 
-/// One more than 2^16.
+/// One more than 2^16, at which a counter of 16 bits would begin anew.
 #[test]
 fn one_proxy_answers_65_537_requests(rt: HostRuntime) -> Result<(), Fail> {
     play(&rt, rt.alloc(), Case::Long(65_537))?;

@@ -1,4 +1,4 @@
-//! A desk with what stands round it.
+//! A desk with what stands round it: the live record, the tokens, and where the answers come.
 
 use crossbeam_channel::{Receiver, bounded};
 use fdb_history::{GrvOpts, OpenGate, Priority, Record, Sequence, Tag};
@@ -6,16 +6,16 @@ use fdb_live::{Live, LiveRecord, Seen};
 use fdb_proxy::{Answer, Desk, GrvProxy, ProxyError, Request};
 use fdb_queue::{GrvQueue, QueueConfig, Req};
 use std::alloc::{AllocError, Global};
-use std::process::Abort;
 use std::sync::Wait;
+use std::test::Fail;
 
-/// The queue of a proxy.
+/// The queue of a proxy, whose payloads are the requests that wait.
 pub(crate) type Queue<J> = GrvQueue<Request<J>>;
 
-/// Where a request's answer comes.
+/// Where a request's answer comes, over a channel of its own.
 pub(crate) type Waiter<J> = Receiver<Answer<J>>;
 
-/// How a proxy ends.
+/// How a proxy ends: with its token where the desk was closed, and else with the cause besides.
 pub(crate) type Ended<J> = Result<Seen<J>, (ProxyError, Seen<J>)>;
 
 /// A live record and two desks, with the tokens of those who use them.
@@ -23,12 +23,11 @@ pub(crate) type Ended<J> = Result<Seen<J>, (ProxyError, Seen<J>)>;
 pub(crate) struct Stand<J: Live> {
     pub(crate) alloc: Global,
     pub(crate) live: LiveRecord<J>,
-    /// What the clients have seen.
+    /// What the clients have seen, all with one token, from which each request splits its own.
     pub(crate) seen: Seen<J>,
-    /// What the proxy has seen.
+    /// What the proxy has seen, or the server of batches in its place.
     pub(crate) served: Seen<J>,
     pub(crate) reporters: Vec<Seen<J>>,
-    /// The desk of the proxy.
     pub(crate) desk: Desk<J>,
     /// That of a second one, where there are two.
     pub(crate) other: Desk<J>,
@@ -76,13 +75,14 @@ impl<J: Live> Stand<J> {
         GrvProxy::new(self.alloc, &self.live, &self.desk, queue, 1_000_000, token)
     }
 
-    /// A report by one of the reporters, and the position after it.
-    pub(crate) fn report<R: Wait + Abort>(&mut self, rt: &R, rec: Record) -> u64 {
-        let mut token = self.reporters.pop().expect(rt, "a reporter is left");
-        let who = token.reporter().expect(rt, "a reporter's token");
+    /// Reports by the last reporter that is left, whose token goes. Answers the position after it,
+    /// or 0 where it is refused.
+    pub(crate) fn report<R: Wait>(&mut self, rt: &R, rec: Record) -> Result<u64, Fail> {
+        let mut token = self.reporters.pop().ok_or("no reporter is left")?;
+        let who = token.reporter().ok_or("a reporter's token is wanted")?;
         match self.live.report(rt, &OpenGate, who, &mut token, rec) {
-            Ok(ack) => ack.position,
-            Err(_) => 0,
+            Ok(ack) => Ok(ack.position),
+            Err(_) => Ok(0),
         }
     }
 }
@@ -108,7 +108,7 @@ pub(crate) fn request_of<J: Live>(
     Ok((request, waiter))
 }
 
-/// Leaves a request on a desk.
+/// Leaves a request on a desk, by the priority and the count of its options.
 pub(crate) fn submit<J: Live, R: Wait>(
     rt: &R,
     desk: &Desk<J>,

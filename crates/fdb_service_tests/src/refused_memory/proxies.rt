@@ -1,29 +1,24 @@
-//! Batches, desks and proxies.
+//! Batches, desks and proxies that are refused memory, at one allocation or from one on.
 
 use crate::proxy::{Case, play};
-use std::alloc::{AllocError, Global};
-use std::process::Abort;
+use std::alloc::Global;
 use std::sync::Wait;
 use std::sync::atomic::{AtomicU64, Ordering};
 use std::test::Fail;
 use std::thread::Threads;
 
 /// Plays a case, and from the start once more where memory is refused.
-fn bears<R: Threads + Wait + Abort + Sync>(
-    rt: &R,
-    alloc: Global,
-    case: Case<'_>,
-) -> Result<(), AllocError> {
-    match play(rt, alloc, case) {
-        Err(_) => play(rt, alloc, case),
-        Ok(()) => Ok(()),
+fn bears<R: Threads + Wait + Sync>(rt: &R, alloc: Global, case: Case<'_>) -> Result<(), Fail> {
+    if let Err(error) = play(rt, alloc, case) {
+        error.was_refusal()?;
+        play(rt, alloc, case)?;
     }
+    Ok(())
 }
 
 #[test]
 fn a_batch_bears_it(rt: HostRuntime) -> Result<(), Fail> {
-    bears(&rt, rt.alloc(), Case::ServeRefused { once: true })?;
-    Ok(())
+    bears(&rt, rt.alloc(), Case::ServeRefused { once: true })
 }
 
 /// Whoever alone is refused memory in its offer is printed, which `tests/run` looks for: the proxy
@@ -41,7 +36,6 @@ fn a_proxy_bears_it(rt: HostRuntime) -> Result<(), Fail> {
     Ok(())
 }
 
-/// A proxy that is run.
 fn run(once: bool, used: bool, unbounded: bool, alone: &AtomicU64) -> Case<'_> {
     Case::RunRefused {
         once,
@@ -54,18 +48,21 @@ fn run(once: bool, used: bool, unbounded: bool, alone: &AtomicU64) -> Case<'_> {
 #[test]
 fn a_proxy_that_cannot_send_bears_it(rt: HostRuntime) -> Result<(), Fail> {
     let alone = AtomicU64::new(0);
-    bears(&rt, rt.alloc(), run(true, true, true, &alone))?;
-    Ok(())
+    bears(&rt, rt.alloc(), run(true, true, true, &alone))
 }
 
 /// Passes also where every allocation is refused from one on:
 /// then what was begun ends out of memory, or as ever.
 #[test]
 fn without_memory(rt: HostRuntime) -> Result<(), Fail> {
-    let _ended = play(&rt, rt.alloc(), Case::ServeRefused { once: false });
+    if let Err(error) = play(&rt, rt.alloc(), Case::ServeRefused { once: false }) {
+        error.was_refusal()?;
+    }
     for (used, unbounded) in [(false, false), (true, false), (true, true)] {
         let alone = AtomicU64::new(0);
-        let _ended = play(&rt, rt.alloc(), run(false, used, unbounded, &alone));
+        if let Err(error) = play(&rt, rt.alloc(), run(false, used, unbounded, &alone)) {
+            error.was_refusal()?;
+        }
     }
     Ok(())
 }

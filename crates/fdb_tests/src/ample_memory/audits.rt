@@ -56,7 +56,6 @@ struct Left {
 }
 
 impl Left {
-    /// Nothing yet.
     fn new(alloc: Global, start: Record) -> Left {
         Left {
             alloc,
@@ -67,7 +66,7 @@ impl Left {
         }
     }
 
-    /// Begins the log of another client.
+    /// Begins the log of the next client, to which the calls go from here on.
     fn add_log(&mut self) -> Option<()> {
         let calls = Sequence::new(self.alloc);
         self.logs.push(ClientLog { calls }).ok()
@@ -162,7 +161,7 @@ impl Left {
         })
     }
 
-    /// So many clients read once each.
+    /// So many clients, with a log each, read once each.
     fn add_readers(&mut self, number: u64) -> Option<()> {
         for _ in 0..number {
             self.add_reads(1)?;
@@ -170,7 +169,7 @@ impl Left {
         Some(())
     }
 
-    /// A client reads so often.
+    /// One client reads so often, each time what the register began with.
     fn add_reads(&mut self, number: u64) -> Option<()> {
         self.add_log()?;
         for _ in 0..number {
@@ -235,7 +234,7 @@ impl Left {
         Some(())
     }
 
-    /// A client tells another so often.
+    /// Client 0 tells client 1 so often, which has no log of its own.
     fn add_tells(&mut self, number: u64) -> Option<()> {
         self.add_log()?;
         for _ in 0..number {

@@ -31,7 +31,7 @@ fn opened(alloc: Global, proxies: u64) -> Option<bool> {
     Some(chain.answers().len() == proxies as usize)
 }
 
-/// The first request of a proxy.
+/// Request number 1 of a proxy, at moment 0, when it has processed nothing.
 fn first_of(proxy: u32) -> Ask {
     Ask {
         proxy,

@@ -20,7 +20,7 @@ pub(crate) fn called(alloc: Global, calls: &str, number: u64) -> Option<bool> {
     }
 }
 
-/// So many items, counted from 0.
+/// The numbers from 0 up to this one, and without it.
 fn counted(alloc: Global, number: u64) -> Option<Sequence<u64>> {
     let mut items = Sequence::new(alloc);
     for item in 0..number {
@@ -41,7 +41,7 @@ fn cloned(alloc: Global, number: u64) -> Option<bool> {
     Some(copy == items)
 }
 
-/// A tag of so many bytes.
+/// A tag of so many bytes, each of which is a `t`.
 pub(crate) fn tag_of(alloc: Global, bytes: u64) -> Option<Tag> {
     let mut tag = Sequence::new(alloc);
     for _ in 0..bytes {
@@ -50,7 +50,7 @@ pub(crate) fn tag_of(alloc: Global, bytes: u64) -> Option<Tag> {
     Some(tag)
 }
 
-/// So many tags, each of so many bytes.
+/// So many tags, all alike, each of so many bytes.
 pub(crate) fn tags_of(alloc: Global, number: u64, bytes: u64) -> Option<Sequence<Tag>> {
     let mut tags = Sequence::new(alloc);
     for _ in 0..number {
@@ -77,7 +77,7 @@ fn opts_cloned(alloc: Global, number: u64, bytes: u64) -> Option<bool> {
     Some(same)
 }
 
-/// A limit of a tag of so many bytes.
+/// A limit at rate 5 that expires at moment 5,000, of a tag of so many bytes.
 pub(crate) fn limit_of(alloc: Global, bytes: u64) -> Option<TagLimit> {
     Some(TagLimit {
         tag: tag_of(alloc, bytes)?,

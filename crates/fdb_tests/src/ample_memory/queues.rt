@@ -1,4 +1,4 @@
-//! Queues, and what they let in.
+//! Requests that a queue lets in, and those that it pushes out for them.
 
 use crate::queue::queue;
 use fdb_history::Priority;
@@ -23,7 +23,7 @@ pub(crate) fn called(alloc: Global, calls: &str, number: u64) -> Option<bool> {
     }
 }
 
-/// A request of so many transactions.
+/// A request of `count` transactions, which its payload tells from the others.
 pub(crate) fn request_of(priority: Priority, count: u64, payload: u32) -> Req<u32> {
     Req {
         priority,
@@ -47,7 +47,7 @@ pub(crate) fn waiting(
     Some(queue)
 }
 
-/// How many requests wait.
+/// How many requests wait, of all three priorities together.
 pub(crate) fn length(queue: &GrvQueue<u32>) -> u64 {
     let lengths = queue.lengths();
     (lengths.system as u64)

@@ -14,7 +14,7 @@ pub(crate) fn called(alloc: Global, calls: &str, number: u64) -> Option<bool> {
     Some(right)
 }
 
-/// The same at a priority.
+/// The same, where throttles and requests are of one priority.
 fn called_at(alloc: Global, priority: Priority, calls: &str, number: u64) -> Option<bool> {
     match calls {
         "GrvQueue::with_throttles | throttles" => made_with(alloc, priority, number, false),
@@ -44,7 +44,7 @@ fn numbered(alloc: Global, number: u64, one: bool) -> Option<Tag> {
     Some(Tag::from(bytes.to_vec(alloc).ok()?))
 }
 
-/// A throttle that always holds.
+/// A throttle that expires only at the last moment there is.
 fn throttle_of(priority: Priority, tag: Tag, rate: u64) -> Throttle {
     Throttle {
         priority,
@@ -87,7 +87,8 @@ fn last_counts(
     Some(rate_of(queue, priority, tag)? == last)
 }
 
-/// A queue that is made with so many throttles.
+/// A queue that is made with so many throttles, of one tag or of a tag each, the last of which
+/// counts.
 fn made_with(alloc: Global, priority: Priority, number: u64, one: bool) -> Option<bool> {
     let mut throttles = Vec::new(alloc);
     for rate in 0..number {
@@ -105,7 +106,7 @@ fn made_of(alloc: Global, priority: Priority, sizes: (u64, u64, u64)) -> Option<
     Some(rate_of(&queue, priority, tag_of(alloc, 1)?)? == Some(5))
 }
 
-/// So many throttles are set, one after another.
+/// The same, where the throttles are set one after another.
 fn set(alloc: Global, priority: Priority, number: u64, one: bool) -> Option<bool> {
     let mut queue = queue_with(alloc, (1, 1, 1), &[])?;
     for rate in 0..number {

@@ -176,7 +176,7 @@ fn the_first_kind_is_named(rt: HostRuntime) -> Result<(), Fail> {
     for (one, first) in KINDS.iter().enumerate() {
         for (other, second) in KINDS.iter().enumerate() {
             let case = case_of(rt.alloc(), first, second, one <= other)?;
-            audits(&rt, rt.alloc(), RAISED, &case)?;
+            audits(rt.alloc(), RAISED, &case)?;
         }
     }
     Ok(())
@@ -187,5 +187,5 @@ const TEXTS: &[&str] = &[ORDER, POSITIONS, WRONG, LOW];
 /// Faults of order, of positions and of answers, and versions that are not above.
 #[test]
 fn faults_of_each_kind(rt: HostRuntime) -> Result<(), Fail> {
-    audits_each(&rt, rt.alloc(), TEXTS)
+    audits_each(rt.alloc(), TEXTS)
 }

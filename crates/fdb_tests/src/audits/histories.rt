@@ -1,4 +1,4 @@
-//! The history of logs that have one.
+//! The history of logs that have one: each event, and none behind the last.
 
 use super::audits;
 use std::test::Fail;
@@ -49,5 +49,5 @@ event 0 none
 
 #[test]
 fn histories(rt: HostRuntime) -> Result<(), Fail> {
-    audits(&rt, rt.alloc(), "", HISTORIES)
+    audits(rt.alloc(), "", HISTORIES)
 }

@@ -113,7 +113,7 @@ log; call 0 0 grv_aware read 100 unlocked none; => ok
 log; call 0 0 grv_aware turned_away 100 unlocked none; => Stray 0 0
 ";
 
-/// The client has drawn two versions.
+/// Client 0 has drawn version 200 under number 1, and 300 under number 2.
 const DRAWN: &str = "
 entry 0 0 1 0 0 200 200 fresh; entry 1 0 2 0 200 300 300 fresh
 log; draws 0 0 0 1 0 0 200 200 fresh; draws 0 1 0 2 0 200 300 300 fresh";
@@ -188,6 +188,6 @@ const TEXTS: &[&str] = &[
 
 #[test]
 fn answers_that_are_not_justified(rt: HostRuntime) -> Result<(), Fail> {
-    audits_each(&rt, rt.alloc(), TEXTS)?;
-    audits(&rt, rt.alloc(), DRAWN, REPORTS)
+    audits_each(rt.alloc(), TEXTS)?;
+    audits(rt.alloc(), DRAWN, REPORTS)
 }

@@ -134,9 +134,9 @@ fn crowd(alloc: Global, drawn: u64) -> Result<String, AllocError> {
 
 #[test]
 fn entries_of_as_many_clients_as_there_may_be(rt: HostRuntime) -> Result<(), Fail> {
-    audits(&rt, rt.alloc(), &crowd(rt.alloc(), 64)?, "=> ok")?;
+    audits(rt.alloc(), &crowd(rt.alloc(), 64)?, "=> ok")?;
     let foreign = "entry 63 64 1 0 0 163 163 fresh; => Stray 64 0";
-    audits(&rt, rt.alloc(), &crowd(rt.alloc(), 63)?, foreign)
+    audits(rt.alloc(), &crowd(rt.alloc(), 63)?, foreign)
 }
 
 const TEXTS: &[&str] = &[OTHERS, OTHERS_NOT_DUE, USED_UP, UNDRAWN];
@@ -144,6 +144,6 @@ const TEXTS: &[&str] = &[OTHERS, OTHERS_NOT_DUE, USED_UP, UNDRAWN];
 /// Commit versions that the chain does not have, that were not due, used up, or drawn by nobody.
 #[test]
 fn commit_versions(rt: HostRuntime) -> Result<(), Fail> {
-    audits_each(&rt, rt.alloc(), TEXTS)?;
-    audits(&rt, rt.alloc(), PROCESSED, NOT_DUE)
+    audits_each(rt.alloc(), TEXTS)?;
+    audits(rt.alloc(), PROCESSED, NOT_DUE)
 }

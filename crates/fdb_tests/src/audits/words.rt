@@ -1,41 +1,41 @@
 //! Calls, their inputs and their answers, and what an audit finds, from words.
 
-use crate::line::Line;
+use fdb_checks::Line;
 use fdb_history::{
     AuditFault, Call, CallAnswer, GrvOpts, Input, Issued, Priority, Record, Refusal, Sequence,
 };
 use hex::FromHex;
 use std::alloc::Global;
-use std::process::Abort;
+use std::test::Fail;
 
 /// A call of a kind, by the rest of its words.
-pub(crate) fn call(rt: &impl Abort, alloc: Global, kind: &str, line: &mut Line<'_>) -> Call {
-    match kind {
-        "draws" => drawn(rt, line),
+pub(crate) fn call(alloc: Global, kind: &str, line: &mut Line<'_>) -> Result<Call, Fail> {
+    Ok(match kind {
+        "draws" => drawn(line)?,
         "reads" => Call {
-            asked: line.number(rt),
-            position: line.number(rt),
+            asked: line.number()?,
+            position: line.number()?,
             input: grv(alloc, false),
-            answer: version(alloc, plain_record(rt, line), false),
+            answer: version(alloc, plain_record(line)?, false),
         },
-        "raises" => reported(rt, line, true, true),
-        "min_raises" => reported(rt, line, false, true),
-        "stays" => reported(rt, line, false, false),
+        "raises" => reported(line, true, true)?,
+        "min_raises" => reported(line, false, true)?,
+        "stays" => reported(line, false, false)?,
         "call" => Call {
-            asked: line.number(rt),
-            position: line.number(rt),
-            input: input(rt, alloc, line),
-            answer: answer(rt, alloc, line),
+            asked: line.number()?,
+            position: line.number()?,
+            input: input(alloc, line)?,
+            answer: answer(alloc, line)?,
         },
-        _ => line.fails(rt, "no item"),
-    }
+        _ => return Err(line.fail("no item")),
+    })
 }
 
 /// A request with the members of its answer.
-fn drawn(rt: &impl Abort, line: &mut Line<'_>) -> Call {
-    let asked = line.number(rt);
-    let issued = issued(rt, line);
-    Call {
+fn drawn(line: &mut Line<'_>) -> Result<Call, Fail> {
+    let asked = line.number()?;
+    let issued = issued(line)?;
+    Ok(Call {
         asked,
         position: asked,
         input: Input::Ask {
@@ -44,14 +44,14 @@ fn drawn(rt: &impl Abort, line: &mut Line<'_>) -> Call {
             at: issued.at,
         },
         answer: CallAnswer::Answered(issued),
-    }
+    })
 }
 
-/// A report of a plain record.
-fn reported(rt: &impl Abort, line: &mut Line<'_>, raised: bool, changed: bool) -> Call {
-    let (asked, position, num) = (line.number(rt), line.number(rt), line.number(rt));
-    let rec = plain_record(rt, line);
-    Call {
+/// A report of a plain record that is answered by just that record, with these flags.
+fn reported(line: &mut Line<'_>, raised: bool, changed: bool) -> Result<Call, Fail> {
+    let (asked, position, num) = (line.number()?, line.number()?, line.number()?);
+    let rec = plain_record(line)?;
+    Ok(Call {
         asked,
         position,
         input: Input::Report {
@@ -65,16 +65,16 @@ fn reported(rt: &impl Abort, line: &mut Line<'_>, raised: bool, changed: bool) -
             raised,
             changed,
         },
-    }
+    })
 }
 
 /// A record with no lock and no metadata version, and with a minimum where the line tells one.
-fn plain_record(rt: &impl Abort, line: &mut Line<'_>) -> Record {
-    let rec = plain(line.number(rt));
-    Record {
-        min_known: line.number_behind(rt, "min"),
+fn plain_record(line: &mut Line<'_>) -> Result<Record, Fail> {
+    let rec = plain(line.number()?);
+    Ok(Record {
+        min_known: line.number_behind("min")?,
         ..rec
-    }
+    })
 }
 
 /// A record with no lock, no metadata version and no minimum.
@@ -87,25 +87,25 @@ pub(crate) fn plain(version: u64) -> Record {
     }
 }
 
-fn input(rt: &impl Abort, alloc: Global, line: &mut Line<'_>) -> Input {
-    match line.word(rt) {
+fn input(alloc: Global, line: &mut Line<'_>) -> Result<Input, Fail> {
+    Ok(match line.word()? {
         "grv" => grv(alloc, false),
         "grv_aware" => grv(alloc, true),
         "ask" => Input::Ask {
-            num: line.number(rt),
-            processed: line.number(rt),
-            at: line.number(rt),
+            num: line.number()?,
+            processed: line.number()?,
+            at: line.number()?,
         },
         "report" => Input::Report {
-            num: line.number(rt),
-            locked: line.is(rt, "locked", "unlocked"),
-            metadata: metadata(rt, line),
-            min_known: line.number_behind(rt, "min"),
+            num: line.number()?,
+            locked: line.is("locked", "unlocked")?,
+            metadata: metadata(line)?,
+            min_known: line.number_behind("min")?,
         },
-        "tell" => Input::Tell { to: line.who(rt) },
-        "learn" => Input::Learn { from: line.who(rt) },
-        _ => line.fails(rt, "no input"),
-    }
+        "tell" => Input::Tell { to: line.who()? },
+        "learn" => Input::Learn { from: line.who()? },
+        _ => return Err(line.fail("no input")),
+    })
 }
 
 fn grv(alloc: Global, lock_aware: bool) -> Input {
@@ -119,38 +119,38 @@ fn grv(alloc: Global, lock_aware: bool) -> Input {
     })
 }
 
-fn answer(rt: &impl Abort, alloc: Global, line: &mut Line<'_>) -> CallAnswer {
-    match line.word(rt) {
-        "read" => version(alloc, record(rt, line), false),
-        "turned_away" => version(alloc, record(rt, line), true),
-        "issued" => CallAnswer::Answered(issued(rt, line)),
-        "acked" => acked(rt, line),
+fn answer(alloc: Global, line: &mut Line<'_>) -> Result<CallAnswer, Fail> {
+    Ok(match line.word()? {
+        "read" => version(alloc, record(line)?, false),
+        "turned_away" => version(alloc, record(line)?, true),
+        "issued" => CallAnswer::Answered(issued(line)?),
+        "acked" => acked(line)?,
         "told" => CallAnswer::Told,
-        "refused" => CallAnswer::Refused(refusal(rt, line)),
-        _ => line.fails(rt, "no answer"),
-    }
+        "refused" => CallAnswer::Refused(refusal(line)?),
+        _ => return Err(line.fail("no answer")),
+    })
 }
 
-fn acked(rt: &impl Abort, line: &mut Line<'_>) -> CallAnswer {
-    let rec = record(rt, line);
-    let (raised, changed) = flags(rt, line);
-    CallAnswer::Acked {
+fn acked(line: &mut Line<'_>) -> Result<CallAnswer, Fail> {
+    let rec = record(line)?;
+    let (raised, changed) = flags(line)?;
+    Ok(CallAnswer::Acked {
         rec,
         raised,
         changed,
-    }
+    })
 }
 
 /// Whether a report says that it raised the register, and that it changed it. No report that is
 /// answered rightly is `raised_in_place`.
-pub(crate) fn flags(rt: &impl Abort, line: &mut Line<'_>) -> (bool, bool) {
-    match line.word(rt) {
+pub(crate) fn flags(line: &mut Line<'_>) -> Result<(bool, bool), Fail> {
+    Ok(match line.word()? {
         "raised" => (true, true),
         "min_raised" => (false, true),
         "unraised" => (false, false),
         "raised_in_place" => (true, false),
-        _ => line.fails(rt, "no flags"),
-    }
+        _ => return Err(line.fail("no flags")),
+    })
 }
 
 fn version(alloc: Global, rec: Record, locked_out: bool) -> CallAnswer {
@@ -161,45 +161,46 @@ fn version(alloc: Global, rec: Record, locked_out: bool) -> CallAnswer {
     }
 }
 
-/// A record.
-pub(crate) fn record(rt: &impl Abort, line: &mut Line<'_>) -> Record {
-    Record {
-        version: line.number(rt),
-        locked: line.is(rt, "locked", "unlocked"),
-        metadata: metadata(rt, line),
-        min_known: line.number_behind(rt, "min"),
-    }
+/// A record: its version, `locked` or `unlocked`, its metadata version in hex or `none`, and
+/// perhaps `min` and its minimum.
+pub(crate) fn record(line: &mut Line<'_>) -> Result<Record, Fail> {
+    Ok(Record {
+        version: line.number()?,
+        locked: line.is("locked", "unlocked")?,
+        metadata: metadata(line)?,
+        min_known: line.number_behind("min")?,
+    })
 }
 
-fn metadata(rt: &impl Abort, line: &mut Line<'_>) -> Option<[u8; 10]> {
-    match line.word(rt) {
+fn metadata(line: &mut Line<'_>) -> Result<Option<[u8; 10]>, Fail> {
+    Ok(match line.word()? {
         "none" => None,
         digits => match <[u8; 10]>::from_hex(digits) {
             Ok(bytes) => Some(bytes),
-            Err(_) => line.fails(rt, "no metadata"),
+            Err(_) => return Err(line.fail("no metadata")),
         },
-    }
+    })
 }
 
-/// An answer, or an entry of the chain.
-pub(crate) fn issued(rt: &impl Abort, line: &mut Line<'_>) -> Issued {
-    Issued {
-        ordinal: line.number(rt),
-        proxy: line.who(rt),
-        num: line.number(rt),
-        processed: line.number(rt),
-        prev: line.number(rt),
-        version: line.number(rt),
-        at: line.number(rt),
-        fresh: line.is(rt, "fresh", "kept"),
-    }
+/// An answer or an entry of the chain: its members in their order, the last as `fresh` or `kept`.
+pub(crate) fn issued(line: &mut Line<'_>) -> Result<Issued, Fail> {
+    Ok(Issued {
+        ordinal: line.number()?,
+        proxy: line.who()?,
+        num: line.number()?,
+        processed: line.number()?,
+        prev: line.number()?,
+        version: line.number()?,
+        at: line.number()?,
+        fresh: line.is("fresh", "kept")?,
+    })
 }
 
-/// A refusal.
-pub(crate) fn refusal(rt: &impl Abort, line: &mut Line<'_>) -> Refusal {
-    match line.word(rt) {
+/// A refusal by the name of its variant, and behind `Early` the number that was due.
+pub(crate) fn refusal(line: &mut Line<'_>) -> Result<Refusal, Fail> {
+    Ok(match line.word()? {
         "Early" => Refusal::Early {
-            expected: line.number(rt),
+            expected: line.number()?,
         },
         "Forgotten" => Refusal::Forgotten,
         "UnknownProxy" => Refusal::UnknownProxy,
@@ -212,35 +213,36 @@ pub(crate) fn refusal(rt: &impl Abort, line: &mut Line<'_>) -> Refusal {
         "Stranger" => Refusal::Stranger,
         "TooLarge" => Refusal::TooLarge,
         "MinAbove" => Refusal::MinAbove,
-        _ => line.fails(rt, "no refusal"),
-    }
+        _ => return Err(line.fail("no refusal")),
+    })
 }
 
-/// A fault of an audit, from its words.
-pub(crate) fn fault(rt: &impl Abort, line: &mut Line<'_>) -> AuditFault {
-    match line.word(rt) {
+/// A fault of an audit by the name of its variant, with the position, or with the client and its
+/// call. No words stand for `Memory`.
+pub(crate) fn fault(line: &mut Line<'_>) -> Result<AuditFault, Fail> {
+    Ok(match line.word()? {
         "Clash" => AuditFault::Clash {
-            position: line.number(rt),
+            position: line.number()?,
         },
         "Gap" => AuditFault::Gap {
-            position: line.number(rt),
+            position: line.number()?,
         },
         "Order" => AuditFault::Order {
-            client: line.who(rt),
-            call: line.number(rt),
+            client: line.who()?,
+            call: line.number()?,
         },
         "Wrong" => AuditFault::Wrong {
-            client: line.who(rt),
-            call: line.number(rt),
+            client: line.who()?,
+            call: line.number()?,
         },
         "Stray" => AuditFault::Stray {
-            client: line.who(rt),
-            call: line.number(rt),
+            client: line.who()?,
+            call: line.number()?,
         },
         "NotAbove" => AuditFault::NotAbove {
-            client: line.who(rt),
-            call: line.number(rt),
+            client: line.who()?,
+            call: line.number()?,
         },
-        _ => line.fails(rt, "no fault"),
-    }
+        _ => return Err(line.fail("no fault")),
+    })
 }

@@ -1,4 +1,4 @@
-//! Offers and windows.
+//! Offers, windows, and the budgets that windows leave.
 
 use super::play;
 use std::test::Fail;
@@ -83,7 +83,7 @@ offer batch 1 2 => batch requests are not let in
 offer batch 12 3 => the request's count is out of range
 ";
 
-/// Configurations, and times between windows.
+/// Configurations, and times between windows, at each bound and one beyond it.
 const RANGES: &str = "
 new 1 0 1 => ok
 new 100000 100000 100000 => ok
@@ -105,7 +105,7 @@ const TEXTS: &[&str] = &[RATES, HEAD, BURST, OFFERS, RANGES];
 #[test]
 fn offers_and_windows(rt: HostRuntime) -> Result<(), Fail> {
     for text in TEXTS {
-        play(&rt, rt.alloc(), text)?;
+        play(rt.alloc(), text)?;
     }
     Ok(())
 }

@@ -1,4 +1,4 @@
-//! Throttles and limits.
+//! Throttles, and the limits that requests with their tags are told.
 
 use super::play;
 use std::test::Fail;
@@ -19,7 +19,7 @@ new 1 1 1 => ok
 limits default 0 => 0
 ";
 
-/// Tags of 16 and of 17 bytes.
+/// A tag of 16 bytes is throttled, and one of 17 is too long to be and has no limit.
 const TAGS: &str = "
 new 1 1 1 => ok
 throttle batch abcdefghijklmnop 1 1 => ok
@@ -29,6 +29,6 @@ limits batch 0 abcdefghijklmnop abcdefghijklmnopq => 1, abcdefghijklmnop 1 1
 
 #[test]
 fn throttles_and_their_tags(rt: HostRuntime) -> Result<(), Fail> {
-    play(&rt, rt.alloc(), LIMITS)?;
-    play(&rt, rt.alloc(), TAGS)
+    play(rt.alloc(), LIMITS)?;
+    play(rt.alloc(), TAGS)
 }

@@ -1,12 +1,10 @@
 //! How long the first of the row waits, beside windows that are really turned.
 
 use super::{play, queue};
-use crate::line::Line;
-use crate::same::{holds, same};
+use fdb_checks::{Line, holds, same};
 use fdb_history::Priority;
 use fdb_queue::{Budgets, GrvQueue, QueueError, Req};
 use std::alloc::Global;
-use std::process::Abort;
 use std::test::Fail;
 
 /// The number is 4 before the first window of the head of
@@ -60,12 +58,12 @@ skip 1 => 0 | 20000000 19999990
 
 #[test]
 fn idle_windows_are_skipped(rt: HostRuntime) -> Result<(), Fail> {
-    play(&rt, rt.alloc(), SKIPPED)
+    play(rt.alloc(), SKIPPED)
 }
 
 #[test]
 fn the_waiting_is_counted(rt: HostRuntime) -> Result<(), Fail> {
-    play(&rt, rt.alloc(), WAITS)
+    play(rt.alloc(), WAITS)
 }
 
 /// The limits, the count of one request, the time between
@@ -80,12 +78,7 @@ struct Case {
 }
 
 /// A queue in which the request of a case waits.
-fn waiting(
-    rt: &impl Abort,
-    alloc: Global,
-    case: Case,
-    priority: Priority,
-) -> Result<GrvQueue<u32>, QueueError> {
+fn waiting(alloc: Global, case: Case, priority: Priority) -> Result<GrvQueue<u32>, Fail> {
     let mut queue = queue(alloc, case.normal, case.batch, 4)?;
     for _ in 0..case.before {
         started(&mut queue, case.elapsed)?;
@@ -95,7 +88,7 @@ fn waiting(
         count: case.count,
         payload: 0,
     };
-    holds(rt, queue.offer(request).is_ok(), &"it is let in");
+    holds(queue.offer(request).is_ok(), &"it is let in")?;
     Ok(queue)
 }
 
@@ -120,39 +113,26 @@ fn waits(queue: &GrvQueue<u32>, elapsed: u64) -> Option<u64> {
 }
 
 /// Compares what is answered for one request with what turning the windows shows.
-fn compare(
-    rt: &impl Abort,
-    alloc: Global,
-    case: Case,
-    priority: Priority,
-    text: &str,
-) -> Result<(), QueueError> {
-    let mut queue = waiting(rt, alloc, case, priority)?;
+fn compare(alloc: Global, case: Case, priority: Priority, text: &str) -> Result<(), Fail> {
+    let mut queue = waiting(alloc, case, priority)?;
     let waits = waits(&queue, case.elapsed);
     // a batch request above the normal limit is let in, and is not sure to start
     let sure = priority == Priority::Default || case.count <= case.normal;
-    same(rt, &waits.is_some(), &sure, &text);
+    same(&waits.is_some(), &sure, &text)?;
     if sure {
-        same(rt, &waits, &turned(&mut queue, case.elapsed)?, &text);
+        same(&waits, &turned(&mut queue, case.elapsed)?, &text)?;
     }
     Ok(())
 }
 
 /// Compares idle windows that are held at once with as many that are turned.
-fn compare_skipped(
-    rt: &impl Abort,
-    alloc: Global,
-    case: Case,
-    priority: Priority,
-    text: &str,
-) -> Result<(), QueueError> {
-    let mut skipped = waiting(rt, alloc, case, priority)?;
-    let mut turned = waiting(rt, alloc, case, priority)?;
+fn compare_skipped(alloc: Global, case: Case, priority: Priority, text: &str) -> Result<(), Fail> {
+    let mut skipped = waiting(alloc, case, priority)?;
+    let mut turned = waiting(alloc, case, priority)?;
     let windows = skip(&mut skipped, case.elapsed);
-    start_nothing(rt, &mut turned, case.elapsed, windows, text)?;
-    same(rt, &budgets(&skipped), &budgets(&turned), &text);
-    same(rt, &started(&mut skipped, case.elapsed)?, &1, &text);
-    Ok(())
+    start_nothing(&mut turned, case.elapsed, windows, text)?;
+    same(&budgets(&skipped), &budgets(&turned), &text)?;
+    same(&started(&mut skipped, case.elapsed)?, &1, &text)
 }
 
 /// Holds the idle windows at once, and answers how many they are.
@@ -164,21 +144,20 @@ fn budgets(queue: &GrvQueue<u32>) -> Budgets {
     queue.budgets()
 }
 
-/// Turns so many windows, which start nothing.
+/// Turns so many windows, and checks that none starts a request.
 fn start_nothing(
-    rt: &impl Abort,
     queue: &mut GrvQueue<u32>,
     elapsed: u64,
     windows: u64,
     text: &str,
-) -> Result<(), QueueError> {
+) -> Result<(), Fail> {
     for _ in 0..windows {
-        same(rt, &started(queue, elapsed)?, &0, &text);
+        same(&started(queue, elapsed)?, &0, &text)?;
     }
     Ok(())
 }
 
-/// The members of a case each.
+/// A case in each line, with its members in their order.
 const CASES: &str = "\
 1 1 1 1000000 0
 1 1 2 1000000 0
@@ -190,26 +169,25 @@ const CASES: &str = "\
 40 3 50 1000001 1
 ";
 
-/// The case of a line.
-fn case_of(rt: &impl Abort, text: &str) -> Case {
+fn case_of(text: &str) -> Result<Case, Fail> {
     let mut line = Line::new(text);
-    Case {
-        normal: line.number(rt),
-        batch: line.number(rt),
-        count: line.number(rt),
-        elapsed: line.number(rt),
-        before: line.number(rt),
-    }
+    Ok(Case {
+        normal: line.number()?,
+        batch: line.number()?,
+        count: line.number()?,
+        elapsed: line.number()?,
+        before: line.number()?,
+    })
 }
 
 /// For small limits, counts and times, and some budgets before.
 #[test]
 fn the_waiting_is_what_windows_take(rt: HostRuntime) -> Result<(), Fail> {
     for text in CASES.lines() {
-        let case = case_of(&rt, text);
+        let case = case_of(text)?;
         for priority in [Priority::Default, Priority::Batch] {
-            compare(&rt, rt.alloc(), case, priority, text)?;
-            compare_skipped(&rt, rt.alloc(), case, priority, text)?;
+            compare(rt.alloc(), case, priority, text)?;
+            compare_skipped(rt.alloc(), case, priority, text)?;
         }
     }
     Ok(())

@@ -1,30 +1,28 @@
-//! Audits.
+//! Audits that are refused memory once, and then find the history or the fault.
 
 use crate::audits::words::plain;
 use crate::audits::{Case, audited, begun};
-use crate::same::{holds, same};
+use fdb_checks::{CaseError, holds, same};
 use fdb_history::{AuditFault, Event, History};
-use std::alloc::{AllocError, Global};
-use std::process::Abort;
+use std::alloc::Global;
 use std::test::Fail;
 
 /// A case, also where memory is refused once.
-fn case_of(rt: &impl Abort, alloc: Global, text: &str) -> Result<Case, AllocError> {
-    match begun(rt, alloc, text) {
+fn case_of(alloc: Global, text: &str) -> Result<Case, CaseError> {
+    match begun(alloc, text) {
         Ok(case) => Ok(case),
-        Err(_) => begun(rt, alloc, text),
+        Err(error) => {
+            error.was_refusal()?;
+            begun(alloc, text)
+        }
     }
 }
 
 /// What an audit finds, also where memory is refused once.
-fn found(
-    rt: &impl Abort,
-    alloc: Global,
-    text: &str,
-) -> Result<Result<History, AuditFault>, AllocError> {
-    let case = case_of(rt, alloc, text)?;
-    match audited(rt, alloc, &case) {
-        Err(AuditFault::Memory) => Ok(audited(rt, alloc, &case)),
+fn found(alloc: Global, text: &str) -> Result<Result<History, AuditFault>, Fail> {
+    let case = case_of(alloc, text)?;
+    match audited(alloc, &case)? {
+        Err(AuditFault::Memory) => audited(alloc, &case),
         found => Ok(found),
     }
 }
@@ -46,24 +44,23 @@ log; reads 0 1 200; draws 1 2 1 1 0 300 350 350 fresh; draws 1 3 1 2 0 350 200 2
 
 #[test]
 fn an_audit_bears_it(rt: HostRuntime) -> Result<(), Fail> {
-    let history = found(&rt, rt.alloc(), ABOVE)??;
-    are_events(&rt, history.events.as_slice());
+    let history = found(rt.alloc(), ABOVE)??;
+    are_events(history.events.as_slice())?;
     let low = AuditFault::NotAbove { client: 1, call: 2 };
-    let fault = found(&rt, rt.alloc(), NOT_ABOVE)?.err();
-    same(&rt, &fault, &Some(low), &"not above");
-    Ok(())
+    let fault = found(rt.alloc(), NOT_ABOVE)?.err();
+    same(&fault, &Some(low), &"not above")
 }
 
 /// The first client raises the register to 200, the second
 /// reads it, and the first raises it to 300.
-fn are_events(rt: &impl Abort, events: &[Event]) {
+fn are_events(events: &[Event]) -> Result<(), Fail> {
     let read = Event::Read {
         client: 1,
         call: 0,
         rec: plain(200),
     };
     let wanted = [raise(2, 200), read, raise(3, 300)];
-    holds(rt, events == wanted.as_slice(), &"the events");
+    holds(events == wanted.as_slice(), &"the events")
 }
 
 /// A report of the first client that raises the register.

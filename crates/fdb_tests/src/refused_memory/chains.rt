@@ -1,10 +1,9 @@
-//! Chains.
+//! Chains whose requests are refused memory: such a request draws no version and forgets no answer.
 
-use crate::same::{holds, same};
 use fdb_chain::{ChainCore, ChainError};
+use fdb_checks::{holds, same};
 use fdb_history::{Ask, Issued};
 use std::alloc::Global;
-use std::process::Abort;
 use std::test::Fail;
 
 /// A chain, by a second call where memory is refused to the first.
@@ -17,45 +16,41 @@ fn open(alloc: Global) -> Result<ChainCore, ChainError> {
 
 /// An answer, by a second call where memory is refused to
 /// the first, which has then changed nothing.
-fn answer(rt: &impl Abort, chain: &mut ChainCore, ask: Ask) -> Result<Issued, ChainError> {
+fn answer(chain: &mut ChainCore, ask: Ask) -> Result<Issued, Fail> {
     let before = chain.answers().len();
     match chain.ask(ask) {
         Err(ChainError::Memory) => {
-            same(
-                rt,
-                &chain.answers().len(),
-                &before,
-                &"after a refused request",
-            );
-            still_keeps(rt, chain, ask);
-            chain.ask(ask)
+            same(&chain.answers().len(), &before, &"after a refused request")?;
+            still_keeps(chain, ask)?;
+            Ok(chain.ask(ask)?)
         }
-        outcome => outcome,
+        outcome => Ok(outcome?),
     }
 }
 
-/// Checks that the answer before is kept still, though the request that was refused has processed it.
-fn still_keeps(rt: &impl Abort, chain: &mut ChainCore, refused: Ask) {
+/// Checks that the answer before is kept still, though the request that was refused has processed
+/// it.
+fn still_keeps(chain: &mut ChainCore, refused: Ask) -> Result<(), Fail> {
     if refused.num > 1 {
         let kept = chain.ask(numbered(refused.proxy, refused.num - 1));
-        holds(rt, kept.is_ok(), &"the answer before a refused request");
+        holds(kept.is_ok(), &"the answer before a refused request")?;
     }
+    Ok(())
 }
 
 /// Asks for a number and once more for it, which takes no memory.
-fn twice(rt: &impl Abort, chain: &mut ChainCore, proxy: u32, num: u64) -> Result<(), ChainError> {
+fn twice(chain: &mut ChainCore, proxy: u32, num: u64) -> Result<(), Fail> {
     let ask = Ask {
         processed: num.saturating_sub(1),
         ..numbered(proxy, num)
     };
     let place = chain.answers().len();
-    let issued = answer(rt, chain, ask)?;
+    let issued = answer(chain, ask)?;
     let again = chain.ask(ask)?;
     // a version for each request, since no time passes
-    same(rt, &issued.version, &(place as u64 + 100), &num);
-    same(rt, &again.version, &issued.version, &num);
-    holds(rt, issued.fresh && !again.fresh, &num);
-    Ok(())
+    same(&issued.version, &(place as u64 + 100), &num)?;
+    same(&again.version, &issued.version, &num)?;
+    holds(issued.fresh && !again.fresh, &num)
 }
 
 /// Enough requests that each list grows more than once.
@@ -64,11 +59,10 @@ fn a_chain_bears_it(rt: HostRuntime) -> Result<(), Fail> {
     let mut chain = open(rt.alloc())?;
     for num in 1..=20 {
         for proxy in 0..4 {
-            twice(&rt, &mut chain, proxy, num)?;
+            twice(&mut chain, proxy, num)?;
         }
     }
-    same(&rt, &chain.answers().len(), &80, &"four proxies");
-    Ok(())
+    same(&chain.answers().len(), &80, &"four proxies")
 }
 
 /// A request that takes no memory: who asks and under which number, and how it is answered, by the
@@ -83,14 +77,14 @@ const REQUESTS: [(u32, u64, Result<u64, ChainError>); 6] = [
 ];
 
 /// A chain that has come to its end: proxy 0 has the last two versions.
-fn used_up(rt: &impl Abort, alloc: Global) -> Result<ChainCore, ChainError> {
+fn used_up(alloc: Global) -> Result<ChainCore, Fail> {
     let last = 9_223_372_036_854_775_806;
     let mut chain = match ChainCore::new(alloc, 0, last, 4) {
         Err(ChainError::Memory) => ChainCore::new(alloc, 0, last, 4)?,
         outcome => outcome?,
     };
     for num in [1, 2] {
-        answer(rt, &mut chain, numbered(0, num))?;
+        answer(&mut chain, numbered(0, num))?;
     }
     Ok(chain)
 }
@@ -114,12 +108,11 @@ fn version(chain: &mut ChainCore, ask: Ask) -> Result<u64, ChainError> {
 /// A refused request and a repeated one take no memory, and leave the chain as it is.
 #[test]
 fn what_draws_no_version(rt: HostRuntime) -> Result<(), Fail> {
-    let mut chain = used_up(&rt, rt.alloc())?;
+    let mut chain = used_up(rt.alloc())?;
     for (proxy, num, wanted) in &REQUESTS {
         let found = version(&mut chain, numbered(*proxy, *num));
-        same(&rt, &found, wanted, num);
-        same(&rt, &chain.answers().len(), &2, num);
+        same(&found, wanted, num)?;
+        same(&chain.answers().len(), &2, num)?;
     }
-    same(&rt, &chain.into_answers().len(), &2, &"at the end");
-    Ok(())
+    same(&chain.into_answers().len(), &2, &"at the end")
 }

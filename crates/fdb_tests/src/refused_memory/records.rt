@@ -1,20 +1,19 @@
-//! Sequences, and texts.
+//! Sequences whose items and copies are refused memory, texts of refusals and faults, and the
+//! register after reports.
 
 use crate::audits::words::{fault, plain, refusal};
-use crate::line::Line;
-use crate::same::{holds, same, says};
+use fdb_checks::{Line, holds, same, says};
 use fdb_history::{AuditFault, Event, Record, Sequence, register_after};
 use std::alloc::AllocError;
-use std::process::Abort;
 use std::test::Fail;
 
 /// Pushes, and once more where memory was refused: then
 /// nothing had changed, and the item was handed back.
-fn push(rt: &impl Abort, items: &mut Sequence<u64>, item: u64) -> Result<(), Fail> {
+fn push(items: &mut Sequence<u64>, item: u64) -> Result<(), Fail> {
     let before = items.len();
     if let Err(failed) = items.push(item) {
-        same(rt, &items.len(), &before, &"after a refused push");
-        same(rt, &failed.value, &item, &"handed back");
+        same(&items.len(), &before, &"after a refused push")?;
+        same(&failed.value, &item, &"handed back")?;
         items.push(failed.value)?;
     }
     Ok(())
@@ -34,40 +33,40 @@ const SQUARES: &[u64] = &[0, 1, 4, 9, 16, 25, 36, 49, 64];
 #[test]
 fn a_sequence_is_its_items(rt: HostRuntime) -> Result<(), Fail> {
     let mut items = Sequence::from(Vec::new(rt.alloc()));
-    holds(&rt, items.is_empty(), &"no items");
-    same(&rt, &items, &Sequence::new(rt.alloc()), &"no items");
+    holds(items.is_empty(), &"no items")?;
+    same(&items, &Sequence::new(rt.alloc()), &"no items")?;
     for square in SQUARES {
-        push(&rt, &mut items, *square)?;
+        push(&mut items, *square)?;
     }
-    has_items(&rt, &items);
-    copies(&rt, &items)
+    has_items(&items)?;
+    copies(&items)
 }
 
 /// A sequence of all squares gives them as a slice, and by each of its iterators.
-fn has_items(rt: &impl Abort, items: &Sequence<u64>) {
-    holds(rt, !items.is_empty(), &"all items");
-    same(rt, &items.len(), &9, &"all items");
-    holds(rt, items.as_slice() == SQUARES, &"the items as a slice");
-    same(rt, &items.iter().count(), &9, &"all items");
+fn has_items(items: &Sequence<u64>) -> Result<(), Fail> {
+    holds(!items.is_empty(), &"all items")?;
+    same(&items.len(), &9, &"all items")?;
+    holds(items.as_slice() == SQUARES, &"the items as a slice")?;
+    same(&items.iter().count(), &9, &"all items")?;
     for (item, square) in items.iter().zip(SQUARES.iter()) {
-        same(rt, item, square, &"in their order");
+        same(item, square, &"in their order")?;
     }
     for item in items {
-        holds(rt, SQUARES.contains(item), item);
+        holds(SQUARES.contains(item), item)?;
     }
+    Ok(())
 }
 
 /// A copy has the same items, and is another list.
-fn copies(rt: &impl Abort, items: &Sequence<u64>) -> Result<(), Fail> {
+fn copies(items: &Sequence<u64>) -> Result<(), Fail> {
     let mut other = copy(items)?;
-    same(rt, &other, items, &"a copy");
-    push(rt, &mut other, 81)?;
-    holds(rt, &other != items, &"a copy that has grown");
-    same(rt, &items.len(), &9, &"of the list that was copied");
+    same(&other, items, &"a copy")?;
+    push(&mut other, 81)?;
+    holds(&other != items, &"a copy that has grown")?;
+    same(&items.len(), &9, &"of the list that was copied")?;
     let mut vec = other.into_vec();
-    same(rt, &vec.pop(), &Some(81), &"the last item of the copy");
-    same(rt, &Sequence::from(vec), items, &"the copy without it");
-    Ok(())
+    same(&vec.pop(), &Some(81), &"the last item of the copy")?;
+    same(&Sequence::from(vec), items, &"the copy without it")
 }
 
 /// Each refusal, as the words that it is read from.
@@ -89,8 +88,8 @@ MinAbove
 #[test]
 fn refusals_as_text(rt: HostRuntime) -> Result<(), Fail> {
     for text in REFUSALS.lines() {
-        let refusal = refusal(&rt, &mut Line::new(text));
-        says(&rt, rt.alloc(), &refusal, text)?;
+        let refusal = refusal(&mut Line::new(text))?;
+        says(rt.alloc(), &refusal, text)?;
     }
     Ok(())
 }
@@ -98,10 +97,10 @@ fn refusals_as_text(rt: HostRuntime) -> Result<(), Fail> {
 #[test]
 fn audit_faults_as_text(rt: HostRuntime) -> Result<(), Fail> {
     for text in FAULTS.lines() {
-        let fault = fault(&rt, &mut Line::new(text));
-        says(&rt, rt.alloc(), &fault, text)?;
+        let fault = fault(&mut Line::new(text))?;
+        says(rt.alloc(), &fault, text)?;
     }
-    says(&rt, rt.alloc(), &AuditFault::Memory, "want of memory")
+    says(rt.alloc(), &AuditFault::Memory, "want of memory")
 }
 
 /// Faults of an audit, as the words that they are read from.
@@ -125,7 +124,7 @@ fn report(call: u64, version: u64, min_known: u64) -> Event {
     }
 }
 
-/// A record with a minimum known committed version.
+/// A record with no lock and no metadata version, but a minimum known committed version.
 fn known(version: u64, min_known: u64) -> Record {
     Record {
         min_known,
@@ -135,7 +134,7 @@ fn known(version: u64, min_known: u64) -> Record {
 
 /// The register after reports takes no memory.
 #[test]
-fn a_register_after_reports(rt: HostRuntime) {
+fn a_register_after_reports(rt: HostRuntime) -> Result<(), Fail> {
     let events = [
         report(0, 2100, 100),
         report(1, 2100, 2000),
@@ -143,7 +142,7 @@ fn a_register_after_reports(rt: HostRuntime) {
         report(3, 2200, 60),
     ];
     let after = register_after(plain(100), &events);
-    same(&rt, &after, &known(2200, 2000), &"four reports");
+    same(&after, &known(2200, 2000), &"four reports")?;
     let none = register_after(plain(100), &[]);
-    same(&rt, &none, &plain(100), &"no report");
+    same(&none, &plain(100), &"no report")
 }

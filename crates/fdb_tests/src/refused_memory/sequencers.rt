@@ -1,11 +1,10 @@
-//! Sequencers.
+//! A sequencer whose requests are refused memory, and draw no version then.
 
-use crate::same::same;
 use crate::sequencer::{FromHundred, from_hundred};
 use fdb_chain::{ChainError, Sequencer};
+use fdb_checks::same;
 use fdb_history::{Ask, Issued, OpenGate};
 use std::alloc::Global;
-use std::process::Abort;
 use std::sync::Wait;
 use std::test::Fail;
 
@@ -31,13 +30,13 @@ fn answer<R: Wait>(
 
 /// Asks for the next number of a proxy. So many answers were
 /// given before, and a refused one has drawn no version.
-fn next<R: Wait + Abort>(
+fn next<R: Wait>(
     rt: &R,
     sequencer: &Sequencer<FromHundred>,
     proxy: u32,
     num: u64,
     before: u32,
-) -> Result<(), ChainError> {
+) -> Result<(), Fail> {
     let ask = Ask {
         proxy,
         num,
@@ -46,10 +45,9 @@ fn next<R: Wait + Abort>(
     };
     let issued = answer(rt, sequencer, ask)?;
     // a version for each request, since no time passes
-    same(rt, &issued.ordinal, &u64::from(before), &num);
-    same(rt, &issued.version, &(u64::from(before) + 100), &num);
-    same(rt, &issued.fresh, &true, &num);
-    Ok(())
+    same(&issued.ordinal, &u64::from(before), &num)?;
+    same(&issued.version, &(u64::from(before) + 100), &num)?;
+    same(&issued.fresh, &true, &num)
 }
 
 /// Enough requests that each list grows more than once.
@@ -61,11 +59,6 @@ fn a_sequencer_bears_it(rt: HostRuntime) -> Result<(), Fail> {
             next(&rt, &sequencer, proxy, round as u64 + 1, round * 4 + proxy)?;
         }
     }
-    same(
-        &rt,
-        &sequencer.close().answers().len(),
-        &80,
-        &"four proxies",
-    );
+    same(&sequencer.close().answers().len(), &80, &"four proxies")?;
     Ok(())
 }

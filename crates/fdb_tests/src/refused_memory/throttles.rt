@@ -1,14 +1,13 @@
-//! Throttles.
+//! Throttles that are refused memory and have set no limit then, and limits that are looked up.
 
 use crate::queue::queue;
-use crate::same::same;
+use fdb_checks::same;
 use fdb_history::{Priority, Tag, TagLimit};
 use fdb_queue::{GrvQueue, QueueError};
 use std::alloc::{AllocError, Global};
-use std::process::Abort;
 use std::test::Fail;
 
-/// Tags of one byte each.
+/// A tag for each of these bytes, of that byte alone.
 fn tags_of(alloc: Global, bytes: &[u8]) -> Result<Vec<Tag>, AllocError> {
     let mut tags = Vec::new(alloc);
     for byte in bytes {
@@ -35,7 +34,6 @@ fn limits(queue: &GrvQueue<u32>, tags: &[Tag]) -> Result<Vec<TagLimit>, QueueErr
 
 /// Compares how many limits tags of these bytes have, and the rate of the first.
 fn are_limited(
-    rt: &impl Abort,
     alloc: Global,
     queue: &GrvQueue<u32>,
     bytes: &[u8],
@@ -43,10 +41,9 @@ fn are_limited(
     rate: Option<u64>,
 ) -> Result<(), Fail> {
     let limits = limits(queue, &tags(alloc, bytes)?)?;
-    same(rt, &limits.len(), &count, &"how many limits");
+    same(&limits.len(), &count, &"how many limits")?;
     let first = limits.first().map(|limit| limit.rate);
-    same(rt, &first, &rate, &"the rate of the first");
-    Ok(())
+    same(&first, &rate, &"the rate of the first")
 }
 
 /// Throttles the tag of a byte at that rate.
@@ -58,28 +55,28 @@ fn throttle(alloc: Global, queue: &mut GrvQueue<u32>, byte: u8) -> Result<(), Qu
 }
 
 /// The same, by a second call where memory is refused to the first, which has then changed nothing.
-fn set(rt: &impl Abort, alloc: Global, queue: &mut GrvQueue<u32>, byte: u8) -> Result<(), Fail> {
+fn set(alloc: Global, queue: &mut GrvQueue<u32>, byte: u8) -> Result<(), Fail> {
     if throttle(alloc, queue, byte) == Err(QueueError::Memory) {
-        are_limited(rt, alloc, queue, &[byte], 0, None)?;
+        are_limited(alloc, queue, &[byte], 0, None)?;
         throttle(alloc, queue, byte)?;
     }
     Ok(())
 }
 
 /// Sets forty throttles, so that a map grows more than once.
-fn set_forty(rt: &impl Abort, alloc: Global, queue: &mut GrvQueue<u32>) -> Result<(), Fail> {
+fn set_forty(alloc: Global, queue: &mut GrvQueue<u32>) -> Result<(), Fail> {
     for byte in 0..40u8 {
-        set(rt, alloc, queue, byte)?;
+        set(alloc, queue, byte)?;
     }
     Ok(())
 }
 
 /// Looks each of these tags up twice, beside a tag that
 /// has none, so that a list of limits grows too.
-fn look_up_forty(rt: &impl Abort, alloc: Global, queue: &GrvQueue<u32>) -> Result<(), Fail> {
+fn look_up_forty(alloc: Global, queue: &GrvQueue<u32>) -> Result<(), Fail> {
     for byte in 0..40u8 {
         let rate = Some(u64::from(byte));
-        are_limited(rt, alloc, queue, &[byte, 40, byte], 2, rate)?;
+        are_limited(alloc, queue, &[byte, 40, byte], 2, rate)?;
     }
     Ok(())
 }
@@ -87,7 +84,7 @@ fn look_up_forty(rt: &impl Abort, alloc: Global, queue: &GrvQueue<u32>) -> Resul
 #[test]
 fn throttles_bear_it(rt: HostRuntime) -> Result<(), Fail> {
     let mut queue = queue(rt.alloc(), 1, 1, 1)?;
-    set_forty(&rt, rt.alloc(), &mut queue)?;
-    are_limited(&rt, rt.alloc(), &queue, &[40], 0, None)?;
-    look_up_forty(&rt, rt.alloc(), &queue)
+    set_forty(rt.alloc(), &mut queue)?;
+    are_limited(rt.alloc(), &queue, &[40], 0, None)?;
+    look_up_forty(rt.alloc(), &queue)
 }

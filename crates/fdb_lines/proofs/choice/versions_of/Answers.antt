@@ -1,4 +1,4 @@
-use Rattle.std.proofs.Common.{◌≡◌, ℕ, max, ◌+◌, ◌<◌, ◌≤◌, true, false, List, ◌∷◌, [], ◌++◌, Vec, Global, length, slice_index, ap, sym, subst, ◌∙◌, arith}
+use Rattle.std.proofs.Common.{◌≡◌, ℕ, max, ◌+◌, List, ◌∷◌, [], ◌++◌, Vec, Global, length, slice_index, ap, sym, subst, ◌∙◌, arith}
 use Rattle.fdb_lines.specs.Lines.{kind_of, version_of}
 use Rattle.fdb_lines.specs.private.Versions.{is_chosen, AreBelow}
 use Rattle.fdb_lines.proofs.Counting.{chosen_more, other_more}

@@ -1,4 +1,4 @@
-use Rattle.std.proofs.Common.{ℕ, ◌-◌, ◌<◌, max, length, slice_index, ap, sym, ◌∙◌}
+use Rattle.std.proofs.Common.{max, ap, sym, ◌∙◌}
 use Rattle.fdb_lines.specs.Lines.{line_at}
 use Rattle.fdb_lines.specs.Before.{began}
 use Rattle.fdb_lines.specs.private.Known.{newest_of_own}

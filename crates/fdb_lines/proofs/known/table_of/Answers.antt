@@ -1,4 +1,4 @@
-use Rattle.std.proofs.Common.{ℕ, ◌+◌, List, Vec, Global, Some, None, ap, sym, subst, ◌∙◌, append-nil}
+use Rattle.std.proofs.Common.{◌+◌, List, Vec, Global, Some, None, ap, sym, subst, ◌∙◌, append-nil}
 use Rattle.fdb_lines.specs.declared.end.End.{End}
 use Rattle.fdb_lines.specs.private.Known.{IsTable}
 use Rattle.fdb_lines.proofs.Knowing.{table_more}

@@ -1,5 +1,5 @@
 use Rattle.std.proofs.Common.{◌≡◌, ◌≢◌, Bool, true, ◌&&◌, ◌||◌, refl, ap, ◌∙◌}
-use Rattle.fdb_lines.specs.Lines.{Kind, Read, Commit, Ask, Report, Learn, kind_at, version_at, client_at, shows, draws}
+use Rattle.fdb_lines.specs.Lines.{Kind, Read, Commit, Ask, Report, Learn, kind_at, shows, draws}
 use Rattle.fdb_lines.proofs.laws.all_counts_without_asks.Goals as goal
 
 shows_all : (kind : Kind) → (kind ≢ Ask) × (kind ≢ Learn) → shows kind ≡ true

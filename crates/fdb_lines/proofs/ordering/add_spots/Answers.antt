@@ -1,12 +1,13 @@
-use Rattle.std.proofs.Common.{◌≡◌, ◌++◌, ◌∙◌, ap, sym, max, map, slice_index, get_or}
+use Rattle.std.proofs.Common.{◌≡◌, ◌++◌, ◌∙◌, ap, max, map, slice_index, get_or}
 use Rattle.std.proofs.lemmas.List.{get_or_default}
 use Rattle.std.proofs.lemmas.Result.{IfOk-weaker}
 use Rattle.fdb_lines.specs.Audit.{case_of}
 use Rattle.fdb_lines.specs.Faults.{is_reported, knows}
 use Rattle.fdb_lines.specs.Lines.{nobody, line_at, version_of}
 use Rattle.fdb_lines.specs.Log.{lines_of}
-use Rattle.fdb_lines.specs.private.Spots.{AreSpotsOf, item_of, items_at}
-use Rattle.fdb_lines.proofs.Arranged.{items_added, spots_told}
+use Rattle.fdb_lines.specs.private.Spots.{AreSpotsOf, HasSpots, item_of, items_at}
+use Rattle.fdb_lines.proofs.Arranged.{items_added}
+use Rattle.fdb_lines.proofs.Turned.{Keeps, kept_added, own_added, spots_told}
 use Rattle.fdb_lines.proofs.Verdicts.{knows_is, reported_is}
 use Rattle.fdb_lines.proofs.ordering.add_spots.Goals as goal
 
@@ -37,4 +38,20 @@ returns-clause-lines c =
     IfOk-weaker c.add_spot-3.result _ (λ _. AreSpotsOf it c.args.spots.now.items → AreSpotsOf it c.add_spot-3.new.spots.items)
     (λ _ last told. spots_told it k c.requires.place item line _ _ _ c.ask.ensures.line c.take.ensures.line c.report.ensures.line c.args.spots.now.items _ _ _ told
     c.in_ok-add_spot.ensures.spots c.in_ok-add_spot-2.ensures.spots last)
+    c.add_spot-3.ensures.spots
+
+pub returns-clause-kept : goal.returns-clause-kept
+returns-clause-kept c =
+    IfOk-weaker c.add_spot-3.result _ (λ _. Keeps c.args.spots.now.items c.add_spot-3.new.spots.items)
+    (λ _ last. kept_added _ _ _ c.args.spots.now.items _ _ _ c.in_ok-add_spot.ensures.spots c.in_ok-add_spot-2.ensures.spots last)
+    c.add_spot-3.ensures.spots
+
+pub returns-clause-own : goal.returns-clause-own
+returns-clause-own c =
+    let it = case_of (lines_of c.args.log.now) c.args.opts.now in
+    let k = c.args.place in
+    let item = c.index-lines-place.result in
+    let line : item ≡ line_at it.lines k = c.index-lines-place.is ∙ (ap (λ l. get_or l k item) c.lines.ensures ∙ get_or_default it.lines k item nobody c.requires.place) in
+    IfOk-weaker c.add_spot-3.result _ (λ _. HasSpots it c.add_spot-3.new.spots.items k)
+    (λ _ last. own_added it k item line _ _ _ c.ask.ensures.own c.take.ensures.own c.args.spots.now.items _ _ _ c.in_ok-add_spot.ensures.spots c.in_ok-add_spot-2.ensures.spots last)
     c.add_spot-3.ensures.spots

@@ -1,12 +1,13 @@
-use Rattle.std.proofs.Common.{◌≡◌, ap, sym, subst, ◌∙◌, None, rules}
+use Rattle.std.proofs.Common.{ap, sym, subst, ◌∙◌, None, rules}
 use Rattle.std.proofs.lemmas.List.Sorted.{IsNonDecreasingBy-from_sort_by}
 use Rattle.std.proofs.lemmas.Result.{IfOk-weaker}
 use Rattle.fdb_lines.specs.Audit.{AreExplained, case_of}
 use Rattle.fdb_lines.specs.Explained.{Explains}
 use Rattle.fdb_lines.specs.Log.{lines_of}
-use Rattle.fdb_lines.specs.Turns.{acts_of, AreTurnsOf}
+use Rattle.fdb_lines.specs.Turns.{acts_of, AreTurnsOf, HaveTurns}
 use Rattle.fdb_lines.specs.private.Spots.{spot_key, turns_from}
-use Rattle.fdb_lines.proofs.Arranged.{arranged_explain, spots_moved, turns_told}
+use Rattle.fdb_lines.proofs.Arranged.{arranged_explain}
+use Rattle.fdb_lines.proofs.Turned.{has_moved, spots_moved, turns_have, turns_told}
 use Rattle.fdb_lines.proofs.Facts.{none_stands}
 use Rattle.fdb_lines.proofs.Listed.{law}
 use Rattle.fdb_lines.proofs.Ranked.{spot_ranked}
@@ -32,4 +33,13 @@ returns-clause-lines c =
     IfOk-weaker c.turns_in.result _ (λ turns. AreTurnsOf it turns.items)
     (λ turns are. subst (AreTurnsOf it) (ap (turns_from None) (sym c.deref.ensures.value) ∙ sym are)
     (turns_told it None arranged (spots_moved it c.in_ok-spots.spots.items arranged c.sort_unstable_by.ensures.permutation c.in_ok-spots.ensures.lines)))
+    c.turns_in.ensures
+
+pub returns-clause-all : goal.returns-clause-all
+returns-clause-all c =
+    let it = case_of (lines_of c.args.log.now) c.args.opts.now in
+    let arranged = c.sort_unstable_by.new.self.items in
+    IfOk-weaker c.turns_in.result _ (λ turns. HaveTurns it turns.items)
+    (λ turns are. subst (HaveTurns it) (ap (turns_from None) (sym c.deref.ensures.value) ∙ sym are)
+    (turns_have it arranged (λ k lt. has_moved it c.in_ok-spots.spots.items arranged c.sort_unstable_by.ensures.permutation k (c.in_ok-spots.ensures.all k lt))))
     c.turns_in.ensures

@@ -1,4 +1,4 @@
-use Rattle.std.proofs.Common.{ℕ, ◌<◌, ◌≤◌, nat_lt, true, zero-le, rules}
+use Rattle.std.proofs.Common.{nat_lt, zero-le, rules}
 use Rattle.std.proofs.lemmas.Bool.{ltb-true, ltb-false}
 use Rattle.std.proofs.lemmas.List.Sorted.{IsPartitionPoint-from_clause, IsPartitionedBy-ltb}
 use Rattle.fdb_lines.specs.declared.owner.Owner.{Owner}

@@ -1,4 +1,4 @@
-use Rattle.std.proofs.Common.{◌≡◌, ℕ, suc, max, ◌+◌, ◌<◌, List, ◌∷◌, [], ◌++◌, cond, nat_eq, unwrap_or, length, ap, sym, ◌∙◌, arith, rules, add-one, length-append, inl, inr, slice_index}
+use Rattle.std.proofs.Common.{◌≡◌, ℕ, max, ◌+◌, ◌<◌, List, ◌∷◌, [], ◌++◌, cond, nat_eq, unwrap_or, length, ap, sym, ◌∙◌, arith, rules, add-one, length-append, inl, inr, slice_index}
 use Rattle.std.specs.HashMap.{get}
 use Rattle.std.proofs.lemmas.Bool.{cases_lt}
 use Rattle.std.proofs.lemmas.Grind.{common_steps}

@@ -1,4 +1,4 @@
-use Rattle.std.proofs.Common.{◌∙◌, List, inl, inr, ap, sym, []}
+use Rattle.std.proofs.Common.{◌∙◌, inl, inr, ap, sym, []}
 use Rattle.std.proofs.lemmas.List.{append-nil}
 use Rattle.std.proofs.lemmas.Result.{err_from_is_err_and}
 use Rattle.fdb_log_reader.specs.Reading.{reading_in}

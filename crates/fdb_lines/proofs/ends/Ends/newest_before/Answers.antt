@@ -1,4 +1,4 @@
-use Rattle.std.proofs.Common.{◌≡◌, ◌≢◌, ◌⊎◌, ℕ, ◌-◌, ◌<◌, ◌≤◌, List, length, get_or, ap, sym, subst, ◌∙◌, inl, inr, arith}
+use Rattle.std.proofs.Common.{◌≡◌, ℕ, ◌-◌, ◌<◌, ◌≤◌, List, length, get_or, ap, sym, subst, ◌∙◌, inl, inr, arith}
 use Rattle.std.proofs.lemmas.List.{get_or_default, get_or_read}
 use Rattle.fdb_lines.specs.declared.end.End.{End}
 use Rattle.fdb_lines.specs.private.Ends.{end_at, no_end, end_key, key, IsFront}
@@ -17,10 +17,10 @@ pub returns-then-index-group : goal.returns-then-index-group
 returns-then-index-group c =
     let ends = c.args.self.now.ends.items in
     let newest = c.args.self.now.newest.items in
-    let front = c.front_of-front.result in
+    let front = c.front_near-front.result in
     let moment = moment_key c.new.result c.args.group c.args.time c.args.place c.new.ensures.group c.new.ensures.time c.new.ensures.place in
-    let bound = subst (λ (l : List End). front ≤ length l) c.deref.ensures.value c.front_of-front.ensures.bound in
-    let parts = subst (λ m. IsFront ends m front) moment (subst (λ l. IsFront l (end_key c.new.result) front) c.deref.ensures.value c.front_of-front.ensures.parts) in
+    let bound = subst (λ (l : List End). front ≤ length l) c.deref.ensures.value c.front_near-front.ensures.bound in
+    let parts = subst (λ m. IsFront ends m front) moment (subst (λ l. IsFront l (end_key c.new.result) front) c.deref.ensures.value c.front_near-front.ensures.parts) in
     let some = c.if-front-gt0.true in
     let len = c.requires.1.0 in
     let inside : front - 1 < length newest = omega arith in
@@ -32,10 +32,10 @@ returns-then-index-group c =
 pub returns-else-front-gt0 : goal.returns-else-front-gt0
 returns-else-front-gt0 c =
     let ends = c.args.self.now.ends.items in
-    let front = c.front_of-front.result in
+    let front = c.front_near-front.result in
     let moment = moment_key c.new.result c.args.group c.args.time c.args.place c.new.ensures.group c.new.ensures.time c.new.ensures.place in
-    let bound = subst (λ (l : List End). front ≤ length l) c.deref.ensures.value c.front_of-front.ensures.bound in
-    let parts = subst (λ m. IsFront ends m front) moment (subst (λ l. IsFront l (end_key c.new.result) front) c.deref.ensures.value c.front_of-front.ensures.parts) in
+    let bound = subst (λ (l : List End). front ≤ length l) c.deref.ensures.value c.front_near-front.ensures.bound in
+    let parts = subst (λ m. IsFront ends m front) moment (subst (λ l. IsFront l (end_key c.new.result) front) c.deref.ensures.value c.front_near-front.ensures.parts) in
     not_found ends c.requires.0 c.args.group c.args.time c.args.place front c.ranges.time.fits c.ranges.place.fits bound parts
     (elim c.else-front-gt0.branch [
       | else-front-gt0-via-then-front-gt0+else-index-group w ↦

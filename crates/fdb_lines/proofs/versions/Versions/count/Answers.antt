@@ -1,4 +1,4 @@
-use Rattle.std.proofs.Common.{◌≡◌, ◌+◌, ◌≤◌, nat_le, nat_lt, count_by, ap, ◌∙◌, arith}
+use Rattle.std.proofs.Common.{◌≡◌, nat_le, nat_lt, count_by, ap, ◌∙◌, arith}
 use Rattle.fdb_lines.proofs.Counting.{split_at}
 use Rattle.fdb_lines.proofs.versions.Versions.count.Goals as goal
 

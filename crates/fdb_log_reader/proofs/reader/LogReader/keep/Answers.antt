@@ -1,4 +1,4 @@
-use Rattle.std.proofs.Common.{◌<◌, ◌-◌, ◌∙◌, inr, ap, sym, length, subst, Err}
+use Rattle.std.proofs.Common.{◌<◌, ◌-◌, ◌∙◌, inr, ap, length, subst, Err}
 use Rattle.fdb_log_reader.specs.declared.reader.TheConstants.{MAX_LINE_BYTES}
 use Rattle.fdb_log_reader.specs.Reading.{reading_of}
 use Rattle.fdb_log_reader.proofs.Splitting.{error_is, too_long}

@@ -1,5 +1,0 @@
-pub mod Orders
-pub mod Strays
-pub mod Owners
-pub mod Clashes
-pub mod Verdicts

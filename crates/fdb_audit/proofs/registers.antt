@@ -1,4 +1,0 @@
-pub mod ChangesAt
-pub mod Positions
-pub mod Raised
-pub mod Registers

@@ -1,4 +1,0 @@
-pub mod Changes
-pub mod Courses
-pub mod Fitting
-pub mod Seen

@@ -1,0 +1,213 @@
+-- What C asks of an audit, and what it is told.
+use Rattle.std.specs.Prelude.{◌≡◌, ◌≢◌, ℕ, ◌+◌, ◌<◌, ◌==◌, ◌++◌, false, List, [], ◌∷◌, All, drop, length, map, Option, None, Some, option_map, Result, Ok, Err, if◌then◌else◌}
+use Rattle.fdb_lines.specs.Audit.{case_of}
+use Rattle.fdb_lines.specs.Lines.{Lines}
+use Rattle.fdb_lines.specs.Listing.{faults_of}
+use Rattle.fdb_lines.specs.Reasons.{HasReason, found_of}
+use Rattle.fdb_lines.specs.declared.fault.Fault.{Fault}
+use Rattle.fdb_lines.specs.declared.fault.Fault.TheVariants as fault
+use Rattle.fdb_lines.specs.declared.line.Call.{Call}
+use Rattle.fdb_lines.specs.declared.line.Call.TheVariants as made
+use Rattle.fdb_lines.specs.declared.line.Times.{Times}
+use Rattle.fdb_lines.specs.declared.opts.AuditOpts.{AuditOpts}
+use Rattle.fdb_lines.specs.declared.reason.Finding.{Finding}
+use Rattle.fdb_lines.specs.declared.reason.Means.{Means}
+use Rattle.fdb_lines.specs.declared.reason.Means.TheVariants as means
+use Rattle.fdb_lines.specs.declared.reason.Reason.{Reason}
+use Rattle.fdb_lines.specs.declared.reason.Reason.TheVariants as reason
+use Rattle.fdb_lines.specs.declared.reason.Witness.{Witness}
+use Rattle.fdb_log_reader.specs.Members.{and_then, or_bad, times_with}
+use Rattle.fdb_log_reader.specs.Reading.{pushed}
+use Rattle.fdb_log_reader.specs.declared.error.ReadError.{ReadError}
+use Rattle.fdb_log_reader.specs.declared.error.Why.{Why}
+use Rattle.fdb_log_reader.specs.declared.error.Why.TheVariants as why
+use Rattle.fdb_log_reader.specs.declared.member.Member.{Member}
+use Rattle.fdb_log_reader.specs.declared.member.Member.TheVariants as member
+use Rattle.fdb_audit.specs.declared.judging.Wanted.{Wanted}
+use Rattle.fdb_c.specs.declared.audit.FdbAuditOptions.{FdbAuditOptions}
+use Rattle.fdb_c.specs.declared.audit.FdbRefused.{FdbRefused}
+use Rattle.fdb_c.specs.declared.audit.TheConstants.{FDB_CLIENT, FDB_READ, FDB_COMMIT, FDB_ASK, FDB_REPORT, FDB_LEARN, FDB_BEGAN, FDB_ENDED}
+use Rattle.fdb_c.specs.declared.audit_calls.FdbCall.{FdbCall}
+use Rattle.fdb_c.specs.declared.audit_faults.FdbFault.{FdbFault}
+use Rattle.fdb_c.specs.declared.audit_faults.TheConstants.{FDB_FAULT_ORDER, FDB_FAULT_WRONG, FDB_FAULT_NOT_ABOVE, FDB_FAULT_TWICE, FDB_FAULT_STRAY, FDB_REASON_KNOWN, FDB_REASON_UNREPORTED, FDB_REASON_REPORTED, FDB_REASON_DRAWN, FDB_REASON_UNDRAWN, FDB_MEANS_START, FDB_MEANS_ENDED, FDB_MEANS_OWN, FDB_MEANS_LEARNT}
+use Rattle.fdb_c.specs.declared.status.TheConstants.{FDB_OK, FDB_MEMORY, FDB_ROOM, FDB_FAULT, FDB_TOO_LONG, FDB_TOO_MANY, FDB_NOT_JSON, FDB_NO_CALL, FDB_TWO_CALLS, FDB_SOME_TIMES, FDB_BAD_MEMBER}
+
+-- ---- what is asked
+
+abbrev pub complete_of : FdbAuditOptions → Option ℕ
+complete_of options = if options.complete then Some options.start else None
+
+abbrev pub opts_of : FdbAuditOptions → AuditOpts
+opts_of options = record { complete = complete_of options; margin = options.margin }
+
+abbrev pub wanted_of : FdbAuditOptions → Wanted
+wanted_of options = record { history = options.history; all = options.all }
+
+-- ---- the log that an array of calls stands for
+
+-- whose call it was, where that is known
+abbrev pub client_of : FdbCall → Option ℕ
+client_of call = if call.has_client then Some call.client else None
+
+-- what was done, if it is one of the five
+abbrev pub made_of : FdbCall → Result Call Why
+made_of call =
+    if call.kind == FDB_READ then Ok (made.Read call.version)
+    else (if call.kind == FDB_COMMIT then Ok (made.Commit call.version)
+    else (if call.kind == FDB_ASK then Ok (made.Ask call.version)
+    else (if call.kind == FDB_REPORT then Ok (made.Report call.version)
+    else (if call.kind == FDB_LEARN then Ok (made.Learn call.teller)
+    else Err why.NoCall))))
+
+-- when it ended, where that is known
+abbrev pub ended_of : FdbCall → Option ℕ
+ended_of call = if call.has_ended then Some call.ended else None
+
+-- when, where that is known: no call ended before it began
+abbrev pub times_of : FdbCall → Result (Option Times) Why
+times_of call =
+    if call.has_times then or_bad member.Ended (option_map Some (times_with call.began (ended_of call))) else Ok None
+
+-- a log with a call more, or what is wrong with that
+abbrev pub with_call : Lines → FdbCall → Result Lines Why
+with_call log call =
+    and_then (made_of call) (λ made.
+    and_then (times_of call) (λ times.
+    pushed log (record { client = client_of call; call = made; times = times })))
+
+abbrev pub or_refused : ℕ → Result Lines Why → (Lines → Result Lines ReadError) → Result Lines ReadError
+or_refused line (Ok log) next = next log
+or_refused line (Err why) next = Err (record { line = line; why = why })
+
+-- a log with these calls more, or the first that is refused, counted from 1
+abbrev pub with_calls : Lines → List FdbCall → Result Lines ReadError
+with_calls log [] = Ok log
+with_calls log (call ∷ calls) =
+    or_refused (length log.lines + 1) (with_call log call) (λ more. with_calls more calls)
+
+-- The log that calls stand for, each a line.
+abbrev pub log_in : List FdbCall → Result Lines ReadError
+log_in calls = with_calls (record { timed = false; lines = [] }) calls
+
+-- ---- why a log is refused
+
+abbrev pub status_of : Why → ℕ
+status_of why.TooLong = FDB_TOO_LONG
+status_of why.TooMany = FDB_TOO_MANY
+status_of why.NotJson = FDB_NOT_JSON
+status_of why.NoCall = FDB_NO_CALL
+status_of why.TwoCalls = FDB_TWO_CALLS
+status_of why.SomeTimes = FDB_SOME_TIMES
+status_of (why.BadMember _) = FDB_BAD_MEMBER
+status_of why.Memory = FDB_MEMORY
+
+abbrev pub number_of : Member → ℕ
+number_of member.Client = FDB_CLIENT
+number_of member.Read = FDB_READ
+number_of member.Commit = FDB_COMMIT
+number_of member.Ask = FDB_ASK
+number_of member.Report = FDB_REPORT
+number_of member.Learn = FDB_LEARN
+number_of member.Began = FDB_BEGAN
+number_of member.Ended = FDB_ENDED
+
+-- the member that is bad, or 0
+abbrev pub member_of : Why → ℕ
+member_of (why.BadMember member) = number_of member
+member_of _ = 0
+
+-- A refusal, as C is told of it beside its status.
+abbrev pub refused_of : ReadError → FdbRefused
+refused_of error = record { line = error.line; member = member_of error.why }
+
+-- A status that says that the log is refused.
+abbrev pub IsRefusal : ℕ → Type 0
+IsRefusal status = (status ≢ FDB_OK) × (status ≢ FDB_FAULT) × (status ≢ FDB_ROOM) × (status ≢ FDB_MEMORY)
+
+-- ---- faults
+
+abbrev pub number_of_fault : Fault → ℕ
+number_of_fault fault.Order = FDB_FAULT_ORDER
+number_of_fault fault.Wrong = FDB_FAULT_WRONG
+number_of_fault fault.NotAbove = FDB_FAULT_NOT_ABOVE
+number_of_fault fault.Twice = FDB_FAULT_TWICE
+number_of_fault fault.Stray = FDB_FAULT_STRAY
+
+-- how a version was known: all began with it, or a call knew of a line
+abbrev pub number_of_means : Means → ℕ
+number_of_means means.Ended = FDB_MEANS_ENDED
+number_of_means means.Own = FDB_MEANS_OWN
+number_of_means (means.Learnt _) = FDB_MEANS_LEARNT
+
+abbrev pub means_by : Option Witness → ℕ
+means_by None = FDB_MEANS_START
+means_by (Some by) = number_of_means by.means
+
+-- the line that let it be known, or 0
+abbrev pub line_by : Option Witness → ℕ
+line_by None = 0
+line_by (Some by) = by.line
+
+-- the line by which the client had learnt of that, or 0
+abbrev pub teller_in : Means → ℕ
+teller_in means.Ended = 0
+teller_in means.Own = 0
+teller_in (means.Learnt line) = line
+
+abbrev pub learnt_by : Option Witness → ℕ
+learnt_by None = 0
+learnt_by (Some by) = teller_in by.means
+
+-- a fault whose reason names no version
+abbrev pub plain : Finding → ℕ → ℕ → FdbFault
+plain finding why other = record {
+  known = 0;
+  line = finding.found.line;
+  other = other;
+  by = 0;
+  learnt = 0;
+  kind = number_of_fault finding.found.fault;
+  reason = why;
+  means = 0;
+}
+
+-- a fault whose reason is that a version was known
+abbrev pub knowing : Finding → ℕ → ℕ → ℕ → Option Witness → FdbFault
+knowing finding why other version by = record {
+  known = version;
+  line = finding.found.line;
+  other = other;
+  by = line_by by;
+  learnt = learnt_by by;
+  kind = number_of_fault finding.found.fault;
+  reason = why;
+  means = means_by by;
+}
+
+-- a fault with its reason
+abbrev pub told_with : Finding → Reason → FdbFault
+told_with finding (reason.Known version by) = knowing finding FDB_REASON_KNOWN 0 version by
+told_with finding reason.Unreported = plain finding FDB_REASON_UNREPORTED 0
+told_with finding (reason.Reported line version by) = knowing finding FDB_REASON_REPORTED line version by
+told_with finding (reason.Drawn line) = plain finding FDB_REASON_DRAWN line
+told_with finding reason.Undrawn = plain finding FDB_REASON_UNDRAWN 0
+
+-- A fault, as C is told of it.
+abbrev pub told : Finding → FdbFault
+told finding = told_with finding finding.reason
+
+-- All faults of a log, each once and by line, with a reason that is true of the lines.
+abbrev pub AreFaults : Lines → AuditOpts → List FdbFault → Type 0
+AreFaults log opts faults =
+    (found : List Finding) × (map found_of found ≡ faults_of (case_of log opts)) × All (HasReason log opts) found
+    × (faults ≡ map told found)
+
+-- ---- what is written
+
+-- It was written to the start of what C gave, with its size, and what stands behind it is as it was.
+abbrev pub IsWritten : {T : Type 0} → List T → List T → List T → ℕ → Type 0
+IsWritten written before after size = (after ≡ written ++ drop (length written) before) × (size ≡ length written)
+
+-- There is no room for it: its size alone was written.
+abbrev pub HasNoRoom : {T : Type 0} → List T → List T → List T → ℕ → Type 0
+HasNoRoom written before after size = (length before < length written) × (after ≡ before) × (size ≡ length written)

@@ -1,0 +1,152 @@
+//! The audit of a log: what C asks for, and why a log is refused.
+
+ghost use Rattle.std.specs.Prelude.{◌≡◌, ◌⊎◌};
+ghost use Rattle.fdb_c.specs.Audit.{IsRefusal, complete_of, member_of, number_of, opts_of};
+ghost use Rattle.fdb_c.specs.Audit.{refused_of, status_of, wanted_of};
+
+use crate::status::{
+    FDB_BAD_MEMBER, FDB_MEMORY, FDB_NO_CALL, FDB_NOT_JSON, FDB_SOME_TIMES, FDB_TOO_LONG,
+    FDB_TOO_MANY, FDB_TWO_CALLS,
+};
+use fdb_audit::Wanted;
+use fdb_lines::AuditOpts;
+use fdb_log_reader::{Member, ReadError, Why};
+
+/// Whose call it was.
+pub const FDB_CLIENT: u8 = 1;
+
+/// A read got a version.
+pub const FDB_READ: u8 = 2;
+
+/// A commit got a version.
+pub const FDB_COMMIT: u8 = 3;
+
+/// A commit version was drawn.
+pub const FDB_ASK: u8 = 4;
+
+/// A version was reported as committed.
+pub const FDB_REPORT: u8 = 5;
+
+/// What another client knew was learnt.
+pub const FDB_LEARN: u8 = 6;
+
+/// When a call began.
+pub const FDB_BEGAN: u8 = 7;
+
+/// When it ended.
+pub const FDB_ENDED: u8 = 8;
+
+/// What an audit is told beside the log, and what its text has.
+#[repr(C)]
+#[derive(Clone, Copy)]
+pub struct FdbAuditOptions {
+    /// The version that all began with, where `complete` holds.
+    pub start: u64,
+    /// How far the clocks of two clients may be apart, in the unit of the times.
+    pub margin: u64,
+    /// Whether the log has the calls of all clients.
+    pub complete: bool,
+    /// Whether the text has all faults, where one stands, and not the first alone.
+    pub all: bool,
+    /// Whether the text has an order that explains the lines, where no fault stands.
+    pub history: bool,
+}
+
+/// Why a log is refused, beside the status.
+#[repr(C)]
+#[derive(Clone, Copy)]
+pub struct FdbRefused {
+    /// The first line with which something is wrong, counted from 1.
+    pub line: u64,
+    /// The member that is bad, or 0.
+    pub member: u8,
+}
+
+/// What an audit is told beside the log.
+pub(crate) fn opts_of(options: FdbAuditOptions) -> AuditOpts
+    ensures { result ≡ opts_of options }
+{
+    AuditOpts {
+        complete: complete_of(options),
+        margin: options.margin,
+    }
+}
+
+/// The version that all began with, where the log has all calls.
+fn complete_of(options: FdbAuditOptions) -> Option<u64>
+    ensures { result ≡ complete_of options }
+{
+    if options.complete {
+        Some(options.start)
+    } else {
+        None
+    }
+}
+
+/// What is printed besides the verdict.
+pub(crate) fn wanted_of(options: FdbAuditOptions) -> Wanted
+    ensures { result ≡ wanted_of options }
+{
+    Wanted {
+        history: options.history,
+        all: options.all,
+    }
+}
+
+/// A member's number.
+fn number_of(member: Member) -> u8
+    ensures { result ≡ number_of member }
+{
+    match member {
+        Member::Client => FDB_CLIENT,
+        Member::Read => FDB_READ,
+        Member::Commit => FDB_COMMIT,
+        Member::Ask => FDB_ASK,
+        Member::Report => FDB_REPORT,
+        Member::Learn => FDB_LEARN,
+        Member::Began => FDB_BEGAN,
+        Member::Ended => FDB_ENDED,
+    }
+}
+
+/// A refusal's number.
+fn status_of(why: Why) -> u8
+    ensures { result ≡ status_of why }
+{
+    match why {
+        Why::TooLong => FDB_TOO_LONG,
+        Why::TooMany => FDB_TOO_MANY,
+        Why::NotJson => FDB_NOT_JSON,
+        Why::NoCall => FDB_NO_CALL,
+        Why::TwoCalls => FDB_TWO_CALLS,
+        Why::SomeTimes => FDB_SOME_TIMES,
+        Why::BadMember(_) => FDB_BAD_MEMBER,
+        Why::Memory => FDB_MEMORY,
+    }
+}
+
+/// The number of the member that is bad, or 0.
+fn member_of(why: Why) -> u8
+    ensures { result ≡ member_of why }
+{
+    match why {
+        Why::BadMember(member) => number_of(member),
+        _ => 0,
+    }
+}
+
+/// Refuses a log by the status, and tells the line, unless memory was refused.
+pub(crate) fn refuse(error: ReadError, refused: &mut FdbRefused) -> u8
+    ensures status { result ≡ status_of error.why }
+    ensures told { ((error.why ≡ Why.Memory) × (refused.new ≡ refused.old))
+        ⊎ (IsRefusal result × (refused.new ≡ refused_of error)) }
+{
+    let status = status_of(error.why);
+    if status != FDB_MEMORY {
+        *refused = FdbRefused {
+            line: error.line,
+            member: member_of(error.why),
+        };
+    }
+    status
+}

@@ -1,0 +1,109 @@
+//! A gate that holds whoever passes first, with a lock, while something is done beside it.
+
+use crate::compare::{holds, same};
+use crate::waiting::{comes, stays_away};
+use fdb_history::{Gate, Place};
+use std::fmt::Display;
+use std::sync::atomic::{AtomicBool, AtomicU64, Ordering};
+use std::test::Fail;
+
+/// How often who is held looks whether the other passes meanwhile.
+const GLANCES: u32 = 100;
+
+/// Whoever passes first is held until what is done beside it is done, and a little longer. A second
+/// one passes only once the call of the first is answered.
+#[derive(Drop)]
+pub struct HoldsFirst {
+    place: Place,
+    first: u32,
+    second: u32,
+    /// The first is at the gate, or its call is answered.
+    held: AtomicBool,
+    /// What is done beside it is done.
+    beside: AtomicBool,
+    /// The call of the first is answered, so that the second may pass.
+    answered: AtomicBool,
+    /// How often the first has passed, and how often the second.
+    passes: [AtomicU64; 2],
+    /// Somebody else passed, or at another place, or out of turn; or somebody waited in vain.
+    failed: AtomicBool,
+}
+
+impl HoldsFirst {
+    /// A gate at this place for these two, which nobody has passed.
+    pub fn new(place: Place, first: u32, second: u32) -> HoldsFirst {
+        HoldsFirst {
+            place,
+            first,
+            second,
+            held: AtomicBool::new(false),
+            beside: AtomicBool::new(false),
+            answered: AtomicBool::new(false),
+            passes: [AtomicU64::new(0), AtomicU64::new(0)],
+            failed: AtomicBool::new(false),
+        }
+    }
+
+    /// Waits until the first is held, or answered without that.
+    pub fn waits_until_held(&self) {
+        self.waits_for(&self.held);
+    }
+
+    /// Notes that what is done beside the first is done.
+    pub fn is_done_beside(&self) {
+        self.beside.store(true, Ordering::SeqCst);
+    }
+
+    /// Notes that the call of the first is answered.
+    pub fn is_answered(&self) {
+        self.answered.store(true, Ordering::SeqCst);
+        self.held.store(true, Ordering::SeqCst);
+    }
+
+    /// Fails where the first and the second have not passed so often, or not in turn, or not at the
+    /// place, or where somebody waited in vain.
+    pub fn was_passed(&self, wanted: (u64, u64), case: &impl Display) -> Result<(), Fail> {
+        let [first, second] = &self.passes;
+        let passes = (first.load(Ordering::SeqCst), second.load(Ordering::SeqCst));
+        same(&passes, &wanted, case)?;
+        holds(!self.failed.load(Ordering::SeqCst), case)
+    }
+
+    /// Waits for a flag of its own, and notes a failure where it does not come.
+    fn waits_for(&self, flag: &AtomicBool) {
+        if !comes(|| flag.load(Ordering::SeqCst)) {
+            self.fails();
+        }
+    }
+
+    fn fails(&self) {
+        self.failed.store(true, Ordering::SeqCst);
+    }
+
+    /// Holds the first, and looks whether the second passes meanwhile.
+    fn holds_first(&self, second: &AtomicU64) {
+        self.held.store(true, Ordering::SeqCst);
+        self.waits_for(&self.beside);
+        if !stays_away(GLANCES, || second.load(Ordering::SeqCst) > 0) {
+            self.fails();
+        }
+    }
+}
+
+impl Gate for HoldsFirst {
+    fn pass(&self, place: Place, who: u32) {
+        let [first, second] = &self.passes;
+        if place != self.place {
+            self.fails();
+        }
+        if who == self.first {
+            first.fetch_add(1, Ordering::SeqCst);
+            self.holds_first(second);
+        } else if who == self.second {
+            second.fetch_add(1, Ordering::SeqCst);
+            self.waits_for(&self.answered);
+        } else {
+            self.fails();
+        }
+    }
+}

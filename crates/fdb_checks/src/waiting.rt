@@ -1,0 +1,32 @@
+//! Looks at what other threads do, each a bounded number of times.
+
+use std::thread;
+
+/// How often a thread looks whether another has come so far.
+const LOOKS: u32 = 1_000_000;
+
+/// Waits for what another thread does. Answers whether it was seen before the looks ran out.
+pub fn comes<F: Fn() -> bool>(has_come: F) -> bool
+    requires { F.IsAlwaysCallable has_come }
+{
+    for _ in 0..LOOKS {
+        if has_come() {
+            return true;
+        }
+        thread::yield_now();
+    }
+    false
+}
+
+/// Looks so often whether another thread does something meanwhile. Answers whether it did not.
+pub fn stays_away<F: Fn() -> bool>(looks: u32, has_come: F) -> bool
+    requires { F.IsAlwaysCallable has_come }
+{
+    for _ in 0..looks {
+        if has_come() {
+            return false;
+        }
+        thread::yield_now();
+    }
+    true
+}

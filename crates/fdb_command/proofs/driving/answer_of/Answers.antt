@@ -1,0 +1,91 @@
+use Rattle.std.proofs.Common.{◌≡◌, ◌≢◌, ◌⊎◌, Option, subst}
+use Rattle.clap.specs.Words.{Text}
+use Rattle.fdb_command.specs.Driving.{MayFind, MayRefuse}
+use Rattle.fdb_command.specs.Input.{MayBeRead}
+use Rattle.fdb_command.specs.private.Taking.{MayStop}
+use Rattle.fdb_command.specs.declared.fault.Fault.TheVariants.{Arguments, Refused, Found, Reading, Writing}
+use Rattle.fdb_command.proofs.Answered.{found_early, found_of, named_file, own_early, own_of, printed_of, refused_early, refused_of, untold}
+use Rattle.fdb_command.proofs.Pieces.{passed_on}
+use Rattle.fdb_command.proofs.driving.answer_of.Goals as goal
+
+pub returns-in_err-intake-clause-refused : goal.returns-in_err-intake-clause-refused
+returns-in_err-intake-clause-refused g c = λ arguments matches.
+    let promise = g.P.Program.promise in
+    let remaining = g.I.Read.remaining c.args.input.now in
+    let fault = c.in_err-intake.field-0.0 in
+    let stops = subst (λ (file : Option Text). (fault ≡ Reading) ⊎ MayStop promise file remaining fault) (c.file_of.ensures promise.app arguments matches) c.in_err-intake.ensures.stops in
+    passed_on c.from_residual.result fault (λ fault. (error : _) → fault ≡ Refused error → MayRefuse promise arguments remaining) c.from_residual.ensures.1
+    (refused_early promise arguments remaining matches.taken fault stops)
+
+pub returns-in_err-intake-clause-faulty : goal.returns-in_err-intake-clause-faulty
+returns-in_err-intake-clause-faulty g c = λ arguments matches.
+    let promise = g.P.Program.promise in
+    let remaining = g.I.Read.remaining c.args.input.now in
+    let fault = c.in_err-intake.field-0.0 in
+    let stops = subst (λ (file : Option Text). (fault ≡ Reading) ⊎ MayStop promise file remaining fault) (c.file_of.ensures promise.app arguments matches) c.in_err-intake.ensures.stops in
+    passed_on c.from_residual.result fault (λ fault. (found : _) → fault ≡ Found found → MayFind promise arguments remaining) c.from_residual.ensures.1
+    (found_early promise arguments remaining matches.taken fault stops)
+
+pub returns-in_err-intake-clause-own : goal.returns-in_err-intake-clause-own
+returns-in_err-intake-clause-own g c =
+    let fault = c.in_err-intake.field-0.0 in
+    passed_on c.from_residual.result fault (λ fault. (fault ≢ Arguments) × (fault ≢ Writing)) c.from_residual.ensures.1
+    (own_early g.P.Program.promise _ (g.I.Read.remaining c.args.input.now) fault c.in_err-intake.ensures.stops)
+
+pub returns-in_err-intake-clause-left : goal.returns-in_err-intake-clause-left
+returns-in_err-intake-clause-left g c = λ arguments matches unread.
+    let app = g.P.Program.promise.app in
+    c.take_input.ensures.left (named_file app arguments c.args.matches.now matches c.file_of.result (c.file_of.ensures app arguments matches) unread)
+
+pub returns-in_err-intake-clause-quiet : goal.returns-in_err-intake-clause-quiet
+returns-in_err-intake-clause-quiet g c = λ arguments matches silent.
+    c.take_input.ensures.quiet arguments (c.options-options.ensures arguments matches) (untold g.P.Program.promise arguments matches.taken silent)
+
+pub returns-clause-printed : goal.returns-clause-printed
+returns-clause-printed g c = λ arguments matches.
+    let promise = g.P.Program.promise in
+    let remaining = g.I.Read.remaining c.args.input.now in
+    let all = c.in_ok-intake.ensures.all in
+    let read = subst (λ (file : Option Text). MayBeRead file remaining all.bytes) (c.file_of.ensures promise.app arguments matches) all.read in
+    printed_of promise arguments remaining matches.taken all.bytes all.few read c.body.result
+    (c.requires.promised arguments c.options-options.result c.in_ok-intake.intake all.bytes c.body.result (c.options-options.ensures arguments matches) all.taken c.body.ensures)
+
+pub returns-clause-refused : goal.returns-clause-refused
+returns-clause-refused g c = λ arguments matches.
+    let promise = g.P.Program.promise in
+    let remaining = g.I.Read.remaining c.args.input.now in
+    let all = c.in_ok-intake.ensures.all in
+    let read = subst (λ (file : Option Text). MayBeRead file remaining all.bytes) (c.file_of.ensures promise.app arguments matches) all.read in
+    refused_of promise arguments remaining matches.taken all.bytes all.few read c.body.result
+    (c.requires.promised arguments c.options-options.result c.in_ok-intake.intake all.bytes c.body.result (c.options-options.ensures arguments matches) all.taken c.body.ensures)
+
+pub returns-clause-faulty : goal.returns-clause-faulty
+returns-clause-faulty g c = λ arguments matches.
+    let promise = g.P.Program.promise in
+    let remaining = g.I.Read.remaining c.args.input.now in
+    let all = c.in_ok-intake.ensures.all in
+    let read = subst (λ (file : Option Text). MayBeRead file remaining all.bytes) (c.file_of.ensures promise.app arguments matches) all.read in
+    found_of promise arguments remaining matches.taken all.bytes all.few read c.body.result
+    (c.requires.promised arguments c.options-options.result c.in_ok-intake.intake all.bytes c.body.result (c.options-options.ensures arguments matches) all.taken c.body.ensures)
+
+pub returns-clause-own : goal.returns-clause-own
+returns-clause-own g c =
+    let (arguments, matches) = c.requires.matches in
+    let all = c.in_ok-intake.ensures.all in
+    own_of g.P.Program.promise all.bytes (λ answer. g.P.Program.promise.prints arguments all.bytes answer.text.items answer.found) c.body.result
+    (c.requires.promised arguments c.options-options.result c.in_ok-intake.intake all.bytes c.body.result (c.options-options.ensures arguments matches) all.taken c.body.ensures)
+
+pub returns-clause-left : goal.returns-clause-left
+returns-clause-left g c = λ arguments matches unread.
+    let app = g.P.Program.promise.app in
+    c.take_input.ensures.left (named_file app arguments c.args.matches.now matches c.file_of.result (c.file_of.ensures app arguments matches) unread)
+
+pub returns-clause-quiet : goal.returns-clause-quiet
+returns-clause-quiet g c = λ arguments matches silent.
+    c.take_input.ensures.quiet arguments (c.options-options.ensures arguments matches) (untold g.P.Program.promise arguments matches.taken silent)
+
+pub body-requires : goal.body-requires
+body-requires g c =
+    let (arguments, matches) = c.requires.matches in
+    let all = c.in_ok-intake.ensures.all in
+    c.requires.callable arguments c.options-options.result c.in_ok-intake.intake all.bytes (c.options-options.ensures arguments matches) all.taken

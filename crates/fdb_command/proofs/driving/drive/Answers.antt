@@ -1,0 +1,25 @@
+use Rattle.std.proofs.Common.{inl, inr, arith}
+use Rattle.fdb_command.proofs.driving.drive.Goals as goal
+
+pub returns-in-Err : goal.returns-in-Err
+returns-in-Err g c = record {
+  range = c.status.ensures.range.1;
+  asked = λ no_words no_memory. c.in-Err.ensures.asked (λ is. no_words (c.status.ensures.arguments is)) (λ is. no_memory (c.status.ensures.memory is));
+  done = λ is. absurd (omega (arith, is, c.status.ensures.range.0));
+  refused = λ is. let (error, why) = c.status.ensures.only_refused is in c.in-Err.ensures.refused error why;
+  faulty = λ is. let (found, why) = c.status.ensures.only_found is in c.in-Err.ensures.faulty found why;
+  wrong = λ is. c.in-Err.ensures.wrong (c.status.ensures.only_arguments is);
+  memory = λ is. c.in-Err.ensures.memory (c.status.ensures.only_memory is);
+  unread = c.in-Err.ensures.unread;
+  left = c.in-Err.ensures.left;
+  quiet = λ is. absurd (omega (arith, is, c.status.ensures.range.0));
+  unwritten = λ is. c.in-Err.ensures.unwritten (elim is [
+    | inl one ↦ inl (c.status.ensures.only_refused one)
+    | inr two_or_three ↦ inr (elim two_or_three [
+      | inl two ↦ inl (c.status.ensures.only_arguments two)
+      | inr three ↦ inr (c.status.ensures.only_memory three)
+    ])
+  ]);
+  begun = λ is. c.in-Err.ensures.begun (c.status.ensures.only_failed is);
+  few = c.in-Err.ensures.few;
+}

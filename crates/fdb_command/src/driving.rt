@@ -1,0 +1,283 @@
+//! A program, over a reader and two writers.
+
+ghost use Rattle.std.specs.Prelude.{◌≡◌, ◌≢◌, ◌⊎◌, ◌+◌, List, IfOk, IfErr, OnOk, OnErr, false};
+ghost use Rattle.std.specs.Prelude.{IsOkAnd, MatchResult, None, Some, map, string_bytes};
+ghost use Rattle.std.specs.IoError.{error_kind};
+ghost use Rattle.clap.specs.Words.{Text, app_of};
+ghost use Rattle.fdb_command.specs.Arguments.{AreMatches, AreTaken, AreWrong, ReadsInput};
+ghost use Rattle.fdb_command.specs.Input.{TakesAtMost};
+ghost use Rattle.fdb_command.specs.private.Asked.{Ask};
+ghost use Rattle.fdb_command.specs.Driving.{IsBegun, IsCallable, IsDone, IsDriven, IsPrinted};
+ghost use Rattle.fdb_command.specs.Driving.{IsWritten, KeepsPromise, MayFind, MayRefuse};
+ghost use Rattle.fdb_command.specs.Driving.{TellsProgress};
+ghost use Rattle.fdb_command.specs.Output.{TakesSome};
+ghost use Rattle.std.specs.Io.KnownBytes.{Appends};
+
+use crate::arguments::{ArgumentsFault, Invocation, file_of, parse, show};
+use crate::fault::Fault;
+use crate::intake::take_input;
+use crate::output::write_whole;
+use crate::program::{Answer, Program};
+use clap::ArgMatches;
+use std::alloc::Global;
+use std::fmt::{Debug, Display};
+use std::fs::Files;
+use std::io;
+use std::io::{ErrorKind, Read, Write};
+
+/// What the body of a program makes: an answer, or the fault at which it stops.
+type Made<P> = Result<
+    Answer<<P as Program>::Finding>,
+    Fault<<P as Program>::Refusal, <P as Program>::Finding>,
+>;
+
+/// Does what the arguments of the command line ask for, which are given without the program's own
+/// name, or with why they could not be had. Has the program take the bytes of the file that the
+/// arguments name or else of the input, has `body` make a text of what the program's flags say and
+/// of what it took, and writes that to `out`; or writes the help there.
+///
+/// Answers the status of the program: 0 where all of it is done and no fault was found, 1 where the
+/// input is refused, 2 where the arguments are, 3 where memory ran out, 4 where a fault was found,
+/// and 5 where reading or writing failed, a file that cannot be opened and an input of more bytes
+/// than it may have included. They are looked for in the order arguments, reading, what stops the
+/// program before it has a text, writing, and the fault that the text tells of. Whatever is not 0
+/// is reported by a line to `err`; where that line cannot be written, the status is the same. What
+/// the program refuses whatever comes after it leaves the rest of the input unread. At most one byte
+/// more is taken from the input than it may have, and nothing is written after a write that failed.
+///
+/// Where the arguments ask that progress is told, a line to `err` says after each 67,108,864 bytes
+/// how far the input has been read, and one at its end where it has so many.
+pub fn drive<R, P, I, O, E, B>(
+    program: &P,
+    rt: &R,
+    alloc: Global,
+    arguments: io::Result<Vec<String>>,
+    input: &mut I,
+    out: &mut O,
+    err: &mut E,
+    body: B,
+) -> u8
+where
+    R: Files,
+    P: Program,
+    I: Read,
+    O: Write,
+    E: Write,
+    B: FnOnce(P::Options, P::Intake) -> Made<P> + Drop,
+    requires callable { IsCallable P.promise (B.pre body) }
+    requires promised { KeepsPromise P.promise (B.post body) }
+    ensures { IsDriven P.promise I.remaining O.contents arguments
+        input.old input.new out.old out.new err.old err.new result }
+{
+    match carry_out(program, rt, alloc, arguments, input, out, err, body) {
+        Ok(()) => 0,
+        Err(fault) => {
+            let _ = writeln!(err, "{}: {fault}", P::NAME);
+            fault.status()
+        }
+    }
+}
+
+/// Does what the arguments ask for, and flushes what was written.
+fn carry_out<R, P, I, O, E, B>(
+    program: &P,
+    rt: &R,
+    alloc: Global,
+    arguments: io::Result<Vec<String>>,
+    input: &mut I,
+    out: &mut O,
+    err: &mut E,
+    body: B,
+) -> Result<(), Fault<P::Refusal, P::Finding>>
+where
+    R: Files,
+    P: Program,
+    I: Read,
+    O: Write,
+    E: Write,
+    B: FnOnce(P::Options, P::Intake) -> Made<P> + Drop,
+    requires callable { IsCallable P.promise (B.pre body) }
+    requires promised { KeepsPromise P.promise (B.post body) }
+    ensures asked { MatchResult result
+        (λ _. IsOkAnd arguments (λ list. AreTaken P.promise.app (map string_bytes list.items)))
+        (λ fault. fault ≢ Fault.Arguments → fault ≢ Fault.Memory
+        → IsOkAnd arguments (λ list. AreTaken P.promise.app (map string_bytes list.items))) }
+    ensures done { OnOk result (IsOkAnd arguments (λ list.
+        IsDone P.promise (map string_bytes list.items)
+        (I.remaining input.old) (O.contents out.old) (O.contents out.new))) }
+    ensures refused { IfErr result (λ fault. (error : P.Refusal)
+        → fault ≡ Fault.Refused error → IsOkAnd arguments (λ list.
+        MayRefuse P.promise (map string_bytes list.items) (I.remaining input.old))) }
+    ensures faulty { IfErr result (λ fault. (found : P.Finding) → fault ≡ Fault.Found found
+        → IsOkAnd arguments (λ list. ((out.new ≡ out.old)
+        × MayFind P.promise (map string_bytes list.items) (I.remaining input.old))
+        ⊎ ((found : P.Finding) × IsWritten P.promise (map string_bytes list.items)
+        (I.remaining input.old) (Some found) (O.contents out.old) (O.contents out.new)))) }
+    ensures wrong { IfErr result (λ fault. fault ≡ Fault.Arguments
+        → MatchResult arguments (λ list. AreWrong P.promise.app (map string_bytes list.items))
+        (λ error. error_kind error ≢ ErrorKind.OutOfMemory)) }
+    ensures memory { IfErr result (λ fault. fault ≡ Fault.Memory
+        → IfErr arguments (λ error. error_kind error ≡ ErrorKind.OutOfMemory)) }
+    ensures unread { OnErr arguments (input.new ≡ input.old) }
+    ensures left { IfOk arguments (λ list.
+        (ReadsInput P.promise.app (map string_bytes list.items) → ⊥) → input.new ≡ input.old) }
+    ensures quiet { IfOk arguments (λ list.
+        (TellsProgress P.promise (map string_bytes list.items) → ⊥) → err.new ≡ err.old) }
+    ensures unwritten { IfErr result (λ fault.
+        ((error : P.Refusal) × (fault ≡ Fault.Refused error))
+        ⊎ ((fault ≡ Fault.Arguments) ⊎ (fault ≡ Fault.Memory)) → out.new ≡ out.old) }
+    ensures begun { IfErr result (λ fault. (fault ≡ Fault.Reading) ⊎ (fault ≡ Fault.Writing)
+        → (out.new ≡ out.old) ⊎ IsOkAnd arguments (λ list.
+        IsBegun P.promise (map string_bytes list.items)
+        (I.remaining input.old) (O.contents out.old) (O.contents out.new))) }
+    ensures few { TakesAtMost (P.promise.most + 1)
+        (I.remaining input.old) (I.remaining input.new) }
+{
+    let arguments = match arguments {
+        Ok(arguments) => arguments,
+        Err(error) => return Err(Fault::from(ArgumentsFault::from(error))),
+    };
+    match asked(program, alloc, &arguments)? {
+        Invocation::Help(help) => match show(&help, out) {
+            Ok(()) => Ok(()),
+            Err(_) => Err(Fault::Writing),
+        },
+        Invocation::Input(matches) => run_on(program, rt, alloc, &matches, input, out, err, body),
+    }
+}
+
+/// What the arguments of the program's command ask for.
+fn asked<'a, P: Program>(
+    program: &P,
+    alloc: Global,
+    arguments: &'a [String],
+) -> Result<Invocation<'a>, ArgumentsFault>
+    ensures ok { IfOk result (Ask P.promise.app (map string_bytes arguments.entry.now)) }
+    ensures err { IfErr result (λ fault. fault ≡ ArgumentsFault.Refused
+        → AreWrong P.promise.app (map string_bytes arguments.entry.now)) }
+{
+    match program.command(alloc) {
+        Ok(command) => parse(command, arguments),
+        Err(_) => Err(ArgumentsFault::Memory),
+    }
+}
+
+/// Has the program run on what the arguments name, and writes its text.
+fn run_on<R, P, I, O, E, B>(
+    program: &P,
+    rt: &R,
+    alloc: Global,
+    matches: &ArgMatches<'_>,
+    input: &mut I,
+    out: &mut O,
+    err: &mut E,
+    body: B,
+) -> Result<(), Fault<P::Refusal, P::Finding>>
+where
+    R: Files,
+    P: Program,
+    I: Read,
+    O: Write,
+    E: Write,
+    B: FnOnce(P::Options, P::Intake) -> Made<P> + Drop,
+    requires callable { IsCallable P.promise (B.pre body) }
+    requires promised { KeepsPromise P.promise (B.post body) }
+    requires matches { (arguments : List Text) × AreMatches P.promise.app arguments matches.now }
+    ensures done { (arguments : List Text) → AreMatches P.promise.app arguments matches.now
+        → OnOk result (IsWritten P.promise arguments (I.remaining input.old) None
+        (O.contents out.old) (O.contents out.new)) }
+    ensures refused { (arguments : List Text) → AreMatches P.promise.app arguments matches.now
+        → IfErr result (λ fault. (error : P.Refusal) → fault ≡ Fault.Refused error
+        → MayRefuse P.promise arguments (I.remaining input.old)) }
+    ensures faulty { (arguments : List Text) → AreMatches P.promise.app arguments matches.now
+        → IfErr result (λ fault. (found : P.Finding) → fault ≡ Fault.Found found
+        → ((out.new ≡ out.old) × MayFind P.promise arguments (I.remaining input.old))
+        ⊎ ((found : P.Finding) × IsWritten P.promise arguments (I.remaining input.old) (Some found)
+        (O.contents out.old) (O.contents out.new))) }
+    ensures own { IfErr result (λ fault. fault ≢ Fault.Arguments) }
+    ensures unwritten { IfErr result (λ fault.
+        ((error : P.Refusal) × (fault ≡ Fault.Refused error))
+        ⊎ (fault ≡ Fault.Memory) → out.new ≡ out.old) }
+    ensures begun { (arguments : List Text) → AreMatches P.promise.app arguments matches.now
+        → OnErr result ((out.new ≡ out.old) ⊎ IsBegun P.promise arguments (I.remaining input.old)
+        (O.contents out.old) (O.contents out.new)) }
+    ensures left { (arguments : List Text) → AreMatches P.promise.app arguments matches.now
+        → (ReadsInput P.promise.app arguments → ⊥) → input.new ≡ input.old }
+    ensures quiet { (arguments : List Text) → AreMatches P.promise.app arguments matches.now
+        → (TellsProgress P.promise arguments → ⊥) → err.new ≡ err.old }
+    ensures few { TakesAtMost (P.promise.most + 1)
+        (I.remaining input.old) (I.remaining input.new) }
+{
+    match answer_of(program, rt, alloc, matches, input, err, body) {
+        Ok(answer) => put(answer, out),
+        Err(fault) => Err(fault),
+    }
+}
+
+/// What the program makes of the file that the arguments name, or else of the input.
+fn answer_of<R, P, I, E, B>(
+    program: &P,
+    rt: &R,
+    alloc: Global,
+    matches: &ArgMatches<'_>,
+    input: &mut I,
+    err: &mut E,
+    body: B,
+) -> Made<P>
+where
+    R: Files,
+    P: Program,
+    I: Read,
+    E: Write,
+    B: FnOnce(P::Options, P::Intake) -> Made<P> + Drop,
+    requires callable { IsCallable P.promise (B.pre body) }
+    requires promised { KeepsPromise P.promise (B.post body) }
+    requires matches { (arguments : List Text) × AreMatches P.promise.app arguments matches.now }
+    ensures printed { (arguments : List Text) → AreMatches P.promise.app arguments matches.now
+        → IfOk result (λ answer. IsPrinted P.promise arguments (I.remaining input.old)
+        answer.found answer.text.items) }
+    ensures refused { (arguments : List Text) → AreMatches P.promise.app arguments matches.now
+        → IfErr result (λ fault. (error : P.Refusal) → fault ≡ Fault.Refused error
+        → MayRefuse P.promise arguments (I.remaining input.old)) }
+    ensures faulty { (arguments : List Text) → AreMatches P.promise.app arguments matches.now
+        → IfErr result (λ fault. (found : P.Finding) → fault ≡ Fault.Found found
+        → MayFind P.promise arguments (I.remaining input.old)) }
+    ensures own { IfErr result (λ fault. (fault ≢ Fault.Arguments) × (fault ≢ Fault.Writing)) }
+    ensures left { (arguments : List Text) → AreMatches P.promise.app arguments matches.now
+        → (ReadsInput P.promise.app arguments → ⊥) → input.new ≡ input.old }
+    ensures quiet { (arguments : List Text) → AreMatches P.promise.app arguments matches.now
+        → (TellsProgress P.promise arguments → ⊥) → err.new ≡ err.old }
+    ensures few { TakesAtMost (P.promise.most + 1)
+        (I.remaining input.old) (I.remaining input.new) }
+{
+    let options = program.options(matches);
+    let intake = take_input(program, rt, alloc, &options, file_of(matches), input, err)?;
+    body(options, intake)
+}
+
+/// Writes an answer, and flushes it. Fails with the fault that it tells of, where it tells of one.
+fn put<E: Debug + Display + Drop, F: Debug + Display + Drop, W: Write>(
+    answer: Answer<F>,
+    out: &mut W,
+) -> Result<(), Fault<E, F>>
+    ensures done { OnOk result ((answer.found ≡ None)
+        × Appends (W.contents out.old) (W.contents out.new) answer.text.items) }
+    ensures found { IfErr result (λ fault. (found : F) → fault ≡ Fault.Found found
+        → (answer.found ≡ Some found)
+        × Appends (W.contents out.old) (W.contents out.new) answer.text.items) }
+    ensures begun { OnErr result
+        (Appends (W.contents out.old) (W.contents out.new) answer.text.items
+        ⊎ TakesSome answer.text.items (W.contents out.old) (W.contents out.new)) }
+    ensures kinds { IfErr result (λ fault. (fault ≡ Fault.Writing)
+        ⊎ ((found : F) × (fault ≡ Fault.Found found))) }
+{
+    let Answer { text, found } = answer;
+    write_whole(out, &text)?;
+    if out.flush().is_err() {
+        return Err(Fault::Writing);
+    }
+    match found {
+        None => Ok(()),
+        Some(found) => Err(Fault::Found(found)),
+    }
+}

@@ -1,0 +1,223 @@
+//! All bytes of a file or of the input, as a program takes them.
+
+ghost use Rattle.std.specs.Prelude.{◌≡◌, ◌⊎◌, ◌+◌, ◌<◌, ◌≤◌, List, IfOk, IfErr, IsErrAnd};
+ghost use Rattle.std.specs.Prelude.{false, is_some, length, option_map, true};
+ghost use Rattle.std.specs.Io.KnownBytes.{IsAtEnd};
+ghost use Rattle.clap.specs.Words.{Text};
+ghost use Rattle.fdb_command.specs.Input.{IsCauseOf, TakesAtMost};
+ghost use Rattle.fdb_command.specs.private.Taking.{IsTaken, MayStop, StopsAt, TakesOn};
+
+use crate::fault::Fault;
+use crate::input::{InputFault, read_piece};
+use crate::program::Program;
+use std::alloc::Global;
+use std::fs::{File, Files};
+use std::io;
+use std::io::{Read, Write};
+
+/// The most bytes that one read asks for.
+const PIECE: usize = 65_536;
+
+/// After each so many bytes, progress is told where that is asked for.
+const STRIDE: u64 = 67_108_864;
+
+/// A piece of an input that a program has taken.
+#[derive(Drop)]
+struct Piece<T: Drop> {
+    /// What the program keeps of the input, with this piece.
+    intake: T,
+    /// How many bytes came: none where the read was interrupted, or the input is at its end.
+    count: usize,
+    /// Whether the input is at its end.
+    is_last: bool,
+}
+
+/// Has the program take the bytes of the file that is named, or else of the input, if there are no
+/// more than it may have, and tells of progress where that is asked for. What stops the program
+/// leaves the rest unread. One byte more than it may have is taken from the input at the most, and
+/// none where a file is named.
+pub(crate) fn take_input<R: Files, P: Program, I: Read, E: Write>(
+    program: &P,
+    rt: &R,
+    alloc: Global,
+    options: &P::Options,
+    file: Option<&str>,
+    input: &mut I,
+    err: &mut E,
+) -> Result<P::Intake, Fault<P::Refusal, P::Finding>>
+    ensures all { IfOk result (IsTaken P.promise (option_map (λ path. path.now) file.entry)
+        (I.remaining input.old)) }
+    ensures stops { IfErr result (λ fault. (fault ≡ Fault.Reading)
+        ⊎ MayStop P.promise (option_map (λ path. path.now) file.entry)
+        (I.remaining input.old) fault) }
+    ensures left { is_some file.entry ≡ true → input.new ≡ input.old }
+    ensures few { TakesAtMost (P.promise.most + 1)
+        (I.remaining input.old) (I.remaining input.new) }
+    ensures quiet { (arguments : List Text) → P.promise.asks arguments options.now
+        → P.promise.tells arguments ≡ false → err.new ≡ err.old }
+{
+    match file {
+        Some(path) => take_file(program, alloc, options, File::open(rt, path), err),
+        None => take_all(program, alloc, options, input, err),
+    }
+}
+
+/// Has the program take all bytes of a file, if it could be opened and has no more than it may.
+fn take_file<P: Program, F: Read + Drop, E: Write>(
+    program: &P,
+    alloc: Global,
+    options: &P::Options,
+    opened: io::Result<F>,
+    err: &mut E,
+) -> Result<P::Intake, Fault<P::Refusal, P::Finding>>
+    ensures all { IfOk opened (λ file. IfOk result
+        (IsTaken P.promise None (F.remaining file))) }
+    ensures stops { IfOk opened (λ file. IfErr result (λ fault. (fault ≡ Fault.Reading)
+        ⊎ MayStop P.promise None (F.remaining file) fault)) }
+    ensures unopened { IfErr opened (λ error. IsErrAnd result (λ fault.
+        (cause : _) × IsCauseOf error cause
+        × (cause ≡ InputFault.Reading → fault ≡ Fault.Reading)
+        × (cause ≡ InputFault.Memory → fault ≡ Fault.Memory))) }
+    ensures quiet { (arguments : List Text) → P.promise.asks arguments options.now
+        → P.promise.tells arguments ≡ false → err.new ≡ err.old }
+{
+    match opened {
+        Ok(mut file) => take_all(program, alloc, options, &mut file, err),
+        Err(error) => Err(Fault::from(InputFault::from(error))),
+    }
+}
+
+/// Has the program take all bytes that the input has, if they are no more than it may have. One
+/// byte more is taken at most.
+fn take_all<P: Program, I: Read, E: Write>(
+    program: &P,
+    alloc: Global,
+    options: &P::Options,
+    input: &mut I,
+    err: &mut E,
+) -> Result<P::Intake, Fault<P::Refusal, P::Finding>>
+    ensures all { IfOk result (IsTaken P.promise None (I.remaining input.old)) }
+    ensures stops { IfErr result (λ fault. (fault ≡ Fault.Reading)
+        ⊎ MayStop P.promise None (I.remaining input.old) fault) }
+    ensures few { TakesAtMost (P.promise.most + 1)
+        (I.remaining input.old) (I.remaining input.new) }
+    ensures quiet { (arguments : List Text) → P.promise.asks arguments options.now
+        → P.promise.tells arguments ≡ false → err.new ≡ err.old }
+{
+    let mut room = Vec::new(alloc);
+    if room.resize(PIECE, 0).is_err() {
+        return Err(Fault::Memory);
+    }
+    let room = room.as_mut_slice();
+    let most = program.most();
+    let mut intake = program.begin(alloc);
+    let mut read = 0;
+    // A reader may be interrupted as often as it likes, but a loop has an end.
+    for _ in 0..u64::MAX {
+        let piece = take_piece(program, intake, input, &mut room[..room_at(read, most)])?;
+        let count = piece.count as u64;
+        if count > most - read {
+            return Err(Fault::Reading);
+        }
+        read += count;
+        intake = piece.intake;
+        if piece.is_last {
+            tell_end(program, options, &intake, read, err);
+            return Ok(intake);
+        }
+        tell_stride(program, options, &intake, read, count, err);
+    }
+    Err(Fault::Reading)
+}
+
+/// How many bytes are to be read next: no more than one above the most, and none past a place
+/// where progress is told.
+fn room_at(read: u64, most: u64) -> usize
+    requires { read ≤ most }
+    ensures some { 0 < result }
+    ensures piece { result ≤ PIECE }
+    ensures few { read + result ≤ most + 1 }
+{
+    let room = (most - read).saturating_add(1).min(STRIDE - read % STRIDE);
+    room.min(PIECE as u64) as usize
+}
+
+/// Reads once, into the room, and has the program take what came.
+fn take_piece<P: Program, I: Read>(
+    program: &P,
+    intake: P::Intake,
+    input: &mut I,
+    room: &mut [u8],
+) -> Result<Piece<P::Intake>, Fault<P::Refusal, P::Finding>>
+    requires { 0 < length room.old }
+    ensures taken { IfOk result (λ piece. (piece.count ≤ length room.old)
+        × TakesOn P.promise intake piece.intake piece.count
+        (I.remaining input.old) (I.remaining input.new)) }
+    ensures last { IfOk result
+        (λ piece. piece.is_last ≡ true → IsAtEnd (I.remaining input.new)) }
+    ensures stops { IfErr result (StopsAt P.promise intake (length room.old)
+        (I.remaining input.old) (I.remaining input.new)) }
+    ensures room { length room.new ≡ length room.old }
+{
+    let (intake, count, is_last) = match read_piece(input, room)? {
+        None => (intake, 0, false),
+        Some(0) => (intake, 0, true),
+        Some(count) => (program.take(intake, &room[..count])?, count, false),
+    };
+    Ok(Piece {
+        intake,
+        count,
+        is_last,
+    })
+}
+
+/// Tells how far the input has been read, where the last of these bytes end a stride.
+fn tell_stride<P: Program, E: Write>(
+    program: &P,
+    options: &P::Options,
+    intake: &P::Intake,
+    read: u64,
+    count: u64,
+    err: &mut E,
+)
+    ensures { (arguments : List Text) → P.promise.asks arguments options.now
+        → P.promise.tells arguments ≡ false → err.new ≡ err.old }
+{
+    if count > 0 && read % STRIDE == 0 {
+        tell(program, options, intake, read, "", err);
+    }
+}
+
+/// Tells that all of the input has been read, where it has a stride at least: less is read at once.
+fn tell_end<P: Program, E: Write>(
+    program: &P,
+    options: &P::Options,
+    intake: &P::Intake,
+    read: u64,
+    err: &mut E,
+)
+    ensures { (arguments : List Text) → P.promise.asks arguments options.now
+        → P.promise.tells arguments ≡ false → err.new ≡ err.old }
+{
+    if read >= STRIDE {
+        tell(program, options, intake, read, "; judging", err);
+    }
+}
+
+/// Tells how far the input has been read, where the arguments ask for that. A line that cannot be
+/// written changes nothing.
+fn tell<P: Program, E: Write>(
+    program: &P,
+    options: &P::Options,
+    intake: &P::Intake,
+    read: u64,
+    next: &str,
+    err: &mut E,
+)
+    ensures { (arguments : List Text) → P.promise.asks arguments options.now
+        → P.promise.tells arguments ≡ false → err.new ≡ err.old }
+{
+    if let Some(calls) = program.progress(options, intake) {
+        let _ = writeln!(err, "{}: {read} bytes, {calls} calls read{next}", P::NAME);
+    }
+}

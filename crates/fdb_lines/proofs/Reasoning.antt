@@ -1,0 +1,220 @@
+-- Why a fault stands, from what was found.
+use Rattle.std.proofs.Common.{◌≡◌, ◌⊎◌, ℕ, zero, suc, max, ◌<◌, ◌≤◌, ◌==◌, nat_lt, nat_le, not, Bool, true, false, cond, ◌&&◌, ◌||◌, length, Option, None, Some, refl, ap, sym, ◌∙◌, inl, inr, arith}
+use Rattle.std.proofs.lemmas.Bool.{cases_Bool, cases_eq, cases_lt, both_ways, and_parts, and_from, or_cases, or_left, or_right, not-true, cond-true, cond-false, eq-eqb, ne_eqb, lt-ltb, ltb-true, leb-true, false_from_ne_true}
+use Rattle.fdb_lines.specs.declared.fault.Fault.TheVariants.{Order, Wrong, NotAbove, Twice, Stray}
+use Rattle.fdb_lines.specs.declared.opts.AuditOpts.{AuditOpts}
+use Rattle.fdb_lines.specs.declared.reason.Reason.TheVariants.{Known, Reported, Unreported}
+use Rattle.fdb_lines.specs.declared.reason.Witness.{Witness}
+use Rattle.fdb_lines.specs.declared.seen.Seen.{Seen}
+use Rattle.fdb_lines.specs.declared.seen.Seen.TheVariants.{Shown, Drawn}
+use Rattle.fdb_lines.specs.declared.sort.Sort.TheVariants.{Asks, Draws}
+use Rattle.fdb_lines.specs.Audit.{case_of}
+use Rattle.fdb_lines.specs.Before.{comes_before}
+use Rattle.fdb_lines.specs.Faults.{greatest_of, is_drawn, is_own, is_raised, is_twice, knows, last, some_below, stands}
+use Rattle.fdb_lines.specs.Lines.{Case, Kind, Lines, draws, is_ask, is_commit, is_read, is_report, kind_at, kind_of, line_at, reports, shows, version_at, version_of}
+use Rattle.fdb_lines.specs.Reasons.{IsFirst, IsKnown, IsReason, draws_again, draws_it, reports_it, shows_or_draws}
+use Rattle.fdb_lines.specs.private.Grounds.{drawn_by}
+use Rattle.fdb_lines.specs.private.Known.{counts_at, newest_known, version_in}
+use Rattle.fdb_lines.specs.private.Marks.{is_marked_at, IsFirstFrom}
+use Rattle.fdb_lines.specs.private.Witnesses.{tells, IsFound}
+use Rattle.fdb_lines.proofs.Firsts.{first_same}
+use Rattle.fdb_lines.proofs.Numbers.{some_at, some_find}
+use Rattle.fdb_lines.proofs.Verdicts.{beside_ask, beside_commit, no_ask}
+
+-- ---- a version that was known
+
+-- a greatest of some is 0, or that of one
+attained : (test : ℕ → Bool) (f : ℕ → ℕ) (n : ℕ) → (greatest_of test f n ≡ 0) ⊎ ((i : ℕ) × (i < n) × (test i ≡ true) × (f i ≡ greatest_of test f n))
+attained test f zero = inl refl
+attained test f (suc n) =
+    let rest = greatest_of test f n in
+    let here = cond (test n) (f n) 0 in
+    elim (cases_lt rest here) [
+      | inl less ↦ elim (cases_Bool (test n)) [
+        | inl p ↦ let e = cond-true (test n) (f n) 0 p in inr (n, omega arith, p, omega arith)
+        | inr p ↦ let e = cond-false (test n) (f n) 0 p in absurd (omega arith)
+      ]
+      | inr ge ↦ elim (attained test f n) [
+        | inl none ↦ inl (omega arith)
+        | inr some ↦ let value = some.3 in inr (some.0, omega (arith, some.1), some.2, omega arith)
+      ]
+    ]
+
+abbrev before : Lines → AuditOpts → ℕ → ℕ → Bool
+before log opts = comes_before log.timed opts.margin log.lines
+
+abbrev Found : Lines → AuditOpts → Seen → ℕ → ℕ → Option Witness → Type 0
+Found log opts seen k version by = IsFound (before log opts) opts.margin seen log.lines k version by
+
+abbrev pub newest : Lines → AuditOpts → Seen → ℕ → ℕ
+newest log opts seen k = newest_known (before log opts) seen log.lines k
+
+-- what is known and that no line lets be known is 0
+untold : (log : Lines) (opts : AuditOpts) (seen : Seen) (k version : ℕ) → Found log opts seen k version None → newest log opts seen k ≡ version → version ≡ 0
+untold log opts seen k version none is =
+    elim (attained (λ j. before log opts j k && counts_at seen log.lines j) (version_in log.lines) (length log.lines)) [
+      | inl nothing ↦ sym is ∙ nothing
+      | inr some ↦
+          let j = some.0 in
+          let p = and_parts (before log opts j k) (counts_at seen log.lines j) some.2 in
+          absurd (both_ways (tells (before log opts) seen log.lines k version j) (none j some.1)
+          (and_from (before log opts j k) _ p.0 (and_from (counts_at seen log.lines j) _ p.1 (eq-eqb (version_in log.lines j) version (some.3 ∙ is)))))
+    ]
+
+pub shown_is : (log : Lines) (opts : AuditOpts) (k version : ℕ) (by : Option Witness) → Found log opts Shown k version by → version ≡ knows (case_of log opts) k
+    → IsKnown log opts shows k version by
+shown_is log opts k version None none is = (
+  elim (cases_eq (newest log opts Shown k) version) [
+    | inl same ↦ let zero = untold log opts Shown k version none same in omega arith
+    | inr other ↦ omega arith
+  ],
+  none,
+)
+shown_is log opts k version (Some by) found is = record { there = found.0; knew = found.1; means = found.2 }
+
+-- what shows a version or draws it lets it be known
+shown_too : (b : Bool) (kind : Kind) (e : Bool) → (b && (shows kind && e)) ≡ true → (b && (shows_or_draws kind && e)) ≡ true
+shown_too b kind e h =
+    let p = and_parts b (shows kind && e) h in
+    let q = and_parts (shows kind) e p.1 in
+    and_from b _ p.0 (and_from (shows_or_draws kind) e (or_left (shows kind) (draws kind) q.0) q.1)
+
+drawn_too : (b : Bool) (kind : Kind) (e : Bool) → (b && (draws kind && e)) ≡ true → (b && (shows_or_draws kind && e)) ≡ true
+drawn_too b kind e h =
+    let p = and_parts b (draws kind && e) h in
+    let q = and_parts (draws kind) e p.1 in
+    and_from b _ p.0 (and_from (shows_or_draws kind) e (or_right (shows kind) (draws kind) q.0) q.1)
+
+neither : (b : Bool) (kind : Kind) (e : Bool) → (b && (shows kind && e)) ≡ false → (b && (draws kind && e)) ≡ false → (b && (shows_or_draws kind && e)) ≡ false
+neither b kind e no_show no_draw =
+    false_from_ne_true (b && (shows_or_draws kind && e)) (λ h.
+    let p = and_parts b (shows_or_draws kind && e) h in
+    let q = and_parts (shows_or_draws kind) e p.1 in
+    elim (or_cases (shows kind) (draws kind) q.0) [
+      | inl s ↦ both_ways (b && (shows kind && e)) no_show (and_from b _ p.0 (and_from (shows kind) e s q.1))
+      | inr d ↦ both_ways (b && (draws kind && e)) no_draw (and_from b _ p.0 (and_from (draws kind) e d q.1))
+    ])
+
+abbrev call_at : Lines → ℕ → Kind
+call_at log j = kind_of (line_at log.lines j).call
+
+abbrev has_version : Lines → ℕ → ℕ → Bool
+has_version log version j = version_of (line_at log.lines j).call == version
+
+pub by_shown : (log : Lines) (opts : AuditOpts) (k version : ℕ) (by : Witness) → Found log opts Shown k version (Some by) → IsKnown log opts shows_or_draws k version (Some by)
+by_shown log opts k version by found = record {
+  there = found.0;
+  knew = shown_too (before log opts by.line k) (call_at log by.line) (has_version log version by.line) found.1;
+  means = found.2;
+}
+
+pub by_drawn : (log : Lines) (opts : AuditOpts) (k version : ℕ) (by : Option Witness) → Found log opts Shown k version None → Found log opts Drawn k version by
+    → version ≡ max (knows (case_of log opts) k) (last (case_of log opts) k) → IsKnown log opts shows_or_draws k version by
+by_drawn log opts k version None no_show no_draw is = (
+  elim (cases_eq (newest log opts Shown k) version) [
+    | inl same ↦ let zero = untold log opts Shown k version no_show same in omega arith
+    | inr other ↦ elim (cases_eq (newest log opts Drawn k) version) [
+      | inl same ↦ let zero = untold log opts Drawn k version no_draw same in omega arith
+      | inr another ↦ omega arith
+    ]
+  ],
+  λ j lt. neither (before log opts j k) (call_at log j) (has_version log version j) (no_show j lt) (no_draw j lt),
+)
+by_drawn log opts k version (Some by) no_show found is = record {
+  there = found.0;
+  knew = drawn_too (before log opts by.line k) (call_at log by.line) (has_version log version by.line) found.1;
+  means = found.2;
+}
+
+-- ---- the reasons
+
+pub order_is : (log : Lines) (opts : AuditOpts) (k version : ℕ) (by : Option Witness) → stands (case_of log opts) Order k ≡ true → version ≡ knows (case_of log opts) k
+    → Found log opts Shown k version by → IsReason log opts k Order (Known version by)
+order_is log opts k version by stand is found =
+    let c = case_of log opts in
+    let below = ltb-true (version_at c k) (knows c k) (and_parts (is_read (kind_at c k)) _ stand).1 in
+    (omega arith, is, shown_is log opts k version by found is)
+
+-- no line that a search would have found
+pub none_below : (test : ℕ → Bool) (n : ℕ) → IsFirstFrom test 0 n None → some_below test n ≡ false
+none_below test n none =
+    false_from_ne_true (some_below test n) (λ some. let f = some_find test n some in both_ways (test f.0) (none f.0 (omega arith) f.1) f.2)
+
+is_first : (test : ℕ → Bool) (n j : ℕ) → IsFirstFrom test 0 n (Some j) → IsFirst test n j
+is_first test n j first = (first.1, first.2, λ i lt. first.3 i (omega arith) lt)
+
+pub wrong_none : (log : Lines) (opts : AuditOpts) (k : ℕ) → IsFirstFrom (reports_it (case_of log opts) (version_at (case_of log opts) k)) 0 (length log.lines) None
+    → IsReason log opts k Wrong Unreported
+wrong_none log opts k none = none_below (reports_it (case_of log opts) (version_at (case_of log opts) k)) (length log.lines) none
+
+pub wrong_is : (log : Lines) (opts : AuditOpts) (k j version : ℕ) (by : Option Witness) → stands (case_of log opts) Wrong k ≡ true
+    → IsFirstFrom (reports_it (case_of log opts) (version_at (case_of log opts) k)) 0 (length log.lines) (Some j) → version ≡ knows (case_of log opts) j
+    → Found log opts Shown j version by → IsReason log opts k Wrong (Reported j version by)
+wrong_is log opts k j version by stand first is found =
+    let c = case_of log opts in
+    let v = version_at c k in
+    let a = (and_parts (is_read (kind_at c k)) _ stand).1 in
+    let b = (and_parts (not (v == c.start)) _ a).1 in
+    let not_raised = not-true (is_raised c v) (and_parts (not (is_raised c v)) _ b).0 in
+    let reported = and_parts (reports (kind_at c j)) (version_at c j == v) first.2 in
+    let known : v ≤ knows c j = elim (cases_lt (knows c j) v) [
+      | inl less ↦
+          absurd (both_ways (is_raised c v) not_raised
+          (some_at (λ i. reports (kind_at c i) && (version_at c i == v && nat_lt (knows c i) v)) (length c.lines) j first.1
+          (and_from (reports (kind_at c j)) _ reported.0 (and_from (version_at c j == v) _ reported.1 (lt-ltb (knows c j) v less)))))
+      | inr ge ↦ ge
+    ] in
+    (is_first (reports_it c v) (length log.lines) j first, omega arith, is, shown_is log opts j version by found is)
+
+pub not_above_is : (log : Lines) (opts : AuditOpts) (k version : ℕ) (by : Option Witness) → stands (case_of log opts) NotAbove k ≡ true
+    → version ≡ max (knows (case_of log opts) k) (last (case_of log opts) k) → IsKnown log opts shows_or_draws k version by
+    → IsReason log opts k NotAbove (Known version by)
+not_above_is log opts k version by stand is known =
+    let c = case_of log opts in
+    let most = leb-true (version_at c k) (max (knows c k) (last c k)) (and_parts (draws (kind_at c k)) _ stand).1 in
+    (omega arith, is, known)
+
+pub twice_is : (log : Lines) (opts : AuditOpts) (k : ℕ) (first : Option ℕ) → stands (case_of log opts) Twice k ≡ true
+    → IsFirstFrom (draws_again (case_of log opts) k) 0 (length log.lines) first → IsReason log opts k Twice (drawn_by first)
+twice_is log opts k None stand none =
+    let c = case_of log opts in
+    both_ways (is_twice c k) (none_below (draws_again c k) (length log.lines) none) (and_parts (draws (kind_at c k)) _ stand).1
+twice_is log opts k (Some j) stand first = is_first (draws_again (case_of log opts) k) (length log.lines) j first
+
+-- beside a commit the asks of its version, and beside an ask what else draws it
+pub beside_a_commit : (c : Case) (k : ℕ) (first : Option ℕ) → is_commit (kind_at c k) ≡ true
+    → IsFirstFrom (is_marked_at Asks c.lines (version_at c k)) 0 (length c.lines) first → IsFirstFrom (draws_again c k) 0 (length c.lines) first
+beside_a_commit c k first commit =
+    first_same (is_marked_at Asks c.lines (version_at c k)) (draws_again c k) (length c.lines) first (λ j. sym (same j))
+  where
+    same : (j : ℕ) → draws_again c k j ≡ is_marked_at Asks c.lines (version_at c k) j
+    same j =
+        let e = version_at c j == version_at c k in
+        ap (λ b. not (j == k) && (draws (kind_at c j) && (e && not (is_commit (kind_at c j) && b)))) commit
+        ∙ elim (cases_eq j k) [
+          | inl at ↦
+              ap (λ b. not b && (draws (kind_at c j) && (e && not (is_commit (kind_at c j) && true)))) (eq-eqb j k at)
+              ∙ sym (ap (λ i. is_ask (kind_at c i) && e) at ∙ ap (λ b. b && e) (no_ask (kind_at c k) commit))
+          | inr other ↦
+              ap (λ b. not b && (draws (kind_at c j) && (e && not (is_commit (kind_at c j) && true)))) (ne_eqb j k other)
+              ∙ beside_commit (kind_at c j) e
+        ]
+
+pub beside_an_ask : (c : Case) (k : ℕ) (first : Option ℕ) → is_commit (kind_at c k) ≡ false
+    → IsFirstFrom (λ j. not (j == k) && is_marked_at Draws c.lines (version_at c k) j) 0 (length c.lines) first → IsFirstFrom (draws_again c k) 0 (length c.lines) first
+beside_an_ask c k first not_commit =
+    first_same (λ j. not (j == k) && is_marked_at Draws c.lines (version_at c k) j) (draws_again c k) (length c.lines) first
+    (λ j.
+    let e = version_at c j == version_at c k in
+    sym (ap (λ b. not (j == k) && (draws (kind_at c j) && (e && not (is_commit (kind_at c j) && b)))) not_commit
+    ∙ ap (λ b. not (j == k) && b) (beside_ask (kind_at c j) e)))
+
+pub stray_is : (log : Lines) (opts : AuditOpts) (k : ℕ) (first : Option ℕ) → stands (case_of log opts) Stray k ≡ true
+    → IsFirstFrom (draws_it (case_of log opts) (version_at (case_of log opts) k)) 0 (length log.lines) first → IsReason log opts k Stray (drawn_by first)
+stray_is log opts k None stand none = none_below (draws_it (case_of log opts) (version_at (case_of log opts) k)) (length log.lines) none
+stray_is log opts k (Some j) stand first =
+    let c = case_of log opts in
+    let v = version_at c k in
+    let drawn : is_drawn c v ≡ true = some_at (draws_it c v) (length log.lines) j first.1 first.2 in
+    let others = cond-true (is_drawn c v) (not (is_own c k)) (c.complete || nat_le v c.start) drawn in
+    (is_first (draws_it c v) (length log.lines) j first, not-true (is_own c k) (sym others ∙ (and_parts (is_report (kind_at c k)) _ stand).1))

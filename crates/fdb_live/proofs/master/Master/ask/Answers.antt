@@ -1,0 +1,46 @@
+use Rattle.fdb_live.proofs.Above.{above_each, above_read, has_drawn, least_after, least_before, stands_drawn}
+use Rattle.fdb_live.proofs.Asked.{again, decided, drawn_if, extends, has_any, known, refused}
+use Rattle.fdb_live.proofs.master.Master.ask.Goals as goal
+
+pub returns-clause-extends : goal.returns-clause-extends
+returns-clause-extends g c = extends _ _ _ _ _ c.ask.ensures.asked
+
+pub returns-clause-drawn : goal.returns-clause-drawn
+returns-clause-drawn g c = drawn_if _ _ _ _ _ c.ask.ensures.asked c.requires.numbered c.ask.ensures.number c.ask.ensures.request c.ask.ensures.log
+
+pub returns-clause-above : goal.returns-clause-above
+returns-clause-above g c =
+    above_each c.versions_rise.ensures _ _ _ _ c.ask.ensures.log _ (drawn_if _ _ _ _ _ c.ask.ensures.asked c.requires.numbered c.ask.ensures.number c.ask.ensures.request c.ask.ensures.log)
+
+pub returns-clause-above_old : goal.returns-clause-above_old
+returns-clause-above_old g c =
+    least_before c.versions_rise.ensures _ _ _ _ _ c.ask.ensures.log (drawn_if _ _ _ _ _ c.ask.ensures.asked c.requires.numbered c.ask.ensures.number c.ask.ensures.request c.ask.ensures.log)
+
+pub returns-clause-least : goal.returns-clause-least
+returns-clause-least g c =
+    least_after _ _ _ _ _ (drawn_if _ _ _ _ _ c.ask.ensures.asked c.requires.numbered c.ask.ensures.number c.ask.ensures.request c.ask.ensures.log)
+
+pub returns-clause-has : goal.returns-clause-has
+returns-clause-has g c =
+    let drawn = drawn_if _ _ _ _ _ c.ask.ensures.asked c.requires.numbered c.ask.ensures.number c.ask.ensures.request c.ask.ensures.log in
+    has_any _ _ _ _ c.ask.ensures.member _ c.ask.ensures.asked (has_drawn _ _ _ _ _ drawn)
+
+pub returns-clause-stands : goal.returns-clause-stands
+returns-clause-stands g c =
+    stands_drawn _ _ _ _ _ (drawn_if _ _ _ _ _ c.ask.ensures.asked c.requires.numbered c.ask.ensures.number c.ask.ensures.request c.ask.ensures.log)
+
+pub returns-clause-known : goal.returns-clause-known
+returns-clause-known g c = known _ _ _ _ c.ask.ensures.member _ c.ask.ensures.asked
+
+pub returns-clause-above_read : goal.returns-clause-above_read
+returns-clause-above_read g c =
+    above_read c.versions_rise.ensures _ _ _ _ c.ask.ensures.log _ _ c.ask.ensures.start (drawn_if _ _ _ _ _ c.ask.ensures.asked c.requires.numbered c.ask.ensures.number c.ask.ensures.request c.ask.ensures.log)
+
+pub returns-clause-again : goal.returns-clause-again
+returns-clause-again g c = again _ _ _ _ _ c.ask.ensures.asked c.requires.numbered c.ask.ensures.number
+
+pub returns-clause-refused : goal.returns-clause-refused
+returns-clause-refused g c = refused _ _ _ _ _ c.ask.ensures.asked c.requires.numbered c.ask.ensures.number
+
+pub returns-clause-decided : goal.returns-clause-decided
+returns-clause-decided g c = decided _ _ _ _ _ c.ask.ensures.asked

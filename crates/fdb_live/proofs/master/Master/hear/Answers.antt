@@ -1,0 +1,16 @@
+use Rattle.std.proofs.Common.{rules}
+use Rattle.crossbeam_utils.specs.Seq.{cell_view}
+use Rattle.fdb_live.proofs.Tokens.{member_told}
+use Rattle.fdb_live.proofs.master.Master.hear.Goals as goal
+
+pub invariant_of-token : goal.invariant_of-token
+invariant_of-token g c = (search rules, search rules, search rules, member_told (cell_view c.token.inside.pass) (cell_view c.give_all-told.result) (cell_view c.learn.new.pass) c.token.invariant.2 c.token.invariant.3 c.learn.ensures.learns)
+
+pub invariant_of-token-else-token-position : goal.invariant_of-token-else-token-position
+invariant_of-token-else-token-position g c = (search rules, search rules, search rules, member_told (cell_view c.token.inside.pass) (cell_view c.give_all-told.result) (cell_view c.learn.new.pass) c.token.invariant.2 c.token.invariant.3 c.learn.ensures.learns)
+
+pub returns-then-token-position-clause-chain : goal.returns-then-token-position-clause-chain
+returns-then-token-position-clause-chain g c = (member_told (cell_view c.token.inside.pass) (cell_view c.give_all-told.result) (cell_view c.learn.new.pass) c.token.invariant.2 c.token.invariant.3 c.learn.ensures.learns).legal
+
+pub returns-clause-chain : goal.returns-clause-chain
+returns-clause-chain g c = (member_told (cell_view c.token.inside.pass) (cell_view c.give_all-told.result) (cell_view c.learn.new.pass) c.token.invariant.2 c.token.invariant.3 c.learn.ensures.learns).legal

@@ -1,0 +1,17 @@
+use Rattle.std.proofs.Common.{rules}
+use Rattle.fdb_live.proofs.Tokens.{looked_below, looked_taken, member_drawn, member_looked}
+use Rattle.fdb_live.proofs.master.Master.read.Goals as goal
+
+pub invariant_of-token : goal.invariant_of-token
+invariant_of-token g c = (search rules, search rules, search rules, member_looked c.token.invariant.2 c.token.invariant.3 c.look-fetched.ensures.looks)
+
+pub returns-clause-drawn : goal.returns-clause-drawn
+returns-clause-drawn g c = (member_drawn c.token.invariant.2 c.token.invariant.3 c.look-fetched.ensures.looks).drawn
+
+pub returns-clause-chain : goal.returns-clause-chain
+returns-clause-chain g c = (member_drawn c.token.invariant.2 c.token.invariant.3 c.look-fetched.ensures.looks).legal
+
+pub returns-clause-bounded : goal.returns-clause-bounded
+returns-clause-bounded g c =
+    let taken = looked_taken c.token.invariant.2 c.look-fetched.ensures.looks in
+    record { below = looked_below c.token.invariant.2 c.look-fetched.ensures.looks; within = taken.within; in_range = taken.in_range }

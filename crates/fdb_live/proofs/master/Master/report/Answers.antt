@@ -1,0 +1,10 @@
+use Rattle.std.proofs.Common.{rules, arith}
+use Rattle.fdb_live.proofs.Reports.{version_in_range}
+use Rattle.fdb_live.proofs.master.Master.report.Goals as goal
+
+pub report_drawn-requires-clause-taken : goal.report_drawn-requires-clause-taken
+report_drawn-requires-clause-taken g c =
+    record {
+      in_range = version_in_range g.J.Service.epoch_end g.J.Service.recovery c.args.token.now.answers c.args.rec.version (search rules) c.requires.drawn;
+      within = (let no = c.if-rec.false in omega arith);
+    }

@@ -1,0 +1,108 @@
+-- What the token of a master proves that its holder has seen.
+use Rattle.std.specs.Prelude.{◌≡◌, ℕ, ◌+◌, ◌==◌, true, List, [], ◌∷◌, ◌++◌, All, Contains, Option, None, Some, Result, IfOk, OnErr, filter, map, slice_get}
+use mathlib.Core.List.{IsPrefix}
+use Rattle.atomic_table.specs.Seated.{TableId}
+use Rattle.fdb_chain.specs.ChainCore.{IsAnswer}
+use Rattle.fdb_chain.specs.declared.error.ChainError.{ChainError}
+use Rattle.fdb_history.specs.Chain.{IsNext, last_answer}
+use Rattle.fdb_history.specs.Issuing.{Chain, answer_to, with_answer}
+use Rattle.fdb_history.specs.declared.chain.Ask.{Ask}
+use Rattle.fdb_history.specs.declared.chain.Issued.{Issued}
+use Rattle.fdb_history.specs.declared.register.Record.{Record}
+use Rattle.fdb_live.specs.Seen.{Sight}
+use Rattle.fdb_live.specs.declared.change.Change.{Change}
+
+-- What its holder has seen: the answers by which versions were drawn, and the reports that changed
+-- the record, each from the first on and in order. The token of a commit proxy has its number.
+-- (this product's own)
+pub record Holding : Type 0 where
+  pub number : Option ℕ
+  pub answers : List Issued
+  pub changes : List Change
+
+-- The commit versions that some answers give, in their order.
+abbrev pub versions : List Issued → List ℕ
+versions answers = map (λ answer. answer.version) answers
+
+-- The version of each of some changes is one of those of some answers.
+abbrev pub AreDrawn : List Issued → List Change → Type 0
+AreDrawn answers changes =
+    All (λ change. Contains (versions answers) change.rec.version) changes
+
+-- Those of some answers that are to this commit proxy.
+abbrev pub answers_to : ℕ → List Issued → List Issued
+answers_to proxy answers = filter (λ answer. answer.proxy == proxy) answers
+
+-- The answers to its own commit proxy; none, where it is nobody's.
+abbrev pub answers_among : Option ℕ → List Issued → List Issued
+answers_among None answers = []
+answers_among (Some proxy) answers = answers_to proxy answers
+
+abbrev pub own_answers : Holding → List Issued
+own_answers holding = answers_among holding.number holding.answers
+
+-- What it has seen of the live record, as a token of that alone has it.
+abbrev pub sight_of : Holding → Sight
+sight_of holding = record { reporter = holding.number; changes = holding.changes }
+
+-- The least version above the last one of some answers, and 0 where there is none.
+abbrev pub above_last : Option Issued → ℕ
+above_last None = 0
+above_last (Some last) = last.version + 1
+
+abbrev pub least_above : List Issued → ℕ
+least_above answers = above_last (last_answer answers)
+
+-- A request of the proxy whose token it is was answered, as the definition answers it on all that
+-- had been answered by then: of a chain that began so, and of which the proxy itself had got no
+-- other answers than those that the token has seen. The holder has then seen all that, and a fresh
+-- answer after it. The versions that it had read were all drawn before.
+pub record IsAsked
+    (begun : Chain) (ask : Ask) (old : Holding) (result : Result Issued ChainError) (new : Holding)
+    : Type 0 where
+  pub before : List Issued
+  pub seen : IsPrefix old.answers before
+  pub own : answers_to ask.proxy before ≡ answers_to ask.proxy old.answers
+  pub answer : IsAnswer (answer_to (record begun { answers = before }) ask) result
+  pub ok : IfOk result (λ issued. record begun { answers = new.answers }
+      ≡ with_answer (record begun { answers = before }) issued)
+  pub err : OnErr result (new.answers ≡ before)
+  pub read : IfOk result (λ issued. issued.fresh ≡ true → AreDrawn before old.changes)
+
+-- A fresh answer is the next one after all that had been answered by then, which is all that its
+-- asker had seen and maybe more. It is the last that the asker has now seen, and the one that became
+-- its own. The versions that it had read were all drawn before.
+pub record IsDrawn (epoch_end recovery : ℕ) (issued : Issued) (old new : Holding) : Type 0 where
+  pub before : List Issued
+  pub seen : IsPrefix old.answers before
+  pub next : IsNext epoch_end recovery before issued
+  pub last : new.answers ≡ before ++ issued ∷ []
+  pub own : own_answers new ≡ own_answers old ++ issued ∷ []
+  pub read : AreDrawn before old.changes
+
+-- The chain of a service with these answers.
+abbrev pub chain_of : ℕ → ℕ → ℕ → List Issued → Chain
+chain_of epoch_end recovery proxies answers =
+    record { epoch_end = epoch_end; recovery = recovery; proxies = proxies; answers = answers }
+
+-- What a master was opened with, and the table of its cell.
+pub record Founding : Type 0 where
+  pub table : TableId
+  pub start : Record
+  pub members : ℕ
+  pub epoch_end : ℕ
+  pub recovery : ℕ
+
+-- Each of these is the token of the commit proxy whose number is its place.
+abbrev pub AreNumbered : List Holding → Type 0
+AreNumbered tokens =
+    (k : ℕ) (token : Holding) → slice_get tokens k ≡ Some token → token.number ≡ Some k
+
+-- What stands at a place among some tokens is what this one has become once its holder has seen all
+-- of these answers: its own ones are as before.
+pub record IsClosedWith (answers : List Issued) (old : Holding) (k : ℕ) (tokens : List Holding)
+    : Type 0 where
+  pub at : slice_get tokens k
+      ≡ Some (record { number = old.number; answers = answers; changes = old.changes })
+  pub seen : IsPrefix old.answers answers
+  pub own : answers_among old.number answers ≡ own_answers old

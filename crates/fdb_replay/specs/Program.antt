@@ -1,0 +1,55 @@
+-- What the program promises of itself. (this product's own)
+use Rattle.std.specs.Prelude.{◌≡◌, ◌≢◌, ◌≤◌, ℕ, List, [], ◌∷◌, Vec, None, Ok, Err, codes, false, pos}
+use Rattle.std.specs.Option.{option_map_or}
+use Rattle.std.specs.Str.Parse.{digits_value, without_leading_plus}
+use Rattle.std.specs.declared.alloc.Global.{Global}
+use Rattle.clap.specs.Words.{App, Text, matches_of, one_of}
+use Rattle.fdb_client.specs.declared.cluster.TheConstants.{MAX_GRV_PROXIES}
+use Rattle.fdb_command.specs.Arguments.{command_of, file_rule, flag_rule, is_set, number_rule}
+use Rattle.fdb_command.specs.Driving.{Promise}
+use Rattle.fdb_history.specs.declared.fault.AuditFault.{AuditFault}
+use Rattle.fdb_replay.specs.Outcome.{IsFaulty}
+use Rattle.fdb_replay.specs.Replay.{Replays}
+use Rattle.fdb_replay.specs.declared.program.ReplayOptions.{ReplayOptions}
+use Rattle.fdb_replay.specs.declared.program.ScriptRefused.{ScriptRefused}
+use Rattle.fdb_script.specs.Plan.{Plan}
+use Rattle.fdb_script.specs.Reading.{ReadsAs}
+use Rattle.fdb_script.specs.declared.error.ScriptError.TheVariants.{Memory}
+use Rattle.fdb_script.specs.declared.script.TheConstants.{MAX_SCRIPT_BYTES}
+
+-- the words that the program takes: the file of the script, `--proxies` from 1 to 16, and
+-- `--history`
+abbrev pub command : App
+command = command_of (codes "fdb_replay")
+    (file_rule ∷ number_rule (codes "proxies") (pos 1) (pos 16) ∷ flag_rule (codes "history") ∷ [])
+
+-- the number of GRV proxies, which is 1 unless it is said
+abbrev pub proxies_named : List Text → ℕ
+proxies_named arguments =
+    option_map_or (λ digits. digits_value 10 (without_leading_plus digits))
+    (one_of (codes "proxies") (matches_of command arguments)) 1
+
+-- what the flags say: so many proxies, of which there may be 1 to 16, and whether the history is
+-- written too
+pub record IsAsked (arguments : List Text) (options : ReplayOptions) : Type 0 where
+  pub proxies : options.proxies ≡ proxies_named arguments
+  pub some_proxy : 1 ≤ options.proxies
+  pub few_proxies : options.proxies ≤ MAX_GRV_PROXIES
+  pub history : options.with_history ≡ is_set (codes "history") command arguments
+
+-- It takes all bytes as they come, and tells of no progress. It prints the text of a run of the
+-- script that the bytes stand for, with the history where that is asked for, and no text of a run in
+-- which a fault was found. It refuses what stands for no script; that memory was refused says nothing
+-- of the bytes. It finds what an audit of a run of the script finds.
+abbrev pub replay : Promise ReplayOptions (Vec ℕ Global) ScriptRefused AuditFault
+replay = record {
+  app = command;
+  most = MAX_SCRIPT_BYTES;
+  asks = IsAsked;
+  tells = λ arguments. false;
+  taken = λ script bytes. script.items ≡ bytes;
+  prints = λ arguments bytes text found. (found ≡ None)
+      × Replays bytes (is_set (codes "history") command arguments) text;
+  refuses = λ bytes refused. (refused.error ≢ Memory) × ReadsAs bytes (Err refused.error);
+  finds = λ bytes found. (plan : Plan) × ReadsAs bytes (Ok plan) × IsFaulty plan found;
+}

@@ -1,0 +1,224 @@
+//! The program: its command, and what it prints of a script.
+
+ghost use Rattle.std.specs.Prelude.{◌≡◌, ◌≢◌, ◌⊎◌, ◌≤◌, List, IfOk, MatchResult, None, codes};
+ghost use Rattle.clap.specs.Words.{Text, app_of};
+ghost use Rattle.fdb_client.specs.declared.cluster.TheConstants.{MAX_GRV_PROXIES};
+ghost use Rattle.fdb_command.specs.Arguments.{AreMatches, is_set};
+ghost use Rattle.fdb_command.specs.Driving.{IsDriven, Stops};
+ghost use Rattle.fdb_replay.specs.Program.{command, proxies_named, replay};
+ghost use Rattle.fdb_replay.specs.Replay.{Refuses, Replays};
+
+use crate::fault::RunFault;
+use crate::replaying::{ReplayFault, replayed_text};
+use clap::{ArgMatches, Command};
+use fdb_command::{
+    Answer, Fault, Program, file_argument, flag_argument, is_given, new_command, number,
+    number_argument,
+};
+use fdb_history::{AuditFault, OpenGate};
+use fdb_script::{MAX_SCRIPT_BYTES, ScriptError};
+use std::alloc::{AllocError, Global};
+use std::fs::Files;
+use std::io;
+use std::io::{Read, Write};
+use std::sync::Wait;
+use std::thread::Threads;
+use thiserror::Error;
+
+/// The end of the help: what each status means, and where the formats are told.
+const AFTER_HELP: &str = "Exit status:
+  0  the replies are written, or this help
+  1  the script is refused: NotJson, BadLimit, or BadField with the round and the command
+  2  the words are refused
+  3  want of memory
+  4  the audit found a fault in the run
+  5  reading or writing failed
+
+docs/FORMATS.md has the script, what is written, and what each refusal and fault means.";
+
+const PROXIES_HELP: &str = "The number of GRV proxies, from 1 to 16 [default: 1]";
+
+/// A script that is refused, as the fault line prints it.
+#[derive(Clone, Copy, Debug, PartialEq, Eq, Error)]
+#[error("script refused: {error}")]
+pub struct ScriptRefused {
+    /// What is wrong with it, which is never want of memory.
+    pub error: ScriptError,
+}
+
+/// What the flags say, with the default for each that is not given.
+#[derive(Clone, Copy, Debug, PartialEq, Eq)]
+pub struct ReplayOptions {
+    /// The number of GRV proxies, 1 to 16.
+    pub proxies: u32,
+    /// Whether the history is written after the audit line.
+    pub with_history: bool,
+}
+
+/// The text of a replay, or the fault with which it stops.
+type Made = Result<Answer<AuditFault>, Fault<ScriptRefused, AuditFault>>;
+
+/// The program that replays a script, and writes its replies, the audit line and, where it is
+/// wanted, the history. It has nothing to write where the script is refused, memory runs out or the
+/// audit finds a fault in the run.
+#[derive(Clone, Copy, Debug)]
+pub struct Replay;
+
+impl Program for Replay {
+    ghost use Rattle.std.specs.Prelude.{refl};
+    ghost use Rattle.fdb_replay.specs.Program.{replay};
+
+    type Options = ReplayOptions;
+
+    type Intake = Vec<u8>;
+
+    type Refusal = ScriptRefused;
+
+    type Finding = AuditFault;
+
+    const NAME: &'static str = "fdb_replay";
+
+    ghost promise = { replay };
+
+    fn most(&self) -> u64 {
+        MAX_SCRIPT_BYTES as u64
+    }
+
+    fn command<'a>(&self, alloc: Global) -> Result<Command<'a>, AllocError> {
+        command(alloc)
+    }
+
+    fn options(&self, matches: &ArgMatches<'_>) -> ReplayOptions {
+        ReplayOptions {
+            proxies: proxies_of(matches),
+            with_history: wants_history(matches),
+        }
+    }
+
+    fn begin(&self, alloc: Global) -> Vec<u8> {
+        Vec::new(alloc)
+    }
+
+    fn take(
+        &self,
+        mut script: Vec<u8>,
+        bytes: &[u8],
+    ) -> Result<Vec<u8>, Fault<ScriptRefused, AuditFault>> {
+        match script.extend_from_slice(bytes) {
+            Ok(()) => Ok(script),
+            Err(_) => Err(Fault::Memory),
+        }
+    }
+
+    fn progress(&self, _options: &ReplayOptions, _script: &Vec<u8>) -> Option<u64> {
+        None
+    }
+
+    ghost simple = { refl };
+}
+
+/// Replays the script of the file that the arguments name or else of the input, and writes the
+/// lines to `out`; or writes the help there. Answers the status of the program, as
+/// [`fdb_command::drive`] says.
+pub fn drive<R: Threads + Wait + Sync + Files, I: Read, O: Write, E: Write>(
+    rt: &R,
+    alloc: Global,
+    arguments: io::Result<Vec<String>>,
+    input: &mut I,
+    out: &mut O,
+    err: &mut E,
+) -> u8
+    ensures { IsDriven replay I.remaining O.contents arguments
+        input.old input.new out.old out.new err.old err.new result }
+{
+    let body = move |options: ReplayOptions, script: Vec<u8>| -> Made
+        requires some_proxy { 1 ≤ options.proxies }
+        requires few_proxies { options.proxies ≤ MAX_GRV_PROXIES }
+        ensures { MatchResult result
+            (λ answer. (answer.found ≡ None)
+            × Replays script.items options.with_history answer.text.items)
+            (Stops replay script.items) }
+    { answer_of(rt, alloc, options, &script) };
+    fdb_command::drive(&Replay, rt, alloc, arguments, input, out, err, body)
+}
+
+/// What a replay of a script prints, with no gate at which a thread would wait.
+fn answer_of<R: Threads + Wait + Sync>(
+    rt: &R,
+    alloc: Global,
+    options: ReplayOptions,
+    script: &[u8],
+) -> Made
+    requires some_proxy { 1 ≤ options.proxies }
+    requires few_proxies { options.proxies ≤ MAX_GRV_PROXIES }
+    ensures { MatchResult result
+        (λ answer. (answer.found ≡ None)
+        × Replays script.now options.with_history answer.text.items)
+        (Stops replay script.now) }
+{
+    match replayed_text(
+        rt,
+        alloc,
+        script,
+        options.proxies,
+        options.with_history,
+        &OpenGate,
+    ) {
+        Ok(text) => Ok(Answer { text, found: None }),
+        Err(fault) => Err(fault_of(fault)),
+    }
+}
+
+/// The command that clap is given: a file, `--proxies` and `--history`.
+fn command<'a>(alloc: Global) -> Result<Command<'a>, AllocError>
+    ensures { IfOk result (λ made. app_of made ≡ command) }
+{
+    new_command(
+        alloc,
+        "fdb_replay",
+        "Replays a script of clients, and writes what each of them was answered",
+        AFTER_HELP,
+    )
+    .arg(file_argument(
+        alloc,
+        "SCRIPT",
+        "The file that has the script; standard input, if left out",
+    ))?
+    .arg(number_argument(alloc, "proxies", 1, 16, "N", PROXIES_HELP))?
+    .arg(flag_argument(alloc, "history", "Write the history too"))
+}
+
+/// The number of GRV proxies that is asked for, 1 to 16.
+fn proxies_of(matches: &ArgMatches) -> u32
+    requires { (arguments : List Text) × AreMatches command arguments matches.now }
+    ensures named { (arguments : List Text) → AreMatches command arguments matches.now
+        → result ≡ proxies_named arguments }
+    ensures some_proxy { 1 ≤ result }
+    ensures few_proxies { result ≤ MAX_GRV_PROXIES }
+{
+    number(matches, "proxies").unwrap_or(1) as u32
+}
+
+fn wants_history(matches: &ArgMatches) -> bool
+    ensures { (arguments : List Text) → AreMatches command arguments matches.now
+        → result ≡ is_set (codes "history") command arguments }
+{
+    is_given(matches, "history")
+}
+
+/// The fault that a replay with no text ends with.
+fn fault_of(cause: ReplayFault) -> Fault<ScriptRefused, AuditFault>
+    ensures stops { (bytes : List _) → Refuses bytes cause → cause ≢ ReplayFault.Write
+        → Stops replay bytes result }
+    ensures memory { result ≡ Fault.Memory → (cause ≡ ReplayFault.Script ScriptError.Memory)
+        ⊎ (cause ≡ ReplayFault.Run RunFault.Memory) }
+{
+    match cause {
+        ReplayFault::Script(ScriptError::Memory) | ReplayFault::Run(RunFault::Memory) => {
+            Fault::Memory
+        }
+        ReplayFault::Script(error) => Fault::Refused(ScriptRefused { error }),
+        ReplayFault::Run(RunFault::Audit(found)) => Fault::Found(found),
+        ReplayFault::Write => Fault::Writing,
+    }
+}

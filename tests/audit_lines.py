@@ -1,0 +1,95 @@
+"""The lines of a log as fdb_audit reads them, or which line is refused and why."""
+from typing import NamedTuple, Optional
+
+from reader import HIGHEST, Refused, value_of
+
+# The most bytes of a line.
+MOST_BYTES = 1_048_576
+CALLS = ("read", "commit", "ask", "report")
+KINDS = (*CALLS, "learn")
+CAUSES = {
+    "TooLong": "more than 1048576 bytes",
+    "NotJson": "no JSON",
+    "NoCall": "no read, commit, ask, report or learn",
+    "TwoCalls": "more than one of read, commit, ask, report and learn",
+    "SomeTimes": "began and ended stand in all lines or in none",
+    "BadMember client": "no text, or none in a log without times",
+    **{f"BadMember {kind}": "no whole number below 2^64" for kind in CALLS},
+    "BadMember learn": "no client of a line above, or beside times",
+    "BadMember began": "no whole number below 2^64, or none beside ended",
+    "BadMember ended": "no whole number below 2^64 and not null, or before began",
+}
+
+
+class Line(NamedTuple):
+    """A line: of a learn, the value is the name of the client from whom it learnt."""
+
+    client: Optional[str]
+    kind: str
+    value: object
+    began: Optional[int] = None
+    ended: Optional[int] = None
+
+
+def refusal(number, why):
+    """What is said of a line that is refused: its number behind the first word, and the cause."""
+    word, _, member = why.partition(" ")
+    return f"{f'{word} {number} {member}'.rstrip()}: {CAUSES[why]}"
+
+
+def lines_of(given):
+    """The lines of a log, or Refused with the first that is refused, and why."""
+    texts = given.split(b"\n")
+    if not texts[-1]:
+        texts.pop()
+    lines, names = [], set()
+    for number, text in enumerate(texts, 1):
+        try:
+            line = line_of(text, names, lines[0].began is not None if lines else None)
+        except Refused as why:
+            raise Refused(refusal(number, str(why))) from None
+        lines.append(line)
+        names.add(line.client)
+    return lines
+
+
+def line_of(text, names, has_times):
+    """A line, below lines with these names that have times or not (None: it is the first)."""
+    if len(text) > MOST_BYTES:
+        raise Refused("TooLong")
+    said = value_of(text)
+    said = said if type(said) is dict else {}
+    client = said.get("client")
+    wrong_if("client" in said and type(client) is not str, "client")
+    kinds = [it for it in KINDS if it in said]
+    if len(kinds) != 1:
+        raise Refused("TwoCalls" if kinds else "NoCall")
+    kind, value = kinds[0], said[kinds[0]]
+    is_right = type(value) is str and value in names if kind == "learn" else is_whole(value)
+    wrong_if(not is_right, kind)
+    began, ended = times_of(said)
+    if has_times not in (None, began is not None):
+        raise Refused("SomeTimes")
+    wrong_if(began is not None and kind == "learn", "learn")
+    wrong_if(began is None and client is None, "client")
+    return Line(client, kind, value, began, ended)
+
+
+def times_of(said):
+    """When a call began and ended, or None twice."""
+    if "began" not in said and "ended" not in said:
+        return None, None
+    began, ended = said.get("began"), said.get("ended")
+    wrong_if(not is_whole(began), "began")
+    is_end = "ended" in said and (ended is None or is_whole(ended) and began <= ended)
+    wrong_if(not is_end, "ended")
+    return began, ended
+
+
+def wrong_if(is_wrong, member):
+    if is_wrong:
+        raise Refused(f"BadMember {member}")
+
+
+def is_whole(value):
+    return type(value) is int and 0 <= value <= HIGHEST

@@ -1,0 +1,381 @@
+"""What fdb_audit says of logs: worked by hand, random, simulated, refused, and large."""
+import os
+import random
+import resource
+
+import clusters
+from audit_lines import MOST_BYTES, lines_of, refusal
+from audit_model import Case, arguments_of, judged
+from audit_right import why_wrong
+from audit_search import fault_of_search, options_of, random_lines, random_words, text_of
+from harness import EXAMPLES, ROOT, Ran, fault_of, read, run
+from reader import DEEPEST
+
+PROGRAM = f"{ROOT}/crates/fdb_audit_cli/out/fdb_audit_cli"
+LOGS = f"{EXAMPLES}/logs"
+OK, REFUSED, FAULTY = 0, 1, 4
+# How many random logs there are, and how many simulated clusters of each kind.
+# The model looks at what is said of the first few of these.
+RANDOM, SEEDS, LOOKED_AT = 3_000, 20, 2
+# What is asked for besides, in turn.
+ASKED = ([], ["--all", "--history"], ["--history"], ["--all"])
+# Lines of two calls, with times and without.
+TIMED = b'{"client":"a","read":1,"began":1,"ended":2}\n'
+UNTIMED = b'{"client":"a","read":1}\n'
+# Words of faults, and of turns, in whose place others are wrong.
+SPOILS = (("line", "its", True), ("known", "seen", True), (" others", " line 1", False),
+          (" shared", "", False))
+# The processor time that a log of 20 MB may take in seconds: some ten times what it does.
+LARGE, LARGE_SECONDS, CLIENTS = 250_000, 20, 1_000
+
+
+def judged_as(given, words):
+    return Ran(*judged(given, arguments_of(words)[0]))
+
+
+# ---- worked by hand
+
+
+def worked_cases():
+    """The cases of audit_worked.txt: a name, the log, the arguments, and what is printed.
+
+    There, a line `# NAME` stands before a log, a line `=> ARGUMENTS` parts it from what is printed.
+    """
+    for case in read(f"{ROOT}/tests/audit_worked.txt").decode().split("\n# "):
+        name, _, rest = case.removeprefix("# ").partition("\n")
+        given, _, rest = f"\n{rest}".partition("\n=>")
+        words, _, out = rest.partition("\n")
+        given, out = given.removeprefix("\n"), out.rstrip("\n") + "\n"
+        yield name, f"{given}\n".encode() if given else b"", words.split(), out.encode()
+
+
+def ended_with(out):
+    """How the program ends where it writes this."""
+    first = out.split(b":")
+    fault = first[0] + b":" + first[1] + b"\n" if out.startswith(b"audit fault") else b""
+    return Ran(FAULTY if fault else OK, out, b"fdb_audit: " + fault if fault else b"")
+
+
+def worked(_program):
+    """The program writes what a hand calculation gives."""
+    for name, given, words, out in worked_cases():
+        yield name, fault_of(run([PROGRAM, *words], given), ended_with(out))
+
+
+def worked_by_model(_program):
+    """So does the model, which has just one sentence for each of those faults."""
+    for name, given, words, out in [*worked_cases(), *example_cases()]:
+        ran = judged_as(given, words)
+        yield name, fault_of(ran, ended_with(out)) or why_wrong(given, words, ran)
+        case = Case(lines_of(given), arguments_of(words)[0])
+        several = [it for it in case.faults() if len(set(case.sentences(*it))) > 1]
+        yield f"{name}, sentences", f"more than one for {several}" if several else None
+
+
+def wrong_verdicts(_program):
+    """What is written is refused with a line, a number or a word changed, left out or added."""
+    for name, given, words, out in worked_cases():
+        right = ended_with(out)
+        lines = out.decode().splitlines(keepends=True)
+        for what, changed in spoilt(lines):
+            wrong = why_wrong(given, words, right._replace(out="".join(changed).encode()))
+            yield f"{name}, {what}", None if wrong else "it is not refused"
+        for status in {OK, REFUSED, FAULTY, 2, 3, 5} - {right.status}:
+            wrong = why_wrong(given, words, right._replace(status=status))
+            yield f"{name}, status {status}", None if wrong else "it is not refused"
+
+
+def spoilt(lines):
+    """Names changes of some lines, each of which makes them wrong."""
+    for at, line in enumerate(lines):
+        before, after = lines[:at], lines[at + 1:]
+        yield f"without line {at}", before + after
+        yield f"with line {at} twice", [*before, line, line, *after]
+        yield f"line {at} with a space more", [*before, line.replace("\n", " \n"), *after]
+        words = line.split(" ")
+        for place, word in enumerate(words):
+            digits = word.strip("(),:\n")
+            if digits.isdecimal() and place > 1 and word[:1] != '"':
+                more = word.replace(digits, str(int(digits) + 1), 1)
+                changed = " ".join([*words[:place], more, *words[place + 1:]])
+                yield f"line {at}, {word.strip()} one more", [*before, changed, *after]
+        for old, new, of_fault in SPOILS:
+            if old in line and line.startswith("audit fault") == of_fault:
+                yield f"line {at}, {new} for {old}", [*before, line.replace(old, new, 1), *after]
+
+
+def example_cases():
+    """The logs of examples/logs: NAME.jsonl prints NAME.out, with the arguments of NAME.args."""
+    for name in sorted(os.listdir(LOGS)):
+        log, ending = os.path.splitext(f"{LOGS}/{name}")
+        if ending == ".jsonl":
+            words = read(f"{log}.args").decode().split() if os.path.isfile(f"{log}.args") else []
+            yield name, read(f"{log}.jsonl"), words, read(f"{log}.out")
+
+
+def examples(_program):
+    """The program writes the outputs of the examples."""
+    for name, given, words, out in example_cases():
+        yield name, fault_of(run([PROGRAM, *words], given), ended_with(out))
+
+
+# ---- random logs
+
+
+def random_cases(count):
+    """Names random logs with their bytes, and arguments."""
+    for number in range(count):
+        dice = random.Random(number)
+        lines, words = random_lines(dice), random_words(dice)
+        yield f"log {number}", text_of(lines, dice), words
+
+
+def searched(_program):
+    """The model finds no fault just where a search finds an order; of that order it says one."""
+    for name, given, words in random_cases(RANDOM):
+        asked = [*words, "--all", "--history"]
+        fault = fault_of_search(given, options_of(words))
+        fault = fault or why_wrong(given, asked, judged_as(given, asked))
+        yield name, fault and f"{fault}, of {given} with {words}"
+
+
+def random_logs(_program):
+    """Random logs are judged as by the model: all faults, the first, or an order."""
+    for number, (name, given, words) in enumerate(random_cases(RANDOM)):
+        asked = [*words, *ASKED[number % len(ASKED)]]
+        fault = why_wrong(given, asked, run([PROGRAM, *asked], given))
+        yield name, fault and f"{fault}, of {given} with {asked}"
+
+
+# ---- simulated clusters
+
+
+def clustered(_program):
+    """No log of a simulated cluster has a fault, and where all is logged stale reads are found."""
+    for kind, setting in clusters.KINDS.items():
+        words = ["--margin", str(clusters.margin_of(setting))]
+        for seed in range(SEEDS):
+            lines, _register = clusters.simulated(seed, setting)
+            ran = run([PROGRAM, *words, "--history"], text_of(lines))
+            fault = None if ran.status == OK else f"it says {ran.out[:200]}"
+            if seed < LOOKED_AT:
+                fault = fault or why_wrong(text_of(lines), [*words, "--history"], ran)
+            yield f"{kind}, seed {seed}", fault
+        for seed in range(LOOKED_AT):
+            lines, stale = clusters.with_stale_reads(seed, setting)
+            ran = run([PROGRAM, *words, "--all"], text_of(lines))
+            fault = why_wrong(text_of(lines), [*words, "--all"], ran)
+            yield f"{kind} with stale reads, seed {seed}", fault or missed(setting, ran, stale)
+
+
+def clustered_by_model(_program):
+    """The model finds no fault in short logs of simulated clusters, and an order."""
+    for kind, setting in clusters.KINDS.items():
+        words = ["--margin", str(clusters.margin_of(setting)), "--history"]
+        for seed in range(LOOKED_AT):
+            given = text_of(clusters.simulated(seed, setting._replace(calls=30))[0])
+            ran = judged_as(given, words)
+            fault = None if ran.status == OK else f"it says {ran.out[:200]}"
+            yield f"{kind}, seed {seed}", fault or why_wrong(given, words, ran)
+
+
+def missed(setting, ran, stale):
+    """What is wrong where stale reads of clients that log all their calls are not found."""
+    found = [int(it.split(b":")[1].split()[-1]) - 1 for it in ran.out.splitlines()
+             if it.startswith(b"audit fault: Order")]
+    unfound = sorted(set(stale) - set(found)) if setting == clusters.Setting() else []
+    return f"no fault at {unfound}, of {stale}" if unfound else None
+
+
+# ---- refused
+
+
+def line_with(**members):
+    """A line of a read with times, from the JSON text of each member; None leaves one out."""
+    said = {"client": '"a"', "read": "1", "began": "1", "ended": "2", **members}
+    texts = [f'"{name}":{text}' for name, text in said.items() if text is not None]
+    return ("{" + ",".join(texts) + "}").encode()
+
+
+def without_times(**members):
+    return line_with(**{"began": None, "ended": None, **members})
+
+
+NO_NUMBERS = (
+    '"1"', "-1", "-0", "1.0", "1e3", "true", "null", "[]", "{}", "18446744073709551616", "0.5"
+)
+# A line, and why it is refused.
+LINES = (
+    ("an empty line", b"", "NotJson"),
+    ("a blank line", b" \t", "NotJson"),
+    ("a line of a carriage return", b"\r", "NotJson"),
+    ("no JSON", b"{", "NotJson"),
+    ("two values", b"{} {}", "NotJson"),
+    ("a comma too many", b'{"client":"a","read":1,}', "NotJson"),
+    ("a word", b"nil", "NotJson"),
+    ("NaN", b"NaN", "NotJson"),
+    ("no UTF-8", b'{"client":"\xff","read":1}', "NotJson"),
+    ("half a letter", b'{"client":"\\ud83d","read":1}', "NotJson"),
+    ("a mark of byte order", b'\xef\xbb\xbf{"client":"a","read":1}', "NotJson"),
+    ("a zero before a number", b'{"client":"a","read":01}', "NotJson"),
+    ("a number beyond a double", b'{"client":"a","read":1e999}', "NotJson"),
+    ("a letter that is none in a text", b'{"client":"\x01","read":1}', "NotJson"),
+    ("too deep", b"[" * (DEEPEST + 1) + b"]" * (DEEPEST + 1), "NotJson"),
+    ("as deep as may be", b"[" * DEEPEST + b"]" * DEEPEST, "NoCall"),
+    ("a list", b'["client","a","read",1]', "NoCall"),
+    ("a text", b'"read"', "NoCall"),
+    ("null", b"null", "NoCall"),
+    ("an empty object", b"{}", "NoCall"),
+    ("no call", line_with(read=None), "NoCall"),
+    ("a call in capitals", line_with(read=None, READ="1"), "NoCall"),
+    ("two calls", line_with(commit="1"), "TwoCalls"),
+    ("two calls, of which one is null", line_with(learn="null"), "TwoCalls"),
+    ("all calls", line_with(commit="1", ask="1", report="1", learn='"a"'), "TwoCalls"),
+    ("two bad calls", line_with(read='""', ask='""'), "TwoCalls"),
+    *((f"a client that is {it}", line_with(client=it), "BadMember client")
+      for it in ("1", "null", "true", "[]", '{"name":"a"}')),
+    *((f"a {kind} of {it}", line_with(**{"read": None, kind: it}), f"BadMember {kind}")
+      for kind in ("read", "commit", "ask", "report") for it in NO_NUMBERS),
+    *((f"a begin of {it}", line_with(began=it), "BadMember began") for it in NO_NUMBERS),
+    *((f"an end of {it}", line_with(ended=it), "BadMember ended")
+      for it in NO_NUMBERS if it != "null"),
+    ("no begin", line_with(began=None), "BadMember began"),
+    ("no end", line_with(ended=None), "BadMember ended"),
+    ("an end that is null, and no begin", line_with(began=None, ended="null"), "BadMember began"),
+    ("an end before its begin", line_with(began="3"), "BadMember ended"),
+    *((f"to learn from {it}", line_with(read=None, learn=it), "BadMember learn")
+      for it in ("0", "null", '["a"]', '"nobody"', "true")),
+)
+# Which is told first: lines of which several things are wrong.
+FIRST = (
+    ("no JSON and too long", b"x" * (MOST_BYTES + 1), "TooLong"),
+    ("a client before no call", line_with(client="1", read=None), "BadMember client"),
+    ("a client before two calls", line_with(client="1", ask="2"), "BadMember client"),
+    ("no call before no begin", line_with(read=None, began=None), "NoCall"),
+    ("a call before a begin", line_with(read='""', began='""'), "BadMember read"),
+    ("a begin before an end", line_with(began='""', ended='""'), "BadMember began"),
+)
+# What lines above have to do with it: the lines above, the line, and why it is refused.
+BELOW = (
+    ("times below none", UNTIMED, line_with(), "SomeTimes"),
+    ("no times below some", TIMED, without_times(), "SomeTimes"),
+    ("no times and no client below some", TIMED, without_times(client=None), "SomeTimes"),
+    ("a learn with times", TIMED, line_with(read=None, learn='"a"'), "BadMember learn"),
+    ("a learn with times below none", UNTIMED, line_with(read=None, learn='"a"'), "SomeTimes"),
+    ("a learn without times below some", TIMED, without_times(read=None, learn='"a"'),
+     "SomeTimes"),
+    ("no client without times", UNTIMED, without_times(client=None), "BadMember client"),
+    ("no client, in the first line", b"", without_times(client=None), "BadMember client"),
+    ("to learn from one who comes below", UNTIMED, without_times(read=None, learn='"b"'),
+     "BadMember learn"),
+    ("to learn from oneself, in one's first line", UNTIMED,
+     without_times(client='"b"', read=None, learn='"b"'), "BadMember learn"),
+    ("a bad begin below no times", UNTIMED, line_with(began="-1"), "BadMember began"),
+    ("a learn from nobody below times", TIMED, line_with(read=None, learn='"b"'),
+     "BadMember learn"),
+)
+
+
+def refused_at(number, why):
+    """How the program ends where it refuses a line."""
+    return Ran(REFUSED, b"", f"fdb_audit: logs refused: {refusal(number, why)}\n".encode())
+
+
+def refusals():
+    """Names texts that are refused, and how the program ends."""
+    for name, line, why in LINES + FIRST:
+        # Without its end an empty last line is none.
+        end = b"\n" if not line else b""
+        yield f"{name}, alone", line + end, refused_at(1, why)
+        yield f"{name}, at the end of three", TIMED * 2 + line + end, refused_at(3, why)
+        yield f"{name}, above no JSON", TIMED + line + b"\n{\n", refused_at(2, why)
+    for name, above, line, why in BELOW:
+        yield name, above * 2 + line + b"\n", refused_at(3 if above else 1, why)
+    yield "the first of two is named", b"{}\nnull\n[\n", refused_at(1, "NoCall")
+
+
+def refused(_program):
+    """The first line with which something is wrong is refused, for the first of these things."""
+    for number, (name, given, wanted) in enumerate(refusals()):
+        words = ASKED[number % len(ASKED)]
+        yield name, fault_of(run([PROGRAM, *words], given), wanted)
+
+
+def refused_by_model(_program):
+    """The model refuses the same."""
+    for name, given, wanted in refusals():
+        yield name, fault_of(judged_as(given, []), wanted)
+
+
+# ---- large logs
+
+
+def large_log(count=LARGE):
+    """A log of 1,000 clients, of which each 20th line is a stale read, and its faults.
+
+    Line N, from 0, began at 10 N and ended 1 later. Each stale read is of 0, right after a commit,
+    whose version no other line shows.
+    """
+    lines, faults = [], []
+    for at in range(count):
+        client, is_read = f"client {at % CLIENTS}", at % 20 == 19
+        kind = f'"read":0' if is_read else f'"commit":{at + 1}'
+        lines.append(f'{{"client":"{client}",{kind},"note":"{at:09}","began":{10 * at},'
+                     f'"ended":{10 * at + 1}}}\n')
+        if is_read:
+            faults.append(
+                f'audit fault: Order {at + 1}: client "{client}" read 0, but {at} was known: line '
+                f'{at} (client "client {(at - 1) % CLIENTS}", commit {at}) had ended 9 before line '
+                f"{at + 1} began\n"
+            )
+    return "".join(lines).encode(), "".join(faults).encode()
+
+
+def learnt_log(clients=CLIENTS):
+    """A log of 1,000 clients: each commits, and the next learns from it.
+
+    A commit has heard of all lines above it, and a learn, the first line of its client, of none.
+    """
+    lines = []
+    for at in range(clients):
+        lines.append(f'{{"client":"c{at}","commit":{at + 1}}}\n')
+        lines.append(f'{{"client":"c{at + 1}","learn":"c{at}"}}\n')
+    ordered = clients * (clients - 1) + 2 * clients
+    return "".join(lines).encode(), ordered
+
+
+def large(_program):
+    """Large logs are judged in a bounded time, with all their faults."""
+    given, faults = large_log()
+    line = b"fdb_audit: audit fault: Order 20\n"
+    yield f"{len(given)} bytes, a fault for each 20 lines", timed(
+        [PROGRAM, "--all"], given, Ran(FAULTY, faults, line)
+    )
+    lines = [it for it in given.splitlines(keepends=True) if b'"read"' not in it]
+    total = len(lines)
+    yield "as many without a fault", timed([PROGRAM], b"".join(lines), Ran(OK, (
+        f"audit ok lines {total} timed {total} reads 0 commits {total} asks 0 reports 0 learns 0 "
+        f"unreported 0 ordered {total * (total - 1) // 2}\n").encode(), b""))
+    text, ordered = learnt_log()
+    last = b'{"client":"c%d","read":%d}\n'
+    said = (f"audit ok lines {2 * CLIENTS + 1} timed 0 reads 1 commits {CLIENTS} asks 0 reports 0 "
+            f"learns {CLIENTS} unreported 0 ordered {ordered}\n")
+    yield "a chain of learns", timed(
+        [PROGRAM], text + last % (CLIENTS, CLIENTS), Ran(OK, said.encode(), b"")
+    )
+    fault = (f'audit fault: Order {2 * CLIENTS + 1}: client "c{CLIENTS}" read 0, but {CLIENTS} was '
+             f'known: line {2 * CLIENTS} had learnt of line {2 * CLIENTS - 1} (client '
+             f'"c{CLIENTS - 1}", commit {CLIENTS})\n')
+    yield "a chain of learns, and a stale read", timed(
+        [PROGRAM], text + last % (CLIENTS, 0), ended_with(fault.encode())
+    )
+
+
+def timed(words, given, wanted):
+    """What is wrong with a run, also where it takes too long."""
+    before = resource.getrusage(resource.RUSAGE_CHILDREN)
+    ran = run(words, given, 10 * LARGE_SECONDS)
+    after = resource.getrusage(resource.RUSAGE_CHILDREN)
+    spent = after.ru_utime + after.ru_stime - before.ru_utime - before.ru_stime
+    fault = f"it took {spent:.1f} s" if spent > LARGE_SECONDS else None
+    return fault_of(ran, wanted) or fault
