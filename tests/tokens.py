@@ -1,7 +1,7 @@
 """Tokens of one service's name do not compile beside a live record of another's.
 
 No proof says so, and an edit that must fail has to compile. So the check of types is asked, on a
-scratch copy of fdb_live and the crate below it, with a small program above them. It needs no proof,
+scratch copy of fdb_live and the crates below it, with a small program above them. It needs no proof,
 and stops before anything is built.
 """
 import os
@@ -11,7 +11,7 @@ import tempfile
 
 from harness import ROOT, run
 
-BELOW = ["fdb_history", "fdb_live"]
+BELOW = ["fdb_history", "fdb_chain", "fdb_live"]
 SECONDS = 300
 
 HEAD = """//! A live record, and tokens that are given to it.
