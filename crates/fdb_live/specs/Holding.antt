@@ -9,7 +9,7 @@ use Rattle.fdb_history.specs.Issuing.{Chain, answer_to, with_answer}
 use Rattle.fdb_history.specs.declared.chain.Ask.{Ask}
 use Rattle.fdb_history.specs.declared.chain.Issued.{Issued}
 use Rattle.fdb_history.specs.declared.register.Record.{Record}
-use Rattle.fdb_live.specs.Seen.{Sight}
+use Rattle.fdb_live.specs.Seen.{Sight, own_positions}
 use Rattle.fdb_live.specs.declared.change.Change.{Change}
 
 -- What its holder has seen: the answers by which versions were drawn, and the reports that changed
@@ -106,3 +106,15 @@ pub record IsClosedWith (answers : List Issued) (old : Holding) (k : ℕ) (token
       ≡ Some (record { number = old.number; answers = answers; changes = old.changes })
   pub seen : IsPrefix old.answers answers
   pub own : answers_among old.number answers ≡ own_answers old
+
+-- What stands at a place among some tokens is what this one has become once its holder has seen all
+-- of these changes: it has lost no answer, and what are its own is as before.
+pub record IsToldAll (changes : List Change) (old : Holding) (k : ℕ) (tokens : List Holding)
+    : Type 0 where
+  pub now : Holding
+  pub at : slice_get tokens k ≡ Some now
+  pub number : now.number ≡ old.number
+  pub seen : now.changes ≡ changes
+  pub answers : IsPrefix old.answers now.answers
+  pub own_answers : own_answers now ≡ own_answers old
+  pub own_changes : own_positions (sight_of now) ≡ own_positions (sight_of old)
