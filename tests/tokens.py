@@ -1,8 +1,8 @@
 """Tokens of one service's name do not compile beside a live record of another's.
 
 No proof says so, and an edit that must fail has to compile. So the check of types is asked, on a
-scratch copy of fdb_live and the crates below it, with a small program above them. It needs no proof,
-and stops before anything is built.
+scratch copy of fdb_live and the crates below it, with a small program above them. It needs no
+proof, and stops before anything is built.
 """
 import os
 import re

@@ -1,5 +1,5 @@
-use Rattle.std.proofs.Common.{◌≡◌, ◌<◌, ℕ, length, Some, None, slice_get, ap, ◌∙◌, subst, sym, arith}
-use Rattle.std.specs.Prelude.{All, map, option_map, IsSome}
+use Rattle.std.proofs.Common.{◌≡◌, ◌<◌, ℕ, length, Some, slice_get, ap, ◌∙◌, subst, sym, arith}
+use Rattle.std.specs.Prelude.{All, map, option_map}
 use Rattle.std.proofs.lemmas.List.{length-map}
 use Rattle.std.proofs.lemmas.Option.{slice_get-map, slice_get_within}
 use Rattle.fdb_live.specs.Holding.{Holding, IsToldAll, sight_of}
