@@ -4,7 +4,7 @@ ghost use Rattle.std.specs.Prelude.{◌≡◌, ◌≢◌, ◌+◌, ◌<◌, ◌�
 ghost use Rattle.std.specs.Prelude.{All, Contains, None, Some};
 ghost use Rattle.std.specs.Prelude.{IfErr, IfOk, OnErr, OnOk, IsSome, slice_get, true, false};
 ghost use mathlib.Core.List.{IsPrefix};
-ghost use Rattle.fdb_chain.specs.ChainCore.{IsAnswer, IsFor, MayRefuse, new_chain};
+ghost use Rattle.fdb_chain.specs.ChainCore.{IsAnswer, IsEpoch, IsFor, MayRefuse, new_chain};
 ghost use Rattle.fdb_history.specs.Chain.{IsChain, latest};
 ghost use Rattle.fdb_history.specs.Issuing.{answer_to};
 ghost use Rattle.fdb_history.specs.declared.chain.Issued.{Issued};
@@ -74,6 +74,8 @@ impl<J: Live> Master<J> {
         ensures in_range { IfOk result (λ issued. issued.version ≤ MAX_VERSION) }
         ensures cause { IfErr result (MayRefuse ask) }
         ensures known { result ≢ Err ChainError.UnknownProxy }
+        ensures member { ask.proxy < J.reporters }
+        ensures epoch { IsEpoch J.epoch_end J.recovery }
         ensures extends { IsPrefix token.old.answers token.new.answers }
         ensures log { IsChain J.epoch_end J.recovery token.new.answers }
         ensures drawn { IfOk result (λ issued. issued.fresh ≡ true
@@ -181,6 +183,8 @@ impl<J: Live> Master<J> {
         ensures covers { IsNotBehind
             (last_record J.start told.changes)
             (last_record J.start token.new.changes) }
+        ensures bounded { IsBounded (length token.new.changes)
+            (last_record J.start token.new.changes) }
         ensures chain { IsChain J.epoch_end J.recovery token.new.answers }
         ensures log { IsLog J.start J.reporters token.new.changes }
     {
@@ -215,6 +219,8 @@ impl<J: Live> Master<J> {
             (last_record J.start token.new.changes) }
         ensures covers { IsNotBehind
             (last_record J.start told.changes)
+            (last_record J.start token.new.changes) }
+        ensures bounded { IsBounded (length token.new.changes)
             (last_record J.start token.new.changes) }
         ensures chain { IsChain J.epoch_end J.recovery token.new.answers }
         ensures log { IsLog J.start J.reporters token.new.changes }
@@ -261,6 +267,8 @@ impl<J: Live> Master<J> {
             (last_record J.start token.old.changes)
             (last_record J.start token.new.changes) }
         ensures covers { OnOk result (IsNotBehind rec (last_record J.start token.new.changes)) }
+        ensures bounded { OnOk result (IsBounded (length token.new.changes)
+            (last_record J.start token.new.changes)) }
         ensures chain { OnOk result (IsChain J.epoch_end J.recovery token.new.answers) }
         ensures log { OnOk result (IsLog J.start J.reporters token.new.changes) }
         ensures changed { IfOk result (λ ack. ack.changed ≡ true →

@@ -3,7 +3,7 @@
 
 ghost use Rattle.std.specs.Prelude.{◌≡◌, ◌<◌, ◌≤◌, All, Some, IfErr, IfOk, IsSome};
 ghost use mathlib.Core.List.{IsPrefix};
-ghost use Rattle.fdb_chain.specs.ChainCore.{IsFor, MayRefuse, new_chain};
+ghost use Rattle.fdb_chain.specs.ChainCore.{IsEpoch, IsFor, MayRefuse, new_chain};
 ghost use Rattle.fdb_history.specs.Chain.{IsChain};
 ghost use Rattle.fdb_live.specs.Holding.{IsAsked, own_answers};
 
@@ -64,6 +64,7 @@ impl<J: Live> Turn<J> {
         ensures in_range { IfOk result (λ issued. issued.version ≤ MAX_VERSION) }
         ensures cause { IfErr result (MayRefuse ask) }
         ensures member { ask.proxy < J.reporters }
+        ensures epoch { IsEpoch J.epoch_end J.recovery }
         ensures log { IsChain J.epoch_end J.recovery token.new.answers }
         ensures start { J.start.version ≤ J.recovery }
     {

@@ -1,5 +1,6 @@
 use Rattle.std.proofs.Common.{rules, arith}
 use Rattle.fdb_live.proofs.Reports.{version_in_range}
+use Rattle.fdb_live.proofs.Rising.{bounded}
 use Rattle.fdb_live.proofs.master.Master.report.Goals as goal
 
 pub report_drawn-requires-clause-taken : goal.report_drawn-requires-clause-taken
@@ -8,3 +9,6 @@ report_drawn-requires-clause-taken g c =
       in_range = version_in_range g.J.Service.epoch_end g.J.Service.recovery c.args.token.now.answers c.args.rec.version (search rules) c.requires.drawn;
       within = (let no = c.if-rec.false in omega arith);
     }
+
+pub returns-clause-bounded : goal.returns-clause-bounded
+returns-clause-bounded g c = bounded _ _ _ c.report_drawn.ensures.log
