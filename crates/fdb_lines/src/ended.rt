@@ -7,7 +7,7 @@ ghost use Rattle.fdb_lines.specs.private.Ended.{HasEnds, HasTimes};
 ghost use Rattle.fdb_lines.specs.private.Ends.{end_key};
 
 use crate::end::End;
-use crate::ends::{front_of, order};
+use crate::ends::{front_near, order};
 use crate::line::Line;
 use crate::versions::below;
 use std::alloc::{AllocError, Global};
@@ -43,11 +43,14 @@ impl Ended {
         below(&self.times, time)
     }
 
-    /// How many of a client had ended before a moment, with all of lower clients. Logarithmic.
-    pub(crate) fn own_above(&self, client: u32, time: u64, place: u32) -> usize
+    /// How many of a client had ended before a moment, with all of lower clients. It is looked for
+    /// first near the place that the last search left there. Logarithmic.
+    pub(crate) fn own_above(&self, client: u32, time: u64, place: u32, near: &mut usize) -> usize
         ensures { result ≡ count_above self.now.own.items client time place }
     {
-        front_of(&self.own, &End::new(client, time, place, 0))
+        let front = front_near(&self.own, &End::new(client, time, place, 0), *near);
+        *near = front;
+        front
     }
 }
 

@@ -1,6 +1,6 @@
 //! A table of calls that ended, in which the newest version before a moment is found by a search.
 
-ghost use Rattle.std.specs.Prelude.{◌≡◌, ℕ, ◌≤◌, IfOk, length, nat_lt};
+ghost use Rattle.std.specs.Prelude.{◌≡◌, ℕ, ◌≤◌, IfOk, IfSome, length, nat_lt};
 ghost use Rattle.std.specs.List.Sorted.{IsNonDecreasingBy};
 ghost use Rattle.std.specs.Ordering.{nat_cmp};
 ghost use Rattle.fdb_lines.specs.private.Ends.{end_key, newest_before, AreNewest};
@@ -9,6 +9,9 @@ ghost use Rattle.fdb_lines.specs.private.Ends.{AreSettled, IsFront};
 use crate::end::End;
 use std::alloc::{AllocError, Global};
 use std::cmp::Ordering;
+
+/// How far around a place a search looks first.
+const NEXT: usize = 8;
 
 /// How far around a place a search looks before it looks through all.
 const NEAR: usize = 1_024;
@@ -67,22 +70,37 @@ fn is_before(a: &End, b: &End) -> bool
 
 /// How many ends of a sorted table come before a moment. The ends around a place are looked through
 /// first: where moments come nearly in order, that is much less of the table than all of it.
-fn front_near(ends: &[End], moment: &End, near: usize) -> usize
+pub(crate) fn front_near(ends: &[End], moment: &End, near: usize) -> usize
     requires { IsNonDecreasingBy end_key ends.now }
     ensures bound { result ≤ length ends.now }
     ensures parts { IsFront ends.now (end_key moment.now) result }
 {
-    let low = near.saturating_sub(NEAR);
-    let high = near.saturating_add(NEAR);
+    if let Some(front) = front_around(ends, moment, near, NEXT) {
+        return front;
+    }
+    if let Some(front) = front_around(ends, moment, near, NEAR) {
+        return front;
+    }
+    front_of(ends, moment)
+}
+
+/// How many ends of a sorted table come before a moment, if that is about as many as a guess.
+fn front_around(ends: &[End], moment: &End, near: usize, reach: usize) -> Option<usize>
+    requires { IsNonDecreasingBy end_key ends.now }
+    ensures bound { IfSome result (λ front. front ≤ length ends.now) }
+    ensures parts { IfSome result (λ front. IsFront ends.now (end_key moment.now) front) }
+{
+    let low = near.saturating_sub(reach);
+    let high = near.saturating_add(reach);
     if high < ends.len() && is_before(&ends[low], moment) && !is_before(&ends[high], moment) {
-        low + front_of(&ends[low..high], moment)
+        Some(low + front_of(&ends[low..high], moment))
     } else {
-        front_of(ends, moment)
+        None
     }
 }
 
 /// How many ends of a sorted table come before a moment.
-pub(crate) fn front_of(ends: &[End], moment: &End) -> usize
+fn front_of(ends: &[End], moment: &End) -> usize
     requires { IsNonDecreasingBy end_key ends.now }
     ensures bound { result ≤ length ends.now }
     ensures parts { IsFront ends.now (end_key moment.now) result }

@@ -10,6 +10,7 @@ ghost use Rattle.fdb_lines.specs.private.Known.{AreKnown, AreOfAll, HasOwn, IsTa
 use crate::end::End;
 use crate::ends::Ends;
 use crate::line::Line;
+use crate::nears::Nears;
 use crate::seen::{Seen, counts};
 use std::alloc::{AllocError, Global};
 
@@ -62,21 +63,21 @@ fn add_own(
     ensures { OnOk result (HasOwn seen lines.now known.old.items known.new.items) }
 {
     let table = table_of(alloc, lines, seen, true)?;
-    let mut near = 0;
+    let mut nears = Nears::new();
     for (place, line) in lines.iter().enumerate() {
-        let own = own_before(&table, line, place as u32, &mut near);
+        let own = own_before(&table, line, place as u32, &mut nears);
         known[place] = known[place].max(own);
     }
     Ok(())
 }
 
 /// The newest version of a client's own lines that had ended when its line at a place began.
-fn own_before(table: &Ends, line: &Line, place: u32, near: &mut usize) -> u64
+fn own_before(table: &Ends, line: &Line, place: u32, nears: &mut Nears) -> u64
     requires { AreSettled table.now }
     ensures { result ≡ own_newest table.now.ends.items line.now.client (began line.now) place }
 {
     match line.client {
-        Some(client) => table.newest_before(client, line.began(), place, near),
+        Some(client) => table.newest_before(client, line.began(), place, nears.of(client)),
         None => 0,
     }
 }

@@ -17,6 +17,7 @@ mod line;
 mod log;
 mod mark;
 mod marks;
+mod nears;
 mod opts;
 mod ordering;
 mod owner;

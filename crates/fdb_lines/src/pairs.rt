@@ -15,6 +15,7 @@ use crate::ended::Ended;
 use crate::heard_counts::HeardCounts;
 use crate::line::{Call, Line};
 use crate::log::Log;
+use crate::nears::Nears;
 use crate::opts::AuditOpts;
 use std::alloc::{AllocError, Global};
 use std::collections::HashMap;
@@ -36,16 +37,17 @@ fn pairs_by_time(alloc: Global, lines: &[Line], margin: u64) -> Result<u64, Allo
     ensures { IfOk result (λ n. n ≡ pairs (by_time margin lines.now) (length lines.now)) }
 {
     let ended = Ended::new(alloc, lines)?;
+    let mut nears = Nears::new();
     let mut pairs: u64 = 0;
     for place in 0..lines.len() {
-        pairs += before(&ended, lines, margin, place);
+        pairs += before(&ended, lines, margin, place, &mut nears);
     }
     Ok(pairs)
 }
 
 /// How many lines come before the one at a place: all that had ended by more than the margin, and
 /// its client's own that had ended, of which `twice` are among both.
-fn before(ended: &Ended, lines: &[Line], margin: u64, place: usize) -> u64
+fn before(ended: &Ended, lines: &[Line], margin: u64, place: usize, nears: &mut Nears) -> u64
     requires few { length lines.now ≤ 4294967295 }
     requires place { place < length lines.now }
     requires times { HasTimes lines.now (length lines.now) ended.now.times.items }
@@ -58,8 +60,9 @@ fn before(ended: &Ended, lines: &[Line], margin: u64, place: usize) -> u64
     let Some(client) = line.client else {
         return all as u64;
     };
-    let own = ended.own_above(client, line.began(), place as u32);
-    let twice = ended.own_above(client, bound, 0);
+    let near = nears.of(client);
+    let own = ended.own_above(client, line.began(), place as u32, near);
+    let twice = ended.own_above(client, bound, 0, near);
     (all + own - twice) as u64
 }
 

@@ -4,7 +4,7 @@ use Rattle.std.proofs.lemmas.List.{get_or-take, get_or-drop, get_or_default}
 use Rattle.std.specs.List.Sorted.{IsNonDecreasingBy}
 use Rattle.fdb_lines.specs.declared.end.End.{End}
 use Rattle.fdb_lines.specs.private.Ends.{IsFront, end_at, end_key, no_end}
-use Rattle.fdb_lines.proofs.ends.front_near.Goals as goal
+use Rattle.fdb_lines.proofs.ends.front_around.Goals as goal
 
 in_part : (ends : List End) (low high i : ℕ) → low + i < high → end_at (slice_range ends low high) i ≡ end_at ends (low + i)
 in_part ends low high i lt = get_or-take (high - low) (drop low ends) i no_end (omega arith) ∙ get_or-drop low ends i no_end
