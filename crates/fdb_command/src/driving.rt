@@ -15,7 +15,7 @@ ghost use Rattle.std.specs.Io.KnownBytes.{Appends};
 
 use crate::arguments::{ArgumentsFault, Invocation, file_of, parse, show};
 use crate::fault::Fault;
-use crate::intake::take_input;
+use crate::intake::Taker;
 use crate::output::write_whole;
 use crate::program::{Answer, Program};
 use clap::ArgMatches;
@@ -69,7 +69,13 @@ where
     ensures { IsDriven P.promise I.remaining O.contents arguments
         input.old input.new out.old out.new err.old err.new result }
 {
-    match carry_out(program, rt, alloc, arguments, input, out, err, body) {
+    let run = Run {
+        program,
+        rt,
+        alloc,
+        body,
+    };
+    match run.carry_out(arguments, input, out, err) {
         Ok(()) => 0,
         Err(fault) => {
             let _ = writeln!(err, "{}: {fault}", P::NAME);
@@ -78,71 +84,164 @@ where
     }
 }
 
-/// Does what the arguments ask for, and flushes what was written.
-fn carry_out<R, P, I, O, E, B>(
-    program: &P,
-    rt: &R,
+/// A program that is to be run, and what it is run with beside its arguments and its streams.
+#[derive(Drop)]
+struct Run<'a, P, R, B> {
+    program: &'a P,
+    rt: &'a R,
     alloc: Global,
-    arguments: io::Result<Vec<String>>,
-    input: &mut I,
-    out: &mut O,
-    err: &mut E,
     body: B,
-) -> Result<(), Fault<P::Refusal, P::Finding>>
+}
+
+impl<P, R, B> Run<'_, P, R, B>
 where
-    R: Files,
     P: Program,
-    I: Read,
-    O: Write,
-    E: Write,
+    R: Files,
     B: FnOnce(P::Options, P::Intake) -> Made<P> + Drop,
-    requires callable { IsCallable P.promise (B.pre body) }
-    requires promised { KeepsPromise P.promise (B.post body) }
-    ensures asked { MatchResult result
-        (λ _. IsOkAnd arguments (λ list. AreTaken P.promise.app (map string_bytes list.items)))
-        (λ fault. fault ≢ Fault.Arguments → fault ≢ Fault.Memory
-        → IsOkAnd arguments (λ list. AreTaken P.promise.app (map string_bytes list.items))) }
-    ensures done { OnOk result (IsOkAnd arguments (λ list.
-        IsDone P.promise (map string_bytes list.items)
-        (I.remaining input.old) (O.contents out.old) (O.contents out.new))) }
-    ensures refused { IfErr result (λ fault. (error : P.Refusal)
-        → fault ≡ Fault.Refused error → IsOkAnd arguments (λ list.
-        MayRefuse P.promise (map string_bytes list.items) (I.remaining input.old))) }
-    ensures faulty { IfErr result (λ fault. (found : P.Finding) → fault ≡ Fault.Found found
-        → IsOkAnd arguments (λ list. ((out.new ≡ out.old)
-        × MayFind P.promise (map string_bytes list.items) (I.remaining input.old))
-        ⊎ ((found : P.Finding) × IsWritten P.promise (map string_bytes list.items)
-        (I.remaining input.old) (Some found) (O.contents out.old) (O.contents out.new)))) }
-    ensures wrong { IfErr result (λ fault. fault ≡ Fault.Arguments
-        → MatchResult arguments (λ list. AreWrong P.promise.app (map string_bytes list.items))
-        (λ error. error_kind error ≢ ErrorKind.OutOfMemory)) }
-    ensures memory { IfErr result (λ fault. fault ≡ Fault.Memory
-        → IfErr arguments (λ error. error_kind error ≡ ErrorKind.OutOfMemory)) }
-    ensures unread { OnErr arguments (input.new ≡ input.old) }
-    ensures left { IfOk arguments (λ list.
-        (ReadsInput P.promise.app (map string_bytes list.items) → ⊥) → input.new ≡ input.old) }
-    ensures quiet { IfOk arguments (λ list.
-        (TellsProgress P.promise (map string_bytes list.items) → ⊥) → err.new ≡ err.old) }
-    ensures unwritten { IfErr result (λ fault.
-        ((error : P.Refusal) × (fault ≡ Fault.Refused error))
-        ⊎ ((fault ≡ Fault.Arguments) ⊎ (fault ≡ Fault.Memory)) → out.new ≡ out.old) }
-    ensures begun { IfErr result (λ fault. (fault ≡ Fault.Reading) ⊎ (fault ≡ Fault.Writing)
-        → (out.new ≡ out.old) ⊎ IsOkAnd arguments (λ list.
-        IsBegun P.promise (map string_bytes list.items)
-        (I.remaining input.old) (O.contents out.old) (O.contents out.new))) }
-    ensures few { TakesAtMost (P.promise.most + 1)
-        (I.remaining input.old) (I.remaining input.new) }
 {
-    let arguments = match arguments {
-        Ok(arguments) => arguments,
-        Err(error) => return Err(Fault::from(ArgumentsFault::from(error))),
-    };
-    match asked(program, alloc, &arguments)? {
-        Invocation::Help(help) => match show(&help, out) {
-            Ok(()) => Ok(()),
-            Err(_) => Err(Fault::Writing),
-        },
-        Invocation::Input(matches) => run_on(program, rt, alloc, &matches, input, out, err, body),
+    /// Does what the arguments ask for, and flushes what was written.
+    fn carry_out<I: Read, O: Write, E: Write>(
+        self,
+        arguments: io::Result<Vec<String>>,
+        input: &mut I,
+        out: &mut O,
+        err: &mut E,
+    ) -> Result<(), Fault<P::Refusal, P::Finding>>
+        requires callable { IsCallable P.promise (B.pre self.body) }
+        requires promised { KeepsPromise P.promise (B.post self.body) }
+        ensures asked { MatchResult result
+            (λ _. IsOkAnd arguments (λ list. AreTaken P.promise.app (map string_bytes list.items)))
+            (λ fault. fault ≢ Fault.Arguments → fault ≢ Fault.Memory
+            → IsOkAnd arguments (λ list. AreTaken P.promise.app (map string_bytes list.items))) }
+        ensures done { OnOk result (IsOkAnd arguments (λ list.
+            IsDone P.promise (map string_bytes list.items)
+            (I.remaining input.old) (O.contents out.old) (O.contents out.new))) }
+        ensures refused { IfErr result (λ fault. (error : P.Refusal)
+            → fault ≡ Fault.Refused error → IsOkAnd arguments (λ list.
+            MayRefuse P.promise (map string_bytes list.items) (I.remaining input.old))) }
+        ensures faulty { IfErr result (λ fault. (found : P.Finding) → fault ≡ Fault.Found found
+            → IsOkAnd arguments (λ list. ((out.new ≡ out.old)
+            × MayFind P.promise (map string_bytes list.items) (I.remaining input.old))
+            ⊎ ((found : P.Finding) × IsWritten P.promise (map string_bytes list.items)
+            (I.remaining input.old) (Some found) (O.contents out.old) (O.contents out.new)))) }
+        ensures wrong { IfErr result (λ fault. fault ≡ Fault.Arguments
+            → MatchResult arguments (λ list. AreWrong P.promise.app (map string_bytes list.items))
+            (λ error. error_kind error ≢ ErrorKind.OutOfMemory)) }
+        ensures memory { IfErr result (λ fault. fault ≡ Fault.Memory
+            → IfErr arguments (λ error. error_kind error ≡ ErrorKind.OutOfMemory)) }
+        ensures unread { OnErr arguments (input.new ≡ input.old) }
+        ensures left { IfOk arguments (λ list.
+            (ReadsInput P.promise.app (map string_bytes list.items) → ⊥) → input.new ≡ input.old) }
+        ensures quiet { IfOk arguments (λ list.
+            (TellsProgress P.promise (map string_bytes list.items) → ⊥) → err.new ≡ err.old) }
+        ensures unwritten { IfErr result (λ fault.
+            ((error : P.Refusal) × (fault ≡ Fault.Refused error))
+            ⊎ ((fault ≡ Fault.Arguments) ⊎ (fault ≡ Fault.Memory)) → out.new ≡ out.old) }
+        ensures begun { IfErr result (λ fault. (fault ≡ Fault.Reading) ⊎ (fault ≡ Fault.Writing)
+            → (out.new ≡ out.old) ⊎ IsOkAnd arguments (λ list.
+            IsBegun P.promise (map string_bytes list.items)
+            (I.remaining input.old) (O.contents out.old) (O.contents out.new))) }
+        ensures few { TakesAtMost (P.promise.most + 1)
+            (I.remaining input.old) (I.remaining input.new) }
+    {
+        let arguments = match arguments {
+            Ok(arguments) => arguments,
+            Err(error) => return Err(Fault::from(ArgumentsFault::from(error))),
+        };
+        match asked(self.program, self.alloc, &arguments)? {
+            Invocation::Help(help) => match show(&help, out) {
+                Ok(()) => Ok(()),
+                Err(_) => Err(Fault::Writing),
+            },
+            Invocation::Input(matches) => self.run_on(&matches, input, out, err),
+        }
+    }
+
+    /// Has the program run on what the arguments name, and writes its text.
+    fn run_on<I: Read, O: Write, E: Write>(
+        self,
+        matches: &ArgMatches<'_>,
+        input: &mut I,
+        out: &mut O,
+        err: &mut E,
+    ) -> Result<(), Fault<P::Refusal, P::Finding>>
+        requires callable { IsCallable P.promise (B.pre self.body) }
+        requires promised { KeepsPromise P.promise (B.post self.body) }
+        requires matches { (arguments : List Text)
+            × AreMatches P.promise.app arguments matches.now }
+        ensures done { (arguments : List Text) → AreMatches P.promise.app arguments matches.now
+            → OnOk result (IsWritten P.promise arguments (I.remaining input.old) None
+            (O.contents out.old) (O.contents out.new)) }
+        ensures refused { (arguments : List Text) → AreMatches P.promise.app arguments matches.now
+            → IfErr result (λ fault. (error : P.Refusal) → fault ≡ Fault.Refused error
+            → MayRefuse P.promise arguments (I.remaining input.old)) }
+        ensures faulty { (arguments : List Text) → AreMatches P.promise.app arguments matches.now
+            → IfErr result (λ fault. (found : P.Finding) → fault ≡ Fault.Found found
+            → ((out.new ≡ out.old) × MayFind P.promise arguments (I.remaining input.old))
+            ⊎ ((found : P.Finding) × IsWritten P.promise arguments
+            (I.remaining input.old) (Some found) (O.contents out.old) (O.contents out.new))) }
+        ensures own { IfErr result (λ fault. fault ≢ Fault.Arguments) }
+        ensures unwritten { IfErr result (λ fault.
+            ((error : P.Refusal) × (fault ≡ Fault.Refused error))
+            ⊎ (fault ≡ Fault.Memory) → out.new ≡ out.old) }
+        ensures begun { (arguments : List Text) → AreMatches P.promise.app arguments matches.now
+            → OnErr result ((out.new ≡ out.old) ⊎ IsBegun P.promise arguments
+            (I.remaining input.old) (O.contents out.old) (O.contents out.new)) }
+        ensures left { (arguments : List Text) → AreMatches P.promise.app arguments matches.now
+            → (ReadsInput P.promise.app arguments → ⊥) → input.new ≡ input.old }
+        ensures quiet { (arguments : List Text) → AreMatches P.promise.app arguments matches.now
+            → (TellsProgress P.promise arguments → ⊥) → err.new ≡ err.old }
+        ensures few { TakesAtMost (P.promise.most + 1)
+            (I.remaining input.old) (I.remaining input.new) }
+    {
+        match self.answer_of(matches, input, err) {
+            Ok(answer) => put(answer, out),
+            Err(fault) => Err(fault),
+        }
+    }
+
+    /// What the program makes of the file that the arguments name, or else of the input.
+    fn answer_of<I: Read, E: Write>(
+        self,
+        matches: &ArgMatches<'_>,
+        input: &mut I,
+        err: &mut E,
+    ) -> Made<P>
+        requires callable { IsCallable P.promise (B.pre self.body) }
+        requires promised { KeepsPromise P.promise (B.post self.body) }
+        requires matches { (arguments : List Text)
+            × AreMatches P.promise.app arguments matches.now }
+        ensures printed { (arguments : List Text) → AreMatches P.promise.app arguments matches.now
+            → IfOk result (λ answer. IsPrinted P.promise arguments (I.remaining input.old)
+            answer.found answer.text.items) }
+        ensures refused { (arguments : List Text) → AreMatches P.promise.app arguments matches.now
+            → IfErr result (λ fault. (error : P.Refusal) → fault ≡ Fault.Refused error
+            → MayRefuse P.promise arguments (I.remaining input.old)) }
+        ensures faulty { (arguments : List Text) → AreMatches P.promise.app arguments matches.now
+            → IfErr result (λ fault. (found : P.Finding) → fault ≡ Fault.Found found
+            → MayFind P.promise arguments (I.remaining input.old)) }
+        ensures own { IfErr result (λ fault. (fault ≢ Fault.Arguments) × (fault ≢ Fault.Writing)) }
+        ensures left { (arguments : List Text) → AreMatches P.promise.app arguments matches.now
+            → (ReadsInput P.promise.app arguments → ⊥) → input.new ≡ input.old }
+        ensures quiet { (arguments : List Text) → AreMatches P.promise.app arguments matches.now
+            → (TellsProgress P.promise arguments → ⊥) → err.new ≡ err.old }
+        ensures few { TakesAtMost (P.promise.most + 1)
+            (I.remaining input.old) (I.remaining input.new) }
+    {
+        let Run {
+            program,
+            rt,
+            alloc,
+            body,
+        } = self;
+        let options = program.options(matches);
+        let taker = Taker {
+            program,
+            alloc,
+            options: &options,
+        };
+        let intake = taker.take_input(rt, file_of(matches), input, err)?;
+        body(options, intake)
     }
 }
 
@@ -160,99 +259,6 @@ fn asked<'a, P: Program>(
         Ok(command) => parse(command, arguments),
         Err(_) => Err(ArgumentsFault::Memory),
     }
-}
-
-/// Has the program run on what the arguments name, and writes its text.
-fn run_on<R, P, I, O, E, B>(
-    program: &P,
-    rt: &R,
-    alloc: Global,
-    matches: &ArgMatches<'_>,
-    input: &mut I,
-    out: &mut O,
-    err: &mut E,
-    body: B,
-) -> Result<(), Fault<P::Refusal, P::Finding>>
-where
-    R: Files,
-    P: Program,
-    I: Read,
-    O: Write,
-    E: Write,
-    B: FnOnce(P::Options, P::Intake) -> Made<P> + Drop,
-    requires callable { IsCallable P.promise (B.pre body) }
-    requires promised { KeepsPromise P.promise (B.post body) }
-    requires matches { (arguments : List Text) × AreMatches P.promise.app arguments matches.now }
-    ensures done { (arguments : List Text) → AreMatches P.promise.app arguments matches.now
-        → OnOk result (IsWritten P.promise arguments (I.remaining input.old) None
-        (O.contents out.old) (O.contents out.new)) }
-    ensures refused { (arguments : List Text) → AreMatches P.promise.app arguments matches.now
-        → IfErr result (λ fault. (error : P.Refusal) → fault ≡ Fault.Refused error
-        → MayRefuse P.promise arguments (I.remaining input.old)) }
-    ensures faulty { (arguments : List Text) → AreMatches P.promise.app arguments matches.now
-        → IfErr result (λ fault. (found : P.Finding) → fault ≡ Fault.Found found
-        → ((out.new ≡ out.old) × MayFind P.promise arguments (I.remaining input.old))
-        ⊎ ((found : P.Finding) × IsWritten P.promise arguments (I.remaining input.old) (Some found)
-        (O.contents out.old) (O.contents out.new))) }
-    ensures own { IfErr result (λ fault. fault ≢ Fault.Arguments) }
-    ensures unwritten { IfErr result (λ fault.
-        ((error : P.Refusal) × (fault ≡ Fault.Refused error))
-        ⊎ (fault ≡ Fault.Memory) → out.new ≡ out.old) }
-    ensures begun { (arguments : List Text) → AreMatches P.promise.app arguments matches.now
-        → OnErr result ((out.new ≡ out.old) ⊎ IsBegun P.promise arguments (I.remaining input.old)
-        (O.contents out.old) (O.contents out.new)) }
-    ensures left { (arguments : List Text) → AreMatches P.promise.app arguments matches.now
-        → (ReadsInput P.promise.app arguments → ⊥) → input.new ≡ input.old }
-    ensures quiet { (arguments : List Text) → AreMatches P.promise.app arguments matches.now
-        → (TellsProgress P.promise arguments → ⊥) → err.new ≡ err.old }
-    ensures few { TakesAtMost (P.promise.most + 1)
-        (I.remaining input.old) (I.remaining input.new) }
-{
-    match answer_of(program, rt, alloc, matches, input, err, body) {
-        Ok(answer) => put(answer, out),
-        Err(fault) => Err(fault),
-    }
-}
-
-/// What the program makes of the file that the arguments name, or else of the input.
-fn answer_of<R, P, I, E, B>(
-    program: &P,
-    rt: &R,
-    alloc: Global,
-    matches: &ArgMatches<'_>,
-    input: &mut I,
-    err: &mut E,
-    body: B,
-) -> Made<P>
-where
-    R: Files,
-    P: Program,
-    I: Read,
-    E: Write,
-    B: FnOnce(P::Options, P::Intake) -> Made<P> + Drop,
-    requires callable { IsCallable P.promise (B.pre body) }
-    requires promised { KeepsPromise P.promise (B.post body) }
-    requires matches { (arguments : List Text) × AreMatches P.promise.app arguments matches.now }
-    ensures printed { (arguments : List Text) → AreMatches P.promise.app arguments matches.now
-        → IfOk result (λ answer. IsPrinted P.promise arguments (I.remaining input.old)
-        answer.found answer.text.items) }
-    ensures refused { (arguments : List Text) → AreMatches P.promise.app arguments matches.now
-        → IfErr result (λ fault. (error : P.Refusal) → fault ≡ Fault.Refused error
-        → MayRefuse P.promise arguments (I.remaining input.old)) }
-    ensures faulty { (arguments : List Text) → AreMatches P.promise.app arguments matches.now
-        → IfErr result (λ fault. (found : P.Finding) → fault ≡ Fault.Found found
-        → MayFind P.promise arguments (I.remaining input.old)) }
-    ensures own { IfErr result (λ fault. (fault ≢ Fault.Arguments) × (fault ≢ Fault.Writing)) }
-    ensures left { (arguments : List Text) → AreMatches P.promise.app arguments matches.now
-        → (ReadsInput P.promise.app arguments → ⊥) → input.new ≡ input.old }
-    ensures quiet { (arguments : List Text) → AreMatches P.promise.app arguments matches.now
-        → (TellsProgress P.promise arguments → ⊥) → err.new ≡ err.old }
-    ensures few { TakesAtMost (P.promise.most + 1)
-        (I.remaining input.old) (I.remaining input.new) }
-{
-    let options = program.options(matches);
-    let intake = take_input(program, rt, alloc, &options, file_of(matches), input, err)?;
-    body(options, intake)
 }
 
 /// Writes an answer, and flushes it. Fails with the fault that it tells of, where it tells of one.

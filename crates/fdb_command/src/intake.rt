@@ -32,102 +32,167 @@ struct Piece<T: Drop> {
     is_last: bool,
 }
 
-/// Has the program take the bytes of the file that is named, or else of the input, if there are no
-/// more than it may have, and tells of progress where that is asked for. What stops the program
-/// leaves the rest unread. One byte more than it may have is taken from the input at the most, and
-/// none where a file is named.
-pub(crate) fn take_input<R: Files, P: Program, I: Read, E: Write>(
-    program: &P,
-    rt: &R,
-    alloc: Global,
-    options: &P::Options,
-    file: Option<&str>,
-    input: &mut I,
-    err: &mut E,
-) -> Result<P::Intake, Fault<P::Refusal, P::Finding>>
-    ensures all { IfOk result (IsTaken P.promise (option_map (λ path. path.now) file.entry)
-        (I.remaining input.old)) }
-    ensures stops { IfErr result (λ fault. (fault ≡ Fault.Reading)
-        ⊎ MayStop P.promise (option_map (λ path. path.now) file.entry)
-        (I.remaining input.old) fault) }
-    ensures left { is_some file.entry ≡ true → input.new ≡ input.old }
-    ensures few { TakesAtMost (P.promise.most + 1)
-        (I.remaining input.old) (I.remaining input.new) }
-    ensures quiet { (arguments : List Text) → P.promise.asks arguments options.now
-        → P.promise.tells arguments ≡ false → err.new ≡ err.old }
-{
-    match file {
-        Some(path) => take_file(program, alloc, options, File::open(rt, path), err),
-        None => take_all(program, alloc, options, input, err),
-    }
+/// What a program takes its input by: what its flags say, and memory.
+#[derive(Drop)]
+pub(crate) struct Taker<'a, P: Program> {
+    pub(crate) program: &'a P,
+    pub(crate) alloc: Global,
+    pub(crate) options: &'a P::Options,
 }
 
-/// Has the program take all bytes of a file, if it could be opened and has no more than it may.
-fn take_file<P: Program, F: Read + Drop, E: Write>(
-    program: &P,
-    alloc: Global,
-    options: &P::Options,
-    opened: io::Result<F>,
-    err: &mut E,
-) -> Result<P::Intake, Fault<P::Refusal, P::Finding>>
-    ensures all { IfOk opened (λ file. IfOk result
-        (IsTaken P.promise None (F.remaining file))) }
-    ensures stops { IfOk opened (λ file. IfErr result (λ fault. (fault ≡ Fault.Reading)
-        ⊎ MayStop P.promise None (F.remaining file) fault)) }
-    ensures unopened { IfErr opened (λ error. IsErrAnd result (λ fault.
-        (cause : _) × IsCauseOf error cause
-        × (cause ≡ InputFault.Reading → fault ≡ Fault.Reading)
-        × (cause ≡ InputFault.Memory → fault ≡ Fault.Memory))) }
-    ensures quiet { (arguments : List Text) → P.promise.asks arguments options.now
-        → P.promise.tells arguments ≡ false → err.new ≡ err.old }
-{
-    match opened {
-        Ok(mut file) => take_all(program, alloc, options, &mut file, err),
-        Err(error) => Err(Fault::from(InputFault::from(error))),
+impl<P: Program> Taker<'_, P> {
+    /// Has the program take the bytes of the file that is named, or else of the input, if there are
+    /// no more than it may have, and tells of progress where that is asked for. What stops the
+    /// program leaves the rest unread. One byte more than it may have is taken from the input at the
+    /// most, and none where a file is named.
+    pub(crate) fn take_input<R: Files, I: Read, E: Write>(
+        &self,
+        rt: &R,
+        file: Option<&str>,
+        input: &mut I,
+        err: &mut E,
+    ) -> Result<P::Intake, Fault<P::Refusal, P::Finding>>
+        ensures all { IfOk result (IsTaken P.promise (option_map (λ path. path.now) file.entry)
+            (I.remaining input.old)) }
+        ensures stops { IfErr result (λ fault. (fault ≡ Fault.Reading)
+            ⊎ MayStop P.promise (option_map (λ path. path.now) file.entry)
+            (I.remaining input.old) fault) }
+        ensures left { is_some file.entry ≡ true → input.new ≡ input.old }
+        ensures few { TakesAtMost (P.promise.most + 1)
+            (I.remaining input.old) (I.remaining input.new) }
+        ensures quiet { (arguments : List Text) → P.promise.asks arguments self.now.options.now
+            → P.promise.tells arguments ≡ false → err.new ≡ err.old }
+    {
+        match file {
+            Some(path) => self.take_file(File::open(rt, path), err),
+            None => self.take_all(input, err),
+        }
     }
-}
 
-/// Has the program take all bytes that the input has, if they are no more than it may have. One
-/// byte more is taken at most.
-fn take_all<P: Program, I: Read, E: Write>(
-    program: &P,
-    alloc: Global,
-    options: &P::Options,
-    input: &mut I,
-    err: &mut E,
-) -> Result<P::Intake, Fault<P::Refusal, P::Finding>>
-    ensures all { IfOk result (IsTaken P.promise None (I.remaining input.old)) }
-    ensures stops { IfErr result (λ fault. (fault ≡ Fault.Reading)
-        ⊎ MayStop P.promise None (I.remaining input.old) fault) }
-    ensures few { TakesAtMost (P.promise.most + 1)
-        (I.remaining input.old) (I.remaining input.new) }
-    ensures quiet { (arguments : List Text) → P.promise.asks arguments options.now
-        → P.promise.tells arguments ≡ false → err.new ≡ err.old }
-{
-    let mut room = Vec::new(alloc);
-    if room.resize(PIECE, 0).is_err() {
-        return Err(Fault::Memory);
-    }
-    let room = room.as_mut_slice();
-    let most = program.most();
-    let mut intake = program.begin(alloc);
-    let mut read = 0;
-    // A reader may be interrupted as often as it likes, but a loop has an end.
-    for _ in 0..u64::MAX {
-        let piece = take_piece(program, intake, input, &mut room[..room_at(read, most)])?;
-        let count = piece.count as u64;
-        if count > most - read {
-            return Err(Fault::Reading);
+    /// Has the program take all bytes of a file, if it could be opened and has no more than it may.
+    fn take_file<F: Read + Drop, E: Write>(
+        &self,
+        opened: io::Result<F>,
+        err: &mut E,
+    ) -> Result<P::Intake, Fault<P::Refusal, P::Finding>>
+        ensures all { IfOk opened (λ file. IfOk result
+            (IsTaken P.promise None (F.remaining file))) }
+        ensures stops { IfOk opened (λ file. IfErr result (λ fault. (fault ≡ Fault.Reading)
+            ⊎ MayStop P.promise None (F.remaining file) fault)) }
+        ensures unopened { IfErr opened (λ error. IsErrAnd result (λ fault.
+            (cause : _) × IsCauseOf error cause
+            × (cause ≡ InputFault.Reading → fault ≡ Fault.Reading)
+            × (cause ≡ InputFault.Memory → fault ≡ Fault.Memory))) }
+        ensures quiet { (arguments : List Text) → P.promise.asks arguments self.now.options.now
+            → P.promise.tells arguments ≡ false → err.new ≡ err.old }
+    {
+        match opened {
+            Ok(mut file) => self.take_all(&mut file, err),
+            Err(error) => Err(Fault::from(InputFault::from(error))),
         }
-        read += count;
-        intake = piece.intake;
-        if piece.is_last {
-            tell_end(program, options, &intake, read, err);
-            return Ok(intake);
-        }
-        tell_stride(program, options, &intake, read, count, err);
     }
-    Err(Fault::Reading)
+
+    /// Has the program take all bytes that the input has, if they are no more than it may have. One
+    /// byte more is taken at most.
+    fn take_all<I: Read, E: Write>(
+        &self,
+        input: &mut I,
+        err: &mut E,
+    ) -> Result<P::Intake, Fault<P::Refusal, P::Finding>>
+        ensures all { IfOk result (IsTaken P.promise None (I.remaining input.old)) }
+        ensures stops { IfErr result (λ fault. (fault ≡ Fault.Reading)
+            ⊎ MayStop P.promise None (I.remaining input.old) fault) }
+        ensures few { TakesAtMost (P.promise.most + 1)
+            (I.remaining input.old) (I.remaining input.new) }
+        ensures quiet { (arguments : List Text) → P.promise.asks arguments self.now.options.now
+            → P.promise.tells arguments ≡ false → err.new ≡ err.old }
+    {
+        let mut room = Vec::new(self.alloc);
+        if room.resize(PIECE, 0).is_err() {
+            return Err(Fault::Memory);
+        }
+        let room = room.as_mut_slice();
+        let most = self.program.most();
+        let mut intake = self.program.begin(self.alloc);
+        let mut read = 0;
+        // A reader may be interrupted as often as it likes, but a loop has an end.
+        for _ in 0..u64::MAX {
+            let piece = self.take_piece(intake, input, &mut room[..room_at(read, most)])?;
+            let count = piece.count as u64;
+            if count > most - read {
+                return Err(Fault::Reading);
+            }
+            read += count;
+            intake = piece.intake;
+            if piece.is_last {
+                self.tell_end(&intake, read, err);
+                return Ok(intake);
+            }
+            self.tell_stride(&intake, read, count, err);
+        }
+        Err(Fault::Reading)
+    }
+
+    /// Reads once, into the room, and has the program take what came.
+    fn take_piece<I: Read>(
+        &self,
+        intake: P::Intake,
+        input: &mut I,
+        room: &mut [u8],
+    ) -> Result<Piece<P::Intake>, Fault<P::Refusal, P::Finding>>
+        requires { 0 < length room.old }
+        ensures taken { IfOk result (λ piece. (piece.count ≤ length room.old)
+            × TakesOn P.promise intake piece.intake piece.count
+            (I.remaining input.old) (I.remaining input.new)) }
+        ensures last { IfOk result
+            (λ piece. piece.is_last ≡ true → IsAtEnd (I.remaining input.new)) }
+        ensures stops { IfErr result (StopsAt P.promise intake (length room.old)
+            (I.remaining input.old) (I.remaining input.new)) }
+        ensures room { length room.new ≡ length room.old }
+    {
+        let (intake, count, is_last) = match read_piece(input, room)? {
+            None => (intake, 0, false),
+            Some(0) => (intake, 0, true),
+            Some(count) => (self.program.take(intake, &room[..count])?, count, false),
+        };
+        Ok(Piece {
+            intake,
+            count,
+            is_last,
+        })
+    }
+
+    /// Tells how far the input has been read, where the last of these bytes end a stride.
+    fn tell_stride<E: Write>(&self, intake: &P::Intake, read: u64, count: u64, err: &mut E)
+        ensures { (arguments : List Text) → P.promise.asks arguments self.now.options.now
+            → P.promise.tells arguments ≡ false → err.new ≡ err.old }
+    {
+        if count > 0 && read % STRIDE == 0 {
+            self.tell(intake, read, "", err);
+        }
+    }
+
+    /// Tells that all of the input has been read, where it has a stride at least: less is read at
+    /// once.
+    fn tell_end<E: Write>(&self, intake: &P::Intake, read: u64, err: &mut E)
+        ensures { (arguments : List Text) → P.promise.asks arguments self.now.options.now
+            → P.promise.tells arguments ≡ false → err.new ≡ err.old }
+    {
+        if read >= STRIDE {
+            self.tell(intake, read, "; judging", err);
+        }
+    }
+
+    /// Tells how far the input has been read, where the arguments ask for that. A line that cannot
+    /// be written changes nothing.
+    fn tell<E: Write>(&self, intake: &P::Intake, read: u64, next: &str, err: &mut E)
+        ensures { (arguments : List Text) → P.promise.asks arguments self.now.options.now
+            → P.promise.tells arguments ≡ false → err.new ≡ err.old }
+    {
+        if let Some(calls) = self.program.progress(self.options, intake) {
+            let _ = writeln!(err, "{}: {read} bytes, {calls} calls read{next}", P::NAME);
+        }
+    }
 }
 
 /// How many bytes are to be read next: no more than one above the most, and none past a place
@@ -140,84 +205,4 @@ fn room_at(read: u64, most: u64) -> usize
 {
     let room = (most - read).saturating_add(1).min(STRIDE - read % STRIDE);
     room.min(PIECE as u64) as usize
-}
-
-/// Reads once, into the room, and has the program take what came.
-fn take_piece<P: Program, I: Read>(
-    program: &P,
-    intake: P::Intake,
-    input: &mut I,
-    room: &mut [u8],
-) -> Result<Piece<P::Intake>, Fault<P::Refusal, P::Finding>>
-    requires { 0 < length room.old }
-    ensures taken { IfOk result (λ piece. (piece.count ≤ length room.old)
-        × TakesOn P.promise intake piece.intake piece.count
-        (I.remaining input.old) (I.remaining input.new)) }
-    ensures last { IfOk result
-        (λ piece. piece.is_last ≡ true → IsAtEnd (I.remaining input.new)) }
-    ensures stops { IfErr result (StopsAt P.promise intake (length room.old)
-        (I.remaining input.old) (I.remaining input.new)) }
-    ensures room { length room.new ≡ length room.old }
-{
-    let (intake, count, is_last) = match read_piece(input, room)? {
-        None => (intake, 0, false),
-        Some(0) => (intake, 0, true),
-        Some(count) => (program.take(intake, &room[..count])?, count, false),
-    };
-    Ok(Piece {
-        intake,
-        count,
-        is_last,
-    })
-}
-
-/// Tells how far the input has been read, where the last of these bytes end a stride.
-fn tell_stride<P: Program, E: Write>(
-    program: &P,
-    options: &P::Options,
-    intake: &P::Intake,
-    read: u64,
-    count: u64,
-    err: &mut E,
-)
-    ensures { (arguments : List Text) → P.promise.asks arguments options.now
-        → P.promise.tells arguments ≡ false → err.new ≡ err.old }
-{
-    if count > 0 && read % STRIDE == 0 {
-        tell(program, options, intake, read, "", err);
-    }
-}
-
-/// Tells that all of the input has been read, where it has a stride at least: less is read at once.
-fn tell_end<P: Program, E: Write>(
-    program: &P,
-    options: &P::Options,
-    intake: &P::Intake,
-    read: u64,
-    err: &mut E,
-)
-    ensures { (arguments : List Text) → P.promise.asks arguments options.now
-        → P.promise.tells arguments ≡ false → err.new ≡ err.old }
-{
-    if read >= STRIDE {
-        tell(program, options, intake, read, "; judging", err);
-    }
-}
-
-/// Tells how far the input has been read, where the arguments ask for that. A line that cannot be
-/// written changes nothing.
-fn tell<P: Program, E: Write>(
-    program: &P,
-    options: &P::Options,
-    intake: &P::Intake,
-    read: u64,
-    next: &str,
-    err: &mut E,
-)
-    ensures { (arguments : List Text) → P.promise.asks arguments options.now
-        → P.promise.tells arguments ≡ false → err.new ≡ err.old }
-{
-    if let Some(calls) = program.progress(options, intake) {
-        let _ = writeln!(err, "{}: {read} bytes, {calls} calls read{next}", P::NAME);
-    }
 }

@@ -34,11 +34,8 @@ use std::sync::Wait;
 /// there, and the time between two of its windows.
 #[derive(Drop)]
 pub struct GrvProxy<'a, J: Live> {
-    alloc: Global,
-    live: &'a LiveRecord<J>,
     desk: &'a Desk<J>,
-    line: Line<Request<J>>,
-    seen: Seen<J>,
+    server: Server<'a, J>,
 }
 
 impl<'a, J: Live> Model for GrvProxy<'a, J> {
@@ -48,10 +45,10 @@ impl<'a, J: Live> Model for GrvProxy<'a, J> {
 
     ghost view = { λ proxy.
         record {
-          seen = proxy.seen;
-          config = proxy.line.queue.config;
-          throttles = proxy.line.queue.throttles;
-          elapsed = proxy.line.elapsed;
+          seen = proxy.server.seen;
+          config = proxy.server.line.queue.config;
+          throttles = proxy.server.line.queue.throttles;
+          elapsed = proxy.server.line.elapsed;
         } };
 }
 
@@ -74,13 +71,13 @@ impl<'a, J: Live> GrvProxy<'a, J> {
           elapsed = elapsed;
         } }
     {
-        GrvProxy {
+        let server = Server {
             alloc,
             live,
-            desk,
             line: Line { queue, elapsed },
             seen,
-        }
+        };
+        GrvProxy { desk, server }
     }
 
     /// Serves the desk until it is closed, and gives back the token.
@@ -104,20 +101,13 @@ impl<'a, J: Live> GrvProxy<'a, J> {
         ensures extends_back { IfErr result
             (λ ended. IsPrefix self.entry.seen.changes ended.1.changes) }
     {
-        let GrvProxy {
-            alloc,
-            live,
-            desk,
-            mut line,
-            mut seen,
-        } = self;
+        let GrvProxy { desk, mut server } = self;
         let mut out = Channels;
-        let served = serve_desk(rt, alloc, live, desk, &mut out, &mut line, &mut seen);
-        match served {
-            Ok(()) => Ok(seen),
+        match server.serve_desk(rt, desk, &mut out) {
+            Ok(()) => Ok(server.seen),
             Err(cause) => {
                 drop_last(desk.close_and_take(rt));
-                Err((cause, seen))
+                Err((cause, server.seen))
             }
         }
     }
@@ -130,89 +120,92 @@ fn drop_last<J: Live>(taken: Taken<J>)
     drop(taken);
 }
 
-/// Has turn after turn with what comes to a desk, until that is closed and nobody is left.
-fn serve_desk<J: Live, R: Wait, O: Outbox<Answer<J>>>(
-    rt: &R,
+/// What a GRV proxy serves its desk with: its queue, the live record, and what it has seen of that.
+#[derive(Drop)]
+struct Server<'a, J: Live> {
     alloc: Global,
-    live: &LiveRecord<J>,
-    desk: &Desk<J>,
-    out: &mut O,
-    line: &mut Line<Request<J>>,
-    seen: &mut Seen<J>,
-) -> Result<(), ProxyError>
-    ensures left { OnOk result (row line.new.queue.waiting ≡ []) }
-    ensures elapsed { OnOk result (line.new.elapsed ≡ line.old.elapsed) }
-    ensures reporter { seen.new.reporter ≡ seen.old.reporter }
-    ensures extends { IsPrefix seen.old.changes seen.new.changes }
-    ensures memory { IfErr result (λ cause. cause ≡ ProxyError.Memory) }
-{
-    for _ in rt.forever() {
-        let taken = desk.take(rt, line.is_empty());
-        let last = serve_taken(rt, alloc, live, out, line, seen, taken)?;
-        if last {
-            return Ok(());
+    live: &'a LiveRecord<J>,
+    line: Line<Request<J>>,
+    seen: Seen<J>,
+}
+
+impl<J: Live> Server<'_, J> {
+    /// Has turn after turn with what comes to a desk, until that is closed and nobody is left.
+    fn serve_desk<R: Wait, O: Outbox<Answer<J>>>(
+        &mut self,
+        rt: &R,
+        desk: &Desk<J>,
+        out: &mut O,
+    ) -> Result<(), ProxyError>
+        ensures left { OnOk result (row self.new.line.queue.waiting ≡ []) }
+        ensures elapsed { OnOk result (self.new.line.elapsed ≡ self.old.line.elapsed) }
+        ensures reporter { self.new.seen.reporter ≡ self.old.seen.reporter }
+        ensures extends { IsPrefix self.old.seen.changes self.new.seen.changes }
+        ensures memory { IfErr result (λ cause. cause ≡ ProxyError.Memory) }
+    {
+        for _ in rt.forever() {
+            let taken = desk.take(rt, self.line.is_empty());
+            let last = self.serve_taken(rt, out, taken)?;
+            if last {
+                return Ok(());
+            }
         }
+        unreachable!()
     }
-    unreachable!()
-}
 
-/// Has one turn with what was taken from a desk. Where the desk is closed the turn is the last one,
-/// as is answered, and all that are left are answered too.
-fn serve_taken<J: Live, R: Wait, O: Outbox<Answer<J>>>(
-    rt: &R,
-    alloc: Global,
-    live: &LiveRecord<J>,
-    out: &mut O,
-    line: &mut Line<Request<J>>,
-    seen: &mut Seen<J>,
-    taken: Taken<J>,
-) -> Result<bool, ProxyError>
-    ensures last { IfOk result (λ last. last ≡ taken.closed) }
-    ensures served { OnOk result
-        (IsServedOrLast O.sends taken.closed line.old.elapsed line.old.queue taken.requests.items
-        seen.new.changes line.new.queue out.old out.new) }
-    ensures elapsed { OnOk result (line.new.elapsed ≡ line.old.elapsed) }
-    ensures left { taken.closed ≡ true → OnOk result (row line.new.queue.waiting ≡ []) }
-    ensures reporter { seen.new.reporter ≡ seen.old.reporter }
-    ensures extends { IsPrefix seen.old.changes seen.new.changes }
-    ensures memory { IfErr result (λ cause. cause ≡ ProxyError.Memory) }
-{
-    let Taken { requests, closed } = taken;
-    serve_turn(rt, alloc, live, out, line, seen, requests)?;
-    if closed {
-        close(rt, out, line)?;
+    /// Has one turn with what was taken from a desk. Where the desk is closed the turn is the last
+    /// one, as is answered, and all that are left are answered too.
+    fn serve_taken<R: Wait, O: Outbox<Answer<J>>>(
+        &mut self,
+        rt: &R,
+        out: &mut O,
+        taken: Taken<J>,
+    ) -> Result<bool, ProxyError>
+        ensures last { IfOk result (λ last. last ≡ taken.closed) }
+        ensures served { OnOk result (IsServedOrLast O.sends taken.closed
+            self.old.line.elapsed self.old.line.queue taken.requests.items
+            self.new.seen.changes self.new.line.queue out.old out.new) }
+        ensures elapsed { OnOk result (self.new.line.elapsed ≡ self.old.line.elapsed) }
+        ensures left { taken.closed ≡ true → OnOk result (row self.new.line.queue.waiting ≡ []) }
+        ensures reporter { self.new.seen.reporter ≡ self.old.seen.reporter }
+        ensures extends { IsPrefix self.old.seen.changes self.new.seen.changes }
+        ensures memory { IfErr result (λ cause. cause ≡ ProxyError.Memory) }
+    {
+        let Taken { requests, closed } = taken;
+        self.serve_turn(rt, out, requests)?;
+        if closed {
+            close(rt, out, &mut self.line)?;
+        }
+        Ok(closed)
     }
-    Ok(closed)
-}
 
-/// Has one turn with some requests, and answers all that it decides.
-fn serve_turn<J: Live, R: Wait, O: Outbox<Answer<J>>>(
-    rt: &R,
-    alloc: Global,
-    live: &LiveRecord<J>,
-    out: &mut O,
-    line: &mut Line<Request<J>>,
-    seen: &mut Seen<J>,
-    requests: Vec<Req<Request<J>>>,
-) -> Result<(), ProxyError>
-    ensures served { OnOk result
-        (IsServed O.sends line.old.elapsed line.old.queue requests.items
-        seen.new.changes line.new.queue out.old out.new) }
-    ensures elapsed { OnOk result (line.new.elapsed ≡ line.old.elapsed) }
-    ensures reporter { seen.new.reporter ≡ seen.old.reporter }
-    ensures extends { IsPrefix seen.old.changes seen.new.changes }
-    ensures memory { IfErr result (λ cause. cause ≡ ProxyError.Memory) }
-{
-    let room = Vec::with_capacity(alloc, requests.len())?;
-    let Turn {
-        started,
-        turned_away,
-    } = line.turn(requests, room)?;
-    turn_away(rt, out, turned_away)?;
-    let senders = senders_of(alloc, started.as_slice())?;
-    match batch::serve_batch(rt, alloc, live, seen, &line.queue, started) {
-        Ok(answers) => send_all(rt, out, senders, answers),
-        Err((cause, _)) => Err(cause),
+    /// Has one turn with some requests, and answers all that it decides.
+    fn serve_turn<R: Wait, O: Outbox<Answer<J>>>(
+        &mut self,
+        rt: &R,
+        out: &mut O,
+        requests: Vec<Req<Request<J>>>,
+    ) -> Result<(), ProxyError>
+        ensures served { OnOk result
+            (IsServed O.sends self.old.line.elapsed self.old.line.queue requests.items
+            self.new.seen.changes self.new.line.queue out.old out.new) }
+        ensures elapsed { OnOk result (self.new.line.elapsed ≡ self.old.line.elapsed) }
+        ensures reporter { self.new.seen.reporter ≡ self.old.seen.reporter }
+        ensures extends { IsPrefix self.old.seen.changes self.new.seen.changes }
+        ensures memory { IfErr result (λ cause. cause ≡ ProxyError.Memory) }
+    {
+        let room = Vec::with_capacity(self.alloc, requests.len())?;
+        let Turn {
+            started,
+            turned_away,
+        } = self.line.turn(requests, room)?;
+        turn_away(rt, out, turned_away)?;
+        let senders = senders_of(self.alloc, started.as_slice())?;
+        let (line, seen) = (&self.line, &mut self.seen);
+        match batch::serve_batch(rt, self.alloc, self.live, seen, &line.queue, started) {
+            Ok(answers) => send_all(rt, out, senders, answers),
+            Err((cause, _)) => Err(cause),
+        }
     }
 }
 

@@ -10,7 +10,7 @@ use Rattle.fdb_command.specs.Driving.{Promise}
 use Rattle.fdb_history.specs.declared.fault.AuditFault.{AuditFault}
 use Rattle.fdb_replay.specs.Outcome.{IsFaulty}
 use Rattle.fdb_replay.specs.Replay.{Replays}
-use Rattle.fdb_replay.specs.declared.program.ReplayOptions.{ReplayOptions}
+use Rattle.fdb_replay.specs.declared.opts.ReplayOpts.{ReplayOpts}
 use Rattle.fdb_replay.specs.declared.program.ScriptRefused.{ScriptRefused}
 use Rattle.fdb_script.specs.Plan.{Plan}
 use Rattle.fdb_script.specs.Reading.{ReadsAs}
@@ -31,17 +31,17 @@ proxies_named arguments =
 
 -- what the flags say: so many proxies, of which there may be 1 to 16, and whether the history is
 -- written too
-pub record IsAsked (arguments : List Text) (options : ReplayOptions) : Type 0 where
-  pub proxies : options.proxies ≡ proxies_named arguments
-  pub some_proxy : 1 ≤ options.proxies
-  pub few_proxies : options.proxies ≤ MAX_GRV_PROXIES
-  pub history : options.with_history ≡ is_set (codes "history") command arguments
+pub record IsAsked (arguments : List Text) (opts : ReplayOpts) : Type 0 where
+  pub proxies : opts.proxies ≡ proxies_named arguments
+  pub some_proxy : 1 ≤ opts.proxies
+  pub few_proxies : opts.proxies ≤ MAX_GRV_PROXIES
+  pub history : opts.with_history ≡ is_set (codes "history") command arguments
 
 -- It takes all bytes as they come, and tells of no progress. It prints the text of a run of the
 -- script that the bytes stand for, with the history where that is asked for, and no text of a run in
 -- which a fault was found. It refuses what stands for no script; that memory was refused says nothing
 -- of the bytes. It finds what an audit of a run of the script finds.
-abbrev pub replay : Promise ReplayOptions (Vec ℕ Global) ScriptRefused AuditFault
+abbrev pub replay : Promise ReplayOpts (Vec ℕ Global) ScriptRefused AuditFault
 replay = record {
   app = command;
   most = MAX_SCRIPT_BYTES;

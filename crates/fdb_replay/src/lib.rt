@@ -4,6 +4,7 @@
 
 mod clients;
 mod fault;
+mod opts;
 mod player;
 mod program;
 mod replaying;
@@ -16,6 +17,7 @@ mod world;
 pub use fault::RunFault;
 pub use fdb_command::{Fault, command_line};
 pub use fdb_script::MAX_SCRIPT_BYTES;
-pub use program::{Replay, ReplayOptions, ScriptRefused, drive};
+pub use opts::ReplayOpts;
+pub use program::{Replay, ScriptRefused, drive};
 pub use replaying::{ReplayFault, replay};
 pub use running::run;

@@ -9,6 +9,7 @@ ghost use Rattle.fdb_replay.specs.Program.{command, proxies_named, replay};
 ghost use Rattle.fdb_replay.specs.Replay.{Refuses, Replays};
 
 use crate::fault::RunFault;
+use crate::opts::ReplayOpts;
 use crate::replaying::{ReplayFault, replayed_text};
 use clap::{ArgMatches, Command};
 use fdb_command::{
@@ -46,15 +47,6 @@ pub struct ScriptRefused {
     pub error: ScriptError,
 }
 
-/// What the flags say, with the default for each that is not given.
-#[derive(Clone, Copy, Debug, PartialEq, Eq)]
-pub struct ReplayOptions {
-    /// The number of GRV proxies, 1 to 16.
-    pub proxies: u32,
-    /// Whether the history is written after the audit line.
-    pub with_history: bool,
-}
-
 /// The text of a replay, or the fault with which it stops.
 type Made = Result<Answer<AuditFault>, Fault<ScriptRefused, AuditFault>>;
 
@@ -68,7 +60,7 @@ impl Program for Replay {
     ghost use Rattle.std.specs.Prelude.{refl};
     ghost use Rattle.fdb_replay.specs.Program.{replay};
 
-    type Options = ReplayOptions;
+    type Options = ReplayOpts;
 
     type Intake = Vec<u8>;
 
@@ -88,8 +80,8 @@ impl Program for Replay {
         command(alloc)
     }
 
-    fn options(&self, matches: &ArgMatches<'_>) -> ReplayOptions {
-        ReplayOptions {
+    fn options(&self, matches: &ArgMatches<'_>) -> ReplayOpts {
+        ReplayOpts {
             proxies: proxies_of(matches),
             with_history: wants_history(matches),
         }
@@ -110,7 +102,7 @@ impl Program for Replay {
         }
     }
 
-    fn progress(&self, _options: &ReplayOptions, _script: &Vec<u8>) -> Option<u64> {
+    fn progress(&self, _opts: &ReplayOpts, _script: &Vec<u8>) -> Option<u64> {
         None
     }
 
@@ -131,14 +123,14 @@ pub fn drive<R: Threads + Wait + Sync + Files, I: Read, O: Write, E: Write>(
     ensures { IsDriven replay I.remaining O.contents arguments
         input.old input.new out.old out.new err.old err.new result }
 {
-    let body = move |options: ReplayOptions, script: Vec<u8>| -> Made
-        requires some_proxy { 1 ≤ options.proxies }
-        requires few_proxies { options.proxies ≤ MAX_GRV_PROXIES }
+    let body = move |opts: ReplayOpts, script: Vec<u8>| -> Made
+        requires some_proxy { 1 ≤ opts.proxies }
+        requires few_proxies { opts.proxies ≤ MAX_GRV_PROXIES }
         ensures { MatchResult result
             (λ answer. (answer.found ≡ None)
-            × Replays script.items options.with_history answer.text.items)
+            × Replays script.items opts.with_history answer.text.items)
             (Stops replay script.items) }
-    { answer_of(rt, alloc, options, &script) };
+    { answer_of(rt, alloc, opts, &script) };
     fdb_command::drive(&Replay, rt, alloc, arguments, input, out, err, body)
 }
 
@@ -146,24 +138,17 @@ pub fn drive<R: Threads + Wait + Sync + Files, I: Read, O: Write, E: Write>(
 fn answer_of<R: Threads + Wait + Sync>(
     rt: &R,
     alloc: Global,
-    options: ReplayOptions,
+    opts: ReplayOpts,
     script: &[u8],
 ) -> Made
-    requires some_proxy { 1 ≤ options.proxies }
-    requires few_proxies { options.proxies ≤ MAX_GRV_PROXIES }
+    requires some_proxy { 1 ≤ opts.proxies }
+    requires few_proxies { opts.proxies ≤ MAX_GRV_PROXIES }
     ensures { MatchResult result
         (λ answer. (answer.found ≡ None)
-        × Replays script.now options.with_history answer.text.items)
+        × Replays script.now opts.with_history answer.text.items)
         (Stops replay script.now) }
 {
-    match replayed_text(
-        rt,
-        alloc,
-        script,
-        options.proxies,
-        options.with_history,
-        &OpenGate,
-    ) {
+    match replayed_text(rt, alloc, script, opts, &OpenGate) {
         Ok(text) => Ok(Answer { text, found: None }),
         Err(fault) => Err(fault_of(fault)),
     }

@@ -7,6 +7,7 @@ ghost use Rattle.fdb_replay.specs.Replay.{IsCut, Replays, Refuses};
 ghost use Rattle.fdb_script.specs.Reading.{ReadsAs};
 
 use crate::fault::RunFault;
+use crate::opts::ReplayOpts;
 use crate::running::run;
 use fdb_command::{OutputFault, write_whole};
 use fdb_history::Gate;
@@ -41,22 +42,21 @@ pub fn replay<R: Threads + Wait + Sync, G: Gate, W: Write>(
     rt: &R,
     alloc: Global,
     bytes: &[u8],
-    proxies: u32,
-    with_history: bool,
+    opts: ReplayOpts,
     gate: &G,
     writer: &mut W,
 ) -> Result<(), ReplayFault>
-    requires some_proxy { 0 < proxies }
-    requires few_proxies { proxies ≤ MAX_GRV_PROXIES }
-    ensures ok { OnOk result ((written : List ℕ) × Replays bytes.now with_history written
+    requires some_proxy { 0 < opts.proxies }
+    requires few_proxies { opts.proxies ≤ MAX_GRV_PROXIES }
+    ensures ok { OnOk result ((written : List ℕ) × Replays bytes.now opts.with_history written
         × Appends (W.contents writer.old) (W.contents writer.new) written) }
     ensures err { IfErr result (Refuses bytes.now) }
     ensures unwritten { IfErr result
         (λ fault. fault ≢ ReplayFault.Write → writer.new ≡ writer.old) }
     ensures cut { IfErr result (λ fault. fault ≡ ReplayFault.Write
-        → IsCut bytes.now with_history (W.contents writer.old) (W.contents writer.new)) }
+        → IsCut bytes.now opts.with_history (W.contents writer.old) (W.contents writer.new)) }
 {
-    let lines = replayed_text(rt, alloc, bytes, proxies, with_history, gate)?;
+    let lines = replayed_text(rt, alloc, bytes, opts, gate)?;
     match write_whole(writer, &lines) {
         Ok(()) => Ok(()),
         Err(OutputFault::Writing) => Err(ReplayFault::Write),
@@ -68,18 +68,17 @@ pub(crate) fn replayed_text<R: Threads + Wait + Sync, G: Gate>(
     rt: &R,
     alloc: Global,
     bytes: &[u8],
-    proxies: u32,
-    with_history: bool,
+    opts: ReplayOpts,
     gate: &G,
 ) -> Result<Vec<u8>, ReplayFault>
-    requires some_proxy { 0 < proxies }
-    requires few_proxies { proxies ≤ MAX_GRV_PROXIES }
-    ensures ok { IfOk result (λ lines. Replays bytes.now with_history lines.items) }
+    requires some_proxy { 0 < opts.proxies }
+    requires few_proxies { opts.proxies ≤ MAX_GRV_PROXIES }
+    ensures ok { IfOk result (λ lines. Replays bytes.now opts.with_history lines.items) }
     ensures err { IfErr result (Refuses bytes.now) }
     ensures unwritten { IfErr result (λ fault. fault ≢ ReplayFault.Write) }
 {
     match read_script(alloc, bytes) {
-        Ok(script) => run_text(rt, alloc, &script, proxies, with_history, gate),
+        Ok(script) => run_text(rt, alloc, &script, opts, gate),
         Err(error) => Err(ReplayFault::Script(error)),
     }
 }
@@ -89,22 +88,21 @@ fn run_text<R: Threads + Wait + Sync, G: Gate>(
     rt: &R,
     alloc: Global,
     script: &Script,
-    proxies: u32,
-    with_history: bool,
+    opts: ReplayOpts,
     gate: &G,
 ) -> Result<Vec<u8>, ReplayFault>
-    requires some_proxy { 0 < proxies }
-    requires few_proxies { proxies ≤ MAX_GRV_PROXIES }
+    requires some_proxy { 0 < opts.proxies }
+    requires few_proxies { opts.proxies ≤ MAX_GRV_PROXIES }
     ensures ok { (bytes : List ℕ) → ReadsAs bytes (Ok script.now)
-        → IfOk result (λ lines. Replays bytes with_history lines.items) }
+        → IfOk result (λ lines. Replays bytes opts.with_history lines.items) }
     ensures err { (bytes : List ℕ) → ReadsAs bytes (Ok script.now) → IfErr result (Refuses bytes) }
     ensures unwritten { IfErr result (λ fault. fault ≢ ReplayFault.Write) }
 {
-    let outcome = match run(rt, alloc, script, proxies, gate) {
+    let outcome = match run(rt, alloc, script, opts.proxies, gate) {
         Ok(outcome) => outcome,
         Err(fault) => return Err(ReplayFault::Run(fault)),
     };
-    match text(alloc, script, &outcome, with_history) {
+    match text(alloc, script, &outcome, opts.with_history) {
         Ok(lines) => Ok(lines),
         Err(error) => Err(ReplayFault::Script(error)),
     }

@@ -5,7 +5,7 @@ ghost use Rattle.std.specs.Prelude.{◌<◌, ◌≤◌, IfOk};
 ghost use Rattle.fdb_script.specs.Answering.{Answers};
 
 use fdb_history::{Gate, OpenGate};
-use fdb_replay::{ReplayFault, RunFault, drive, replay, run};
+use fdb_replay::{ReplayFault, ReplayOpts, RunFault, drive, replay, run};
 use fdb_script::{Outcome, Script, ScriptError, read_script, text};
 use std::alloc::Global;
 use std::fs::Files;
@@ -55,22 +55,13 @@ pub(crate) fn replays<R: Threads + Wait + Sync, W: Write>(
     rt: &R,
     alloc: Global,
     script: &str,
-    proxies: u32,
-    with_history: bool,
+    opts: ReplayOpts,
     out: &mut W,
 ) -> Result<(), ReplayFault>
-    requires some_proxy { 0 < proxies }
-    requires few_proxies { proxies ≤ 16 }
+    requires some_proxy { 0 < opts.proxies }
+    requires few_proxies { opts.proxies ≤ 16 }
 {
-    replay(
-        rt,
-        alloc,
-        script.as_bytes(),
-        proxies,
-        with_history,
-        &OpenGate,
-        out,
-    )
+    replay(rt, alloc, script.as_bytes(), opts, &OpenGate, out)
 }
 
 /// Drives the program over its arguments and its three streams, and answers its exit status.

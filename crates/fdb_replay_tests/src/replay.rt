@@ -8,6 +8,7 @@ ghost use Rattle.std.specs.Prelude.{◌<◌, ◌≤◌};
 
 use crate::calls::{drives, replays};
 use fdb_checks::{same, same_text};
+use fdb_replay::ReplayOpts;
 use std::alloc::Global;
 use std::fs::Files;
 use std::io;
@@ -98,8 +99,12 @@ fn first_writes<R: Threads + Wait + Sync>(
     requires some_proxy { 0 < proxies }
     requires few_proxies { proxies ≤ 16 }
 {
+    let opts = ReplayOpts {
+        proxies,
+        with_history,
+    };
     let mut out = Vec::new(alloc);
-    replays(rt, alloc, SCRIPT, proxies, with_history, &mut out)?;
+    replays(rt, alloc, SCRIPT, opts, &mut out)?;
     let history = from_utf8(&out)?.strip_prefix(REPLIES);
     same_text(history.unwrap_or("no replies"), wanted, "the history")
 }

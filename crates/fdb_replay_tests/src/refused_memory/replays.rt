@@ -3,7 +3,7 @@
 use crate::calls::{outcome_of, replays, script_of, text_of};
 use crate::replay::{REPLIES, SCRIPT};
 use fdb_checks::{holds, same, same_text};
-use fdb_replay::{ReplayFault, RunFault};
+use fdb_replay::{ReplayFault, ReplayOpts, RunFault};
 use fdb_script::ScriptError;
 use std::alloc::Global;
 use std::io;
@@ -116,11 +116,15 @@ fn writes<R: Threads + Wait + Sync>(
     with_history: bool,
     wanted: &str,
 ) -> Result<(), Fail> {
+    let opts = ReplayOpts {
+        proxies: 2,
+        with_history,
+    };
     let mut out = Page::new();
-    if let Err(fault) = replays(rt, alloc, script, 2, with_history, &mut out) {
+    if let Err(fault) = replays(rt, alloc, script, opts, &mut out) {
         holds(wants_memory(fault), &fault)?;
         holds(out.taken().is_empty(), &"after a refused replay")?;
-        replays(rt, alloc, script, 2, with_history, &mut out)?;
+        replays(rt, alloc, script, opts, &mut out)?;
     }
     same_text(from_utf8(out.taken())?, wanted, "what is written")
 }

@@ -3,7 +3,7 @@
 use super::{REPLIES, Ran, SCRIPT, arguments_of, assert_ran, driven};
 use crate::calls::{drives, replays};
 use fdb_checks::{holds, same, same_text};
-use fdb_replay::{MAX_SCRIPT_BYTES, ReplayFault};
+use fdb_replay::{MAX_SCRIPT_BYTES, ReplayFault, ReplayOpts};
 use std::alloc::Global;
 use std::fs::Files;
 use std::io;
@@ -233,8 +233,12 @@ fn taken_before(fails_at: usize) -> usize {
 
 /// Replays the first script over a writer that fails at a call.
 fn replayed<R: Threads + Wait + Sync>(rt: &R, alloc: Global, fails_at: usize) -> Result<(), Fail> {
+    let opts = ReplayOpts {
+        proxies: 1,
+        with_history: false,
+    };
     let mut out = Hundreds::new(alloc, fails_at);
-    let outcome = replays(rt, alloc, SCRIPT, 1, false, &mut out);
+    let outcome = replays(rt, alloc, SCRIPT, opts, &mut out);
     let wanted = if fails_at <= 3 {
         Err(ReplayFault::Write)
     } else {

@@ -1,7 +1,7 @@
 use Rattle.std.proofs.Common.{inl, inr, None, Some, refl}
 use Rattle.std.proofs.lemmas.Result.{IfErr-weaker, on_err_weaker, on_ok_weaker}
 use Rattle.fdb_command.proofs.Answered.{begun, no_stop, two_kinds, written}
-use Rattle.fdb_command.proofs.driving.run_on.Goals as goal
+use Rattle.fdb_command.proofs.driving.Run.run_on.Goals as goal
 
 pub returns-in-Ok-clause-done : goal.returns-in-Ok-clause-done
 returns-in-Ok-clause-done g c = λ arguments matches.

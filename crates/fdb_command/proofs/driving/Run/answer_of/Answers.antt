@@ -6,7 +6,7 @@ use Rattle.fdb_command.specs.private.Taking.{MayStop}
 use Rattle.fdb_command.specs.declared.fault.Fault.TheVariants.{Arguments, Refused, Found, Reading, Writing}
 use Rattle.fdb_command.proofs.Answered.{found_early, found_of, named_file, own_early, own_of, printed_of, refused_early, refused_of, untold}
 use Rattle.fdb_command.proofs.Pieces.{passed_on}
-use Rattle.fdb_command.proofs.driving.answer_of.Goals as goal
+use Rattle.fdb_command.proofs.driving.Run.answer_of.Goals as goal
 
 pub returns-in_err-intake-clause-refused : goal.returns-in_err-intake-clause-refused
 returns-in_err-intake-clause-refused g c = λ arguments matches.

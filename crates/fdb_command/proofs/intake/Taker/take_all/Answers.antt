@@ -4,7 +4,7 @@ use Rattle.std.proofs.KnownBytes.{Consumes-trans}
 use Rattle.fdb_command.specs.private.Taking.{MayStop}
 use Rattle.fdb_command.specs.declared.fault.Fault.TheVariants.{Reading}
 use Rattle.fdb_command.proofs.Pieces.{passed_on, stops_there, stops_unread, taken_whole, takes_more}
-use Rattle.fdb_command.proofs.intake.take_all.Goals as goal
+use Rattle.fdb_command.proofs.intake.Taker.take_all.Goals as goal
 
 pub returns-then-is_err-clause-stops : goal.returns-then-is_err-clause-stops
 returns-then-is_err-clause-stops g c = inr (stops_unread g.P.Program.promise (g.I.Read.remaining c.args.input.now))

@@ -2,7 +2,7 @@ use Rattle.std.proofs.Common.{map, string_bytes, Result, Ok, Err, inl, inr}
 use Rattle.std.specs.Prelude.{IfErr, MatchResult, OnErr}
 use Rattle.std.proofs.lemmas.Result.{on_ok_weaker}
 use Rattle.fdb_command.specs.Arguments.{AreMatches}
-use Rattle.fdb_command.proofs.driving.carry_out.Goals as goal
+use Rattle.fdb_command.proofs.driving.Run.carry_out.Goals as goal
 
 -- what holds where there is an error holds of each
 of_each : {T E : Type 0} (r : Result T E) (P : Type 0) (Q : E → Type 0) → OnErr r P → IfErr r (λ e. Q e → P)

@@ -1,7 +1,7 @@
 use Rattle.std.proofs.Common.{sym, ◌∙◌, ap, length}
 use Rattle.std.proofs.lemmas.Slice.Zip.{AllZip-long}
 use Rattle.fdb_proxy.specs.Batch.{Replies}
-use Rattle.fdb_proxy.proofs.proxy.serve_turn.Goals as goal
+use Rattle.fdb_proxy.proofs.proxy.Server.serve_turn.Goals as goal
 
 pub send_all-requires : goal.send_all-requires
 send_all-requires g c =
