@@ -30,7 +30,7 @@
 extern "C" {
 #endif
 
-/* What a function answers: FDB_OK, or why it refuses. */
+/* What a function answers: FDB_OK, or why it refuses. No function gives the name of a number. */
 enum {
     FDB_OK = 0,
     FDB_BAD_EPOCH = 1,        /* the recovery version is not above the epoch's end, or too great */
@@ -67,8 +67,8 @@ typedef struct fdb_ask {
     uint32_t proxy;     /* the commit proxy, from 0 on */
 } fdb_ask;
 
-/* The answer. On FDB_EARLY `num` is the number that is expected; else on a refusal all but `status`
- * is 0. */
+/* The answer. On a refusal all but `status` is 0 and false; but on FDB_EARLY `num` is the number that
+ * is expected. */
 typedef struct fdb_answer {
     uint64_t ordinal;   /* the version's place in the chain, from 0 on */
     uint64_t num;       /* the request's number */
@@ -128,7 +128,8 @@ uint8_t fdb_chain_answers(uint64_t epoch_end, uint64_t recovery, uint32_t proxie
 
 /* ----------------------------------------------------------------------------- the register -- */
 
-/* What the sequencer keeps of the newest commit that was reported. */
+/* What the sequencer keeps of the newest commit that was reported. A new one has the recovery
+ * version, and else 0 and false: the caller writes it. */
 typedef struct fdb_record {
     uint64_t version;     /* the live committed version */
     uint64_t min_known;   /* the minimum known committed version */
@@ -206,6 +207,11 @@ uint8_t fdb_queue_offer(fdb_queue *queue, const fdb_request *request, fdb_outcom
  * prefix of all that wait that the budgets allow, and writes it to the start of `started`, in
  * order. This needs room for as many as wait, or for 10,000 where more do. `*queue` must be a
  * queue.
+ *
+ * A rate lets a request start where the transactions of this window, with it and with those before
+ * it, are at most 100,000, and at most the rate and its budget together. Then its budget gains the
+ * rate, and pays for what started (the normal one not for batch requests), times `elapsed`; it is
+ * never below 0, and at most 100,000 transactions, or 10 where nothing is left that it pays for.
  *
  * FDB_OK, or FDB_BAD_CONFIG for a time out of range, which leaves the queue as it was; and
  * `outcome->status` is the same. FDB_ROOM, and FDB_MEMORY, leave queue, outcome and `started` as
@@ -357,7 +363,7 @@ typedef struct fdb_fault {
     uint64_t known;  /* the version that was known: of REASON_KNOWN and REASON_REPORTED */
     uint32_t line;   /* the line at which the fault stands */
     uint32_t other;  /* the line that reported or drew: of REASON_REPORTED and REASON_DRAWN */
-    uint32_t by;     /* the line that let `known` be known */
+    uint32_t by;     /* the line that let `known` be known; of several, any */
     uint32_t learnt; /* the line by which the client had learnt of that */
     uint8_t kind;    /* FDB_FAULT_ORDER to FDB_FAULT_STRAY */
     uint8_t reason;  /* FDB_REASON_KNOWN to FDB_REASON_UNDRAWN */
