@@ -131,6 +131,8 @@ def of_python(_program):
         line = next((it for it in lines if it.startswith(f"{kind}: ")), "")
         fault = None if line and ("step " in line) == has_bug else f"it says {line!r}"
         yield f"the differential example at {kind}", fault
+    words = "from fdb_read_version import *; print(Status.EARLY, f'{Priority.BATCH:>6}')"
+    yield "names that are printed", fault_of(python(["-c", words]), done(b"EARLY  BATCH\n"))
     env = {**os.environ, "PYTHONPATH": PACKAGE, "FDB_READ_VERSION_LIB": "/nowhere.so"}
     ran = run([sys.executable, "-c", "import fdb_read_version"], env=env)
     said = b"/nowhere.so is missing: make it with tools/bindings" in ran.err

@@ -1,10 +1,20 @@
-"""Why a call refuses."""
+"""Why a call refuses, and how numbers of the header are printed."""
 from __future__ import annotations
 
 from enum import IntEnum
 
 
-class Status(IntEnum):
+class Named(IntEnum):
+    """Numbers of `include/fdb_read_version.h`, which are printed as their names."""
+
+    def __str__(self) -> str:
+        return self.name
+
+    def __format__(self, spec: str) -> str:
+        return format(self.name, spec)
+
+
+class Status(Named):
     """What a call answers: the numbers of `include/fdb_read_version.h`."""
 
     OK = 0

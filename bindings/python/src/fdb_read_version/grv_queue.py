@@ -3,7 +3,6 @@ from __future__ import annotations
 
 from ctypes import byref, c_uint64
 from dataclasses import dataclass
-from enum import IntEnum
 from typing import Iterable, List, Optional, Tuple, Union
 
 from ._library import (
@@ -16,13 +15,13 @@ from ._library import (
     library,
     number,
 )
-from ._status import Refused, Status
+from ._status import Named, Refused, Status
 
 _OFFER, _WINDOW, _POP = 0, 1, 2
 _MOST_STARTED = 10_000
 
 
-class Priority(IntEnum):
+class Priority(Named):
     """No rate holds the first, the normal rate the second, both rates the third."""
 
     SYSTEM = 0

@@ -3,16 +3,15 @@ from __future__ import annotations
 
 from ctypes import byref, c_uint8, c_uint64
 from dataclasses import dataclass
-from enum import IntEnum
 from typing import Any, Callable, Iterable, List, Optional, Union
 
 from ._library import RawCall, RawFault, RawOptions, RawRefused, library, number
-from ._status import Refused, Status
+from ._status import Named, Refused, Status
 
 _ROOM_FOR_TEXT = 4096
 
 
-class Member(IntEnum):
+class Member(Named):
     """The members of a line, and, from READ to LEARN, the kinds of calls."""
 
     CLIENT = 1
@@ -25,7 +24,7 @@ class Member(IntEnum):
     ENDED = 8
 
 
-class FaultKind(IntEnum):
+class FaultKind(Named):
     """What can be wrong with a line; docs/FORMATS.md says what each means."""
 
     ORDER = 1
@@ -35,7 +34,7 @@ class FaultKind(IntEnum):
     STRAY = 5
 
 
-class Reason(IntEnum):
+class Reason(Named):
     """Why a fault stands: a version was `known`, or who reported or drew it (`other`)."""
 
     KNOWN = 1
@@ -45,7 +44,7 @@ class Reason(IntEnum):
     UNDRAWN = 5
 
 
-class Means(IntEnum):
+class Means(Named):
     """How a version was known: all began with it, or by a line that had ended, is the client's own
     or that it had learnt of."""
 
