@@ -30,7 +30,8 @@
 extern "C" {
 #endif
 
-/* What a function answers: FDB_OK, or why it refuses. No function gives the name of a number. */
+/* What a function answers: FDB_OK, or why it refuses. No function gives the name of a number: these
+ * are the names. */
 enum {
     FDB_OK = 0,
     FDB_BAD_EPOCH = 1,        /* the recovery version is not above the epoch's end, or too great */
@@ -204,14 +205,15 @@ uint8_t fdb_queue_offer(fdb_queue *queue, const fdb_request *request, fdb_outcom
 
 /*
  * Holds a window, `elapsed` microseconds (1 to 10,000,000) after the last one: starts the longest
- * prefix of all that wait that the budgets allow, and writes it to the start of `started`, in
- * order. This needs room for as many as wait, or for 10,000 where more do. `*queue` must be a
- * queue.
+ * prefix of all that wait that the budgets allow, of 10,000 requests at most, and writes it to the
+ * start of `started`, in order. This needs room for as many as wait, or for 10,000 where more do.
+ * `*queue` must be a queue.
  *
  * A rate lets a request start where the transactions of this window, with it and with those before
  * it, are at most 100,000, and at most the rate and its budget together. Then its budget gains the
- * rate, and pays for what started (the normal one not for batch requests), times `elapsed`; it is
- * never below 0, and at most 100,000 transactions, or 10 where nothing is left that it pays for.
+ * rate, and pays for what started, times `elapsed`: the batch one for all, and the normal one for
+ * system and default requests. It is never below 0, and at most 100,000 transactions, or 10 where
+ * nothing is left that it pays for.
  *
  * FDB_OK, or FDB_BAD_CONFIG for a time out of range, which leaves the queue as it was; and
  * `outcome->status` is the same. FDB_ROOM, and FDB_MEMORY, leave queue, outcome and `started` as
@@ -345,13 +347,13 @@ enum {
     FDB_REASON_KNOWN = 1,      /* of ORDER and NOT_ABOVE: the caller knew `known` */
     FDB_REASON_UNREPORTED = 2, /* of WRONG: no line reports the version */
     FDB_REASON_REPORTED = 3,   /* of WRONG: the first line that does, `other`, knew `known` */
-    FDB_REASON_DRAWN = 4,      /* of TWICE and STRAY: line `other` drew the version */
+    FDB_REASON_DRAWN = 4,      /* of TWICE and STRAY: `other` is the first other line that drew */
     FDB_REASON_UNDRAWN = 5     /* of STRAY: no line drew it */
 };
 
 /* How a version was known. */
 enum {
-    FDB_MEANS_START = 1, /* all began with it */
+    FDB_MEANS_START = 1, /* all began with it, and no line let it be known */
     FDB_MEANS_ENDED = 2, /* line `by` had ended by more than the margin before */
     FDB_MEANS_OWN = 3,   /* line `by` is an earlier one of the same client */
     FDB_MEANS_LEARNT = 4 /* the client had learnt of line `by`, by its own line `learnt` */
@@ -360,7 +362,7 @@ enum {
 /* A fault, and why it stands. Here lines are counted from 0, as an array's elements; a text and
  * fdb_refused count them from 1. What a reason does not name is 0. */
 typedef struct fdb_fault {
-    uint64_t known;  /* the version that was known: of REASON_KNOWN and REASON_REPORTED */
+    uint64_t known;  /* the greatest that was known: of REASON_KNOWN and REASON_REPORTED */
     uint32_t line;   /* the line at which the fault stands */
     uint32_t other;  /* the line that reported or drew: of REASON_REPORTED and REASON_DRAWN */
     uint32_t by;     /* the line that let `known` be known; of several, any */
@@ -403,7 +405,7 @@ uint8_t fdb_audit_log_faults(const uint8_t *log, size_t log_length,
 
 /*
  * Audits a log whose lines are `calls`, and writes a text as fdb_audit_log_text does. It names a
- * client by its number.
+ * client by its number: `client 2`.
  *
  * As fdb_audit_log_text, but of the first call that is wrong FDB_NO_CALL (`kind`), FDB_BAD_MEMBER
  * (FDB_ENDED: it ended before it began), FDB_TOO_MANY, FDB_SOME_TIMES, FDB_BAD_MEMBER (FDB_LEARN
