@@ -1,16 +1,15 @@
 -- A run has played all rounds, and is audited.
-use Rattle.std.proofs.Common.{◌≡◌, ◌≢◌, ℕ, suc, ◌+◌, ◌<◌, List, [], ◌∷◌, length, replicate, drop, get_or, refl, ap, sym, ◌∙◌, subst}
+use Rattle.std.proofs.Common.{◌≡◌, ◌≢◌, ℕ, ◌+◌, ◌<◌, List, ◌∷◌, length, drop, get_or, ap, sym, ◌∙◌, subst}
 use Rattle.std.specs.List.{FoldsTo}
-use Rattle.std.proofs.lemmas.List.{drop_more, length-replicate}
+use Rattle.std.proofs.lemmas.List.{drop_more}
 use Rattle.fdb_history.specs.Audit.{IsFirstFault, IsOfAnAnswer}
 use Rattle.fdb_history.specs.Chain.{IsChain}
 use Rattle.fdb_history.specs.declared.chain.Issued.{Issued}
 use Rattle.fdb_history.specs.declared.fault.AuditFault.{AuditFault}
 use Rattle.fdb_history.specs.declared.fault.AuditFault.TheVariants.{Order, Clash, Gap, Wrong, Stray, NotAbove, Memory}
-use Rattle.fdb_history.specs.declared.log.Call.{Call}
 use Rattle.fdb_history.specs.declared.log.ClientLog.{ClientLog}
 use Rattle.fdb_replay.specs.Outcome.{Fails, opening, run_fault}
-use Rattle.fdb_script.specs.Answering.{Answers, AnswersRound, added_calls, learnt_from}
+use Rattle.fdb_script.specs.Answering.{Answers, AnswersRound}
 use Rattle.fdb_script.specs.Plan.{Plan}
 use Rattle.fdb_script.specs.declared.script.Command.{Command}
 
@@ -23,21 +22,6 @@ pub one_round_more : (rounds : List (List Command)) (round : ℕ) (commands : Li
 one_round_more rounds round commands before after last within here answered rest =
     let left : drop round rounds ≡ commands ∷ drop (round + 1) rounds = drop_more rounds round commands within ∙ ap (λ first. first ∷ drop (round + 1) rounds) (sym here) in
     subst (λ left. FoldsTo AnswersRound before left last) (sym left) (after, answered, rest)
-
--- ---- as many clients as before
-
-learnt_length : (client : ℕ) (calls : List (List Call)) (logs : List ClientLog) → length (learnt_from client calls logs) ≡ length logs
-learnt_length client calls [] = refl
-learnt_length client calls (log ∷ logs) = ap suc (learnt_length (client + 1) calls logs)
-
-rounds_length : (before : List ClientLog) (rounds : List (List Command)) (after : List ClientLog) → FoldsTo AnswersRound before rounds after → length after ≡ length before
-rounds_length before [] after same = ap length (sym same)
-rounds_length before (commands ∷ rounds) after (between, answered, rest) =
-    rounds_length between rounds after rest ∙ ap length answered.learnt ∙ learnt_length 0 (added_calls before answered.performed) answered.performed ∙ answered.performs.same_clients
-
--- the logs of a run are as many as the script's clients
-pub same_clients : (plan : Plan) (logs : List ClientLog) → Answers plan logs → length logs ≡ plan.setup.clients
-same_clients plan logs answers = rounds_length (replicate plan.setup.clients (record { calls = [] })) plan.rounds logs answers ∙ length-replicate plan.setup.clients (record { calls = [] })
 
 -- ---- the audit
 
