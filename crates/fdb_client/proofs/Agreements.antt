@@ -4,8 +4,9 @@ use Rattle.std.specs.List.{AllByRecursion}
 use Rattle.std.proofs.lemmas.Grind.{flat_map-append}
 use Rattle.std.proofs.lemmas.List.{append-nil, take-append-le}
 use Rattle.std.proofs.Math.Seq.{take-append_seam, take-length}
+use Rattle.fdb_history.specs.Audit.{IsNotAbove}
 use Rattle.fdb_history.specs.Faults.{IsMisanswered, IsWrongBy}
-use Rattle.fdb_history.specs.Issuing.{answer_to}
+use Rattle.fdb_history.specs.Issuing.{Chain, answer_to}
 use Rattle.fdb_history.specs.Laws.{HasMinimumWithin}
 use Rattle.fdb_history.specs.Linear.{NeverGoesBack}
 use Rattle.fdb_history.specs.Log.{answer_changes, position_after_calls}
@@ -26,7 +27,6 @@ use Rattle.fdb_live.specs.declared.change.Change.{Change}
 use Rattle.fdb_client.specs.Account.{Account, Logs, new_account, sight}
 use Rattle.fdb_client.specs.Calls.{Asks, IsReadAnswer, IsReportAnswer, Reads, Reports, request_of}
 use Rattle.fdb_client.specs.declared.error.ClientError.{ClientError}
-use Rattle.fdb_client.specs.declared.error.ClientError.TheVariants.{Locked, Stranger, ProxyClosed, Chain, Queue, NotIssued, Live, Memory}
 use Rattle.fdb_client.specs.private.Refusals.{refusal_for}
 use Rattle.fdb_client.specs.declared.read.ReadVersion.{ReadVersion}
 use Rattle.fdb_client.proofs.Calls.{position_of_added}
@@ -60,12 +60,20 @@ made_alike number log more position (Answered issued) made = made
 made_alike number log more position Told made = made
 made_alike number log more position (Refused cause) made = made
 
-agrees_alike : (start : Record) (number : ℕ) (log more : List Change) (call : Call) → call.position ≤ length log → AgreesAt start number log call → AgreesAt start number (log ++ more) call
-agrees_alike start number log more call within agrees = record {
+pub low_alike : (these those : ℕ → Record) (asked : ℕ) (answer : CallAnswer) → these asked ≡ those asked → IsNotAbove these asked answer → IsNotAbove those asked answer
+low_alike these those asked (Answered issued) here low = (low.0, low.1, subst (λ (r : Record). issued.version ≤ r.version) here low.2)
+low_alike these those asked (Version rec limits locked_out) here low = low
+low_alike these those asked (Acked rec raised changed) here low = low
+low_alike these those asked Told here low = low
+low_alike these those asked (Refused cause) here low = low
+
+agrees_alike : (start : Record) (number : ℕ) (log more : List Change) (call : Call) → call.asked ≤ call.position → call.position ≤ length log → AgreesAt start number log call → AgreesAt start number (log ++ more) call
+agrees_alike start number log more call no_earlier within agrees = record {
   right = λ wrong. agrees.right (wrong_alike (record_at start (log ++ more)) (record_at start log) call.position call.answer
       (record_alike start log more call.position within) (record_alike start log more (call.position - 1) (omega arith)) wrong);
   made = made_alike number log more call.position call.answer agrees.made;
   within = agrees.within;
+  above = λ low. agrees.above (low_alike (record_at start (log ++ more)) (record_at start log) call.asked call.answer (record_alike start log more call.asked (omega arith)) low);
 }
 
 -- ---- calls that never go back
@@ -84,7 +92,7 @@ pub all_alike : (start : Record) (number before : ℕ) (log more : List Change) 
 all_alike start number before log more [] order within each = each
 all_alike start number before log more (call ∷ calls) order within each =
     let least = comes_to call.position calls order.3 in
-    (agrees_alike start number log more call (omega arith) each.0, all_alike start number call.position log more calls order.3 within each.1)
+    (agrees_alike start number log more call order.1 (omega arith) each.0, all_alike start number call.position log more calls order.3 within each.1)
 
 all_added : {X : Type 0} (P : X → Type 0) (xs : List X) (x : X) → AllByRecursion P xs → P x → AllByRecursion P (xs ++ x ∷ [])
 all_added P [] x each here = (here, each)
@@ -103,8 +111,9 @@ agrees_logged : (start : Record) (input : Input) (answer : CallAnswer) (before a
     → (IsWrongBy (record_at start after.changes) (length after.changes) answer → ⊥)
     → IsMade after.number after.changes (length after.changes) answer
     → HasMinimumWithin answer
+    → (IsNotAbove (record_at start after.changes) (length before.changes) answer → ⊥)
     → Agrees start after
-agrees_logged start input answer before after agrees logged new right made within =
+agrees_logged start input answer before after agrees logged new right made within above =
     let call : Call = record { input = input; asked = length before.changes; position = length after.changes; answer = answer } in
     let (more, whole) = logged.extends in
     let longer : length before.changes ≤ length after.changes = omega (arith, sym (ap length whole) ∙ length-append before.changes more) in
@@ -113,7 +122,7 @@ agrees_logged start input answer before after agrees logged new right made withi
     let all = all_alike start before.number before.begun before.changes more before.calls agrees.order (omega arith) agrees.each in
     let seen : AllByRecursion (AgreesAt start before.number after.changes) before.calls = subst (λ log. AllByRecursion (AgreesAt start before.number log) before.calls) whole all in
     let own : AllByRecursion (AgreesAt start after.number after.changes) before.calls = subst (λ number. AllByRecursion (AgreesAt start number after.changes) before.calls) (sym logged.number) seen in
-    let here : AgreesAt start after.number after.changes call = record { right = right; made = made; within = within } in
+    let here : AgreesAt start after.number after.changes call = record { right = right; made = made; within = within; above = above } in
     record {
       own = owned (answer_changes answer) refl;
       order = subst (NeverGoesBack after.begun) (sym logged.calls) (subst (λ begun. NeverGoesBack begun (before.calls ++ call ∷ [])) (sym logged.begun) order);
@@ -132,27 +141,42 @@ agrees_logged start input answer before after agrees logged new right made withi
 
 -- ---- each kind of call
 
+last_at : (start : Record) (log : List Change) → record_at start log (length log) ≡ last_record start log
+last_at start log = ap (last_record start) (take-length log)
+
 -- an answer of which the register says nothing
 abbrev pub IsQuiet : CallAnswer → Type 0
 IsQuiet (Version rec limits locked_out) = ⊥
 IsQuiet (Acked rec raised changed) = ⊥
-IsQuiet (Answered issued) = Unit {0}
+IsQuiet (Answered issued) = ⊥
 IsQuiet Told = Unit {0}
 IsQuiet (Refused cause) = Unit {0}
 
 pub agrees_quiet : (start : Record) (input : Input) (answer : CallAnswer) (before after : Account) → IsQuiet answer → Agrees start before → Logs before input answer after → Agrees start after
 agrees_quiet start input (Version rec limits locked_out) before after quiet agrees logged = absurd quiet
 agrees_quiet start input (Acked rec raised changed) before after quiet agrees logged = absurd quiet
-agrees_quiet start input (Answered issued) before after quiet agrees logged = agrees_logged start input (Answered issued) before after agrees logged (λ is. absurd (cc is)) (λ wrong. wrong) tt tt
-agrees_quiet start input Told before after quiet agrees logged = agrees_logged start input Told before after agrees logged (λ is. absurd (cc is)) (λ wrong. wrong) tt tt
-agrees_quiet start input (Refused cause) before after quiet agrees logged = agrees_logged start input (Refused cause) before after agrees logged (λ is. absurd (cc is)) (λ wrong. wrong) tt tt
+agrees_quiet start input (Answered issued) before after quiet agrees logged = absurd quiet
+agrees_quiet start input Told before after quiet agrees logged = agrees_logged start input Told before after agrees logged (λ is. absurd (cc is)) (λ wrong. wrong) tt tt (λ low. low)
+agrees_quiet start input (Refused cause) before after quiet agrees logged = agrees_logged start input (Refused cause) before after agrees logged (λ is. absurd (cc is)) (λ wrong. wrong) tt tt (λ low. low)
 
-last_at : (start : Record) (log : List Change) → record_at start log (length log) ≡ last_record start log
-last_at start log = ap (last_record start) (take-length log)
+-- of a request for a commit version the register says only that its version is above what was seen
+ask_agrees : (start : Record) (num processed at : ℕ) (given : Result Issued Refusal) (before after : Account) → (IsNotAbove (λ _. last_record start before.changes) (length before.changes) (logged_as given) → ⊥)
+    → Agrees start before → Logs before (input.Ask num processed at) (logged_as given) after → Agrees start after
+ask_agrees start num processed at (Ok issued) before after above agrees logged =
+    let same : after.changes ≡ before.changes = logged.stays refl in
+    let seen : record_at start after.changes (length before.changes) ≡ last_record start before.changes = ap (λ log. record_at start log (length before.changes)) same ∙ last_at start before.changes in
+    agrees_logged start (input.Ask num processed at) (Answered issued) before after agrees logged (λ is. absurd (cc is)) (λ wrong. wrong) tt tt
+    (λ low. above (low_alike (record_at start after.changes) (λ _. last_record start before.changes) (length before.changes) (Answered issued) seen low))
+ask_agrees start num processed at (Err cause) before after above agrees logged = agrees_quiet start (input.Ask num processed at) (Refused cause) before after tt agrees logged
+
+pub agrees_asked : (begun : Chain) (start : Record) (num processed at : ℕ) (before after : Account) (result : Result Issued ClientError) → Agrees start before → Asks begun start num processed at before after result → Agrees start after
+agrees_asked begun start num processed at before after result agrees asks =
+    let both = subst (λ (a : CallAnswer). (IsNotAbove (λ _. last_record start before.changes) (length before.changes) a → ⊥) × Logs before (input.Ask num processed at) a after) asks.answered (asks.above, asks.logged) in
+    ask_agrees start num processed at (answer_to (record begun { answers = asks.by_then }) (request_of before num processed at)) before after both.0 agrees both.1
 
 read_agrees : (start : Record) (opts : GrvOpts) (answer : CallAnswer) (before after : Account) → IsReadAnswer start opts after answer → Agrees start before → Logs before (input.Grv opts) answer after → Agrees start after
 read_agrees start opts (Version rec limits locked_out) before after answered agrees logged =
-    agrees_logged start (input.Grv opts) (Version rec limits locked_out) before after agrees logged (λ is. absurd (cc is)) (λ wrong. wrong (answered.0 ∙ sym (last_at start after.changes))) tt tt
+    agrees_logged start (input.Grv opts) (Version rec limits locked_out) before after agrees logged (λ is. absurd (cc is)) (λ wrong. wrong (answered.0 ∙ sym (last_at start after.changes))) tt tt (λ low. low)
 read_agrees start opts (Acked rec raised changed) before after answered agrees logged = absurd answered
 read_agrees start opts (Answered issued) before after answered agrees logged = absurd answered
 read_agrees start opts Told before after answered agrees logged = absurd answered
@@ -207,9 +231,9 @@ report_agrees start num locked metadata min_known version (Refused cause) before
 report_agrees start num locked metadata min_known version (Acked rec raised true) before after answered agrees logged =
     let last = change_last start rec raised before after answered.5 in
     agrees_logged start (input.Report num locked metadata min_known) (Acked rec raised true) before after agrees logged (λ _. last.longer) last.right
-    (last.made ∙ ap (λ number. Some (record { reporter = number; rec = rec })) (sym logged.number)) answered.4.within
+    (last.made ∙ ap (λ number. Some (record { reporter = number; rec = rec })) (sym logged.number)) answered.4.within (λ low. low)
 report_agrees start num locked metadata min_known version (Acked rec raised false) before after answered agrees logged =
-    agrees_logged start (input.Report num locked metadata min_known) (Acked rec raised false) before after agrees logged (λ is. absurd (cc is)) right tt answered.4.within
+    agrees_logged start (input.Report num locked metadata min_known) (Acked rec raised false) before after agrees logged (λ is. absurd (cc is)) right tt answered.4.within (λ low. low)
   where
     none : changes (record_at start after.changes (length after.changes)) rec ≡ false
     none = ap (λ (r : Record). changes r rec) (last_at start after.changes) ∙ answered.5.changes
@@ -222,59 +246,3 @@ pub agrees_reported : (start : Record) (num : ℕ) (locked : Bool) (metadata : O
     → Reports start num locked metadata min_known before after result → Agrees start after
 agrees_reported start num locked metadata min_known before after result agrees reports =
     report_agrees start num locked metadata min_known (issued_under before.calls num) reports.answer before after reports.answered agrees reports.logged
-
--- ---- where memory may have been refused
-
--- where a client's log has come to, and that it agrees with its token
-abbrev pub HasAgreed : Record → Account → Type 0
-HasAgreed start account = (position_after_calls account.begun account.calls ≡ length account.changes) × Agrees start account
-
-is_as_before : (before after : Account) → after.number ≡ before.number → after.begun ≡ before.begun → after.calls ≡ before.calls → after.changes ≡ before.changes → after ≡ before
-is_as_before before after number begun calls changes =
-    let one : after ≡ record { number = before.number; begun = after.begun; calls = after.calls; changes = after.changes } = ap (λ n. record { number = n; begun = after.begun; calls = after.calls; changes = after.changes }) number in
-    let two : after ≡ record { number = before.number; begun = before.begun; calls = after.calls; changes = after.changes } = one ∙ ap (λ n. record { number = before.number; begun = n; calls = after.calls; changes = after.changes }) begun in
-    let three : after ≡ record { number = before.number; begun = before.begun; calls = before.calls; changes = after.changes } = two ∙ ap (λ own. record { number = before.number; begun = before.begun; calls = own; changes = after.changes }) calls in
-    three ∙ ap (λ seen. record { number = before.number; begun = before.begun; calls = before.calls; changes = seen }) changes
-
--- a refused call is logged as that, or not at all
-pub agrees_refused : {S : Type 0} (start : Record) (input : Input) (error : ClientError) (before after : Account)
-    → after.number ≡ before.number → after.begun ≡ before.begun → after.changes ≡ before.changes
-    → IfNone (refusal_for error) S → (S → after.calls ≡ before.calls)
-    → IfSome (refusal_for error) (λ cause. after.calls ≡ before.calls ++ record { input = input; asked = length before.changes; position = length before.changes; answer = Refused cause } ∷ [])
-    → HasAgreed start before → HasAgreed start after
-agrees_refused {S} start input error before after number begun changes unlogged same logged agrees = go (refusal_for error) unlogged logged
-  where
-    go : (found : Option Refusal) → IfNone found S
-        → IfSome found (λ cause. after.calls ≡ before.calls ++ record { input = input; asked = length before.changes; position = length before.changes; answer = Refused cause } ∷ [])
-        → HasAgreed start after
-    go None none _ =
-        subst (HasAgreed start) (sym (is_as_before before after number begun (same none) changes)) agrees
-    go (Some cause) _ calls =
-        let call : Call = record { input = input; asked = length before.changes; position = length before.changes; answer = Refused cause } in
-        let length_is : length before.changes ≡ length after.changes = sym (ap length changes) in (
-          ap (position_after_calls after.begun) calls ∙ (position_of_added after.begun before.calls call ∙ length_is),
-          agrees_quiet start input (Refused cause) before after tt agrees.1 (record {
-            number = number;
-            begun = begun;
-            calls = calls ∙ ap (λ n. before.calls ++ record { input = input; asked = length before.changes; position = n; answer = Refused cause } ∷ []) length_is;
-            come_to = agrees.0;
-            extends = ([], append-nil before.changes ∙ sym changes);
-            stays = λ _. changes;
-            own = λ _. ap (λ n. own_positions (record { reporter = Some n; changes = after.changes })) number ∙ ap (λ seen. own_positions (record { reporter = Some before.number; changes = seen })) changes;
-            changed = λ is. absurd (cc is);
-          }),
-        )
-
--- What holds of a client before a call, and after it where that was not refused for memory, holds
--- after it.
-pub either_way : {X : Type 0} (P : Account → Type 0) (before after : Account) (result : Result X ClientError) → P before → (result ≢ Err Memory → P after)
-    → (result ≡ Err Memory → after ≡ before) → P after
-either_way P before after (Ok value) was done same = done (λ is. absurd (cc is))
-either_way P before after (Err Memory) was done same = subst P (sym (same refl)) was
-either_way P before after (Err (Locked version)) was done same = done (λ is. absurd (cc is))
-either_way P before after (Err Stranger) was done same = done (λ is. absurd (cc is))
-either_way P before after (Err ProxyClosed) was done same = done (λ is. absurd (cc is))
-either_way P before after (Err (Chain cause)) was done same = done (λ is. absurd (cc is))
-either_way P before after (Err (Queue cause)) was done same = done (λ is. absurd (cc is))
-either_way P before after (Err NotIssued) was done same = done (λ is. absurd (cc is))
-either_way P before after (Err (Live cause)) was done same = done (λ is. absurd (cc is))

@@ -4,19 +4,20 @@ use Rattle.std.specs.List.{AllByRecursion, slice_get}
 use Rattle.std.specs.Prelude.{nat_lt}
 use Rattle.std.proofs.lemmas.Bool.Decides.{nat_tests}
 use Rattle.std.proofs.lemmas.Option.{slice_get-map}
-use Rattle.fdb_client.specs.Account.{Account, sight}
-use Rattle.fdb_client.specs.Agreeing.{Agrees}
-use Rattle.fdb_client.specs.Settling.{AllAgree, HaveNumbers, logs_of}
+use Rattle.fdb_client.specs.Account.{Account, holding}
+use Rattle.fdb_client.specs.Agreeing.{Agrees, AgreesWithChain}
+use Rattle.fdb_client.specs.Settling.{AllAgree, AllAgreeWithChain, HaveNumbers, logs_of}
 use Rattle.fdb_history.specs.Log.{calls_of}
 use Rattle.fdb_history.specs.declared.log.Call.{Call}
 use Rattle.fdb_history.specs.declared.log.ClientLog.{ClientLog}
 use Rattle.fdb_history.specs.declared.register.Record.{Record}
-use Rattle.fdb_live.specs.Gathering.{AreNumbered}
+use Rattle.fdb_history.specs.declared.chain.Issued.{Issued}
+use Rattle.fdb_live.specs.Holding.{AreNumbered}
 use Rattle.fdb_live.specs.declared.change.Change.{Change}
 
 -- a client's calls agree with its token, as those of one that began before any change
-abbrev pub MaySettle : Record → Account → Type 0
-MaySettle start client = Agrees start (record client { begun = 0 })
+abbrev pub MaySettle : ℕ → ℕ → Record → Account → Type 0
+MaySettle epoch_end recovery start client = Agrees start (record client { begun = 0 }) × AgreesWithChain epoch_end recovery client
 
 at_map : {X Y : Type 0} (f : X → Y) (xs : List X) (k : ℕ) (y : Y) → slice_get (map f xs) k ≡ Some y → (x : X) × (slice_get xs k ≡ Some x) × (f x ≡ y)
 at_map f [] k y is = absurd cc
@@ -38,21 +39,34 @@ pub one_more : {X : Type 0} (P : X → Type 0) (xs : List X) (x : X) → AllByRe
 one_more P [] x all one = (one, tt)
 one_more P (y ∷ xs) x all one = (all.0, one_more P xs x all.1 one)
 
-pub are_numbered : (clients : List Account) → HaveNumbers clients → AreNumbered (map sight clients)
+pub are_numbered : (clients : List Account) → HaveNumbers clients → AreNumbered (map holding clients)
 are_numbered clients have k token is =
-    let own = at_map sight clients k token is in
-    sym (ap (λ one. one.reporter) own.2) ∙ ap Some (have k own.0 own.1)
+    let own = at_map holding clients k token is in
+    sym (ap (λ one. one.number) own.2) ∙ ap Some (have k own.0 own.1)
 
-said : (start : Record) (client : Account) (number : ℕ) (calls : List Call) (changes : List Change) → client.number ≡ number → client.calls ≡ calls → client.changes ≡ changes
-    → MaySettle start client → Agrees start (record { number = number; begun = 0; calls = calls; changes = changes })
-said start client number calls changes a c d agrees = rw (← a, ← c, ← d) agrees
+said : (start : Record) (client : Account) (number : ℕ) (calls : List Call) (answers : List Issued) (changes : List Change) → client.number ≡ number → client.calls ≡ calls → client.answers ≡ answers → client.changes ≡ changes
+    → Agrees start (record client { begun = 0 }) → Agrees start (record { number = number; begun = 0; calls = calls; answers = answers; changes = changes })
+said start client number calls answers changes a c b d agrees = rw (← a, ← c, ← b, ← d) agrees
 
-pub all_agree : (start : Record) (clients : List Account) → HaveNumbers clients → AllByRecursion (MaySettle start) clients → AllAgree start (logs_of clients) (map sight clients)
-all_agree start clients have all k token is =
-    let own = at_map sight clients k token is in
-    let settled = at_each (MaySettle start) clients k own.0 all own.1 in
-    let calls : calls_of (logs_of clients) k ≡ own.0.calls = rw (slice_get-map {B = ClientLog} (λ (client : Account). record { calls = client.calls }) clients k, own.1) refl in
-    said start own.0 k (calls_of (logs_of clients) k) token.changes (have k own.0 own.1) (sym calls) (ap (λ one. one.changes) own.2) settled
+said_of_chain : (epoch_end recovery : ℕ) (client : Account) (number : ℕ) (calls : List Call) (answers : List Issued) (changes : List Change) → client.number ≡ number → client.calls ≡ calls → client.answers ≡ answers → client.changes ≡ changes
+    → AgreesWithChain epoch_end recovery client → AgreesWithChain epoch_end recovery (record { number = number; begun = 0; calls = calls; answers = answers; changes = changes })
+said_of_chain epoch_end recovery client number calls answers changes a c b d agrees = rw (← a, ← c, ← b, ← d) (record { own = agrees.own; drawn = agrees.drawn; justified = agrees.justified })
+
+module _ (epoch_end recovery : ℕ) (start : Record) (clients : List Account) (have : HaveNumbers clients) (all : AllByRecursion (MaySettle epoch_end recovery start) clients) where
+  calls_are : (k : ℕ) (client : Account) → slice_get clients k ≡ Some client → client.calls ≡ calls_of (logs_of clients) k
+  calls_are k client is = sym (rw (slice_get-map {B = ClientLog} (λ (client : Account). record { calls = client.calls }) clients k, is) refl)
+
+  pub all_agree : AllAgree start (logs_of clients) (map holding clients)
+  all_agree k token is =
+      let own = at_map holding clients k token is in
+      said start own.0 k (calls_of (logs_of clients) k) token.answers token.changes (have k own.0 own.1) (calls_are k own.0 own.1) (ap (λ one. one.answers) own.2) (ap (λ one. one.changes) own.2)
+      (at_each (MaySettle epoch_end recovery start) clients k own.0 all own.1).0
+
+  pub all_agree_with_chain : AllAgreeWithChain epoch_end recovery (logs_of clients) (map holding clients)
+  all_agree_with_chain k token is =
+      let own = at_map holding clients k token is in
+      said_of_chain epoch_end recovery own.0 k (calls_of (logs_of clients) k) token.answers token.changes (have k own.0 own.1) (calls_are k own.0 own.1) (ap (λ one. one.answers) own.2) (ap (λ one. one.changes) own.2)
+      (at_each (MaySettle epoch_end recovery start) clients k own.0 all own.1).1
 
 -- the clients before a place stand at their numbers
 abbrev pub HaveNumbersBelow : ℕ → List Account → Type 0

@@ -1,3 +1,4 @@
+pub mod Chains
 pub mod Kept
 pub mod Calls
 pub mod Longer
@@ -9,3 +10,6 @@ pub mod Agreements
 pub mod Settled
 pub mod Beginnings
 pub mod Left
+pub mod Justified
+pub mod Chained
+pub mod Strays

@@ -15,18 +15,18 @@ at_place (x ∷ before) next after = at_place before next after
 
 -- each is new, and its number is its place
 abbrev pub AreNew : List Account → ℕ → Type 0
-AreNew accounts n = (k : ℕ) → k < n → slice_get accounts k ≡ Some (new_account k [])
+AreNew accounts n = (k : ℕ) → k < n → slice_get accounts k ≡ Some (new_account k [] [])
 
-pub one_more : (accounts : List Account) (n : ℕ) (new : Account) → length accounts ≡ n → AreNew accounts n → new ≡ new_account n [] → AreNew (accounts ++ new ∷ []) (n + 1)
+pub one_more : (accounts : List Account) (n : ℕ) (new : Account) → length accounts ≡ n → AreNew accounts n → new ≡ new_account n [] [] → AreNew (accounts ++ new ∷ []) (n + 1)
 one_more accounts n new long all is k below = go (nat_lt k n) refl
   where
-    go : (b : Bool) → nat_lt k n ≡ b → slice_get (accounts ++ new ∷ []) k ≡ Some (new_account k [])
+    go : (b : Bool) → nat_lt k n ≡ b → slice_get (accounts ++ new ∷ []) k ≡ Some (new_account k [] [])
     go true e =
         let before : k < n = grind (arith, nat_tests) in
         before_end accounts new k (omega arith) ∙ all k before
     go false e =
         let after : k ≡ n = grind (arith, nat_tests) in
-        ap (slice_get (accounts ++ new ∷ [])) (after ∙ sym long) ∙ (at_place accounts new [] ∙ (ap Some is ∙ ap (λ (j : ℕ). Some (new_account j [])) (sym after)))
+        ap (slice_get (accounts ++ new ∷ [])) (after ∙ sym long) ∙ (at_place accounts new [] ∙ (ap Some is ∙ ap (λ (j : ℕ). Some (new_account j [] [])) (sym after)))
 
 module _ {X : Type 0} (before : List X) (next : X) (after all : List X) (whole : before ++ next ∷ after ≡ all) where
   -- one that comes after some is one of all

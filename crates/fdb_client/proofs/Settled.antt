@@ -6,26 +6,28 @@ use Rattle.std.proofs.lemmas.Bool.{cases_lt}
 use Rattle.std.proofs.lemmas.Bool.Decides.{nat_tests}
 use Rattle.std.proofs.lemmas.List.{append-nil}
 use Rattle.std.proofs.lemmas.List.Elements.{All-head, All-tail, filter-append}
-use Rattle.std.proofs.lemmas.Option.{slice_get_within}
+use Rattle.std.proofs.lemmas.Option.{same_Some, slice_get_within}
 use mathlib.Core.List.{IsPrefix}
-use Rattle.fdb_history.specs.Faults.{change_in, changes_in, changes_at, at_position, after_changes, register_at, IsFaultless, OutOfOrder, WronglyAnswered, IsClash, IsGap, IsOutOfOrder}
+use Rattle.fdb_history.specs.Audit.{Low}
+use Rattle.fdb_history.specs.Faults.{Nowhere, change_in, changes_in, changes_at, at_position, after_changes, register_at, IsFaultless, OutOfOrder, WronglyAnswered, IsClash, IsGap, IsOutOfOrder}
 use Rattle.fdb_history.specs.Laws.{HasMinimumWithin, HaveMinimaWithin}
 use Rattle.fdb_history.specs.Linear.{NeverGoesBack}
 use Rattle.fdb_history.specs.Log.{answer_changes, calls_of, position_after_calls}
 use Rattle.fdb_history.specs.Register.{after_report}
 use Rattle.fdb_history.specs.declared.auditing.changes.PlacedChange.{PlacedChange}
+use Rattle.fdb_history.specs.declared.chain.Issued.{Issued}
 use Rattle.fdb_history.specs.declared.log.Call.{Call}
 use Rattle.fdb_history.specs.declared.log.CallAnswer.{CallAnswer}
 use Rattle.fdb_history.specs.declared.log.CallAnswer.TheVariants.{Version, Acked, Answered, Told, Refused}
 use Rattle.fdb_history.specs.declared.log.ClientLog.{ClientLog}
 use Rattle.fdb_history.specs.declared.register.Record.{Record}
-use Rattle.fdb_live.specs.Gathering.{AreNumbered}
-use Rattle.fdb_live.specs.Seen.{Sight, changed_by, last_record, own_among, own_positions}
+use Rattle.fdb_live.specs.Holding.{AreNumbered, Holding, IsToldAll}
+use Rattle.fdb_live.specs.Seen.{changed_by, last_record, own_among}
 use Rattle.fdb_live.specs.declared.change.Change.{Change}
 use Rattle.fdb_client.specs.Account.{Account}
 use Rattle.fdb_client.specs.Agreeing.{Agrees, AgreesAt, IsMade, changed_positions, record_at}
 use Rattle.fdb_client.specs.Settling.{AllAgree}
-use Rattle.fdb_client.proofs.Agreements.{all_alike, comes_to, wrong_alike}
+use Rattle.fdb_client.proofs.Agreements.{all_alike, comes_to, low_alike, wrong_alike}
 
 -- ---- the changes of one client
 
@@ -93,7 +95,12 @@ all_made start number log (call ∷ calls) each =
 
 -- a client of which all is said beside the whole list
 abbrev account_of : ℕ → List Call → List Change → Account
-account_of number calls log = record { number = number; begun = 0; calls = calls; changes = log }
+account_of number calls log = record { number = number; begun = 0; calls = calls; answers = []; changes = log }
+
+-- what agrees with a list of changes does so whatever answers were seen
+pub whatever : (start : Record) (number : ℕ) (calls : List Call) (these those : List Issued) (log : List Change) → Agrees start (record { number = number; begun = 0; calls = calls; answers = these; changes = log })
+    → Agrees start (record { number = number; begun = 0; calls = calls; answers = those; changes = log })
+whatever start number calls these those log agrees = record { own = agrees.own; order = agrees.order; come_to = agrees.come_to; each = agrees.each }
 
 pub changes_by : (start : Record) (number : ℕ) (calls : List Call) (log : List Change) → Agrees start (account_of number calls log) → changes_of calls ≡ placed_by number 1 log
 changes_by start number calls log agrees =
@@ -271,7 +278,7 @@ last_record_more : (start : Record) (log : List Change) (r : Change) → last_re
 last_record_more start [] r = refl
 last_record_more start (q ∷ log) r = last_record_more (after_report start q.rec) log r
 
-take_more : {A : Type 0} (xs : List A) (i : ℕ) → i < length xs → (x : A) × (slice_get xs i ≡ Some x) × (take (suc i) xs ≡ take i xs ++ x ∷ [])
+pub take_more : {A : Type 0} (xs : List A) (i : ℕ) → i < length xs → (x : A) × (slice_get xs i ≡ Some x) × (take (suc i) xs ≡ take i xs ++ x ∷ [])
 take_more [] i within = absurd (omega arith)
 take_more (y ∷ xs) zero within = (y, refl, refl)
 take_more (y ∷ xs) (suc i) within = let (x, is, more) = take_more xs i (omega arith) in (x, is, ap (λ l. y ∷ l) more)
@@ -321,7 +328,7 @@ pub record AreSettled (start : Record) (logs : List ClientLog) (log : List Chang
   pub by : All (λ r. r.reporter < length logs) log
   pub each : (k : ℕ) → k < length logs → Agrees start (account_of k (calls_of logs k) log)
 
-inside : (logs : List ClientLog) (client place : ℕ) (call : Call) → slice_get (calls_of logs client) place ≡ Some call → client < length logs
+pub inside : (logs : List ClientLog) (client place : ℕ) (call : Call) → slice_get (calls_of logs client) place ≡ Some call → client < length logs
 inside [] client place call is = absurd (cc is)
 inside (one ∷ logs) zero place call is = omega arith
 inside (one ∷ logs) (suc client) place call is = let rest = inside logs client place call is in omega arith
@@ -331,7 +338,7 @@ calls_is [] k one is = absurd (cc is)
 calls_is (first ∷ logs) zero one is = let same : first ≡ one = cc is in ap (λ (log : ClientLog). log.calls) same
 calls_is (first ∷ logs) (suc k) one is = calls_is logs k one is
 
-calls_beyond : (logs : List ClientLog) (client : ℕ) → (client < length logs → ⊥) → calls_of logs client ≡ []
+pub calls_beyond : (logs : List ClientLog) (client : ℕ) → (client < length logs → ⊥) → calls_of logs client ≡ []
 calls_beyond [] client beyond = refl
 calls_beyond (one ∷ logs) zero beyond = absurd (beyond (omega arith))
 calls_beyond (one ∷ logs) (suc client) beyond = calls_beyond logs client (λ below. beyond (omega arith))
@@ -392,6 +399,15 @@ module _ (start : Record) (logs : List ClientLog) (log : List Change) (settled :
       let right = all_at (AgreesAt start client log) (calls_of logs client) place call agrees.each is in
       right.right (wrong_alike (register_at start logs) (record_at start log) call.position call.answer (register call.position within) (register (call.position - 1) (omega arith)) wrong)
 
+  -- no drawn version that is not above what its asker had seen
+  pub no_low : Nowhere (Low start logs)
+  no_low client place (call, is, low) =
+      let (order, within) = reached client place call is in
+      let no_later = order.more in
+      let agrees = settled.each client (inside logs client place call is) in
+      let right = all_at (AgreesAt start client log) (calls_of logs client) place call agrees.each is in
+      right.above (low_alike (register_at start logs) (record_at start log) call.asked call.answer (register call.asked (omega arith)) low)
+
   no_disorder : (client place : ℕ) → OutOfOrder logs client place → ⊥
   no_disorder client place (call, is, out) = not_out (calls_of logs client) place call (reached client place call is).0 out
 
@@ -406,29 +422,31 @@ module _ (start : Record) (logs : List ClientLog) (log : List Change) (settled :
 
 -- ---- tokens that were brought together
 
-module _ (start : Record) (reporters : ℕ) (logs : List ClientLog) (old new : List Sight) (log : List Change)
-    (logs_count : length logs ≡ reporters)
-    (one_list : (k : ℕ) → k < reporters → slice_get new k ≡ Some (record { reporter = Some k; changes = log })) where
+module _ (start : Record) (reporters : ℕ) (logs : List ClientLog) (old new : List Holding) (log : List Change) (logs_count : length logs ≡ reporters)
+    (told : (k : ℕ) (token : Holding) → slice_get old k ≡ Some token → IsToldAll log token k new) where
   -- what agrees with the tokens before agrees with the list that all of them have then
   pub settled_by : length old ≡ reporters → AreNumbered old → AllAgree start logs old → All (λ r. r.reporter < reporters) log
-      → ((k : ℕ) (token : Sight) → slice_get old k ≡ Some token → IsPrefix token.changes log)
-      → ((k : ℕ) (token other : Sight) → slice_get old k ≡ Some token → slice_get new k ≡ Some other → own_positions other ≡ own_positions token)
+      → ((k : ℕ) (token : Holding) → slice_get old k ≡ Some token → IsPrefix token.changes log)
       → AreSettled start logs log
-  settled_by old_count numbered agree by extends own = record {
+  settled_by old_count numbered agree by extends = record {
     by = subst (λ n. All (λ r. r.reporter < n) log) (sym logs_count) by;
     each = λ k within. settled k (omega (arith, logs_count)) (take_more old k (omega (arith, logs_count, old_count)));
   }
     where
-      settled : (k : ℕ) → k < reporters → (token : Sight) × (slice_get old k ≡ Some token) × (take (suc k) old ≡ take k old ++ token ∷ []) → Agrees start (account_of k (calls_of logs k) log)
+      settled : (k : ℕ) → k < reporters → (token : Holding) × (slice_get old k ≡ Some token) × (take (suc k) old ≡ take k old ++ token ∷ []) → Agrees start (account_of k (calls_of logs k) log)
       settled k within (token, at, _) =
+          let all = told k token at in
+          let whose : token.number ≡ Some k = numbered k token at in
           let same : changed_by k 1 log ≡ changed_by k 1 token.changes =
-          own k token (record { reporter = Some k; changes = log }) at (one_list k within) ∙ ap (λ who. own_among who token.changes) (numbered k token at) in
-          agrees_more start k (calls_of logs k) token.changes log (agree k token at) (extends k token at) same
+          sym (ap (λ (p : Option ℕ × List Change). own_among p.0 p.1) (λ i. ((all.number ∙ whose) i, all.seen i))) ∙ (all.own_changes ∙ ap (λ who. own_among who token.changes) whose) in
+          agrees_more start k (calls_of logs k) token.changes log (whatever start k (calls_of logs k) token.answers [] token.changes (agree k token at)) (extends k token at) same
 
   -- and so with the tokens after
-  pub still_agree : length new ≡ reporters → AreSettled start logs log → AllAgree start logs new
-  still_agree new_count settled k token at =
+  pub still_agree : length old ≡ reporters → length new ≡ reporters → AreSettled start logs log → AllAgree start logs new
+  still_agree old_count new_count settled k token at =
       let within : k < reporters = omega (arith, new_count, slice_get_within new k token at) in
-      let found : Some token ≡ Some (record { reporter = Some k; changes = log }) = sym at ∙ one_list k within in
-      let is : token ≡ record { reporter = Some k; changes = log } = cc found in
-      subst (λ (sight : Sight). Agrees start (account_of k (calls_of logs k) sight.changes)) (sym is) (settled.each k (omega (arith, logs_count)))
+      let (was, before, _) = take_more old k (omega (arith, old_count)) in
+      let all = told k was before in
+      let is : all.now ≡ token = same_Some all.now token (sym all.at ∙ at) in
+      subst (λ (seen : List Change). Agrees start (record { number = k; begun = 0; calls = calls_of logs k; answers = token.answers; changes = seen })) (sym all.seen ∙ ap (λ (t : Holding). t.changes) is)
+      (whatever start k (calls_of logs k) [] token.answers log (settled.each k (omega (arith, logs_count))))

@@ -1,8 +1,8 @@
 -- What a client's calls may log. (all of this is this product's own)
-use Rattle.std.specs.Prelude.{◌≡◌, ℕ, ◌+◌, ◌<◌, ◌≤◌, Bool, true, ◌&&◌, not, List, length, Option, None, Some, Result}
+use Rattle.std.specs.Prelude.{◌≡◌, ℕ, ◌+◌, ◌<◌, ◌≤◌, ◌++◌, Bool, true, ◌&&◌, not, List, length, Option, None, Some, Result}
 use Rattle.std.specs.Bool.{MatchBool}
 use mathlib.Core.List.{IsPrefix}
-use Rattle.fdb_chain.specs.ChainCore.{IsOf}
+use Rattle.fdb_history.specs.Audit.{IsNotAbove}
 use Rattle.fdb_history.specs.Issuing as definition
 use Rattle.fdb_history.specs.Log.{fresh_answers}
 use Rattle.fdb_history.specs.Register.{version_for}
@@ -16,10 +16,11 @@ use Rattle.fdb_history.specs.declared.log.Input.TheVariants as input
 use Rattle.fdb_history.specs.declared.log.Refusal.{Refusal}
 use Rattle.fdb_history.specs.declared.log.Refusal.TheVariants as refusal
 use Rattle.fdb_history.specs.declared.register.Record.{Record}
+use Rattle.fdb_live.specs.Holding.{Holding, answers_to, own_answers}
 use Rattle.fdb_live.specs.Seen.{IsBounded, IsNotBehind, IsChangedBy, IsNotChangedBy, IsRecord, last_record, longer}
 use Rattle.fdb_live.specs.declared.ack.Ack.{Ack}
 use Rattle.fdb_live.specs.declared.change.Change.{Change}
-use Rattle.fdb_client.specs.Account.{Account, Logs, sight}
+use Rattle.fdb_client.specs.Account.{Account, Logs, drawn_in, holding, sight}
 use Rattle.fdb_client.specs.Returned.{ReadReturns, AskReturns, ReportReturns}
 use Rattle.fdb_client.specs.declared.error.ClientError.{ClientError}
 use Rattle.fdb_client.specs.declared.read.ReadVersion.{ReadVersion}
@@ -62,16 +63,22 @@ abbrev pub request_of : Account → ℕ → ℕ → ℕ → Ask
 request_of account num processed at =
     record { proxy = account.number; num = num; processed = processed; at = at }
 
--- A request for a commit version was logged, and returned what it logged: the definition's answer
--- after some chain of the service.
-pub record Asks (epoch_end recovery num processed at : ℕ) (before after : Account)
-    (result : Result Issued ClientError) : Type 0 where
+-- A request for a commit version was logged, and returned what it logged: the definition's answer on
+-- all that had been answered by then. Those to its own commit proxy are those that it had seen. The
+-- client has then seen all of that, and a fresh answer after it. Such a one, but for the first of
+-- all, is above what the client had read.
+pub record Asks (begun : definition.Chain) (start : Record) (num processed at : ℕ)
+    (before after : Account) (result : Result Issued ClientError) : Type 0 where
   pub answer : CallAnswer
   pub logged : Logs before (input.Ask num processed at) answer after
-  pub chain : definition.Chain
-  pub of_service : IsOf epoch_end recovery chain
-  pub answered :
-      answer ≡ logged_as (definition.answer_to chain (request_of before num processed at))
+  pub by_then : List Issued
+  pub seen : IsPrefix before.answers by_then
+  pub own : answers_to before.number by_then ≡ own_answers (holding before)
+  pub answered : answer ≡ logged_as (definition.answer_to (record begun { answers = by_then })
+      (request_of before num processed at))
+  pub now : after.answers ≡ by_then ++ drawn_in answer
+  pub above : IsNotAbove (λ _. last_record start before.changes) (length before.changes) answer
+      → ⊥
   pub returned : AskReturns answer result
 
 -- A report is refused as `NotIssued` where the client's calls have no version under its number, and
@@ -108,9 +115,10 @@ pub record Reports (start : Record) (num : ℕ) (locked : Bool) (metadata : Opti
 abbrev pub Tells : ℕ → Account → Account → Type 0
 Tells to before after = Logs before (input.Tell to) Told after
 
--- A learn was logged, and the client has then seen the longer of its own list and the one that it
--- was told.
-pub record Learns (from : ℕ) (told : List Change) (before after : Account) : Type 0 where
+-- A learn was logged, and the client has then seen the longer of its own lists and those that it was
+-- told.
+pub record Learns (from : ℕ) (told : Holding) (before after : Account) : Type 0 where
   pub logged : Logs before (input.Learn from) Told after
-  pub seen : after.changes ≡ longer before.changes told
-  pub knows : IsPrefix told after.changes
+  pub seen : after.changes ≡ longer before.changes told.changes
+  pub knows : IsPrefix told.changes after.changes
+  pub answers : after.answers ≡ longer before.answers told.answers

@@ -2,7 +2,7 @@
 use Rattle.std.specs.Prelude.{◌<◌, ◌≤◌, IsTrue}
 use Rattle.std.specs.List.{list_all}
 use Rattle.fdb_chain.specs.ChainCore.{IsEpoch, IsProxyCount}
-use Rattle.fdb_live.specs.Seen.{Origin}
+use Rattle.fdb_live.specs.Holding.{Founding}
 use Rattle.fdb_queue.specs.Config.{IsConfig, IsElapsed}
 use Rattle.fdb_queue.specs.Throttles.{is_throttle}
 use Rattle.fdb_client.specs.declared.cluster.ClusterConfig.{ClusterConfig}
@@ -20,7 +20,7 @@ pub record IsClusterConfig (config : ClusterConfig) : Type 0 where
   pub throttles : IsTrue (list_all is_throttle config.throttles.now)
   pub elapsed : IsElapsed config.elapsed
 
--- A cluster that was opened: what its live record was opened with, and what it is made with.
+-- A cluster that was opened: what its master was opened with, and what it is made with.
 pub record Opening : Type 0 where
-  pub origin : Origin
+  pub founding : Founding
   pub config : ClusterConfig

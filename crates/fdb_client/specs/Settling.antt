@@ -3,16 +3,32 @@ use Rattle.std.specs.Prelude.{◌≡◌, ℕ, ◌<◌, [], Some, List, length, m
 use Rattle.fdb_history.specs.Log.{calls_of}
 use Rattle.fdb_history.specs.declared.log.ClientLog.{ClientLog}
 use Rattle.fdb_history.specs.declared.register.Record.{Record}
-use Rattle.fdb_live.specs.Seen.{Sight}
+use Rattle.fdb_live.specs.Holding.{Holding}
 use Rattle.fdb_client.specs.Account.{Account, new_account}
-use Rattle.fdb_client.specs.Agreeing.{Agrees}
+use Rattle.fdb_client.specs.Agreeing.{Agrees, AgreesWithChain}
 
--- Each log agrees with the token at its place, as that of a client that began before any change.
-abbrev pub AllAgree : Record → List ClientLog → List Sight → Type 0
+-- The client at a place, by its log and its token, as one that began before any change.
+abbrev pub account_at : List ClientLog → ℕ → Holding → Account
+account_at logs k token =
+    record {
+      number = k;
+      begun = 0;
+      calls = calls_of logs k;
+      answers = token.answers;
+      changes = token.changes;
+    }
+
+-- Each log agrees with the token at its place.
+abbrev pub AllAgree : Record → List ClientLog → List Holding → Type 0
 AllAgree start logs tokens =
-    (k : ℕ) (token : Sight) → slice_get tokens k ≡ Some token
-    → Agrees start
-    (record { number = k; begun = 0; calls = calls_of logs k; changes = token.changes })
+    (k : ℕ) (token : Holding) → slice_get tokens k ≡ Some token
+    → Agrees start (account_at logs k token)
+
+-- Each log agrees with the answers that the token at its place proves.
+abbrev pub AllAgreeWithChain : ℕ → ℕ → List ClientLog → List Holding → Type 0
+AllAgreeWithChain epoch_end recovery logs tokens =
+    (k : ℕ) (token : Holding) → slice_get tokens k ≡ Some token
+    → AgreesWithChain epoch_end recovery (account_at logs k token)
 
 -- the logs of some clients: of each its calls, in the same order
 abbrev pub logs_of : List Account → List ClientLog
@@ -31,4 +47,4 @@ pub record AreAllInPlace (number : ℕ) (clients : List Account) : Type 0 where
 -- so many clients, each at the place of its number, who have called nobody and have seen nothing
 pub record AreNew (number : ℕ) (clients : List Account) : Type 0 where
   pub count : length clients ≡ number
-  pub each : (k : ℕ) → k < number → slice_get clients k ≡ Some (new_account k [])
+  pub each : (k : ℕ) → k < number → slice_get clients k ≡ Some (new_account k [] [])

@@ -1,14 +1,17 @@
 //! A client that calls the service, one call at a time, and logs each call.
 
-ghost use Rattle.std.specs.Prelude.{◌≡◌, ◌≢◌, ◌≤◌, ℕ, [], length};
-ghost use Rattle.std.specs.Prelude.{IfOk, IfErr, OnOk, OnErr, None, Some};
-ghost use Rattle.fdb_client.specs.Account.{Account, IsSameClient, new_account, sight};
-ghost use Rattle.fdb_client.specs.Agreeing.{Agrees};
+ghost use Rattle.std.specs.Prelude.{◌≡◌, ◌≢◌, ◌<◌, ◌≤◌, ℕ, [], length, true};
+ghost use mathlib.Core.List.{IsPrefix};
+ghost use Rattle.std.specs.Prelude.{Contains, IfOk, IfErr, OnOk, OnErr, None, Some};
+ghost use Rattle.fdb_client.specs.Account.{Account, IsSameClient, holding, new_account};
+ghost use Rattle.fdb_client.specs.Agreeing.{Agrees, AgreesWithChain};
 ghost use Rattle.fdb_client.specs.Calls.{Asks, IsReadOf, Learns, Reads, Reports, Tells};
 ghost use Rattle.fdb_client.specs.Calls.{next_number, request_of};
-ghost use Rattle.fdb_chain.specs.ChainCore.{IsFor};
+ghost use Rattle.fdb_chain.specs.ChainCore.{IsFor, new_chain};
 ghost use Rattle.fdb_history.specs.Log.{position_after_calls};
 ghost use Rattle.fdb_history.specs.Strays.{issued_under};
+ghost use Rattle.fdb_history.specs.declared.chain.Issued.{Issued};
+ghost use Rattle.fdb_live.specs.Holding.{own_answers, sight_of};
 ghost use Rattle.fdb_live.specs.Seen.{IsBounded, IsNotBehind, last_record, own_positions};
 
 use crate::error::ClientError;
@@ -16,11 +19,10 @@ use crate::exchange::RequestId;
 use crate::journal::Journal;
 use crate::read::ReadVersion;
 use crate::{exchange, reply};
-use fdb_chain::Sequencer;
 use fdb_history::{
-    Ask, Call, CallAnswer, ClientLog, Gate, GrvOpts, Input, Issued, Record, Sequence,
+    Ask, Call, CallAnswer, ClientLog, Gate, GrvOpts, Input, Issued, Record, Sequence, laws,
 };
-use fdb_live::{Ack, Live, LiveError, LiveRecord, Seen};
+use fdb_live::{Ack, Live, LiveError, Master, Token};
 use fdb_proxy::Desk;
 use std::alloc::Global;
 use std::marker::Model;
@@ -29,16 +31,17 @@ use std::sync::Wait;
 /// A client of the service `J`, with the log of its calls. It plays the commit proxy of its own
 /// number.
 ///
-/// Contracts see it as its number, the position that it began with, its calls, and the changes that
-/// it has seen. Each call below adds one entry to the log, and returns what `specs/Returned.antt`
+/// Contracts see it as its number, the position that it began with, its calls, and the answers and
+/// the changes that it has seen. Each call below adds one entry to the log, and returns what `specs/Returned.antt`
 /// says for the answer that it logged. A call that is refused for memory is not logged, and leaves
-/// the client as it was; a refused call changes nothing but the log.
+/// the client as it was; a refused call changes nothing but the log. Of the answers an ask sees all
+/// so far, whatever comes of it.
 #[derive(Drop)]
 pub struct Client<'a, J: Live> {
     alloc: Global,
     id: u32,
-    live: &'a LiveRecord<J>,
-    seen: Seen<J>,
+    master: &'a Master<J>,
+    token: Token<J>,
     begun: u64,
     journal: Journal,
 }
@@ -46,7 +49,7 @@ pub struct Client<'a, J: Live> {
 impl<'a, J: Live> Model for Client<'a, J> {
     ghost use Rattle.std.specs.Prelude.{◌≡◌, Some, length};
     ghost use Rattle.fdb_client.specs.Account.{Account};
-    ghost use Rattle.fdb_client.specs.Agreeing.{Agrees};
+    ghost use Rattle.fdb_client.specs.Agreeing.{Agrees, AgreesWithChain};
     ghost use Rattle.fdb_history.specs.Log.{position_after_calls};
 
     ghost Value = { Account };
@@ -55,34 +58,44 @@ impl<'a, J: Live> Model for Client<'a, J> {
       number = client.id;
       begun = client.begun;
       calls = client.journal.calls.items;
-      changes = client.seen.changes;
+      answers = client.token.answers;
+      changes = client.token.changes;
     } };
 
-    ghost invariant = { λ client. (client.seen.reporter ≡ Some client.id)
+    ghost invariant = { λ client. (client.token.number ≡ Some client.id)
         × (position_after_calls client.begun client.journal.calls.items
-        ≡ length client.seen.changes)
+        ≡ length client.token.changes)
         × Agrees J.start (record {
           number = client.id;
           begun = client.begun;
           calls = client.journal.calls.items;
-          changes = client.seen.changes;
+          answers = client.token.answers;
+          changes = client.token.changes;
+        })
+        × AgreesWithChain J.epoch_end J.recovery (record {
+          number = client.id;
+          begun = client.begun;
+          calls = client.journal.calls.items;
+          answers = client.token.answers;
+          changes = client.token.changes;
         }) };
 }
 
 impl<'a, J: Live> Client<'a, J> {
-    /// A client that has called nobody yet, with the token of the reporter of its number. Takes no
-    /// memory.
-    pub fn new(alloc: Global, id: u32, live: &'a LiveRecord<J>, seen: Seen<J>) -> Self
-        requires number { seen.reporter ≡ Some id }
-        requires owns_none { own_positions seen ≡ [] }
-        ensures { result ≡ new_account id seen.changes }
+    /// A client that has called nobody yet, with the token of the commit proxy of its number. Takes
+    /// no memory.
+    pub fn new(alloc: Global, id: u32, master: &'a Master<J>, token: Token<J>) -> Self
+        requires number { token.number ≡ Some id }
+        requires drew_none { own_answers token ≡ [] }
+        requires owns_none { own_positions (sight_of token) ≡ [] }
+        ensures { result ≡ new_account id token.answers token.changes }
     {
-        let begun = seen.position();
+        let begun = token.position();
         Client {
             alloc,
             id,
-            live,
-            seen,
+            master,
+            token,
             begun,
             journal: Journal::new(alloc),
         }
@@ -107,7 +120,7 @@ impl<'a, J: Live> Client<'a, J> {
         ensures seen { result ≡ length self.now.changes }
         ensures logged { result ≡ position_after_calls self.now.begun self.now.calls }
     {
-        self.seen.position()
+        self.token.position()
     }
 
     /// The calls that it has logged so far, the first one first; a call refused for memory is none.
@@ -147,15 +160,15 @@ impl<'a, J: Live> Client<'a, J> {
         self.journal.reserve()?;
         let logged = opts.clone()?;
         let (reply, answers) = crossbeam_channel::bounded(self.alloc, 1)?;
-        let own = RequestId::next(self.id, &self.journal, &self.seen);
-        let told = self.live.split(&mut self.seen);
+        let own = RequestId::next(self.id, &self.journal, &self.token);
+        let told = self.master.seen(&mut self.token);
         let request = own.request(told, opts, reply);
         let answer = exchange::answer_to(rt, gate, desk, request, answers);
         match answer.and_then(|answer| exchange::reply_to(own, answer)) {
             Ok(reply) => reply::take_reply(
                 rt,
-                self.live,
-                &mut self.seen,
+                self.master,
+                &mut self.token,
                 &mut self.journal,
                 logged,
                 reply,
@@ -167,60 +180,73 @@ impl<'a, J: Live> Client<'a, J> {
         }
     }
 
-    /// Asks the sequencer for the next commit version, with the next request number.
+    /// Asks the master for the next commit version, with the next request number.
     ///
-    /// It is refused as `Chain`, for what the sequencer says: as `UnknownProxy` where that has no
-    /// commit proxy of the client's number. The moments are microseconds. It waits for its turn at
-    /// the sequencer, and takes constant time, the growth of the log aside.
+    /// It is refused as `Chain`, for what the sequencer says. The version is above each that the
+    /// client had seen or was told of, and above what it had read. The moments are microseconds. It
+    /// waits for the other asks, and takes constant time, the growth of the log aside.
     pub fn ask<R: Wait, G: Gate>(
         &mut self,
         rt: &R,
         gate: &G,
-        sequencer: &Sequencer<J>,
         processed: u64,
         at: u64,
     ) -> Result<Issued, ClientError>
         ensures logged { result ≢ Err ClientError.Memory
-            → Asks J.epoch_end J.recovery (next_number self.old) processed at
-            self.old self.new result }
+            → Asks (new_chain J.epoch_end J.recovery J.reporters) J.start
+            (next_number self.old) processed at self.old self.new result }
         ensures request { IfOk result
             (IsFor (request_of self.old (next_number self.old) processed at)) }
-        ensures memory { result ≡ Err ClientError.Memory → self.new ≡ self.old }
+        ensures above { IfOk result (λ issued. issued.fresh ≡ true → (earlier : Issued)
+            → Contains self.old.answers earlier → earlier.version < issued.version) }
+        ensures above_read { IfOk result (λ issued. issued.fresh ≡ true → 0 < issued.ordinal
+            → (last_record J.start self.old.changes).version < issued.version) }
+        ensures extends { IsPrefix self.old.answers self.new.answers }
+        ensures memory { result ≡ Err ClientError.Memory
+            → self.new ≡ record self.old { answers = self.new.answers } }
         ensures client { IsSameClient self.old self.new }
     {
         let num = self.journal.next_number();
-        self.reask(rt, gate, sequencer, num, processed, at)
+        self.reask(rt, gate, num, processed, at)
     }
 
-    /// Asks the sequencer for the commit version under any request number, as one does who has
-    /// missed the answer.
+    /// Asks the master for the commit version under any request number, as one does who has missed
+    /// the answer.
     ///
     /// It is refused and waits as `ask` does.
     pub fn reask<R: Wait, G: Gate>(
         &mut self,
         rt: &R,
         gate: &G,
-        sequencer: &Sequencer<J>,
         num: u64,
         processed: u64,
         at: u64,
     ) -> Result<Issued, ClientError>
         ensures logged { result ≢ Err ClientError.Memory
-            → Asks J.epoch_end J.recovery num processed at self.old self.new result }
+            → Asks (new_chain J.epoch_end J.recovery J.reporters) J.start
+            num processed at self.old self.new result }
         ensures request { IfOk result (IsFor (request_of self.old num processed at)) }
-        ensures memory { result ≡ Err ClientError.Memory → self.new ≡ self.old }
+        ensures above { IfOk result (λ issued. issued.fresh ≡ true → (earlier : Issued)
+            → Contains self.old.answers earlier → earlier.version < issued.version) }
+        ensures above_read { IfOk result (λ issued. issued.fresh ≡ true → 0 < issued.ordinal
+            → (last_record J.start self.old.changes).version < issued.version) }
+        ensures extends { IsPrefix self.old.answers self.new.answers }
+        ensures memory { result ≡ Err ClientError.Memory
+            → self.new ≡ record self.old { answers = self.new.answers } }
         ensures client { IsSameClient self.old self.new }
     {
+        // The check learns here that the versions of a chain rise.
+        laws::versions_rise();
         self.journal.reserve_under(num)?;
         let input = Input::Ask { num, processed, at };
-        let position = self.seen.position();
+        let position = self.token.position();
         let ask = Ask {
             proxy: self.id,
             num,
             processed,
             at,
         };
-        match sequencer.ask(rt, gate, ask) {
+        match self.master.ask(rt, gate, &mut self.token, ask) {
             Ok(issued) => {
                 self.journal.add_answer(input, position, issued);
                 Ok(issued)
@@ -268,7 +294,7 @@ impl<'a, J: Live> Client<'a, J> {
             metadata,
             min_known,
         };
-        let asked = self.seen.position();
+        let asked = self.token.position();
         let Some(version) = self.journal.version_under(num) else {
             let error = ClientError::NotIssued;
             return Err(self.journal.add_refused(input, asked, error));
@@ -279,7 +305,7 @@ impl<'a, J: Live> Client<'a, J> {
             metadata,
             min_known,
         };
-        match self.live.report(rt, gate, self.id, &mut self.seen, rec) {
+        match self.master.report(rt, gate, &mut self.token, rec) {
             Ok(ack) => {
                 self.journal.add(Call {
                     input,
@@ -297,7 +323,7 @@ impl<'a, J: Live> Client<'a, J> {
                 let error = ClientError::Live(LiveError::MinAbove);
                 Err(self.journal.add_refused(input, asked, error))
             }
-            // The chain has no version that is too large, and a report takes no memory.
+            // The versions of a chain are in range, and a report takes no memory.
             Err(LiveError::TooLarge | LiveError::Memory) => unreachable!(),
         }
     }
@@ -305,18 +331,17 @@ impl<'a, J: Live> Client<'a, J> {
     /// A token that has seen what the client has, for another client to learn.
     ///
     /// It is refused for memory alone, and waits for nobody.
-    pub fn tell(&mut self, to: u32) -> Result<Seen<J>, ClientError>
+    pub fn tell(&mut self, to: u32) -> Result<Token<J>, ClientError>
         ensures logged { OnOk result (Tells to self.old self.new) }
-        ensures given { IfOk result (λ told.
-            told ≡ record { reporter = None; changes = self.old.changes }) }
-        ensures stays { self.new.changes ≡ self.old.changes }
+        ensures given { IfOk result (λ told. told ≡ record (holding self.old) { number = None }) }
+        ensures stays { holding self.new ≡ holding self.old }
         ensures memory { IfErr result (λ cause. cause ≡ ClientError.Memory) }
         ensures unchanged { OnErr result (self.new ≡ self.old) }
         ensures client { IsSameClient self.old self.new }
     {
         self.journal.reserve()?;
-        let told = self.live.split(&mut self.seen);
-        let position = self.seen.position();
+        let told = self.master.split(&mut self.token);
+        let position = self.token.position();
         self.journal.add(Call {
             input: Input::Tell { to },
             asked: position,
@@ -333,10 +358,10 @@ impl<'a, J: Live> Client<'a, J> {
         &mut self,
         rt: &R,
         from: u32,
-        told: Seen<J>,
-    ) -> Result<(), (ClientError, Seen<J>)>
-        requires { told.reporter ≡ None }
-        ensures logged { OnOk result (Learns from told.changes self.old self.new) }
+        told: Token<J>,
+    ) -> Result<(), (ClientError, Token<J>)>
+        requires { told.number ≡ None }
+        ensures logged { OnOk result (Learns from told self.old self.new) }
         ensures never_falls { IsNotBehind
             (last_record J.start self.old.changes)
             (last_record J.start self.new.changes) }
@@ -351,12 +376,12 @@ impl<'a, J: Live> Client<'a, J> {
         if self.journal.reserve().is_err() {
             return Err((ClientError::Memory, told));
         }
-        let asked = self.seen.position();
-        self.live.learn(rt, &mut self.seen, told);
+        let asked = self.token.position();
+        self.master.learn(rt, &mut self.token, told);
         self.journal.add(Call {
             input: Input::Learn { from },
             asked,
-            position: self.seen.position(),
+            position: self.token.position(),
             answer: CallAnswer::Told,
         });
         Ok(())
@@ -364,23 +389,24 @@ impl<'a, J: Live> Client<'a, J> {
 
     /// The log and the token, which agree with one another, from whichever position the client began
     /// as from the first one: so they may be settled. Takes no memory.
-    pub fn finish(self) -> (ClientLog, Seen<J>)
+    pub fn finish(self) -> (ClientLog, Token<J>)
         ensures log { result.0 ≡ record { calls = self.entry.calls } }
-        ensures seen { result.1 ≡ sight self.entry }
+        ensures token { result.1 ≡ holding self.entry }
         ensures come_to { position_after_calls self.entry.begun self.entry.calls
             ≡ length self.entry.changes }
         ensures agrees { Agrees J.start self.entry }
+        ensures chain { AgreesWithChain J.epoch_end J.recovery self.entry }
         ensures settles { Agrees J.start (record self.entry { begun = 0 }) }
     {
         let Client {
             alloc: _,
             id: _,
-            live: _,
-            seen,
+            master: _,
+            token,
             begun: _,
             journal,
         } = self;
         let calls = Sequence::from(journal.calls);
-        (ClientLog { calls }, seen)
+        (ClientLog { calls }, token)
     }
 }

@@ -1,15 +1,12 @@
 //! What the clients of a service call.
 
 ghost use Rattle.std.specs.Prelude.{◌≡◌, ◌%◌, reverse, IfOk, vec_len};
-ghost use Rattle.fdb_chain.specs.ChainCore.{IsEpoch, IsProxyCount};
 ghost use Rattle.fdb_client.specs.Cluster.{IsClusterConfig};
 ghost use Rattle.fdb_client.specs.private.Serving.{IsMadeFor};
-ghost use Rattle.fdb_history.specs.Chain.{IsChain};
 ghost use Rattle.fdb_queue.specs.Throttles.{SameThrottles};
 
-use fdb_chain::{ChainCore, ChainError, Sequencer};
-use fdb_history::{Issued, Record};
-use fdb_live::{Live, LiveRecord, Seen};
+use fdb_history::Record;
+use fdb_live::{Live, LiveRecord, Master, Seen};
 use fdb_proxy::{Desk, GrvProxy};
 use fdb_queue::{GrvQueue, QueueConfig, QueueError, Throttle};
 use std::alloc::{AllocError, Global};
@@ -41,14 +38,13 @@ pub struct ClusterConfig<'c> {
     pub elapsed: u64,
 }
 
-/// What the clients of a service call: a sequencer, a live record, and the desks of GRV proxies,
-/// which serve there while [`serve_while`](crate::serve_while) runs something else.
+/// What the clients of a service call: a master, and the desks of GRV proxies, which serve there
+/// while [`serve_while`](crate::serve_while) runs something else.
 #[derive(Drop)]
 pub struct Cluster<'c, J: Live> {
     pub(crate) config: ClusterConfig<'c>,
-    sequencer: Sequencer<J>,
-    pub(crate) live: LiveRecord<J>,
-    desks: Vec<Desk<J>>,
+    pub(crate) master: Master<J>,
+    pub(crate) desks: Vec<Desk<J>>,
     pub ghost in_range: { IsClusterConfig config },
     pub ghost epoch_end: { config.epoch_end ≡ J.epoch_end },
     pub ghost recovery: { config.start.version ≡ J.recovery },
@@ -58,11 +54,11 @@ pub struct Cluster<'c, J: Live> {
 }
 
 impl<'c, J: Live> Cluster<'c, J> {
-    /// A cluster of this configuration that nobody has called yet, with the live record that was
-    /// opened for it. It is refused for memory alone.
+    /// A cluster of this configuration that nobody has called yet, with the master that was opened
+    /// for it. It is refused for memory alone.
     pub fn new(
         alloc: Global,
-        live: LiveRecord<J>,
+        master: Master<J>,
         config: ClusterConfig<'c>,
     ) -> Result<Self, AllocError>
         requires in_range { IsClusterConfig config }
@@ -71,14 +67,12 @@ impl<'c, J: Live> Cluster<'c, J> {
         requires start { config.start ≡ J.start }
         requires clients { config.clients ≡ J.reporters }
         ensures config { IfOk result (λ cluster. cluster.config ≡ config.entry) }
-        ensures live { IfOk result (λ cluster. cluster.live ≡ live) }
+        ensures master { IfOk result (λ cluster. cluster.master ≡ master) }
     {
-        let sequencer = sequencer_of(alloc, config)?;
         let desks = desks_of(alloc, config.grv_proxies)?;
         Ok(Cluster {
             config,
-            sequencer,
-            live,
+            master,
             desks,
         })
     }
@@ -91,18 +85,18 @@ impl<'c, J: Live> Cluster<'c, J> {
         self.config
     }
 
-    /// The sequencer, with a commit proxy for each client.
-    pub fn sequencer(&self) -> &Sequencer<J>
-        ensures { result.now ≡ self.now.sequencer }
+    /// The master, with a commit proxy for each client.
+    pub fn master(&self) -> &Master<J>
+        ensures { result.now ≡ self.now.master }
     {
-        &self.sequencer
+        &self.master
     }
 
     /// The live record that all clients report to and all GRV proxies read.
     pub fn live(&self) -> &LiveRecord<J>
-        ensures { result.now ≡ self.now.live }
+        ensures { result.now ≡ self.now.master.live }
     {
-        &self.live
+        self.master.live()
     }
 
     /// The desk of the GRV proxy with this number. They are numbered from 0, and beyond the last
@@ -130,9 +124,10 @@ impl<'c, J: Live> Cluster<'c, J> {
         ensures { IfOk result (IsMadeFor self.now.config) }
     {
         let queue = queue_of(alloc, self.config)?;
-        let seen = self.live.split(first);
+        let live = self.live();
+        let seen = live.split(first);
         let desk = self.desk(number);
-        Ok(GrvProxy::new(alloc, &self.live, desk, queue, self.config.elapsed, seen))
+        Ok(GrvProxy::new(alloc, live, desk, queue, self.config.elapsed, seen))
     }
 
     /// Closes all desks, which ends the proxies that serve there. Takes no memory.
@@ -140,41 +135,6 @@ impl<'c, J: Live> Cluster<'c, J> {
         for desk in &self.desks {
             desk.close(rt);
         }
-    }
-
-    /// The chain of commit versions, once nobody calls any more.
-    pub fn into_chain(self) -> Vec<Issued>
-        ensures { IsChain J.epoch_end J.recovery result.items }
-    {
-        let Cluster {
-            config: _,
-            sequencer,
-            live: _,
-            desks: _,
-        } = self;
-        sequencer.close().into_answers()
-    }
-}
-
-/// A sequencer of which nobody has asked anything yet. There is a commit proxy for each client.
-fn sequencer_of<J: Live>(
-    alloc: Global,
-    config: ClusterConfig<'_>,
-) -> Result<Sequencer<J>, AllocError>
-    requires epoch_end { config.epoch_end ≡ J.epoch_end }
-    requires recovery { config.start.version ≡ J.recovery }
-    requires epoch { IsEpoch config.epoch_end config.start.version }
-    requires clients { IsProxyCount config.clients }
-{
-    match ChainCore::new(
-        alloc,
-        config.epoch_end,
-        config.start.version,
-        config.clients,
-    ) {
-        Ok(core) => Ok(Sequencer::new(core)),
-        Err(ChainError::Memory) => Err(AllocError),
-        Err(_) => unreachable!(),
     }
 }
 

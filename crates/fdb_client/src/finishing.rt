@@ -6,7 +6,7 @@ ghost use Rattle.fdb_client.specs.Settling.{AreAllInPlace, HaveNumbers, logs_of}
 use crate::client::Client;
 use crate::cluster::Cluster;
 use fdb_history::ClientLog;
-use fdb_live::{Live, Seen};
+use fdb_live::{Live, Token};
 use std::alloc::{AllocError, Global};
 use std::marker::Model;
 use thiserror::Error;
@@ -19,14 +19,14 @@ use thiserror::Error;
 #[derive(Drop)]
 pub struct Finished<J: Live> {
     pub(crate) logs: Vec<ClientLog>,
-    pub(crate) tokens: Vec<Seen<J>>,
+    pub(crate) tokens: Vec<Token<J>>,
 }
 
 impl<J: Live> Model for Finished<J> {
     ghost use Rattle.std.specs.Prelude.{◌≡◌, List, length};
-    ghost use Rattle.fdb_client.specs.Settling.{AllAgree};
+    ghost use Rattle.fdb_client.specs.Settling.{AllAgree, AllAgreeWithChain};
     ghost use Rattle.fdb_history.specs.declared.log.ClientLog.{ClientLog};
-    ghost use Rattle.fdb_live.specs.Gathering.{AreNumbered};
+    ghost use Rattle.fdb_live.specs.Holding.{AreNumbered};
 
     ghost Value = { List ClientLog };
 
@@ -35,7 +35,8 @@ impl<J: Live> Model for Finished<J> {
     ghost invariant = { λ finished. (length finished.logs.items ≡ J.reporters)
         × (length finished.tokens.items ≡ J.reporters)
         × AreNumbered finished.tokens.items
-        × AllAgree J.start finished.logs.items finished.tokens.items };
+        × AllAgree J.start finished.logs.items finished.tokens.items
+        × AllAgreeWithChain J.epoch_end J.recovery finished.logs.items finished.tokens.items };
 }
 
 /// Why the clients of a cluster have left nothing.

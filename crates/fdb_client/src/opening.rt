@@ -1,21 +1,21 @@
-//! A cluster whose live record was opened, before it has a name.
+//! A cluster whose master was opened, before it has a name.
 
 ghost use Rattle.std.specs.Prelude.{◌≡◌, ◌<◌, ℕ, [], IfOk, None, Some, slice_get, vec_len};
 ghost use Rattle.fdb_client.specs.Cluster.{IsClusterConfig};
 
 use crate::cluster::{Cluster, ClusterConfig};
-use fdb_live::{Live, LiveError, LiveRecord, Opened, Seen};
+use fdb_live::{Live, Master, OpenedMaster, Seen, Token};
 use std::alloc::{AllocError, Global};
 use std::marker::{Brand, Model};
 use std::sync::Wait;
 
-/// A cluster whose live record was opened. Contracts see it as what that was opened with, and the
+/// A cluster whose master was opened. Contracts see it as what that was opened with, and the
 /// configuration of the cluster; a name is picked that stands for these, and [`OpenedCluster::parts`]
 /// gives the cluster and its tokens under that name.
 #[derive(Drop)]
 pub struct OpenedCluster<'c> {
     config: ClusterConfig<'c>,
-    opened: Opened,
+    opened: OpenedMaster,
 }
 
 impl<'c> Model for OpenedCluster<'c> {
@@ -24,11 +24,13 @@ impl<'c> Model for OpenedCluster<'c> {
 
     ghost Value = { Opening };
 
-    ghost view = { λ o. record { origin = o.opened; config = o.config } };
+    ghost view = { λ o. record { founding = o.opened; config = o.config } };
 
     ghost invariant = { λ o. IsClusterConfig o.config
         × (o.opened.start ≡ o.config.start)
-        × (o.opened.reporters ≡ o.config.clients) };
+        × (o.opened.members ≡ o.config.clients)
+        × (o.opened.epoch_end ≡ o.config.epoch_end)
+        × (o.opened.recovery ≡ o.config.start.version) };
 }
 
 /// A cluster that nobody has called yet, and its tokens, none of which has seen a change.
@@ -36,28 +38,37 @@ impl<'c> Model for OpenedCluster<'c> {
 pub struct ClusterParts<'c, J: Live> {
     /// The cluster, whose desks no proxy serves yet.
     pub cluster: Cluster<'c, J>,
-    /// A token with no number: for the GRV proxies, and to settle with.
+    /// A token of the live record: for the GRV proxies, and to settle with.
     pub first: Seen<J>,
     /// The token of each client, at the place of its number.
-    pub tokens: Vec<Seen<J>>,
+    pub tokens: Vec<Token<J>>,
 }
 
 impl<'c> ClusterConfig<'c> {
-    /// Opens the live record of a cluster of this configuration. It is refused for memory alone.
+    /// Opens the master of a cluster of this configuration. It is refused for memory alone.
     pub fn open<R: Wait>(self, rt: &R, alloc: Global) -> Result<OpenedCluster<'c>, AllocError>
         requires { IsClusterConfig self }
         ensures config { IfOk result (λ opened. opened.config ≡ self.entry) }
-        ensures start { IfOk result (λ opened. opened.origin.start ≡ self.entry.start) }
-        ensures clients { IfOk result (λ opened. opened.origin.reporters ≡ self.entry.clients) }
+        ensures start { IfOk result (λ opened. opened.founding.start ≡ self.entry.start) }
+        ensures clients { IfOk result (λ opened. opened.founding.members ≡ self.entry.clients) }
+        ensures epoch_end { IfOk result
+            (λ opened. opened.founding.epoch_end ≡ self.entry.epoch_end) }
+        ensures recovery { IfOk result
+            (λ opened. opened.founding.recovery ≡ self.entry.start.version) }
     {
-        match LiveRecord::<Brand>::open(rt, alloc, self.start, self.clients) {
-            Ok(opened) => Ok(OpenedCluster {
-                config: self,
-                opened,
-            }),
-            Err(LiveError::Memory) => Err(AllocError),
-            Err(LiveError::TooLarge | LiveError::MinAbove) => unreachable!(),
-        }
+        let (epoch_end, start) = (self.epoch_end, self.start);
+        let opened = Master::<Brand>::open(
+            rt,
+            alloc,
+            epoch_end,
+            start.version,
+            start,
+            self.clients,
+        )?;
+        Ok(OpenedCluster {
+            config: self,
+            opened,
+        })
     }
 }
 
@@ -65,22 +76,25 @@ impl<'c> OpenedCluster<'c> {
     /// The cluster under a name that stands for it, with its tokens. It is refused for memory alone;
     /// the cluster is then given up.
     pub fn parts<J: Live>(self, alloc: Global) -> Result<ClusterParts<'c, J>, AllocError>
-        requires origin { self.origin
-            ≡ record { table = J.table; start = J.start; reporters = J.reporters } }
-        requires epoch_end { self.config.epoch_end ≡ J.epoch_end }
-        requires recovery { self.config.start.version ≡ J.recovery }
+        requires { self.founding ≡ record {
+          table = J.table;
+          start = J.start;
+          members = J.reporters;
+          epoch_end = J.epoch_end;
+          recovery = J.recovery;
+        } }
         ensures config { IfOk result (λ parts. parts.cluster.config ≡ self.entry.config) }
         ensures first { IfOk result
             (λ parts. parts.first ≡ record { reporter = None; changes = [] }) }
         ensures count { IfOk result (λ parts. vec_len parts.tokens ≡ J.reporters) }
         ensures tokens { IfOk result (λ parts. (k : ℕ) → k < J.reporters
-            → slice_get parts.tokens.items k ≡ Some (record { reporter = Some k; changes = [] })) }
+            → slice_get parts.tokens.items k
+            ≡ Some (record { number = Some k; answers = []; changes = [] })) }
     {
         let OpenedCluster { config, opened } = self;
-        let Ok((live, first, tokens)) = opened.parts::<J>() else {
-            return Err(AllocError);
-        };
-        let cluster = Cluster::new(alloc, live, config)?;
+        let (master, mut tokens) = opened.parts::<J>()?;
+        let first = master.seen(&mut tokens[0]);
+        let cluster = Cluster::new(alloc, master, config)?;
         Ok(ClusterParts {
             cluster,
             first,

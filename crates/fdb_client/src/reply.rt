@@ -6,6 +6,7 @@ ghost use Rattle.fdb_client.specs.Calls.{IsReadOf, Reads};
 ghost use Rattle.fdb_client.specs.Returned.{ReadReturns};
 ghost use Rattle.fdb_client.specs.private.Exchange.{answer_of};
 ghost use Rattle.fdb_history.specs.Log.{position_after_calls};
+ghost use Rattle.fdb_live.specs.Holding.{own_answers, sight_of};
 ghost use Rattle.fdb_live.specs.Seen.{IsBounded, IsNotBehind, last_record, own_positions};
 ghost use mathlib.Core.List.{IsPrefix};
 
@@ -13,7 +14,7 @@ use crate::error::ClientError;
 use crate::journal::Journal;
 use crate::read::ReadVersion;
 use fdb_history::{Call, CallAnswer, GrvOpts, Input};
-use fdb_live::{Live, LiveRecord, Seen};
+use fdb_live::{Live, Master, Seen, Token};
 use fdb_proxy::Reply;
 use std::alloc::AllocError;
 use std::sync::Wait;
@@ -23,14 +24,14 @@ use std::sync::Wait;
 #[tactic(auto, using(crate::proofs::Reading::is_read, crate::proofs::Reading::not_behind_itself))]
 pub(crate) fn take_reply<J: Live, R: Wait>(
     rt: &R,
-    live: &LiveRecord<J>,
-    seen: &mut Seen<J>,
+    master: &Master<J>,
+    token: &mut Token<J>,
     journal: &mut Journal,
     opts: GrvOpts,
     reply: Reply<J>,
 ) -> Result<ReadVersion, ClientError>
     requires capacity { vec_len journal.old.calls < vec_capacity journal.old.calls }
-    requires asked { reply.asked ≡ length seen.old.changes }
+    requires asked { reply.asked ≡ length token.old.changes }
     ensures entry { result ≢ Err ClientError.Memory
         → journal.new.calls.items ≡ journal.old.calls.items ++ record {
           input = Input.Grv opts;
@@ -41,31 +42,33 @@ pub(crate) fn take_reply<J: Live, R: Wait>(
     ensures returned { result ≢ Err ClientError.Memory
         → ReadReturns opts reply.position (answer_of reply opts) result }
     ensures logged { result ≢ Err ClientError.Memory → (number begun : ℕ)
-        → seen.old.reporter ≡ Some number
-        → position_after_calls begun journal.old.calls.items ≡ length seen.old.changes
+        → token.old.number ≡ Some number
+        → position_after_calls begun journal.old.calls.items ≡ length token.old.changes
         → Reads J.start opts
         (record {
           number = number;
           begun = begun;
           calls = journal.old.calls.items;
-          changes = seen.old.changes;
+          answers = token.old.answers;
+          changes = token.old.changes;
         })
         (record {
           number = number;
           begun = begun;
           calls = journal.new.calls.items;
-          changes = seen.new.changes;
+          answers = token.new.answers;
+          changes = token.new.changes;
         })
         result }
-    ensures read { IfOk result (IsReadOf J.start opts seen.old.changes seen.new.changes) }
+    ensures read { IfOk result (IsReadOf J.start opts token.old.changes token.new.changes) }
     ensures never_falls { IsNotBehind
-        (last_record J.start seen.old.changes)
-        (last_record J.start seen.new.changes) }
+        (last_record J.start token.old.changes)
+        (last_record J.start token.new.changes) }
     ensures come_to { result ≢ Err ClientError.Memory
         → (begun : ℕ) → position_after_calls begun journal.new.calls.items
-        ≡ length seen.new.changes }
-    ensures reporter { seen.new.reporter ≡ seen.old.reporter }
-    ensures seen { result ≡ Err ClientError.Memory → seen.new ≡ seen.old }
+        ≡ length token.new.changes }
+    ensures number { token.new.number ≡ token.old.number }
+    ensures token { result ≡ Err ClientError.Memory → token.new ≡ token.old }
     ensures calls { result ≡ Err ClientError.Memory
         → journal.new.calls.items ≡ journal.old.calls.items }
 {
@@ -80,7 +83,7 @@ pub(crate) fn take_reply<J: Live, R: Wait>(
         position,
         limits,
     } = reply;
-    hear(rt, live, seen, told);
+    hear(rt, master, token, told);
     journal.add(Call {
         input: Input::Grv(opts),
         asked,
@@ -96,19 +99,24 @@ pub(crate) fn take_reply<J: Live, R: Wait>(
 
 /// Learns what a reply has seen, which is no less.
 #[tactic(auto, using(crate::proofs::Longer::longer_of_no_less))]
-fn hear<J: Live, R: Wait>(rt: &R, live: &LiveRecord<J>, seen: &mut Seen<J>, told: Seen<J>)
+fn hear<J: Live, R: Wait>(rt: &R, master: &Master<J>, token: &mut Token<J>, told: Seen<J>)
     requires unnumbered { told.reporter ≡ None }
-    requires no_less { length seen.old.changes ≤ length told.changes }
-    ensures reporter { seen.new.reporter ≡ seen.old.reporter }
-    ensures changes { seen.new.changes ≡ told.changes }
-    ensures extends { IsPrefix seen.old.changes seen.new.changes }
-    ensures own { own_positions seen.new ≡ own_positions seen.old }
+    requires no_less { length token.old.changes ≤ length told.changes }
+    ensures number { token.new.number ≡ token.old.number }
+    ensures changes { token.new.changes ≡ told.changes }
+    ensures extends { IsPrefix token.old.changes token.new.changes }
+    ensures answers { IsPrefix token.old.answers token.new.answers }
+    ensures own { own_answers token.new ≡ own_answers token.old }
+    ensures own_changes { own_positions (sight_of token.new)
+        ≡ own_positions (sight_of token.old) }
     ensures never_falls { IsNotBehind
-        (last_record J.start seen.old.changes)
-        (last_record J.start seen.new.changes) }
-    ensures bounded { IsBounded (length seen.new.changes) (last_record J.start seen.new.changes) }
+        (last_record J.start token.old.changes)
+        (last_record J.start token.new.changes) }
+    ensures bounded { IsBounded
+        (length token.new.changes)
+        (last_record J.start token.new.changes) }
 {
-    live.learn(rt, seen, told);
+    master.hear(rt, token, told);
 }
 
 /// What a read returns for its reply. It takes memory for a copy of the limits alone.

@@ -1,23 +1,24 @@
 //! A run of a cluster, whose logs its clients' tokens have settled.
 
 ghost use Rattle.std.specs.Prelude.{◌≡◌, ◌≢◌, ◌≤◌, IfErr, IfOk, length};
-ghost use Rattle.fdb_history.specs.Audit.{IsAudited, IsOfAnAnswer};
+ghost use Rattle.fdb_history.specs.Audit.{IsAudited, Low};
 ghost use Rattle.fdb_history.specs.Chain.{IsChain};
-ghost use Rattle.fdb_history.specs.Faults.{IsFaultless, changes_in};
+ghost use Rattle.fdb_history.specs.Faults.{IsFaultless, Nowhere, changes_in};
 ghost use Rattle.fdb_history.specs.Laws.{HaveMinimaWithin};
 ghost use Rattle.fdb_history.specs.Linear.{IsLinear};
+ghost use Rattle.fdb_history.specs.Strays.{IsStray};
 ghost use Rattle.fdb_live.specs.declared.opened.TheConstants.{MAX_REPORTERS};
 
 use crate::cluster::Cluster;
 use crate::finishing::Finished;
-use crate::settling::settle;
+use crate::settling::{Closed, close};
 use fdb_history::{AuditFault, ClientLog, History, Issued, Record, history_of};
 use fdb_live::{Live, Seen};
 use std::alloc::Global;
 use std::sync::Wait;
 
-/// What a run of a cluster has left, once it is settled: no fault of the register's history stands
-/// in its logs.
+/// What a run of a cluster has left, once it is settled: no fault stands in its logs, neither of the
+/// register's history nor of an answer.
 #[derive(Debug, Drop)]
 pub struct SettledRun {
     /// The last version of the epoch before, below that of `start`.
@@ -32,32 +33,33 @@ pub struct SettledRun {
     pub changes: u64,
     pub ghost few: { length logs.items ≤ MAX_REPORTERS },
     pub ghost faultless: { IsFaultless start logs.items },
+    pub ghost justified: { Nowhere (IsStray chain.items logs.items) },
+    pub ghost above: { Nowhere (Low start logs.items) },
     pub ghost counted: { changes ≡ length (changes_in logs.items) },
 }
 
 impl SettledRun {
-    /// The history that explains all answered reads and reports, in the fixed order; or the first
-    /// fault of an answer, `Stray` or `NotAbove`.
+    /// The history that explains all answered reads and reports, in the fixed order.
     ///
-    /// Memory may be refused at any time. It takes time in proportion to the calls and to the chain,
+    /// It is refused for memory alone, at any time. It takes time in proportion to the calls and to the chain,
     /// up to a sort of the reads and reports by position.
     pub fn history(&self, alloc: Global) -> Result<History, AuditFault>
         ensures linear { IfOk result
             (λ history. IsLinear self.now.start self.now.logs.items history.events) }
         ensures audited { IsAudited
             self.now.start self.now.chain.items self.now.logs.items result }
-        ensures of_an_answer { IfErr result
-            (λ fault. fault ≢ AuditFault.Memory → IsOfAnAnswer fault) }
+        ensures memory { IfErr result (λ fault. fault ≡ AuditFault.Memory) }
     {
         history_of(alloc, self.start, &self.chain, &self.logs)
     }
 }
 
 impl<'c, J: Live> Cluster<'c, J> {
-    /// Brings together what the clients of this cluster have seen, and so shows that no fault of the
-    /// register's history stands in their logs: no call was answered from before what its client
-    /// had seen, each position has one change, and each read and report was answered as the record
-    /// at its position would. Any token of the cluster serves as `first`.
+    /// Brings together what the clients of this cluster have seen, and so shows that no fault stands
+    /// in their logs: no call was answered from before what its client had seen, each position has
+    /// one change, each read and report was answered as the record at its position would, each
+    /// answer of a request is due, of the chain and its client's own, and above what that had seen.
+    /// Any token of the cluster's live record serves as `first`.
     ///
     /// It refuses nothing, takes no memory, and waits as a read does. It takes time in proportion
     /// to the number of clients.
@@ -71,13 +73,17 @@ impl<'c, J: Live> Cluster<'c, J> {
         ensures one_chain { IsChain J.epoch_end J.recovery result.chain.items }
     {
         let Finished { logs, mut tokens } = finished;
-        let changes = settle(rt, &self.live, &mut first, &mut tokens, &logs);
-        let (epoch_end, start) = (self.config.epoch_end, self.config.start);
+        let Cluster {
+            config,
+            master,
+            desks: _,
+        } = self;
+        let Closed { chain, changes } = close(rt, master, &mut first, &mut tokens, &logs);
         SettledRun {
-            epoch_end,
-            start,
+            epoch_end: config.epoch_end,
+            start: config.start,
             logs,
-            chain: self.into_chain(),
+            chain,
             changes,
         }
     }

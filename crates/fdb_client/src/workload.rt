@@ -1,4 +1,4 @@
-//! Calls that a user writes, at a cluster of a sequencer, a live record and GRV proxies.
+//! Calls that a user writes, at a cluster of a master and GRV proxies.
 
 ghost use Rattle.std.specs.Prelude.{◌≡◌, ◌<◌, ◌≤◌, ℕ, [], IfOk, Some, ⊤, slice_get, vec_len};
 ghost use Rattle.fdb_client.specs.Account.{new_account};
@@ -14,7 +14,7 @@ use crate::finishing::{FinishError, Finished};
 use crate::opening::{ClusterParts, OpenedCluster};
 use crate::serving::{Ends, Served, serve_while};
 use crate::settled_run::SettledRun;
-use fdb_live::{Live, LiveRecord, Seen};
+use fdb_live::{Live, Master, Token};
 use std::alloc::{AllocError, Global};
 use std::marker::Brand;
 use std::sync::Wait;
@@ -117,14 +117,17 @@ fn run_named<J: Live + Send + Sync, R: Threads + Wait + Sync, W: Workload<R> + D
     opened: OpenedCluster<'_>,
     workload: W,
 ) -> Result<WorkloadOutcome<W::Output>, WorkloadError>
-    requires origin { opened.origin
-        ≡ record { table = J.table; start = J.start; reporters = J.reporters } }
-    requires epoch_end { opened.config.epoch_end ≡ J.epoch_end }
-    requires recovery { opened.config.start.version ≡ J.recovery }
+    requires { opened.founding ≡ record {
+      table = J.table;
+      start = J.start;
+      members = J.reporters;
+      epoch_end = J.epoch_end;
+      recovery = J.recovery;
+    } }
     ensures gives { IfOk result (λ ran. W.gives workload ran.output) }
     ensures epoch_end { IfOk result (λ ran. ran.run.epoch_end ≡ opened.entry.config.epoch_end) }
-    ensures start { IfOk result (λ ran. ran.run.start ≡ opened.entry.origin.start) }
-    ensures logs { IfOk result (λ ran. vec_len ran.run.logs ≡ opened.entry.origin.reporters) }
+    ensures start { IfOk result (λ ran. ran.run.start ≡ opened.entry.founding.start) }
+    ensures logs { IfOk result (λ ran. vec_len ran.run.logs ≡ opened.entry.founding.members) }
     ensures minima { IfOk result (λ ran. HaveMinimaWithin ran.run.logs.items) }
     ensures one_chain { IfOk result (λ ran.
         IsChain J.epoch_end J.recovery ran.run.chain.items) }
@@ -134,7 +137,7 @@ fn run_named<J: Live + Send + Sync, R: Threads + Wait + Sync, W: Workload<R> + D
         mut first,
         tokens,
     } = opened.parts::<J>(alloc)?;
-    let clients = clients_of(alloc, cluster.live(), tokens)?;
+    let clients = clients_of(alloc, cluster.master(), tokens)?;
     let Served { output, ends } = serve_while(
         rt,
         alloc,
@@ -174,20 +177,21 @@ fn played<J: Live, R, W: Workload<R>>(
 /// is refused for that alone.
 pub fn clients_of<'a, J: Live>(
     alloc: Global,
-    live: &'a LiveRecord<J>,
-    tokens: Vec<Seen<J>>,
+    master: &'a Master<J>,
+    tokens: Vec<Token<J>>,
 ) -> Result<Vec<Client<'a, J>>, AllocError>
     requires few { vec_len tokens ≤ MAX_REPORTERS }
     requires tokens { (k : ℕ) → k < vec_len tokens
-        → slice_get tokens.items k ≡ Some (record { reporter = Some k; changes = [] }) }
+        → slice_get tokens.items k
+        ≡ Some (record { number = Some k; answers = []; changes = [] }) }
     ensures count { IfOk result (λ clients. vec_len clients ≡ vec_len tokens) }
     ensures new { IfOk result (λ clients. (k : ℕ) → k < vec_len clients
-        → slice_get clients.items k ≡ Some (new_account k [])) }
+        → slice_get clients.items k ≡ Some (new_account k [] [])) }
 {
     let mut clients = Vec::with_capacity(alloc, tokens.len())?;
     let mut number = 0;
-    for seen in tokens {
-        clients.push_reserved(new_client(alloc, number, live, seen));
+    for token in tokens {
+        clients.push_reserved(new_client(alloc, number, master, token));
         number += 1;
     }
     Ok(clients)
@@ -197,11 +201,11 @@ pub fn clients_of<'a, J: Live>(
 fn new_client<J: Live>(
     alloc: Global,
     number: u32,
-    live: &LiveRecord<J>,
-    seen: Seen<J>,
+    master: &Master<J>,
+    token: Token<J>,
 ) -> Client<'_, J>
-    requires { seen ≡ record { reporter = Some number; changes = [] } }
-    ensures { result ≡ new_account number [] }
+    requires { token ≡ record { number = Some number; answers = []; changes = [] } }
+    ensures { result ≡ new_account number [] [] }
 {
-    Client::new(alloc, number, live, seen)
+    Client::new(alloc, number, master, token)
 }

@@ -5,10 +5,9 @@ ghost use Rattle.fdb_history.specs.Faults.{IsFaultless};
 ghost use Rattle.fdb_history.specs.Strays.{issued_under};
 ghost use Rattle.fdb_live.specs.Seen.{last_record};
 
-use fdb_chain::Sequencer;
 use fdb_client::{Client, ClientError, ReadVersion, settle};
 use fdb_history::{ClientLog, GrvOpts, Issued, MAX_VERSION, OpenGate};
-use fdb_live::{Ack, Live, LiveRecord, Seen};
+use fdb_live::{Ack, Live, Master, Seen};
 use fdb_proxy::Desk;
 use std::sync::Wait;
 
@@ -47,7 +46,6 @@ pub fn report_and_read<J: Live, R: Wait>(
 /// A new client that draws a version, reports it and reads gets none below it.
 pub fn commit_and_read<J: Live, R: Wait>(
     rt: &R,
-    sequencer: &Sequencer<J>,
     desk: &Desk<J>,
     client: &mut Client<'_, J>,
     at: u64,
@@ -57,7 +55,7 @@ pub fn commit_and_read<J: Live, R: Wait>(
     requires opts { opts.use_min ≡ false }
     ensures { IfOk result (λ both. both.0.version ≤ both.1.version) }
 {
-    let issued = client.ask(rt, &OpenGate, sequencer, 0, at)?;
+    let issued = client.ask(rt, &OpenGate, 0, at)?;
     client.report(rt, &OpenGate, issued.num, false, None, 0)?;
     let read = client.read_version(rt, &OpenGate, desk, opts)?;
     Ok((issued, read))
@@ -152,7 +150,7 @@ pub fn report_within<J: Live, R: Wait>(
 /// register's history stands in their logs.
 pub fn settle_both<J: Live, R: Wait>(
     rt: &R,
-    live: &LiveRecord<J>,
+    master: &Master<J>,
     first: &mut Seen<J>,
     zero: Client<'_, J>,
     one: Client<'_, J>,
@@ -166,6 +164,6 @@ pub fn settle_both<J: Live, R: Wait>(
     let (other_log, other_token) = one.finish();
     let logs = [log, other_log];
     let mut tokens = [token, other_token];
-    settle(rt, live, first, &mut tokens, &logs);
+    settle(rt, master, first, &mut tokens, &logs);
     logs
 }

@@ -24,10 +24,13 @@ pub fn read_side_by_side<J: Live + Send + Sync, R: Threads + Wait + Sync>(
     alloc: Global,
     opened: OpenedCluster<'_>,
 ) -> Result<(SettledRun, Result<History, AuditFault>), WorkloadError>
-    requires origin { opened.origin
-        ≡ record { table = J.table; start = J.start; reporters = J.reporters } }
-    requires epoch_end { opened.config.epoch_end ≡ J.epoch_end }
-    requires recovery { opened.config.start.version ≡ J.recovery }
+    requires { opened.founding ≡ record {
+      table = J.table;
+      start = J.start;
+      members = J.reporters;
+      epoch_end = J.epoch_end;
+      recovery = J.recovery;
+    } }
     ensures whole { IfOk result (λ left. IfOk left.1 (λ history.
         IsLinear J.start left.0.logs.items history.events)) }
 {
@@ -36,7 +39,7 @@ pub fn read_side_by_side<J: Live + Send + Sync, R: Threads + Wait + Sync>(
         mut first,
         tokens,
     } = opened.parts::<J>(alloc)?;
-    let clients = clients_of(alloc, cluster.live(), tokens)?;
+    let clients = clients_of(alloc, cluster.master(), tokens)?;
     let Served { output, ends: _ } = serve_while(rt, alloc, &cluster, &mut first, || {
         read_all(rt, alloc, &cluster, clients)
     })?;

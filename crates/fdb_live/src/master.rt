@@ -169,6 +169,8 @@ impl<J: Live> Master<J> {
         requires { told.number ≡ None }
         ensures number { token.new.number ≡ token.old.number }
         ensures changes { token.new.changes ≡ longer token.old.changes told.changes }
+        ensures changes_kept { IsPrefix token.old.changes token.new.changes }
+        ensures changes_told { IsPrefix told.changes token.new.changes }
         ensures answers { token.new.answers ≡ longer token.old.answers told.answers }
         ensures extends { IsPrefix token.old.answers token.new.answers }
         ensures extends_told { IsPrefix told.answers token.new.answers }
@@ -210,6 +212,8 @@ impl<J: Live> Master<J> {
         requires { told.reporter ≡ None }
         ensures number { token.new.number ≡ token.old.number }
         ensures changes { token.new.changes ≡ longer token.old.changes told.changes }
+        ensures changes_kept { IsPrefix token.old.changes token.new.changes }
+        ensures changes_told { IsPrefix told.changes token.new.changes }
         ensures answers { IsPrefix token.old.answers token.new.answers }
         ensures own { own_answers token.new ≡ own_answers token.old }
         ensures own_changes { own_positions (sight_of token.new)

@@ -16,16 +16,16 @@ pub record HasNotCalled (client : Account) : Type 0 where
 
 -- each of these is new, and the first has this number
 abbrev AreNewFrom : ℕ → List Account → Type 0
-AreNewFrom first clients = (k : ℕ) → k < length clients → slice_get clients k ≡ Some (new_account (first + k) [])
+AreNewFrom first clients = (k : ℕ) → k < length clients → slice_get clients k ≡ Some (new_account (first + k) [] [])
 
 others_new : (first : ℕ) (client : Account) (clients : List Account) → AreNewFrom first (client ∷ clients) → AreNewFrom (first + 1) clients
-others_new first client clients new k within = subst (λ n. slice_get clients k ≡ Some (new_account n [])) (omega arith) (new (suc k) (omega (arith, within)))
+others_new first client clients new k within = subst (λ n. slice_get clients k ≡ Some (new_account n [] [])) (omega arith) (new (suc k) (omega (arith, within)))
 
-first_new : (first : ℕ) (client : Account) (clients : List Account) → AreNewFrom first (client ∷ clients) → client ≡ new_account first []
+first_new : (first : ℕ) (client : Account) (clients : List Account) → AreNewFrom first (client ∷ clients) → client ≡ new_account first [] []
 first_new first client clients new =
-    let is : Some client ≡ Some (new_account (first + 0) []) = new 0 (omega arith) in
-    let this : client ≡ new_account (first + 0) [] = cc in
-    this ∙ ap (λ n. new_account n []) (omega arith)
+    let is : Some client ≡ Some (new_account (first + 0) [] []) = new 0 (omega arith) in
+    let this : client ≡ new_account (first + 0) [] [] = cc in
+    this ∙ ap (λ n. new_account n [] []) (omega arith)
 
 none_called_from : (first : ℕ) (clients : List Account) → AreNewFrom first clients → AllByRecursion HasNotCalled clients
 none_called_from first [] new = tt
@@ -39,9 +39,9 @@ no_calls_from first (client ∷ clients) new =
     rw (ap (λ one. one.calls) (first_new first client clients new), no_calls_from (first + 1) clients (others_new first client clients new)) refl
 
 -- so many clients, who are new
-module _ (clients : List Account) (n : ℕ) (count : n ≡ length clients) (new : (k : ℕ) → k < n → slice_get clients k ≡ Some (new_account k [])) where
+module _ (clients : List Account) (n : ℕ) (count : n ≡ length clients) (new : (k : ℕ) → k < n → slice_get clients k ≡ Some (new_account k [] [])) where
   from_first : AreNewFrom 0 clients
-  from_first k within = subst (λ n. slice_get clients k ≡ Some (new_account n [])) (omega arith) (new k (omega (arith, within, count)))
+  from_first k within = subst (λ n. slice_get clients k ≡ Some (new_account n [] [])) (omega arith) (new k (omega (arith, within, count)))
 
   pub none_called : AllByRecursion HasNotCalled clients
   none_called = none_called_from 0 clients from_first
@@ -51,8 +51,8 @@ module _ (clients : List Account) (n : ℕ) (count : n ≡ length clients) (new 
 
   pub in_order : HaveNumbers clients
   in_order k client is =
-      let there : Some client ≡ Some (new_account k []) = sym is ∙ new k (omega (arith, count, slice_get_within clients k client is)) in
-      let this : client ≡ new_account k [] = cc in
+      let there : Some client ≡ Some (new_account k [] []) = sym is ∙ new k (omega (arith, count, slice_get_within clients k client is)) in
+      let this : client ≡ new_account k [] [] = cc in
       ap (λ one. one.number) this
 
 pub none_in_order : HaveNumbers []

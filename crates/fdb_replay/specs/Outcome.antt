@@ -1,16 +1,14 @@
 -- What a run promises of its outcome. (this product's own)
-use Rattle.std.specs.Prelude.{◌≡◌, ℕ, ◌≤◌, ◌∷◌, All, false, None, List}
-use Rattle.fdb_history.specs.Audit.{IsFirstFault, IsOfAnAnswer, Low}
+use Rattle.std.specs.Prelude.{◌≡◌, ℕ, ◌≤◌, ◌∷◌, All, false, None}
+use Rattle.fdb_history.specs.Audit.{Low}
 use Rattle.fdb_history.specs.Chain.{IsChain}
 use Rattle.fdb_history.specs.Explained.{explained}
 use Rattle.fdb_history.specs.Faults.{Nowhere}
 use Rattle.fdb_history.specs.Laws.{reports_of}
 use Rattle.fdb_history.specs.Linear.{IsLinear}
 use Rattle.fdb_history.specs.Strays.{IsStray}
-use Rattle.fdb_history.specs.declared.chain.Issued.{Issued}
 use Rattle.fdb_history.specs.declared.fault.AuditFault.{AuditFault}
 use Rattle.fdb_history.specs.declared.fault.AuditFault.TheVariants as audit
-use Rattle.fdb_history.specs.declared.log.ClientLog.{ClientLog}
 use Rattle.fdb_history.specs.declared.register.Record.{Record}
 use Rattle.fdb_replay.specs.declared.fault.RunFault.{RunFault}
 use Rattle.fdb_replay.specs.declared.fault.RunFault.TheVariants.{Memory, Audit}
@@ -50,17 +48,7 @@ abbrev pub run_fault : AuditFault → RunFault
 run_fault audit.Memory = Memory
 run_fault fault = Audit fault
 
--- Some logs answer the script, and their audit finds this first. The clients did what the script
--- says, and the fault is that of what they were answered. It is no fault of the register's history.
-pub record IsFaulty (plan : Plan) (fault : AuditFault) : Type 0 where
-  pub chain : List Issued
-  pub logs : List ClientLog
-  pub answers : Answers plan logs
-  pub one_chain : IsChain plan.setup.epoch_end plan.setup.recovery chain
-  pub first : IsFirstFault (opening plan.setup.recovery) chain logs fault
-  pub of_an_answer : IsOfAnAnswer fault
-
--- A run fails for memory, or with a fault of an answer. Its audit finds that.
+-- A run fails for memory alone.
 abbrev pub Fails : Plan → RunFault → Type 0
 Fails plan Memory = Unit {0}
-Fails plan (Audit fault) = IsFaulty plan fault
+Fails plan (Audit fault) = ⊥

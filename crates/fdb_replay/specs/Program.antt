@@ -1,5 +1,5 @@
 -- What the program promises of itself. (this product's own)
-use Rattle.std.specs.Prelude.{◌≡◌, ◌≢◌, ◌≤◌, ℕ, List, [], ◌∷◌, Vec, None, Ok, Err, codes, false, pos}
+use Rattle.std.specs.Prelude.{◌≡◌, ◌≢◌, ◌≤◌, ℕ, List, [], ◌∷◌, Vec, None, Err, codes, false, pos}
 use Rattle.std.specs.Option.{option_map_or}
 use Rattle.std.specs.Str.Parse.{digits_value, without_leading_plus}
 use Rattle.std.specs.declared.alloc.Global.{Global}
@@ -8,11 +8,9 @@ use Rattle.fdb_client.specs.declared.cluster.TheConstants.{MAX_GRV_PROXIES}
 use Rattle.fdb_command.specs.Arguments.{command_of, file_rule, flag_rule, is_set, number_rule}
 use Rattle.fdb_command.specs.Driving.{Promise}
 use Rattle.fdb_history.specs.declared.fault.AuditFault.{AuditFault}
-use Rattle.fdb_replay.specs.Outcome.{IsFaulty}
 use Rattle.fdb_replay.specs.Replay.{Replays}
 use Rattle.fdb_replay.specs.declared.opts.ReplayOpts.{ReplayOpts}
 use Rattle.fdb_replay.specs.declared.program.ScriptRefused.{ScriptRefused}
-use Rattle.fdb_script.specs.Plan.{Plan}
 use Rattle.fdb_script.specs.Reading.{ReadsAs}
 use Rattle.fdb_script.specs.declared.error.ScriptError.TheVariants.{Memory}
 use Rattle.fdb_script.specs.declared.script.TheConstants.{MAX_SCRIPT_BYTES}
@@ -38,9 +36,8 @@ pub record IsAsked (arguments : List Text) (opts : ReplayOpts) : Type 0 where
   pub history : opts.with_history ≡ is_set (codes "history") command arguments
 
 -- It takes all bytes as they come, and tells of no progress. It prints the text of a run of the
--- script that the bytes stand for, with the history where that is asked for, and no text of a run in
--- which a fault was found. It refuses what stands for no script; that memory was refused says nothing
--- of the bytes. It finds what an audit of a run of the script finds.
+-- script that the bytes stand for, with the history where that is asked for. It refuses what stands
+-- for no script; that memory was refused says nothing of the bytes. It finds no fault.
 abbrev pub replay : Promise ReplayOpts (Vec ℕ Global) ScriptRefused AuditFault
 replay = record {
   app = command;
@@ -51,5 +48,5 @@ replay = record {
   prints = λ arguments bytes text found. (found ≡ None)
       × Replays bytes (is_set (codes "history") command arguments) text;
   refuses = λ bytes refused. (refused.error ≢ Memory) × ReadsAs bytes (Err refused.error);
-  finds = λ bytes found. (plan : Plan) × ReadsAs bytes (Ok plan) × IsFaulty plan found;
+  finds = λ bytes found. ⊥;
 }

@@ -43,7 +43,7 @@ impl<'a, J: Live + Send + Sync> Clients<'a, J> {
     /// The clients of a run, who have called nobody yet. Takes memory for them.
     pub(crate) fn new(alloc: Global, clients: Vec<Client<'a, J>>) -> Result<Self, AllocError>
         requires { (k : ℕ) → k < vec_len clients
-            → slice_get clients.items k ≡ Some (new_account k []) }
+            → slice_get clients.items k ≡ Some (new_account k [] []) }
         ensures { IfOk result (λ made. made ≡ clients.entry.items) }
     {
         let mut players = Vec::with_capacity(alloc, clients.len())?;

@@ -12,7 +12,7 @@ pub enum RunFault {
     /// Memory was refused, or a thread could not be had.
     #[error("want of memory")]
     Memory,
-    /// The audit found this in the logs: `Stray` or `NotAbove`.
+    /// An audit found this in the logs, which none does of a run.
     #[error("audit fault: {0}")]
     Audit(AuditFault),
 }

@@ -117,8 +117,7 @@ impl<'a, J: Live> Player<'a, J> {
         ensures { OnOk result (CallsOnce self.old
             (input.Ask (length (fresh_answers self.old.calls) + 1) processed at) self.new) }
     {
-        let sequencer = world.cluster.sequencer();
-        unless_out_of_memory(self.client.ask(rt, world.gate, sequencer, processed, at))
+        unless_out_of_memory(self.client.ask(rt, world.gate, processed, at))
     }
 
     fn reask<R: Wait, G: Gate>(
@@ -131,11 +130,7 @@ impl<'a, J: Live> Player<'a, J> {
     ) -> Result<(), AllocError>
         ensures { OnOk result (CallsOnce self.old (input.Ask num processed at) self.new) }
     {
-        let sequencer = world.cluster.sequencer();
-        unless_out_of_memory(
-            self.client
-                .reask(rt, world.gate, sequencer, num, processed, at),
-        )
+        unless_out_of_memory(self.client.reask(rt, world.gate, num, processed, at))
     }
 
     fn report<R: Wait, G: Gate>(

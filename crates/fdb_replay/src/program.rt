@@ -51,8 +51,7 @@ pub struct ScriptRefused {
 type Made = Result<Answer<AuditFault>, Fault<ScriptRefused, AuditFault>>;
 
 /// The program that replays a script, and writes its replies, the audit line and, where it is
-/// wanted, the history. It has nothing to write where the script is refused, memory runs out or the
-/// audit finds a fault in the run.
+/// wanted, the history. It has nothing to write where the script is refused or memory runs out.
 #[derive(Clone, Copy, Debug)]
 pub struct Replay;
 

@@ -24,7 +24,7 @@ pub enum ReplayFault {
     /// The script was refused, or memory for its text.
     #[error("script refused: {0}")]
     Script(ScriptError),
-    /// The run has no outcome: want of memory, or a fault of the audit.
+    /// The run has no outcome, which is for want of memory alone.
     #[error(transparent)]
     Run(RunFault),
     /// The writer failed, and took a part of the text before it did, from its start on.

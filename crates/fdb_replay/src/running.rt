@@ -14,7 +14,7 @@ use crate::serving::served;
 use crate::world::World;
 use fdb_client::{Cluster, ClusterConfig, ClusterParts, Finished, OpenedCluster, clients_of};
 use fdb_history::{Gate, Record, laws};
-use fdb_live::{Live, Seen};
+use fdb_live::{Live, Seen, Token};
 use fdb_script::{Outcome, Script};
 use std::alloc::{AllocError, Global};
 use std::marker::Brand;
@@ -30,10 +30,9 @@ use std::thread::Threads;
 /// its own for the whole run. A client's reads go to them in turn. The gate is passed where the
 /// sequencer's lock is held, where that of the reports is, and where an answer to a read has come.
 ///
-/// It fails where memory runs out, or a thread for a proxy or a client cannot be had, or with the
-/// fault that the audit finds: `Stray` or `NotAbove`. No fault of the register's history is looked
-/// for: the logs come settled, which shows that none stands in them. Each thread has been joined by
-/// then.
+/// It fails for memory alone: where that runs out, or a thread for a proxy or a client cannot be had.
+/// The audit finds nothing: the logs come settled, which shows that no fault stands in them. Each
+/// thread has been joined by then.
 pub fn run<R: Threads + Wait + Sync, G: Gate>(
     rt: &R,
     alloc: Global,
@@ -82,10 +81,13 @@ fn run_named<J: Live + Send + Sync, R: Threads + Wait + Sync, G: Gate>(
 ) -> Result<Outcome, RunFault>
     requires plan { IsPlan script.now }
     requires config { IsConfigFor script.now opened.config }
-    requires origin { opened.origin
-        ≡ record { table = J.table; start = J.start; reporters = J.reporters } }
-    requires epoch_end { opened.config.epoch_end ≡ J.epoch_end }
-    requires recovery { opened.config.start.version ≡ J.recovery }
+    requires founding { opened.founding ≡ record {
+      table = J.table;
+      start = J.start;
+      members = J.reporters;
+      epoch_end = J.epoch_end;
+      recovery = J.recovery;
+    } }
     ensures ok { IfOk result (IsRunOf script.now) }
     ensures err { IfErr result (Fails script.now) }
 {
@@ -114,16 +116,16 @@ fn finished_at<J: Live + Send + Sync, R: Threads + Wait + Sync, G: Gate>(
     gate: &G,
     script: &Script,
     first: &mut Seen<J>,
-    tokens: Vec<Seen<J>>,
+    tokens: Vec<Token<J>>,
 ) -> Result<Finished<J>, AllocError>
     requires plan { IsPlan script.now }
     requires clients { script.now.setup.clients ≡ J.reporters }
     requires count { vec_len tokens ≡ J.reporters }
     requires numbered { (k : ℕ) → k < J.reporters
-        → slice_get tokens.items k ≡ Some (record { reporter = Some k; changes = [] }) }
+        → slice_get tokens.items k ≡ Some (record { number = Some k; answers = []; changes = [] }) }
     ensures answers { IfOk result (Answers script.now) }
 {
-    let clients = Clients::new(alloc, clients_of(alloc, cluster.live(), tokens)?)?;
+    let clients = Clients::new(alloc, clients_of(alloc, cluster.master(), tokens)?)?;
     let world = World { cluster, gate };
     served(rt, alloc, &world, first, clients, script.rounds())
 }

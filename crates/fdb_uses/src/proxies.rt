@@ -94,8 +94,8 @@ fn commit<J: Live, R: Print + Wait>(
     cluster: &Cluster<'_, J>,
     client: &mut Client<'_, J>,
 ) -> Result<()> {
-    client.ask(rt, &OpenGate, cluster.sequencer(), 0, 1_000)?;
-    client.ask(rt, &OpenGate, cluster.sequencer(), 0, 3_000)?;
+    client.ask(rt, &OpenGate, 0, 1_000)?;
+    client.ask(rt, &OpenGate, 0, 3_000)?;
     let ack = client.report(rt, &OpenGate, 2, false, None, 0)?;
     println!(rt;
         "committed: raised {}, position {}",

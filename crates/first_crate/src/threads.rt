@@ -52,17 +52,20 @@ fn run_named<J: Live + Send + Sync, R: Print + Threads + Wait + Sync>(
     alloc: Global,
     opened: OpenedCluster<'_>,
 ) -> Result<()>
-    requires origin { opened.origin
-        ≡ record { table = J.table; start = J.start; reporters = J.reporters } }
-    requires epoch_end { opened.config.epoch_end ≡ J.epoch_end }
-    requires recovery { opened.config.start.version ≡ J.recovery }
+    requires { opened.founding ≡ record {
+      table = J.table;
+      start = J.start;
+      members = J.reporters;
+      epoch_end = J.epoch_end;
+      recovery = J.recovery;
+    } }
 {
     let ClusterParts {
         cluster,
         mut first,
         tokens,
     } = opened.parts::<J>(alloc)?;
-    let clients = clients_of(alloc, cluster.live(), tokens)?;
+    let clients = clients_of(alloc, cluster.master(), tokens)?;
     let Served { output, ends } = serve_while(rt, alloc, &cluster, &mut first, || {
         read_both(rt, alloc, &cluster, clients)
     })?;

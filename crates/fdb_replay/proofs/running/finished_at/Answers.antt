@@ -13,7 +13,7 @@ returns g c =
     let made = c.in_ok-clients_of.field-0 in
     let clients = c.in_ok-clients.clients in
     let count : plan.setup.clients ≡ length made.items = omega (arith, made.ok.0, c.in_ok-clients_of.ensures.count, c.requires.count, c.requires.clients) in
-    let new : (k : ℕ) → k < plan.setup.clients → slice_get made.items k ≡ Some (new_account k []) =
+    let new : (k : ℕ) → k < plan.setup.clients → slice_get made.items k ≡ Some (new_account k [] []) =
     λ k below. c.in_ok-clients_of.ensures.new k (omega (arith, below, c.in_ok-clients_of.ensures.count, c.requires.count, c.requires.clients)) in
     let start : logs_of made.items ≡ replicate plan.setup.clients (record { calls = [] }) = no_calls made.items plan.setup.clients count new in
     record {

@@ -3,6 +3,7 @@ use Rattle.std.proofs.lemmas.List.Elements.{All-from_recursion, recursion_from_A
 use Rattle.fdb_history.specs.Chain.{IsChain}
 use Rattle.fdb_history.specs.Laws.{reports_of}
 use Rattle.fdb_history.specs.Linear.{IsLinear}
+use Rattle.fdb_client.specs.declared.cluster.ClusterConfig.{ClusterConfig}
 use Rattle.fdb_history.specs.declared.register.Record.{Record}
 use Rattle.fdb_script.specs.Answering.{Answers}
 use Rattle.fdb_replay.specs.Outcome.{opening}
@@ -18,8 +19,10 @@ returns-clause-ok g c =
     let settled = c.settle-run.ensures in
     let events = c.in_ok-history.history.events in
     let start : run.start ≡ opening plan.setup.recovery = cc (settled.start, c.in_ok-cluster.cluster.start, c.in_ok-cluster.ensures.config, c.in_ok-cluster.cluster-is, c.requires.config.start) in
-    let epoch_end : g.J.Service.epoch_end ≡ plan.setup.epoch_end = sym c.requires.epoch_end ∙ c.requires.config.epoch_end in
-    let recovery : g.J.Service.recovery ≡ plan.setup.recovery = sym c.requires.recovery ∙ ap (λ (rec : Record). rec.version) c.requires.config.start in
+    let epoch_end : g.J.Service.epoch_end ≡ plan.setup.epoch_end = cc (c.in_ok-cluster.cluster.epoch_end, c.in_ok-cluster.ensures.config, c.in_ok-cluster.cluster-is, c.requires.config.epoch_end) in
+    let version : c.args.opened.config.start.version ≡ plan.setup.recovery = ap (λ (rec : Record). rec.version) c.requires.config.start in
+    let config : c.in_ok-cluster.cluster.config ≡ c.args.opened.config = cc (c.in_ok-cluster.ensures.config, c.in_ok-cluster.cluster-is) in
+    let recovery : g.J.Service.recovery ≡ plan.setup.recovery = sym c.in_ok-cluster.cluster.recovery ∙ (ap (λ (own : ClusterConfig). own.start.version) config ∙ version) in
     let told = c.in_ok-history.ensures.audited in
     let linear = subst (λ start. IsLinear start run.logs.items events) start c.in_ok-history.ensures.linear in
     record {

@@ -1,12 +1,21 @@
-use Rattle.std.proofs.Common.{rules, ◌≡◌, ◌<◌, Ok, Some, subst, sym}
+use Rattle.std.proofs.Common.{rules, ◌≡◌, ◌<◌, Err, Ok, Some, subst, sym}
+use Rattle.std.specs.Prelude.{Contains}
+use Rattle.fdb_live.specs.Holding.{versions}
 use Rattle.fdb_client.specs.Calls.{IsReportRefusal, Reports}
+use Rattle.fdb_client.specs.declared.error.ClientError.TheVariants as error
+use Rattle.fdb_live.specs.declared.error.LiveError.TheVariants as live
 use Rattle.fdb_history.specs.Strays.{issued_under}
 use Rattle.fdb_history.specs.declared.log.CallAnswer.TheVariants.{Acked, Refused}
 use Rattle.fdb_history.specs.declared.log.Refusal.TheVariants.{MinAbove, NotIssued}
-use Rattle.fdb_client.specs.Account.{Account, Logs}
-use Rattle.fdb_client.proofs.Agreements.{agrees_quiet, agrees_reported}
-use Rattle.fdb_history.specs.declared.log.Input.TheVariants.{Report}
+use Rattle.fdb_client.specs.Account.{Account}
+use Rattle.fdb_client.proofs.Chained.{agreed_reported}
 use Rattle.fdb_client.proofs.client.Client.report.Goals as goal
+
+pub report-requires-clause-drawn : goal.report-requires-clause-drawn
+report-requires-clause-drawn g c =
+    let is : issued_under c.self.inside.journal.calls.items c.args.num ≡ Some c.in-Some.version = search rules in
+    let has : Contains (versions c.self.inside.token.answers) c.in-Some.version = c.self.invariant.3.drawn c.args.num c.in-Some.version is in
+    search rules
 
 pub returns-in_default-clause-logged : goal.returns-in_default-clause-logged
 returns-in_default-clause-logged g c _ = record { answer = Refused NotIssued; logged = search rules; answered = search rules; returned = search rules }
@@ -22,21 +31,26 @@ returns-in-Err-MinAbove-clause-logged g c _ =
 
 pub invariant_of-self-in_default : goal.invariant_of-self-in_default
 invariant_of-self-in_default g c =
-    let before : Account = record { number = c.self.inside.id; begun = c.self.inside.begun; calls = c.self.inside.journal.calls.items; changes = c.self.inside.seen.changes } in
-    let after : Account = record { number = c.self.inside.id; begun = c.self.inside.begun; calls = c.add_refused.new.self.calls.items; changes = c.self.inside.seen.changes } in
-    let logged : Logs before (Report c.args.num c.args.locked c.args.metadata c.args.min_known) (Refused NotIssued) after = search rules in
-    (search rules, search rules, agrees_quiet g.J.Service.start (Report c.args.num c.args.locked c.args.metadata c.args.min_known) (Refused NotIssued) before after tt c.self.invariant.2 logged)
+    let before : Account = record { number = c.self.inside.id; begun = c.self.inside.begun; calls = c.self.inside.journal.calls.items; answers = c.self.inside.token.answers; changes = c.self.inside.token.changes } in
+    let after : Account = record { number = c.self.inside.id; begun = c.self.inside.begun; calls = c.add_refused.new.self.calls.items; answers = c.self.inside.token.answers; changes = c.self.inside.token.changes } in
+    let reports : Reports g.J.Service.start c.args.num c.args.locked c.args.metadata c.args.min_known before after (Err error.NotIssued) = record { answer = Refused NotIssued; logged = search rules; answered = search rules; returned = search rules } in
+    let agreed = agreed_reported g.J.Service.epoch_end g.J.Service.recovery g.J.Service.start before after (c.self.invariant.1, c.self.invariant.2, c.self.invariant.3) c.args.num c.args.locked c.args.metadata c.args.min_known (Err error.NotIssued) reports in
+    (search rules, agreed.0, agreed.1, agreed.2)
 
 pub invariant_of-self-in-Ok : goal.invariant_of-self-in-Ok
 invariant_of-self-in-Ok g c =
-    let before : Account = record { number = c.self.inside.id; begun = c.self.inside.begun; calls = c.self.inside.journal.calls.items; changes = c.self.inside.seen.changes } in
-    let after : Account = record { number = c.self.inside.id; begun = c.self.inside.begun; calls = c.add.new.self.calls.items; changes = c.report.new.seen.changes } in
+    let before : Account = record { number = c.self.inside.id; begun = c.self.inside.begun; calls = c.self.inside.journal.calls.items; answers = c.self.inside.token.answers; changes = c.self.inside.token.changes } in
+    let after : Account = record { number = c.self.inside.id; begun = c.self.inside.begun; calls = c.add.new.self.calls.items; answers = c.report.new.token.answers; changes = c.report.new.token.changes } in
     let reports : Reports g.J.Service.start c.args.num c.args.locked c.args.metadata c.args.min_known before after (Ok c.in-Ok.ack) = record { answer = Acked (record { version = c.in-Some.version; locked = c.args.locked; metadata = c.args.metadata; min_known = c.args.min_known }) c.in-Ok.ack.raised c.in-Ok.ack.changed; logged = search rules; answered = search rules; returned = search rules } in
-    (search rules, search rules, agrees_reported g.J.Service.start c.args.num c.args.locked c.args.metadata c.args.min_known before after (Ok c.in-Ok.ack) c.self.invariant.2 reports)
+    let agreed = agreed_reported g.J.Service.epoch_end g.J.Service.recovery g.J.Service.start before after (c.self.invariant.1, c.self.invariant.2, c.self.invariant.3) c.args.num c.args.locked c.args.metadata c.args.min_known (Ok c.in-Ok.ack) reports in
+    (search rules, agreed.0, agreed.1, agreed.2)
 
 pub invariant_of-self-in-Err-MinAbove : goal.invariant_of-self-in-Err-MinAbove
 invariant_of-self-in-Err-MinAbove g c =
-    let before : Account = record { number = c.self.inside.id; begun = c.self.inside.begun; calls = c.self.inside.journal.calls.items; changes = c.self.inside.seen.changes } in
-    let after : Account = record { number = c.self.inside.id; begun = c.self.inside.begun; calls = c.add_refused-in-Err-MinAbove.new.self.calls.items; changes = c.report.new.seen.changes } in
-    let logged : Logs before (Report c.args.num c.args.locked c.args.metadata c.args.min_known) (Refused MinAbove) after = search rules in
-    (search rules, search rules, agrees_quiet g.J.Service.start (Report c.args.num c.args.locked c.args.metadata c.args.min_known) (Refused MinAbove) before after tt c.self.invariant.2 logged)
+    let before : Account = record { number = c.self.inside.id; begun = c.self.inside.begun; calls = c.self.inside.journal.calls.items; answers = c.self.inside.token.answers; changes = c.self.inside.token.changes } in
+    let after : Account = record { number = c.self.inside.id; begun = c.self.inside.begun; calls = c.add_refused-in-Err-MinAbove.new.self.calls.items; answers = c.report.new.token.answers; changes = c.report.new.token.changes } in
+    let is : issued_under before.calls c.args.num ≡ Some c.in-Some.version = search rules in
+    let above : c.in-Some.version < c.args.min_known = search rules in
+    let reports : Reports g.J.Service.start c.args.num c.args.locked c.args.metadata c.args.min_known before after (Err (error.Live live.MinAbove)) = record { answer = Refused MinAbove; logged = search rules; answered = subst (λ version. IsReportRefusal version c.args.min_known MinAbove) (sym is) above; returned = search rules } in
+    let agreed = agreed_reported g.J.Service.epoch_end g.J.Service.recovery g.J.Service.start before after (c.self.invariant.1, c.self.invariant.2, c.self.invariant.3) c.args.num c.args.locked c.args.metadata c.args.min_known (Err (error.Live live.MinAbove)) reports in
+    (search rules, agreed.0, agreed.1, agreed.2)

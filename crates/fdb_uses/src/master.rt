@@ -1,0 +1,129 @@
+//! Commit versions that two threads draw from one master, each once it was told of the other's.
+
+ghost use Rattle.std.specs.Prelude.{◌<◌, ◌≡◌, IfOk, None};
+ghost use Rattle.fdb_live.specs.Holding.{least_above};
+
+use anyhow::{Result, anyhow};
+use fdb_history::{Ask, OpenGate, Record};
+use fdb_live::{Live, Master, OpenedMaster, Token, UnderMaster};
+use std::alloc::Global;
+use std::marker::Brand;
+use std::sync::Wait;
+use std::thread;
+use std::thread::Threads;
+
+/// The live committed version before any report, 100, which is the first commit version too.
+const START: Record = Record {
+    version: 100,
+    locked: false,
+    metadata: None,
+    min_known: 0,
+};
+
+/// Opens a master for two commit proxies, and has them draw under a name that stands for it.
+pub(crate) fn two_threads<R: Print + Threads + Wait + Sync>(rt: &R, alloc: Global) -> Result<()> {
+    let opened = Master::<Brand>::open(rt, alloc, 0, START.version, START, 2)?;
+    opened.named(rt, TwoProxies)
+}
+
+/// Two commit proxies, to be run under a name that stands for their master.
+#[derive(Drop)]
+struct TwoProxies;
+
+impl<R: Print + Threads + Wait + Sync> UnderMaster<R> for TwoProxies {
+    type Output = Result<()>;
+
+    /// Shares out the master and the tokens of its commit proxies.
+    fn run<J: Live + Send + Sync>(self, rt: &R, opened: OpenedMaster) -> Result<()> {
+        let (master, mut tokens) = opened.parts::<J>()?;
+        draw_both(rt, &master, tokens.as_mut_slice())
+    }
+}
+
+/// Both draw at once, each in a thread of its own, and draw again once told of the other's.
+fn draw_both<J: Live + Send + Sync, R: Print + Threads + Wait + Sync>(
+    rt: &R,
+    master: &Master<J>,
+    tokens: &mut [Token<J>],
+) -> Result<()> {
+    let [first, second] = tokens else {
+        return Err(anyhow!("two commit proxies are wanted"));
+    };
+    let (one, two) = thread::join(
+        rt,
+        || draw_and_tell(rt, master, first),
+        || draw_and_tell(rt, master, second),
+    );
+    let (one, two) = (one?, two?);
+    let (by_first, by_second) = thread::join(
+        rt,
+        || draw_once_told(rt, master, first, two),
+        || draw_once_told(rt, master, second, one),
+    );
+    println!(rt; "the last of four versions is {}", by_first?.1.max(by_second?.1))?;
+    Ok(())
+}
+
+/// What one thread hands to another: a version that it drew, and a token of what it has seen.
+#[derive(Drop)]
+struct Told<J: Live> {
+    version: u64,
+    token: Token<J>,
+    ghost nobodys: { token.number ≡ None },
+    ghost drawn: { version < least_above token.answers },
+}
+
+/// Draws a version, to be told to another thread.
+fn draw_and_tell<J: Live, R: Wait>(
+    rt: &R,
+    master: &Master<J>,
+    token: &mut Token<J>,
+) -> Result<Told<J>> {
+    let Some(proxy) = token.number() else {
+        return Err(anyhow!("the token is nobody's"));
+    };
+    let ask = Ask {
+        proxy,
+        num: 1,
+        processed: 0,
+        at: 0,
+    };
+    let issued = master.ask(rt, &OpenGate, token, ask)?;
+    if !issued.fresh {
+        return Err(anyhow!("the version was drawn before"));
+    }
+    Ok(Told {
+        version: issued.version,
+        token: master.split(token),
+    })
+}
+
+/// Draws a version above the one that it was told of, and answers both.
+fn draw_once_told<J: Live, R: Wait>(
+    rt: &R,
+    master: &Master<J>,
+    token: &mut Token<J>,
+    told: Told<J>,
+) -> Result<(u64, u64)>
+    ensures { IfOk result (λ both. both.0 < both.1) }
+{
+    let Told {
+        version,
+        token: seen,
+    } = told;
+    master.learn(rt, token, seen);
+    let Some(proxy) = token.number() else {
+        return Err(anyhow!("the token is nobody's"));
+    };
+    let ask = Ask {
+        proxy,
+        num: 2,
+        processed: 1,
+        at: 0,
+    };
+    let issued = master.ask(rt, &OpenGate, token, ask)?;
+    if !issued.fresh {
+        return Err(anyhow!("the version was drawn before"));
+    }
+    Ok((version, issued.version))
+}
