@@ -1,6 +1,7 @@
 pub mod ChainLaws
 mod ChainExamples
 pub mod AnswerLaws
+pub mod Answering
 pub mod KeptReplies
 pub mod SameIssued
 pub mod Own

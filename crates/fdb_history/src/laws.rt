@@ -5,24 +5,28 @@
 
 ghost use Rattle.std.specs.Prelude.{◌≡◌, ℕ, Bool, ◌+◌, ◌*◌, ◌<◌, ◌≤◌, ◌≢◌, ◌==◌, ◌&&◌, [], ◌∷◌};
 ghost use Rattle.std.specs.Prelude.{◌++◌, List, length, take, slice_get, false, Some, Ok, IsTrue};
-ghost use Rattle.std.specs.Prelude.{option_map};
+ghost use Rattle.std.specs.Prelude.{filter, option_map, true};
 ghost use Rattle.std.specs.List.{All, AllPairs, find, list_any};
+ghost use mathlib.Core.List.{IsPrefix};
 ghost use Rattle.fdb_history.specs.Issuing.{Chain, kept, answer_to, chain_after, after_asks};
-ghost use Rattle.fdb_history.specs.Chain.{IsChain};
+ghost use Rattle.fdb_history.specs.Chain.{IsChain, latest};
 ghost use Rattle.fdb_history.specs.Event.{IsLegal, register_after, change_count, positions_from};
 ghost use Rattle.fdb_history.specs.Explained.{explained};
 ghost use Rattle.fdb_history.specs.Faults.{IsFaultless};
 ghost use Rattle.fdb_history.specs.Laws.{HaveMinimaWithin, seen_at, reports_of};
 ghost use Rattle.fdb_history.specs.Linear.{IsLinear};
-ghost use Rattle.fdb_history.specs.Log.{calls_of};
+ghost use Rattle.fdb_history.specs.Log.{calls_of, fresh_answers};
+ghost use Rattle.fdb_history.specs.Strays.{is_justified, logged_as};
 ghost use Rattle.fdb_history.specs.declared.grv.TagLimit.{TagLimit};
 ghost use Rattle.fdb_history.specs.declared.log.Call.{Call};
 ghost use Rattle.fdb_history.specs.declared.log.CallAnswer.TheVariants.{Acked, Version};
 ghost use Rattle.fdb_history.specs.declared.log.ClientLog.{ClientLog};
+ghost use Rattle.fdb_history.specs.declared.log.Input.TheVariants as input;
 ghost use Rattle.fdb_history.specs.declared.chain.Ask.{Ask};
 ghost use Rattle.fdb_history.specs.declared.chain.Issued.{Issued};
 ghost use Rattle.fdb_history.specs.declared.event.Event.{Event};
 ghost use Rattle.fdb_history.specs.declared.register.Record.{Record};
+ghost use Rattle.fdb_history.specs.declared.register.TheConstants.{MAX_VERSION};
 
 /// The versions of a chain rise: an answer has a lower version than each later one.
 pub fn versions_rise()
@@ -109,8 +113,8 @@ pub fn register_is_greatest()
         (start ∷ reports_of events)) }
 {}
 
-/// In a chain the kept answer is the first answer that its proxy got under
-/// the number, and a repeated request gets it unchanged but for `fresh`.
+/// In a chain the kept answer is the first answer that its proxy got under the number, and stands
+/// at its ordinal. A repeated request gets it unchanged but for `fresh`.
 pub fn kept_is_first()
     ensures first { (epoch_end recovery : ℕ) (answers : List Issued)
         (proxy num : ℕ) (answer : Issued)
@@ -119,10 +123,29 @@ pub fn kept_is_first()
     ensures of_the_request { (answers : List Issued) (proxy num : ℕ) (answer : Issued)
         → kept proxy num answers ≡ Some answer
         → (answer.proxy ≡ proxy) × (answer.num ≡ num) }
+    ensures stands { (epoch_end recovery : ℕ) (answers : List Issued)
+        (proxy num : ℕ) (answer : Issued)
+        → IsChain epoch_end recovery answers → kept proxy num answers ≡ Some answer
+        → slice_get answers answer.ordinal ≡ Some answer }
+    ensures fresh { (epoch_end recovery : ℕ) (answers : List Issued)
+        (proxy num : ℕ) (answer : Issued)
+        → IsChain epoch_end recovery answers → kept proxy num answers ≡ Some answer
+        → answer.fresh ≡ true }
     ensures repeated { (chain : Chain) (ask : Ask) (answer : Issued)
         → IsChain chain.epoch_end chain.recovery chain.answers
         → ask.proxy < chain.proxies → kept ask.proxy ask.num chain.answers ≡ Some answer
         → answer_to chain ask ≡ Ok (record answer { fresh = false }) }
+{}
+
+/// What a proxy's number stands to is decided by the answers to that proxy alone: its latest number,
+/// and the answer that is kept under one.
+pub fn own_answers_decide()
+    ensures latest { (proxy : ℕ) (answers : List Issued)
+        → latest proxy (filter (λ answer. answer.proxy == proxy) answers)
+        ≡ latest proxy answers }
+    ensures kept { (proxy num : ℕ) (answers : List Issued)
+        → kept proxy num (filter (λ answer. answer.proxy == proxy) answers)
+        ≡ kept proxy num answers }
 {}
 
 /// Whatever is asked for, the answers are one chain: a request leaves a
@@ -138,6 +161,23 @@ pub fn asks_make_a_chain()
         → take (length chain.answers) (after_asks chain asks).answers ≡ chain.answers }
     ensures stays { (chain : Chain) (asks : List Ask)
         → after_asks chain asks ≡ record chain { answers = (after_asks chain asks).answers } }
+{}
+
+/// What a request is answered is never found to be stray: each chain that goes on from that answer
+/// justifies the call, after calls whose fresh answers are those that its proxy had been given.
+pub fn answers_are_justified()
+    ensures { (given : Chain) (ask : Ask) (calls : List Call) (chain : List Issued)
+        (asked position : ℕ)
+        → ask.proxy < given.proxies → given.recovery ≤ MAX_VERSION
+        → fresh_answers calls ≡ filter (λ answer. answer.proxy == ask.proxy) given.answers
+        → IsChain given.epoch_end given.recovery chain
+        → IsPrefix (chain_after given (answer_to given ask)).answers chain
+        → is_justified chain ask.proxy calls (record {
+          input = input.Ask ask.num ask.processed ask.at;
+          asked = asked;
+          position = position;
+          answer = logged_as (answer_to given ask);
+        }) ≡ true }
 {}
 
 /// Logs that a history explains have no fault of the history: where a linear

@@ -5,7 +5,7 @@ use Rattle.std.specs.List.{AllPairs}
 use Rattle.std.proofs.lemmas.Bool.{cases_lt, cond_both}
 use Rattle.std.proofs.Math.Seq.{get_or-append_seam}
 use Rattle.std.proofs.lemmas.List.{get_or_append_left, get_or_default}
-use Rattle.std.proofs.lemmas.List.Elements.{All-contains, Contains-append_left, Contains-push, All-head, All-map, All-tail, All-weaker}
+use Rattle.std.proofs.lemmas.List.Elements.{All-contains, Contains-append_left, All-head, All-map, All-tail, All-weaker}
 use Rattle.std.proofs.lemmas.Option.{get_or_from_slice_get, slice_get-get_or, slice_get_within}
 use mathlib.Core.List.{IsPrefix}
 use Rattle.fdb_history.specs.Chain.{IsChain}
@@ -16,7 +16,7 @@ use Rattle.fdb_chain.specs.declared.error.ChainError.{ChainError}
 use Rattle.fdb_live.specs.Holding.{Holding, IsDrawn, above_last, least_above, versions}
 use Rattle.fdb_live.specs.Seen.{last_record}
 use Rattle.fdb_live.specs.declared.change.Change.{Change}
-use Rattle.fdb_live.proofs.Drawn.{all_begins, chain_begins, versions-append}
+use Rattle.fdb_live.proofs.Drawn.{all_begins, chain_begins}
 use Rattle.fdb_live.proofs.Prefixes.{prefix_length}
 
 abbrev pub Rise : List Issued → Type 0
@@ -145,15 +145,6 @@ pub unique : (law : Law) (epoch_end recovery : ℕ) (xs ys : List Issued) → Is
     → (one other : Issued) → Contains xs one → Contains ys other → one.version ≡ other.version → one ≡ other
 unique law epoch_end recovery xs ys these those (inl p) one other a b same = same_version ys one other (law epoch_end recovery ys those) (contains_more xs ys one p a) b same
 unique law epoch_end recovery xs ys these those (inr p) one other a b same = same_version xs one other (law epoch_end recovery xs these) a (contains_more ys xs other p b) same
-
--- a fresh version stands among those that its asker has then seen
-pub has_drawn : (epoch_end recovery : ℕ) (result : Result Issued ChainError) (old new : Holding) → IfOk result (λ issued. issued.fresh ≡ true → IsDrawn epoch_end recovery issued old new)
-    → IfOk result (λ issued. issued.fresh ≡ true → Contains (versions new.answers) issued.version)
-has_drawn epoch_end recovery (Ok issued) old new drawn = λ fresh. (
-    let d = drawn fresh in
-    subst (λ l. Contains l issued.version) (sym (ap versions d.last ∙ versions-append d.before (issued ∷ []))) (Contains-push (versions d.before) issued.version)
-    )
-has_drawn epoch_end recovery (Err cause) old new drawn = tt
 
 at_seam : (before : List Issued) (issued : Issued) (k : ℕ) → k ≡ length before → slice_get (before ++ issued ∷ []) k ≡ Some issued
 at_seam [] issued zero e = refl

@@ -1,6 +1,7 @@
 -- What follows for the holder of a token that was asked with.
-use Rattle.std.proofs.Common.{◌≡◌, ◌≢◌, ℕ, ◌+◌, ◌==◌, ◌<◌, Bool, true, false, List, [], ◌∷◌, ◌++◌, length, cond, Option, None, Some, Result, Ok, Err, refl, sym, ap, ◌∙◌, subst, arith, append_assoc}
-use Rattle.std.specs.Prelude.{All, Contains, reverse, IfOk, OnErr, nat_lt, nat_le, ◌&&◌, not}
+use Rattle.std.proofs.Common.{◌≡◌, ◌≢◌, ℕ, zero, suc, ◌+◌, ◌==◌, ◌<◌, Bool, true, false, List, [], ◌∷◌, ◌++◌, length, slice_get, cond, inl, inr, ◌⊎◌, Option, None, Some, Result, Ok, Err, refl, sym, ap, ◌∙◌, subst, arith, append_assoc}
+use Rattle.std.specs.Prelude.{Contains, IfErr, IfOk, OnErr, nat_lt, nat_le, ◌&&◌, not}
+use Rattle.std.proofs.lemmas.Bool.{cond-false}
 use Rattle.std.proofs.lemmas.Bool.Decides.{nat_tests}
 use Rattle.std.proofs.lemmas.List.{reverse-append, append-nil}
 use Rattle.std.proofs.lemmas.List.Elements.{All-cons, All-contains, All-nil, All-weaker, Contains-append_right}
@@ -21,31 +22,6 @@ use Rattle.fdb_chain.specs.ChainCore.{IsAnswer, IsFor}
 use Rattle.fdb_live.specs.Holding.{Holding, IsAsked, IsDrawn, answers_among, answers_to, own_answers, versions}
 use Rattle.fdb_live.proofs.Drawn.{answers_to-append, answers_to-push_own}
 use Rattle.fdb_live.proofs.Prefixes.{prefix_trans}
-
--- what is kept under a number is searched for among the proxy's own answers
-kept_own : (n num : ℕ) (xs : List Issued) → kept_among n num xs ≡ kept_among n num (answers_to n xs)
-kept_own n num [] = refl
-kept_own n num (x ∷ xs) = go (kept_own n num xs) (x.proxy == n) refl
-  where
-    go : kept_among n num xs ≡ kept_among n num (answers_to n xs) → (b : Bool) → (x.proxy == n) ≡ b → cond (b && (x.num == num)) (Some x) (cond (b && nat_le num x.processed) None (kept_among n num xs)) ≡ kept_among n num (cond b (x ∷ answers_to n xs) (answers_to n xs))
-    go rest true e = rw e (ap (λ o. cond (x.num == num) (Some x) (cond (nat_le num x.processed) None o)) rest)
-    go rest false e = rest
-
-answers_to-reverse : (n : ℕ) (xs : List Issued) → answers_to n (reverse xs) ≡ reverse (answers_to n xs)
-answers_to-reverse n [] = refl
-answers_to-reverse n (x ∷ xs) = ap (answers_to n) (reverse-append (x ∷ []) xs) ∙ (answers_to-append n (reverse xs) (x ∷ []) ∙ (ap (λ l. l ++ answers_to n (x ∷ [])) (answers_to-reverse n xs) ∙ go (x.proxy == n)))
-  where
-    go : (b : Bool) → reverse (answers_to n xs) ++ cond b (x ∷ []) [] ≡ reverse (cond b (x ∷ answers_to n xs) (answers_to n xs))
-    go true = sym (reverse-append (x ∷ []) (answers_to n xs))
-    go false = append-nil _
-
-kept_by_own : (n num : ℕ) (xs ys : List Issued) → answers_to n xs ≡ answers_to n ys → kept n num xs ≡ kept n num ys
-kept_by_own n num xs ys e =
-    kept_own n num (reverse xs) ∙ (ap (kept_among n num) (answers_to-reverse n xs ∙ (ap reverse e ∙ sym (answers_to-reverse n ys))) ∙ sym (kept_own n num (reverse ys)))
-
-latest_by_own : (n : ℕ) (xs ys : List Issued) → answers_to n xs ≡ answers_to n ys → latest n xs ≡ latest n ys
-latest_by_own n xs ys e =
-    sym (length-filter (λ answer. answer.proxy == n) xs) ∙ (ap length e ∙ length-filter (λ answer. answer.proxy == n) ys)
 
 -- the last answer of a chain is the next one after those before it
 goes_on_last : (epoch_end recovery : ℕ) (before xs : List Issued) (x : Issued) → GoesOn epoch_end recovery before (xs ++ x ∷ []) → IsNext epoch_end recovery (before ++ xs) x
@@ -102,12 +78,26 @@ module _ (begun : Chain) (ask : Ask) (old new : Holding) where
   refused (Ok issued) a whose same = tt
   refused (Err cause) a whose same = own_stays a.before whose same a.own a.err
 
+-- what a proxy's number stands to is decided by its own answers
+abbrev pub LatestOwn : Type 0
+LatestOwn = (proxy : ℕ) (answers : List Issued) → latest proxy (answers_to proxy answers) ≡ latest proxy answers
+
+abbrev pub KeptOwn : Type 0
+KeptOwn = (proxy num : ℕ) (answers : List Issued) → kept proxy num (answers_to proxy answers) ≡ kept proxy num answers
+
+latest_by_own : LatestOwn → (n : ℕ) (xs ys : List Issued) → answers_to n xs ≡ answers_to n ys → latest n xs ≡ latest n ys
+latest_by_own law n xs ys e = sym (law n xs) ∙ (ap (latest n) e ∙ law n ys)
+
+kept_by_own : KeptOwn → (n num : ℕ) (xs ys : List Issued) → answers_to n xs ≡ answers_to n ys → kept n num xs ≡ kept n num ys
+kept_by_own law n num xs ys e = sym (law n num xs) ∙ (ap (kept n num) e ∙ law n num ys)
+
+module _ (latest_own : LatestOwn) (kept_own : KeptOwn) (begun : Chain) (ask : Ask) (old new : Holding) where
   -- unless its number is the next one, the proxy's own answers decide
   by_own : (known : Bool) (num : ℕ) (xs ys : List Issued) (x y : Result Issued Refusal) → answers_to ask.proxy xs ≡ answers_to ask.proxy ys → num ≢ latest ask.proxy ys + 1
       → cond known (Err UnknownProxy) (by_number (latest ask.proxy xs) num (Err (Early (latest ask.proxy xs + 1))) (kept_answer (kept ask.proxy num xs)) x)
       ≡ cond known (Err UnknownProxy) (by_number (latest ask.proxy ys) num (Err (Early (latest ask.proxy ys + 1))) (kept_answer (kept ask.proxy num ys)) y)
   by_own known num xs ys x y e other =
-      rw (latest_by_own ask.proxy xs ys e, kept_by_own ask.proxy num xs ys e) (ap (cond known (Err UnknownProxy)) (go (nat_lt (latest ask.proxy ys + 1) num) (nat_le num (latest ask.proxy ys)) refl refl))
+      rw (latest_by_own latest_own ask.proxy xs ys e, kept_by_own kept_own ask.proxy num xs ys e) (ap (cond known (Err UnknownProxy)) (go (nat_lt (latest ask.proxy ys + 1) num) (nat_le num (latest ask.proxy ys)) refl refl))
     where
       go : (a b : Bool) → nat_lt (latest ask.proxy ys + 1) num ≡ a → nat_le num (latest ask.proxy ys) ≡ b
           → cond a (Err (Early (latest ask.proxy ys + 1))) (cond b (kept_answer (kept ask.proxy num ys)) x) ≡ cond a (Err (Early (latest ask.proxy ys + 1))) (cond b (kept_answer (kept ask.proxy num ys)) y)
@@ -115,9 +105,9 @@ module _ (begun : Chain) (ask : Ask) (old new : Holding) where
       go false true h k = refl
       go false false h k = absurd (other (grind (arith, nat_tests)))
 
-  pub decided : (result : Result Issued ChainError) → IsAsked begun ask old result new → ask.num ≢ latest ask.proxy old.answers + 1 → IsAnswer (answer_to (at old.answers) ask) result
+  pub decided : (result : Result Issued ChainError) → IsAsked begun ask old result new → ask.num ≢ latest ask.proxy old.answers + 1 → IsAnswer (answer_to (record begun { answers = old.answers }) ask) result
   decided result a other =
-      subst (λ answer. IsAnswer answer result) (by_own (not (nat_lt ask.proxy begun.proxies)) ask.num a.before old.answers (fresh_answer (at a.before) ask) (fresh_answer (at old.answers) ask) a.own other) a.answer
+      subst (λ answer. IsAnswer answer result) (by_own (not (nat_lt ask.proxy begun.proxies)) ask.num a.before old.answers (fresh_answer (record begun { answers = a.before }) ask) (fresh_answer (record begun { answers = old.answers }) ask) a.own other) a.answer
 
 -- what the definition answers is one of these
 pub record IsKept (chain : Chain) (ask : Ask) (issued : Issued) : Type 0 where
@@ -155,42 +145,84 @@ module _ (chain : Chain) (ask : Ask) (known : ask.proxy < chain.proxies) where
       let k = is_kept (nat_lt (latest ask.proxy chain.answers + 1) ask.num) (nat_le ask.num (latest ask.proxy chain.answers)) (nat_le (next_answer chain ask).version MAX_VERSION) (kept ask.proxy ask.num chain.answers) (latest ask.proxy chain.answers + 1) (next_answer chain ask) issued refl old (sym whole ∙ e) in
       record { found = k.0; is = k.1; again = k.2 }
 
--- what is kept stands among the answers
-kept_among_in : (proxy num : ℕ) (xs : List Issued) (found : Issued) → kept_among proxy num xs ≡ Some found → Contains xs found
-kept_among_in proxy num [] found e = absurd (cc e)
-kept_among_in proxy num (x ∷ xs) found e = go (kept_among_in proxy num xs found) (x.proxy == proxy && (x.num == num)) (x.proxy == proxy && nat_le num x.processed) e
-  where
-    go : (kept_among proxy num xs ≡ Some found → Contains xs found) → (a b : Bool) → cond a (Some x) (cond b None (kept_among proxy num xs)) ≡ Some found → Contains (x ∷ xs) found
-    go rest true b is = (0, omega arith, same_Some x found is)
-    go rest false true is = absurd (cc is)
-    go rest false false is = Contains-append_right (x ∷ []) xs found (rest is)
+-- the answer under the next number is a fresh one, if there is a next version
+by_next : {A : Type 0} (n num : ℕ) (ahead again next : A) → num ≡ n + 1 → by_number n num ahead again next ≡ next
+by_next n num ahead again next e =
+    cond-false (nat_lt (n + 1) num) ahead (cond (nat_le num n) again next) (grind (arith, nat_tests)) ∙ cond-false (nat_le num n) again next (grind (arith, nat_tests))
 
-kept_in : (proxy num : ℕ) (xs : List Issued) (found : Issued) → kept proxy num xs ≡ Some found → Contains xs found
-kept_in proxy num xs found e =
-    Contains-permutation (reverse xs) xs found (IsPermutation-sym xs (reverse xs) (IsPermutation-reverse xs)) (kept_among_in proxy num (reverse xs) found e)
+is_next : (fits : Bool) (next : Issued) (result : Result Issued ChainError) → next.fresh ≡ true → IsAnswer (cond fits (Ok next) (Err Exhausted)) result → IfOk result (λ issued. issued.fresh ≡ true)
+is_next true next (Ok issued) fresh is = cc (is, fresh)
+is_next false next (Ok issued) fresh is = absurd (cc is)
+is_next fits next (Err cause) fresh is = tt
 
-version_in : (xs : List Issued) (found : Issued) → Contains xs found → Contains (versions xs) found.version
-version_in xs found has =
-    All-contains (λ (answer : Issued). Contains (versions xs) answer.version) xs found (each_version xs) has
-  where
-    each_version : (ys : List Issued) → All (λ answer. Contains (versions ys) answer.version) ys
-    each_version [] = All-nil _
-    each_version (y ∷ ys) = All-cons (λ (answer : Issued). Contains (versions (y ∷ ys)) answer.version) y ys (0, omega arith, refl)
-        (All-weaker (λ (answer : Issued). Contains (versions ys) answer.version) (λ (answer : Issued). Contains (versions (y ∷ ys)) answer.version) (λ answer in_rest. Contains-append_right (y.version ∷ []) (versions ys) answer.version in_rest) ys (each_version ys))
+not_next : (fits : Bool) (next : Issued) (result : Result Issued ChainError) → IsAnswer (cond fits (Ok next) (Err Exhausted)) result → IfErr result (λ cause. (cause ≡ chain_error.Exhausted) ⊎ (cause ≡ chain_error.Memory))
+not_next fits next (Ok issued) is = tt
+not_next fits next (Err chain_error.Exhausted) is = inl refl
+not_next fits next (Err chain_error.Memory) is = inr refl
+not_next fits next (Err chain_error.BadEpoch) is = absurd is
+not_next fits next (Err chain_error.NoProxy) is = absurd is
+not_next true next (Err chain_error.UnknownProxy) is = absurd (cc is)
+not_next false next (Err chain_error.UnknownProxy) is = absurd (cc is)
+not_next true next (Err chain_error.Forgotten) is = absurd (cc is)
+not_next false next (Err chain_error.Forgotten) is = absurd (cc is)
+not_next true next (Err (chain_error.Early expected)) is = absurd (cc is)
+not_next false next (Err (chain_error.Early expected)) is = absurd (cc is)
 
-module _ (begun : Chain) (ask : Ask) (old new : Holding) (member : ask.proxy < begun.proxies) where
-  -- the version of an answer, fresh or repeated, is one of those that were seen
-  pub has_any : (result : Result Issued ChainError) → IsAsked begun ask old result new → IfOk result (λ issued. issued.fresh ≡ true → Contains (versions new.answers) issued.version) → IfOk result (λ issued. Contains (versions new.answers) issued.version)
-  has_any (Ok issued) a drawn = go issued.fresh refl
+module _ (latest_own : LatestOwn) (begun : Chain) (ask : Ask) (old new : Holding) (member : ask.proxy < begun.proxies) where
+  fresh_next : (result : Result Issued ChainError) → (a : IsAsked begun ask old result new) → ask.num ≡ latest ask.proxy old.answers + 1 → IsAnswer (fresh_answer (record begun { answers = a.before }) ask) result
+  fresh_next result a next =
+      let same : latest ask.proxy a.before ≡ latest ask.proxy old.answers = latest_by_own latest_own ask.proxy a.before old.answers a.own in
+      let is = whole (record begun { answers = a.before }) ask member ∙ by_next (latest ask.proxy a.before) ask.num _ _ _ (next ∙ ap (λ n. n + 1) (sym same)) in
+      subst (λ answer. IsAnswer answer result) is a.answer
+
+  pub next_fresh : (result : Result Issued ChainError) → IsAsked begun ask old result new → ask.num ≡ latest ask.proxy old.answers + 1 → IfOk result (λ issued. issued.fresh ≡ true)
+  next_fresh result a next =
+      is_next (nat_le (next_answer (record begun { answers = a.before }) ask).version MAX_VERSION) (next_answer (record begun { answers = a.before }) ask) result refl (fresh_next result a next)
+
+  pub next_refused : (result : Result Issued ChainError) → IsAsked begun ask old result new → ask.num ≡ latest ask.proxy old.answers + 1 → IfErr result (λ cause. (cause ≡ chain_error.Exhausted) ⊎ (cause ≡ chain_error.Memory))
+  next_refused result a next =
+      not_next (nat_le (next_answer (record begun { answers = a.before }) ask).version MAX_VERSION) (next_answer (record begun { answers = a.before }) ask) result (fresh_next result a next)
+
+-- the kept answer of a chain stands at its ordinal, and is fresh there
+abbrev pub KeptStands : Type 0
+KeptStands = (epoch_end recovery : ℕ) (answers : List Issued) (proxy num : ℕ) (answer : Issued) → IsChain epoch_end recovery answers → kept proxy num answers ≡ Some answer → slice_get answers answer.ordinal ≡ Some answer
+
+abbrev pub KeptFresh : Type 0
+KeptFresh = (epoch_end recovery : ℕ) (answers : List Issued) (proxy num : ℕ) (answer : Issued) → IsChain epoch_end recovery answers → kept proxy num answers ≡ Some answer → answer.fresh ≡ true
+
+-- what is fresh is one with itself, told to be fresh
+as_fresh : (issued : Issued) → issued.fresh ≡ true → issued ≡ record issued { fresh = true }
+as_fresh issued fresh = ap (λ b. record issued { fresh = b }) fresh
+
+module _ (stands : KeptStands) (is_fresh : KeptFresh) (begun : Chain) (ask : Ask) (old new : Holding) (member : ask.proxy < begun.proxies) (chain : IsChain begun.epoch_end begun.recovery new.answers) where
+  -- an answer, fresh or repeated, stands at its ordinal
+  pub stands_any : (result : Result Issued ChainError) → IsAsked begun ask old result new → IfOk result (λ issued. issued.fresh ≡ true → slice_get new.answers issued.ordinal ≡ Some issued)
+      → IfOk result (λ issued. slice_get new.answers issued.ordinal ≡ Some (record issued { fresh = true }))
+  stands_any (Ok issued) a drawn = go issued.fresh refl
     where
-      go : (b : Bool) → issued.fresh ≡ b → Contains (versions new.answers) issued.version
-      go true e = drawn e
+      go : (b : Bool) → issued.fresh ≡ b → slice_get new.answers issued.ordinal ≡ Some (record issued { fresh = true })
+      go true e = drawn e ∙ ap Some (as_fresh issued e)
       go false e =
           let k = kept_again (record begun { answers = a.before }) ask member issued e a.answer in
-          let has = version_in a.before k.found (kept_in ask.proxy ask.num a.before k.found k.is) in
-          subst (λ (p : List Issued × ℕ). Contains (versions p.0) p.1) (λ i. (sym (after begun ask old new issued a.before false e a.ok) i, sym (ap (λ (x : Issued). x.version) k.again) i)) has
-  has_any (Err cause) a drawn = tt
+          let now = after begun ask old new issued a.before false e a.ok in
+          let one = subst (IsChain begun.epoch_end begun.recovery) now chain in
+          let at = stands begun.epoch_end begun.recovery a.before ask.proxy ask.num k.found one k.is in
+          let fresh = as_fresh k.found (is_fresh begun.epoch_end begun.recovery a.before ask.proxy ask.num k.found one k.is) in
+          ap (λ (p : List Issued × ℕ). slice_get p.0 p.1) (λ i. (now i, (ap (λ (x : Issued). x.ordinal) k.again) i))
+          ∙ (at ∙ (ap Some fresh ∙ ap (λ (x : Issued). Some (record x { fresh = true })) (sym k.again)))
+  stands_any (Err cause) a drawn = tt
 
+version_at : (xs : List Issued) (place : ℕ) (x : Issued) → slice_get xs place ≡ Some x → Contains (versions xs) x.version
+version_at [] place x e = absurd (cc e)
+version_at (y ∷ ys) zero x e = (0, omega arith, ap (λ (answer : Issued). answer.version) (same_Some y x e))
+version_at (y ∷ ys) (suc place) x e = Contains-append_right (y.version ∷ []) (versions ys) x.version (version_at ys place x e)
+
+-- so its version is one of those that were seen
+pub has_any : (result : Result Issued ChainError) (answers : List Issued) → IfOk result (λ issued. slice_get answers issued.ordinal ≡ Some (record issued { fresh = true })) → IfOk result (λ issued. Contains (versions answers) issued.version)
+has_any (Ok issued) answers at = version_at answers issued.ordinal (record issued { fresh = true }) at
+has_any (Err cause) answers at = tt
+
+module _ (begun : Chain) (ask : Ask) (old new : Holding) (member : ask.proxy < begun.proxies) where
   -- there is such a commit proxy
   pub known : (result : Result Issued ChainError) → IsAsked begun ask old result new → result ≡ Err chain_error.UnknownProxy → ⊥
   known result a is = never_unknown (record begun { answers = a.before }) ask member (subst (λ (r : Result Issued ChainError). IsAnswer (answer_to (record begun { answers = a.before }) ask) r) is a.answer)

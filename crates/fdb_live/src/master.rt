@@ -86,20 +86,26 @@ impl<J: Live> Master<J> {
             → least_above token.old.answers ≤ issued.version) }
         ensures least { IfOk result (λ issued. issued.fresh ≡ true
             → least_above token.new.answers ≡ issued.version + 1) }
-        ensures stands { IfOk result (λ issued. issued.fresh ≡ true
-            → slice_get token.new.answers issued.ordinal ≡ Some issued) }
+        ensures stands { IfOk result (λ issued. slice_get token.new.answers issued.ordinal
+            ≡ Some (record issued { fresh = true })) }
         ensures has { IfOk result (λ issued. Contains (versions token.new.answers) issued.version) }
         ensures above_read { IfOk result (λ issued. issued.fresh ≡ true → 0 < issued.ordinal
             → (last_record J.start token.old.changes).version < issued.version) }
         ensures again { IfOk result (λ issued. issued.fresh ≡ false
             → own_answers token.new ≡ own_answers token.old) }
         ensures refused { OnErr result (own_answers token.new ≡ own_answers token.old) }
+        ensures next { ask.num ≡ latest ask.proxy token.old.answers + 1
+            → IfOk result (λ issued. issued.fresh ≡ true) }
+        ensures next_refused { ask.num ≡ latest ask.proxy token.old.answers + 1
+            → IfErr result (λ cause. (cause ≡ ChainError.Exhausted) ⊎ (cause ≡ ChainError.Memory)) }
         ensures decided { ask.num ≢ latest ask.proxy token.old.answers + 1
             → IsAnswer (answer_to (chain_of J.epoch_end J.recovery J.reporters token.old.answers)
             ask) result }
     {
-        // The check learns here that the versions of a chain rise.
+        // The check learns here what holds of each chain.
         laws::versions_rise();
+        laws::kept_is_first();
+        laws::own_answers_decide();
         let mut turn = self.turn.lock(rt);
         gate.pass(Place::SequencerHeld, ask.proxy);
         turn.ask(rt, &self.live.cell, token, ask)
@@ -320,8 +326,10 @@ impl<J: Live> Master<J> {
         second: &mut Token<J>,
         other: Issued,
     )
-        requires one { slice_get first.old.answers one.ordinal ≡ Some one }
-        requires other { slice_get second.old.answers other.ordinal ≡ Some other }
+        requires one { slice_get first.old.answers one.ordinal
+            ≡ Some (record one { fresh = true }) }
+        requires other { slice_get second.old.answers other.ordinal
+            ≡ Some (record other { fresh = true }) }
         requires proxies { one.proxy ≢ other.proxy }
         ensures first { first.new ≡ first.old }
         ensures second { second.new ≡ second.old }

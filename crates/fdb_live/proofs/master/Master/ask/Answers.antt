@@ -1,5 +1,5 @@
-use Rattle.fdb_live.proofs.Above.{above_each, above_read, has_drawn, least_after, least_before, stands_drawn}
-use Rattle.fdb_live.proofs.Asked.{again, decided, drawn_if, extends, has_any, known, refused}
+use Rattle.fdb_live.proofs.Above.{above_each, above_read, least_after, least_before, stands_drawn}
+use Rattle.fdb_live.proofs.Asked.{again, decided, drawn_if, extends, has_any, known, next_fresh, next_refused, refused, stands_any}
 use Rattle.fdb_live.proofs.master.Master.ask.Goals as goal
 
 pub returns-clause-extends : goal.returns-clause-extends
@@ -23,11 +23,18 @@ returns-clause-least g c =
 pub returns-clause-has : goal.returns-clause-has
 returns-clause-has g c =
     let drawn = drawn_if _ _ _ _ _ c.ask.ensures.asked c.requires.numbered c.ask.ensures.number c.ask.ensures.request c.ask.ensures.log in
-    has_any _ _ _ _ c.ask.ensures.member _ c.ask.ensures.asked (has_drawn _ _ _ _ _ drawn)
+    has_any _ _ (stands_any c.kept_is_first.ensures.stands c.kept_is_first.ensures.fresh _ _ _ _ c.ask.ensures.member c.ask.ensures.log _ c.ask.ensures.asked (stands_drawn _ _ _ _ _ drawn))
 
 pub returns-clause-stands : goal.returns-clause-stands
 returns-clause-stands g c =
-    stands_drawn _ _ _ _ _ (drawn_if _ _ _ _ _ c.ask.ensures.asked c.requires.numbered c.ask.ensures.number c.ask.ensures.request c.ask.ensures.log)
+    let drawn = drawn_if _ _ _ _ _ c.ask.ensures.asked c.requires.numbered c.ask.ensures.number c.ask.ensures.request c.ask.ensures.log in
+    stands_any c.kept_is_first.ensures.stands c.kept_is_first.ensures.fresh _ _ _ _ c.ask.ensures.member c.ask.ensures.log _ c.ask.ensures.asked (stands_drawn _ _ _ _ _ drawn)
+
+pub returns-clause-next : goal.returns-clause-next
+returns-clause-next g c = next_fresh c.own_answers_decide.ensures.latest _ _ _ _ c.ask.ensures.member _ c.ask.ensures.asked
+
+pub returns-clause-next_refused : goal.returns-clause-next_refused
+returns-clause-next_refused g c = next_refused c.own_answers_decide.ensures.latest _ _ _ _ c.ask.ensures.member _ c.ask.ensures.asked
 
 pub returns-clause-known : goal.returns-clause-known
 returns-clause-known g c = known _ _ _ _ c.ask.ensures.member _ c.ask.ensures.asked
@@ -43,4 +50,4 @@ pub returns-clause-refused : goal.returns-clause-refused
 returns-clause-refused g c = refused _ _ _ _ _ c.ask.ensures.asked c.requires.numbered c.ask.ensures.number
 
 pub returns-clause-decided : goal.returns-clause-decided
-returns-clause-decided g c = decided _ _ _ _ _ c.ask.ensures.asked
+returns-clause-decided g c = decided c.own_answers_decide.ensures.latest c.own_answers_decide.ensures.kept _ _ _ _ _ c.ask.ensures.asked

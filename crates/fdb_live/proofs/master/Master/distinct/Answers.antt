@@ -5,6 +5,8 @@ use Rattle.fdb_live.proofs.master.Master.distinct.Goals as goal
 
 pub returns-clause-versions : goal.returns-clause-versions
 returns-clause-versions g c same =
-    let one = contains_at c.args.first.now.answers c.args.one.ordinal c.args.one c.requires.one in
-    let other = contains_at c.args.second.now.answers c.args.other.ordinal c.args.other c.requires.other in
-    c.requires.proxies (ap (λ (answer : Issued). answer.proxy) (c.meet.ensures.unique c.args.one c.args.other one other same))
+    let one : Issued = record c.args.one { fresh = true } in
+    let other : Issued = record c.args.other { fresh = true } in
+    let has = contains_at c.args.first.now.answers c.args.one.ordinal one c.requires.one in
+    let has_other = contains_at c.args.second.now.answers c.args.other.ordinal other c.requires.other in
+    c.requires.proxies (ap (λ (answer : Issued). answer.proxy) (c.meet.ensures.unique one other has has_other same))
