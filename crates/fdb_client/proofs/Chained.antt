@@ -1,14 +1,15 @@
 -- Each call leaves what a client has logged in agreement with the answers that its token proves.
-use Rattle.std.proofs.Common.{◌≡◌, ◌≢◌, ℕ, ◌<◌, arith, ◌==◌, Bool, true, false, cond, List, [], ◌∷◌, ◌++◌, length, Option, Some, Result, Ok, Err, refl, sym, ap, ◌∙◌, subst, append-nil, filter}
+use Rattle.std.proofs.Common.{◌≡◌, ◌≢◌, ℕ, ◌<◌, ◌≤◌, arith, ◌==◌, Bool, true, false, cond, List, [], ◌∷◌, ◌++◌, length, Option, Some, Result, Ok, Err, refl, sym, ap, ◌∙◌, subst, append-nil, filter}
 use Rattle.std.specs.Prelude.{Contains}
 use mathlib.Core.List.{IsPrefix}
 use mathlib.Core.Path.{Path}
 use Rattle.fdb_chain.specs.ChainCore.{IsEpoch, new_chain}
 use Rattle.fdb_history.specs.Chain.{IsChain}
 use Rattle.fdb_history.specs.Issuing as issuing
-use Rattle.fdb_history.specs.Issuing.{answer_to, with_answer}
+use Rattle.fdb_history.specs.Issuing.{answer_to, chain_after, with_answer}
 use Rattle.fdb_history.specs.Log.{answer_changes, answer_in, fresh_answers, position_after_calls}
 use Rattle.fdb_history.specs.Strays.{is_justified, issued_under, logged_as}
+use Rattle.fdb_history.specs.declared.chain.Ask.{Ask}
 use Rattle.fdb_history.specs.declared.chain.Issued.{Issued}
 use Rattle.fdb_history.specs.declared.grv.GrvOpts.{GrvOpts}
 use Rattle.fdb_history.specs.declared.log.Call.{Call}
@@ -20,9 +21,10 @@ use Rattle.fdb_live.specs.Seen.{last_record, own_positions}
 use Rattle.fdb_live.specs.declared.change.Change.{Change}
 use Rattle.fdb_history.specs.declared.log.Input.TheVariants as input
 use Rattle.fdb_history.specs.declared.register.Record.{Record}
+use Rattle.fdb_history.specs.declared.register.TheConstants.{MAX_VERSION}
 use Rattle.fdb_chain.specs.declared.error.ChainError.{ChainError}
 use Rattle.fdb_live.specs.Holding.{Holding, IsAsked, answers_to, own_answers, versions}
-use Rattle.fdb_client.proofs.Chains.{Law, answers_to-append, prefix_trans, version_stays}
+use Rattle.fdb_client.proofs.Chains.{answers_to-append, prefix_trans, version_stays}
 use Rattle.fdb_client.specs.Account.{Account, Logs, drawn_in, holding}
 use Rattle.fdb_live.specs.declared.ack.Ack.{Ack}
 use Rattle.fdb_client.specs.Agreeing.{Agrees, AgreesWithChain, AreJustified}
@@ -34,15 +36,7 @@ use Rattle.fdb_client.specs.declared.error.ClientError.TheVariants.{Locked, Stra
 use Rattle.fdb_client.specs.declared.read.ReadVersion.{ReadVersion}
 use Rattle.fdb_client.proofs.Agreements.{agrees_asked, agrees_quiet, agrees_read, agrees_reported}
 use Rattle.fdb_client.proofs.Calls.{fresh_of_added, position_of_added, versions_of_added}
-use Rattle.fdb_client.proofs.Justified.{justified_after, justified_ask, justified_read, justified_report, same_number}
-
-own_own : (n : ℕ) (xs : List Issued) → answers_to n (answers_to n xs) ≡ answers_to n xs
-own_own n [] = refl
-own_own n (x ∷ xs) = go (own_own n xs) (x.proxy == n) refl
-  where
-    go : answers_to n (answers_to n xs) ≡ answers_to n xs → (b : Bool) → (x.proxy == n) ≡ b → answers_to n (cond b (x ∷ answers_to n xs) (answers_to n xs)) ≡ cond b (x ∷ answers_to n xs) (answers_to n xs)
-    go rest true e = rw e (ap (λ l. x ∷ l) rest)
-    go rest false e = rest
+use Rattle.fdb_client.proofs.Justified.{justified_after, justified_read, justified_report, same_number}
 
 -- Where a call was logged whose answer, if it is fresh, became the client's own, and which is justified, its calls agree.
 pub chain_logged : (epoch_end recovery : ℕ) (input : Input) (answer : CallAnswer) (before after : Account) → AgreesWithChain epoch_end recovery before → Logs before input answer after
@@ -83,22 +77,39 @@ of_client n (Acked rec raised changed) own = refl
 of_client n Told own = refl
 of_client n (Refused cause) own = refl
 
-pub chain_asked : (law : Law) (epoch_end recovery reporters : ℕ) (start : Record) (num processed at : ℕ) (before after : Account) (result : Result Issued ClientError) → IsEpoch epoch_end recovery → before.number < reporters → AgreesWithChain epoch_end recovery before
+-- that each chain which goes on from the answer to a request justifies the call
+abbrev pub AreJustifiedAnswers : Type 0
+AreJustifiedAnswers = (given : issuing.Chain) (ask : Ask) (calls : List Call) (chain : List Issued) (asked position : ℕ) → ask.proxy < given.proxies → given.recovery ≤ MAX_VERSION → fresh_answers calls ≡ answers_to ask.proxy given.answers
+    → IsChain given.epoch_end given.recovery chain → IsPrefix (chain_after given (answer_to given ask)).answers chain
+    → is_justified chain ask.proxy calls (record { input = input.Ask ask.num ask.processed ask.at; asked = asked; position = position; answer = logged_as (answer_to given ask) }) ≡ true
+
+-- what has been answered after a request
+seen_after : (given : issuing.Chain) (answer : Result Issued Refusal) → given.answers ++ drawn_in (logged_as answer) ≡ (chain_after given answer).answers
+seen_after given (Err cause) = append-nil given.answers
+seen_after given (Ok issued) = go issued.fresh
+  where
+    go : (b : Bool) → given.answers ++ cond b (issued ∷ []) [] ≡ (cond b (record given { answers = given.answers ++ issued ∷ [] }) given).answers
+    go true = refl
+    go false = append-nil given.answers
+
+pub chain_asked : (law : AreJustifiedAnswers) (epoch_end recovery reporters : ℕ) (start : Record) (num processed at : ℕ) (before after : Account) (result : Result Issued ClientError) → IsEpoch epoch_end recovery → before.number < reporters → AgreesWithChain epoch_end recovery before
     → (asks : Asks (new_chain epoch_end recovery reporters) start num processed at before after result)
     → ((issued : Issued) → result ≡ Ok issued → (issued.proxy ≡ before.number) × Contains (versions after.answers) issued.version)
     → AgreesWithChain epoch_end recovery after
 chain_asked law epoch_end recovery reporters start num processed at before after result epoch below agrees asks issued_is =
-    let given : (issued : Issued) → asks.answer ≡ Answered issued → (issued.proxy ≡ before.number) × Contains (versions after.answers) issued.version = λ issued is. issued_is issued (subst (λ (a : CallAnswer). AskReturns a result) is asks.returned) in
+    let given : issuing.Chain = record { epoch_end = epoch_end; recovery = recovery; proxies = reporters; answers = asks.by_then } in
+    let ask : Ask = request_of before num processed at in
+    let told : (issued : Issued) → asks.answer ≡ Answered issued → (issued.proxy ≡ before.number) × Contains (versions after.answers) issued.version = λ issued is. issued_is issued (subst (λ (a : CallAnswer). AskReturns a result) is asks.returned) in
     let own : answers_to before.number after.answers ≡ own_answers (holding before) ++ drawn_in asks.answer =
-    ap (answers_to before.number) asks.now ∙ (answers_to-append before.number asks.by_then (drawn_in asks.answer) ∙ ap (λ (p : List Issued × List Issued). p.0 ++ p.1) (λ i. (asks.own i, of_client before.number asks.answer (λ issued is. (given issued is).0) i))) in
+    ap (answers_to before.number) asks.now ∙ (answers_to-append before.number asks.by_then (drawn_in asks.answer) ∙ ap (λ (p : List Issued × List Issued). p.0 ++ p.1) (λ i. (asks.own i, of_client before.number asks.answer (λ issued is. (told issued is).0) i))) in
     let mine : fresh_answers before.calls ≡ answers_to before.number asks.by_then = sym agrees.own ∙ sym asks.own in
+    let now : after.answers ≡ (chain_after given (answer_to given ask)).answers = asks.now ∙ (ap (λ (a : CallAnswer). asks.by_then ++ drawn_in a) asks.answered ∙ seen_after given (answer_to given ask)) in
     chain_logged epoch_end recovery (input.Ask num processed at) asks.answer before after agrees asks.logged
     (ap (λ n. answers_to n after.answers) asks.logged.number ∙ own)
-    (λ issued is. (given issued is).1)
+    (λ issued is. (told issued is).1)
     (λ chain one begins.
-    justified_ask law epoch_end recovery (new_chain epoch_end recovery reporters) asks.by_then (fresh_answers before.calls) chain before.number num processed at refl refl below epoch one
-    (ap (answers_to before.number) mine ∙ own_own before.number asks.by_then)
-    asks.answer before.calls (length before.changes) (length after.changes) refl asks.answered (subst (λ l. IsPrefix l chain) asks.now begins))
+    subst (λ (a : CallAnswer). is_justified chain before.number before.calls (record { input = input.Ask num processed at; asked = length before.changes; position = length after.changes; answer = a }) ≡ true) (sym asks.answered)
+    (law given ask before.calls chain (length before.changes) (length after.changes) below epoch.in_range mine one (subst (λ l. IsPrefix l chain) now begins)))
 
 -- who has seen more answers, none of which is its own, agrees as before
 pub chain_more : (epoch_end recovery : ℕ) (before after : Account) → after.number ≡ before.number → after.calls ≡ before.calls → IsPrefix before.answers after.answers → own_answers (holding after) ≡ own_answers (holding before)
@@ -160,7 +171,7 @@ module _ (epoch_end recovery : ℕ) (start : Record) (before after : Account) (a
     chain_quiet epoch_end recovery asked Told before after refl agreed.2 logged justified,
   )
 
-  pub agreed_asked : (law : Law) (reporters num processed at : ℕ) (result : Result Issued ClientError) → IsEpoch epoch_end recovery → before.number < reporters
+  pub agreed_asked : (law : AreJustifiedAnswers) (reporters num processed at : ℕ) (result : Result Issued ClientError) → IsEpoch epoch_end recovery → before.number < reporters
       → (asks : Asks (new_chain epoch_end recovery reporters) start num processed at before after result)
       → ((issued : Issued) → result ≡ Ok issued → (issued.proxy ≡ before.number) × Contains (versions after.answers) issued.version)
       → HasAgreed epoch_end recovery start after

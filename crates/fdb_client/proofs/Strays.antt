@@ -6,7 +6,7 @@ use Rattle.std.proofs.lemmas.Bool.{cases_lt, false≢true}
 use Rattle.std.proofs.lemmas.List.{length-take-le}
 use Rattle.std.proofs.lemmas.Option.{get_or_from_slice_get, slice_get_within}
 use mathlib.Core.List.{IsPrefix}
-use Rattle.fdb_history.specs.Chain.{IsChain}
+use Rattle.fdb_history.specs.Chain.{IsChain, IsNext}
 use Rattle.fdb_history.specs.Audit.{IsAudited, Low}
 use Rattle.fdb_history.specs.Faults.{IsFaultless, Nowhere}
 use Rattle.fdb_history.specs.Log.{answers_in, calls_of, fresh_answers}
@@ -18,7 +18,6 @@ use Rattle.fdb_history.specs.declared.fault.AuditFault.TheVariants.{Order, Clash
 use Rattle.fdb_history.specs.declared.register.Record.{Record}
 use Rattle.fdb_history.specs.declared.log.Call.{Call}
 use Rattle.fdb_history.specs.declared.log.ClientLog.{ClientLog}
-use Rattle.fdb_client.proofs.Chains.{IsNext-at}
 use Rattle.fdb_live.specs.Holding.{AreNumbered, Holding, answers_among, answers_to, own_answers}
 use Rattle.fdb_client.specs.Agreeing.{AreJustified}
 use Rattle.fdb_client.specs.Settling.{AllAgreeWithChain}
@@ -66,7 +65,11 @@ kept_at p keep (y ∷ xs) (suc place) x at kept is = go (keep y) (p y) refl (kep
 asked_at : (P : Issued → Type 0) (xs : List Issued) (place : ℕ) (x : Issued) → All P xs → slice_get xs place ≡ Some x → P x
 asked_at P xs place x all at = subst P (get_or_from_slice_get xs place x x at) (all place x (slice_get_within xs place x at))
 
-module _ (epoch_end recovery reporters : ℕ) (logs : List ClientLog) (tokens : List Holding) (chain : List Issued)
+-- that each answer of a chain is the next one after those before it
+abbrev pub EachIsNext : Type 0
+EachIsNext = (epoch_end recovery : ℕ) (answers : List Issued) (place : ℕ) (answer : Issued) → IsChain epoch_end recovery answers → slice_get answers place ≡ Some answer → IsNext epoch_end recovery (take place answers) answer
+
+module _ (each_is_next : EachIsNext) (epoch_end recovery reporters : ℕ) (logs : List ClientLog) (tokens : List Holding) (chain : List Issued)
     (logs_count : length logs ≡ reporters) (count : length tokens ≡ reporters) (agree : AllAgreeWithChain epoch_end recovery logs tokens)
     (one : IsChain epoch_end recovery chain) (asked : All (λ answer. answer.proxy < reporters) chain)
     (begins : (k : ℕ) (token : Holding) → slice_get tokens k ≡ Some token → IsPrefix token.answers chain)
@@ -79,7 +82,7 @@ module _ (epoch_end recovery reporters : ℕ) (logs : List ClientLog) (tokens : 
 
   no_undrawn : (client : ℕ) → HasUndrawn chain logs client → ⊥
   no_undrawn client (place, entry, at, whose, none) =
-      let next = IsNext-at epoch_end recovery chain place entry one at in
+      let next = each_is_next epoch_end recovery chain place entry one at in
       let within = slice_get_within chain place entry at in
       let ordinal : entry.ordinal ≡ place = next.ordinal ∙ length-take-le place chain (omega arith) in
       let below : client < reporters = subst (λ n. n < reporters) whose (asked_at (λ answer. answer.proxy < reporters) chain place entry asked at) in

@@ -235,8 +235,8 @@ impl<'a, J: Live> Client<'a, J> {
             → self.new ≡ record self.old { answers = self.new.answers } }
         ensures client { IsSameClient self.old self.new }
     {
-        // The check learns here that the versions of a chain rise.
-        laws::versions_rise();
+        // The check learns here that what a request is answered is never stray.
+        laws::answers_are_justified();
         self.journal.reserve_under(num)?;
         let input = Input::Ask { num, processed, at };
         let position = self.token.position();

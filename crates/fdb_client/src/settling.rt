@@ -10,7 +10,7 @@ ghost use Rattle.fdb_history.specs.Laws.{HaveMinimaWithin};
 ghost use Rattle.fdb_history.specs.Strays.{IsStray};
 ghost use Rattle.fdb_live.specs.Holding.{AreNumbered, Holding, IsToldAll};
 
-use fdb_history::{ClientLog, Issued};
+use fdb_history::{ClientLog, Issued, laws};
 use fdb_live::{Live, Master, Seen, Token};
 use std::sync::Wait;
 
@@ -79,6 +79,8 @@ pub(crate) fn close<J: Live, R: Wait>(
     ensures justified { Nowhere (IsStray result.chain.items logs.now) }
     ensures one_chain { IsChain J.epoch_end J.recovery result.chain.items }
 {
+    // The check learns here that each answer of a chain stands at its ordinal.
+    laws::each_is_next();
     let changes = settle(rt, &master, first, tokens, logs);
     let chain = master.close(rt, tokens).into_answers();
     Closed { chain, changes }

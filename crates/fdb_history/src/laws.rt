@@ -9,7 +9,7 @@ ghost use Rattle.std.specs.Prelude.{filter, option_map, true};
 ghost use Rattle.std.specs.List.{All, AllPairs, find, list_any};
 ghost use mathlib.Core.List.{IsPrefix};
 ghost use Rattle.fdb_history.specs.Issuing.{Chain, kept, answer_to, chain_after, after_asks};
-ghost use Rattle.fdb_history.specs.Chain.{IsChain, latest};
+ghost use Rattle.fdb_history.specs.Chain.{IsChain, IsNext, latest};
 ghost use Rattle.fdb_history.specs.Event.{IsLegal, register_after, change_count, positions_from};
 ghost use Rattle.fdb_history.specs.Explained.{explained};
 ghost use Rattle.fdb_history.specs.Faults.{IsFaultless};
@@ -32,6 +32,14 @@ ghost use Rattle.fdb_history.specs.declared.register.TheConstants.{MAX_VERSION};
 pub fn versions_rise()
     ensures { (epoch_end recovery : ℕ) (answers : List Issued) → IsChain epoch_end recovery answers
         → AllPairs (λ earlier later. earlier.version < later.version) answers }
+{}
+
+/// Each answer of a chain is the next one after those before it: so it is fresh, and stands at its
+/// ordinal.
+pub fn each_is_next()
+    ensures { (epoch_end recovery : ℕ) (answers : List Issued) (place : ℕ) (answer : Issued)
+        → IsChain epoch_end recovery answers → slice_get answers place ≡ Some answer
+        → IsNext epoch_end recovery (take place answers) answer }
 {}
 
 /// A chain has no gap and no fork: it begins at the end of the epoch before, each answer
@@ -127,10 +135,6 @@ pub fn kept_is_first()
         (proxy num : ℕ) (answer : Issued)
         → IsChain epoch_end recovery answers → kept proxy num answers ≡ Some answer
         → slice_get answers answer.ordinal ≡ Some answer }
-    ensures fresh { (epoch_end recovery : ℕ) (answers : List Issued)
-        (proxy num : ℕ) (answer : Issued)
-        → IsChain epoch_end recovery answers → kept proxy num answers ≡ Some answer
-        → answer.fresh ≡ true }
     ensures repeated { (chain : Chain) (ask : Ask) (answer : Issued)
         → IsChain chain.epoch_end chain.recovery chain.answers
         → ask.proxy < chain.proxies → kept ask.proxy ask.num chain.answers ≡ Some answer

@@ -1,16 +1,14 @@
 -- What follows for the holder of a token that was asked with.
-use Rattle.std.proofs.Common.{◌≡◌, ◌≢◌, ℕ, zero, suc, ◌+◌, ◌==◌, ◌<◌, Bool, true, false, List, [], ◌∷◌, ◌++◌, length, slice_get, cond, inl, inr, ◌⊎◌, Option, None, Some, Result, Ok, Err, refl, sym, ap, ◌∙◌, subst, arith, append_assoc}
-use Rattle.std.specs.Prelude.{Contains, IfErr, IfOk, OnErr, nat_lt, nat_le, ◌&&◌, not}
+use Rattle.std.proofs.Common.{◌≡◌, ◌≢◌, ℕ, zero, suc, ◌+◌, ◌<◌, Bool, true, false, List, [], ◌∷◌, ◌++◌, slice_get, take, cond, inl, inr, ◌⊎◌, Option, None, Some, Result, Ok, Err, refl, sym, ap, ◌∙◌, subst, arith, append_assoc}
+use Rattle.std.specs.Prelude.{Contains, IfErr, IfOk, OnErr, nat_lt, nat_le, not}
 use Rattle.std.proofs.lemmas.Bool.{cond-false}
 use Rattle.std.proofs.lemmas.Bool.Decides.{nat_tests}
-use Rattle.std.proofs.lemmas.List.{reverse-append, append-nil}
-use Rattle.std.proofs.lemmas.List.Elements.{All-cons, All-contains, All-nil, All-weaker, Contains-append_right}
-use Rattle.std.proofs.lemmas.List.Sorted.{Contains-permutation, IsPermutation-reverse, IsPermutation-sym}
-use Rattle.std.proofs.lemmas.List.Sums.{length-filter}
+use Rattle.std.proofs.lemmas.List.{append-nil}
+use Rattle.std.proofs.lemmas.List.Elements.{Contains-append_right}
 use Rattle.std.proofs.lemmas.Option.{same_Some}
 use mathlib.Core.List.{IsPrefix}
 use Rattle.fdb_history.specs.Chain.{GoesOn, IsChain, IsNext, latest}
-use Rattle.fdb_history.specs.Issuing.{Chain, answer_to, by_number, fresh_answer, kept, kept_among, kept_answer, next_answer, with_answer}
+use Rattle.fdb_history.specs.Issuing.{Chain, answer_to, by_number, fresh_answer, kept, kept_answer, next_answer, with_answer}
 use Rattle.fdb_history.specs.declared.chain.Ask.{Ask}
 use Rattle.fdb_history.specs.declared.chain.Issued.{Issued}
 use Rattle.fdb_history.specs.declared.log.Refusal.{Refusal}
@@ -20,7 +18,7 @@ use Rattle.fdb_chain.specs.declared.error.ChainError.{ChainError}
 use Rattle.fdb_chain.specs.declared.error.ChainError.TheVariants as chain_error
 use Rattle.fdb_chain.specs.ChainCore.{IsAnswer, IsFor}
 use Rattle.fdb_live.specs.Holding.{Holding, IsAsked, IsDrawn, answers_among, answers_to, own_answers, versions}
-use Rattle.fdb_live.proofs.Drawn.{answers_to-append, answers_to-push_own}
+use Rattle.fdb_live.proofs.Drawn.{answers_to-push_own}
 use Rattle.fdb_live.proofs.Prefixes.{prefix_trans}
 
 -- the last answer of a chain is the next one after those before it
@@ -183,18 +181,18 @@ module _ (latest_own : LatestOwn) (begun : Chain) (ask : Ask) (old new : Holding
   next_refused result a next =
       not_next (nat_le (next_answer (record begun { answers = a.before }) ask).version MAX_VERSION) (next_answer (record begun { answers = a.before }) ask) result (fresh_next result a next)
 
--- the kept answer of a chain stands at its ordinal, and is fresh there
+-- the kept answer of a chain stands at its ordinal, and each of its answers is the next one
 abbrev pub KeptStands : Type 0
 KeptStands = (epoch_end recovery : ℕ) (answers : List Issued) (proxy num : ℕ) (answer : Issued) → IsChain epoch_end recovery answers → kept proxy num answers ≡ Some answer → slice_get answers answer.ordinal ≡ Some answer
 
-abbrev pub KeptFresh : Type 0
-KeptFresh = (epoch_end recovery : ℕ) (answers : List Issued) (proxy num : ℕ) (answer : Issued) → IsChain epoch_end recovery answers → kept proxy num answers ≡ Some answer → answer.fresh ≡ true
+abbrev pub EachIsNext : Type 0
+EachIsNext = (epoch_end recovery : ℕ) (answers : List Issued) (place : ℕ) (answer : Issued) → IsChain epoch_end recovery answers → slice_get answers place ≡ Some answer → IsNext epoch_end recovery (take place answers) answer
 
 -- what is fresh is one with itself, told to be fresh
 as_fresh : (issued : Issued) → issued.fresh ≡ true → issued ≡ record issued { fresh = true }
 as_fresh issued fresh = ap (λ b. record issued { fresh = b }) fresh
 
-module _ (stands : KeptStands) (is_fresh : KeptFresh) (begun : Chain) (ask : Ask) (old new : Holding) (member : ask.proxy < begun.proxies) (chain : IsChain begun.epoch_end begun.recovery new.answers) where
+module _ (stands : KeptStands) (next : EachIsNext) (begun : Chain) (ask : Ask) (old new : Holding) (member : ask.proxy < begun.proxies) (chain : IsChain begun.epoch_end begun.recovery new.answers) where
   -- an answer, fresh or repeated, stands at its ordinal
   pub stands_any : (result : Result Issued ChainError) → IsAsked begun ask old result new → IfOk result (λ issued. issued.fresh ≡ true → slice_get new.answers issued.ordinal ≡ Some issued)
       → IfOk result (λ issued. slice_get new.answers issued.ordinal ≡ Some (record issued { fresh = true }))
@@ -207,7 +205,7 @@ module _ (stands : KeptStands) (is_fresh : KeptFresh) (begun : Chain) (ask : Ask
           let now = after begun ask old new issued a.before false e a.ok in
           let one = subst (IsChain begun.epoch_end begun.recovery) now chain in
           let at = stands begun.epoch_end begun.recovery a.before ask.proxy ask.num k.found one k.is in
-          let fresh = as_fresh k.found (is_fresh begun.epoch_end begun.recovery a.before ask.proxy ask.num k.found one k.is) in
+          let fresh = as_fresh k.found (next begun.epoch_end begun.recovery a.before k.found.ordinal k.found one at).fresh in
           ap (λ (p : List Issued × ℕ). slice_get p.0 p.1) (λ i. (now i, (ap (λ (x : Issued). x.ordinal) k.again) i))
           ∙ (at ∙ (ap Some fresh ∙ ap (λ (x : Issued). Some (record x { fresh = true })) (sym k.again)))
   stands_any (Err cause) a drawn = tt

@@ -104,6 +104,7 @@ impl<J: Live> Master<J> {
     {
         // The check learns here what holds of each chain.
         laws::versions_rise();
+        laws::each_is_next();
         laws::kept_is_first();
         laws::own_answers_decide();
         let mut turn = self.turn.lock(rt);

@@ -96,11 +96,6 @@ kept_stands epoch_end recovery answers proxy num answer one found =
     let there = kept-found proxy num answers answer found in
     stands epoch_end recovery answers answer there.place one there.at
 
-pub kept_fresh : (epoch_end recovery : ℕ) (answers : List Issued) (proxy num : ℕ) (answer : Issued) → IsChain epoch_end recovery answers → kept proxy num answers ≡ Some answer → answer.fresh ≡ true
-kept_fresh epoch_end recovery answers proxy num answer one found =
-    let there = kept-found proxy num answers answer found in
-    (IsNext-at epoch_end recovery answers there.place answer one there.at).fresh
-
 -- the last answer of a longer chain has no lower version
 last_grows : (epoch_end recovery : ℕ) (xs ys : List Issued) (last now : Issued) → IsChain epoch_end recovery ys → IsPrefix xs ys → last_answer xs ≡ Some last → last_answer ys ≡ Some now → last.version ≤ now.version
 last_grows epoch_end recovery xs ys last now one p was is =

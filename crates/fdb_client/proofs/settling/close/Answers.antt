@@ -12,7 +12,7 @@ returns-clause-justified g c =
     let chain = c.close.result.answers in
     let closed = c.close.ensures in
     let told = c.settle-changes.ensures.each in
-    let none = no_stray g.J.Service.epoch_end g.J.Service.recovery g.J.Service.reporters c.args.logs.now c.args.tokens.now chain c.requires.logs c.requires.count c.requires.chained closed.one_chain closed.asked
+    let none = no_stray c.each_is_next.ensures g.J.Service.epoch_end g.J.Service.recovery g.J.Service.reporters c.args.logs.now c.args.tokens.now chain c.requires.logs c.requires.count c.requires.chained closed.one_chain closed.asked
     (λ k token at. (let all = told k token at in prefix_trans token.answers all.now.answers chain all.answers (closed.each k all.now all.at).seen))
     (λ k token at.
     let all = told k token at in

@@ -1,5 +1,5 @@
 use Rattle.fdb_history.proofs.chains.AnswerLaws.{kept-first, kept-is, repeated-kept}
-use Rattle.fdb_history.proofs.chains.Answering.{kept_fresh, kept_stands}
+use Rattle.fdb_history.proofs.chains.Answering.{kept_stands}
 use Rattle.fdb_history.proofs.laws.kept_is_first.Goals as goal
 
 pub returns-clause-first : goal.returns-clause-first
@@ -13,6 +13,3 @@ returns-clause-repeated c = repeated-kept
 
 pub returns-clause-stands : goal.returns-clause-stands
 returns-clause-stands c = kept_stands
-
-pub returns-clause-fresh : goal.returns-clause-fresh
-returns-clause-fresh c = kept_fresh

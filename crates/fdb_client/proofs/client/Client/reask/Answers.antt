@@ -32,7 +32,7 @@ invariant_of-self-in-Ok g c =
     let after : Account = record { number = c.self.inside.id; begun = c.self.inside.begun; calls = c.add_answer.new.self.calls.items; answers = c.ask.new.token.answers; changes = c.ask.new.token.changes } in
     let asks = asks_ok begun g.J.Service.start c.self.inside.id c.self.inside.begun c.args.num c.args.processed c.args.at c.self.inside.journal.calls.items c.add_answer.new.self.calls.items c.self.inside.token c.ask.new.token
     c.self.invariant.0 c.self.invariant.1 c.in-Ok.ensures.number c.in-Ok.ensures.changes c.in-Ok.ensures.extends c.in-Ok.issued c.in-Ok.ensures.asked c.in-Ok.ensures.again c.in-Ok.ensures.above_read (search rules) in
-    let held = agreed_asked g.J.Service.epoch_end g.J.Service.recovery g.J.Service.start before after (c.self.invariant.1, c.self.invariant.2, c.self.invariant.3) c.versions_rise.ensures g.J.Service.reporters c.args.num c.args.processed c.args.at (Ok c.in-Ok.issued) c.in-Ok.ensures.epoch c.in-Ok.ensures.member asks
+    let held = agreed_asked g.J.Service.epoch_end g.J.Service.recovery g.J.Service.start before after (c.self.invariant.1, c.self.invariant.2, c.self.invariant.3) c.answers_are_justified.ensures g.J.Service.reporters c.args.num c.args.processed c.args.at (Ok c.in-Ok.issued) c.in-Ok.ensures.epoch c.in-Ok.ensures.member asks
     (λ issued is. (let same : c.in-Ok.issued ≡ issued = same_issued is in subst (λ (one : Issued). (one.proxy ≡ c.self.inside.id) × Contains (versions c.ask.new.token.answers) one.version) same (c.in-Ok.ensures.request.proxy, c.in-Ok.ensures.has))) in
     (search rules, held.0, held.1, held.2)
 
@@ -71,7 +71,7 @@ invariant_of-self-in-Err g c =
     let asks = asks_err begun start c.self.inside.id c.self.inside.begun c.args.num c.args.processed c.args.at c.self.inside.journal.calls.items c.add_refused.new.self.calls.items c.self.inside.token c.ask.new.token
     c.self.invariant.0 c.self.invariant.1 c.in-Err.ensures.number c.in-Err.ensures.changes c.in-Err.ensures.extends c.in-Err.cause refusal c.from-error.result asked c.in-Err.ensures.refused is error_is
     (added_alike (Ask c.args.num c.args.processed c.args.at) refusal c.reserve_under.ensures.calls c.position-position.ensures added) in
-    agreed_asked epoch_end recovery start before after agreed c.versions_rise.ensures g.J.Service.reporters c.args.num c.args.processed c.args.at (Err c.from-error.result) c.in-Err.ensures.epoch c.in-Err.ensures.member asks (λ issued answered. not_answered answered))
+    agreed_asked epoch_end recovery start before after agreed c.answers_are_justified.ensures g.J.Service.reporters c.args.num c.args.processed c.args.at (Err c.from-error.result) c.in-Err.ensures.epoch c.in-Err.ensures.member asks (λ issued answered. not_answered answered))
     (λ memory.
     let is : error_of_sequencer c.in-Err.cause ≡ Memory = same_error memory in
     let none : refusal_for c.from-error.result ≡ None = ap refusal_for (c.from-error.ensures ∙ is) in

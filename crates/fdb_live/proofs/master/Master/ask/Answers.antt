@@ -23,12 +23,12 @@ returns-clause-least g c =
 pub returns-clause-has : goal.returns-clause-has
 returns-clause-has g c =
     let drawn = drawn_if _ _ _ _ _ c.ask.ensures.asked c.requires.numbered c.ask.ensures.number c.ask.ensures.request c.ask.ensures.log in
-    has_any _ _ (stands_any c.kept_is_first.ensures.stands c.kept_is_first.ensures.fresh _ _ _ _ c.ask.ensures.member c.ask.ensures.log _ c.ask.ensures.asked (stands_drawn _ _ _ _ _ drawn))
+    has_any _ _ (stands_any c.kept_is_first.ensures.stands c.each_is_next.ensures _ _ _ _ c.ask.ensures.member c.ask.ensures.log _ c.ask.ensures.asked (stands_drawn _ _ _ _ _ drawn))
 
 pub returns-clause-stands : goal.returns-clause-stands
 returns-clause-stands g c =
     let drawn = drawn_if _ _ _ _ _ c.ask.ensures.asked c.requires.numbered c.ask.ensures.number c.ask.ensures.request c.ask.ensures.log in
-    stands_any c.kept_is_first.ensures.stands c.kept_is_first.ensures.fresh _ _ _ _ c.ask.ensures.member c.ask.ensures.log _ c.ask.ensures.asked (stands_drawn _ _ _ _ _ drawn)
+    stands_any c.kept_is_first.ensures.stands c.each_is_next.ensures _ _ _ _ c.ask.ensures.member c.ask.ensures.log _ c.ask.ensures.asked (stands_drawn _ _ _ _ _ drawn)
 
 pub returns-clause-next : goal.returns-clause-next
 returns-clause-next g c = next_fresh c.own_answers_decide.ensures.latest _ _ _ _ c.ask.ensures.member _ c.ask.ensures.asked

@@ -1,4 +1,4 @@
-use Rattle.std.proofs.Common.{ap}
+use Rattle.std.proofs.Common.{ap, true}
 use Rattle.fdb_history.specs.declared.chain.Issued.{Issued}
 use Rattle.fdb_live.proofs.Above.{contains_at}
 use Rattle.fdb_live.proofs.master.Master.distinct.Goals as goal
