@@ -1,17 +1,20 @@
 //! A client that calls the service, one call at a time, and logs each call.
 
-ghost use Rattle.std.specs.Prelude.{◌≡◌, ◌≢◌, ◌<◌, ◌≤◌, ℕ, [], length, true};
+ghost use Rattle.std.specs.Prelude.{◌≡◌, ◌≢◌, ◌<◌, ◌≤◌, ◌⊎◌, ℕ, [], length, slice_get, true};
 ghost use mathlib.Core.List.{IsPrefix};
 ghost use Rattle.std.specs.Prelude.{Contains, IfOk, IfErr, OnOk, OnErr, None, Some};
 ghost use Rattle.fdb_client.specs.Account.{Account, IsSameClient, holding, new_account};
 ghost use Rattle.fdb_client.specs.Agreeing.{Agrees, AgreesWithChain};
 ghost use Rattle.fdb_client.specs.Calls.{Asks, IsReadOf, Learns, Reads, Reports, Tells};
 ghost use Rattle.fdb_client.specs.Calls.{next_number, request_of};
+ghost use Rattle.fdb_client.specs.Returned.{AskReturns};
 ghost use Rattle.fdb_chain.specs.ChainCore.{IsFor, new_chain};
+ghost use Rattle.fdb_chain.specs.declared.error.ChainError.TheVariants.{Exhausted};
+ghost use Rattle.fdb_history.specs.Issuing.{answer_to};
 ghost use Rattle.fdb_history.specs.Log.{position_after_calls};
-ghost use Rattle.fdb_history.specs.Strays.{issued_under};
+ghost use Rattle.fdb_history.specs.Strays.{issued_under, logged_as};
 ghost use Rattle.fdb_history.specs.declared.chain.Issued.{Issued};
-ghost use Rattle.fdb_live.specs.Holding.{own_answers, sight_of};
+ghost use Rattle.fdb_live.specs.Holding.{chain_of, own_answers, sight_of};
 ghost use Rattle.fdb_live.specs.Seen.{IsBounded, IsNotBehind, last_record, own_positions};
 
 use crate::error::ClientError;
@@ -182,9 +185,11 @@ impl<'a, J: Live> Client<'a, J> {
 
     /// Asks the master for the next commit version, with the next request number.
     ///
-    /// It is refused as `Chain`, for what the sequencer says. The version is above each that the
-    /// client had seen or was told of, and above what it had read. The moments are microseconds. It
-    /// waits for the other asks, and takes constant time, the growth of the log aside.
+    /// It is refused as `Chain` with `Exhausted` where the versions are used up, else for memory
+    /// alone. The answer is fresh, and stands at its ordinal among those that the client has then
+    /// seen. Its version is above each that the client had seen or was told of, and above what it had
+    /// read. The moments are microseconds. It waits for the other asks, and takes constant time, the
+    /// growth of the log aside.
     pub fn ask<R: Wait, G: Gate>(
         &mut self,
         rt: &R,
@@ -197,11 +202,16 @@ impl<'a, J: Live> Client<'a, J> {
             (next_number self.old) processed at self.old self.new result }
         ensures request { IfOk result
             (IsFor (request_of self.old (next_number self.old) processed at)) }
-        ensures above { IfOk result (λ issued. issued.fresh ≡ true → (earlier : Issued)
+        ensures fresh { IfOk result (λ issued. issued.fresh ≡ true) }
+        ensures stands { IfOk result
+            (λ issued. slice_get self.new.answers issued.ordinal ≡ Some issued) }
+        ensures above { IfOk result (λ issued. (earlier : Issued)
             → Contains self.old.answers earlier → earlier.version < issued.version) }
-        ensures above_read { IfOk result (λ issued. issued.fresh ≡ true → 0 < issued.ordinal
+        ensures above_read { IfOk result (λ issued. 0 < issued.ordinal
             → (last_record J.start self.old.changes).version < issued.version) }
         ensures extends { IsPrefix self.old.answers self.new.answers }
+        ensures refused { IfErr result (λ cause. (cause ≡ ClientError.Chain Exhausted)
+            ⊎ (cause ≡ ClientError.Memory)) }
         ensures memory { result ≡ Err ClientError.Memory
             → self.new ≡ record self.old { answers = self.new.answers } }
         ensures client { IsSameClient self.old self.new }
@@ -213,7 +223,10 @@ impl<'a, J: Live> Client<'a, J> {
     /// Asks the master for the commit version under any request number, as one does who has missed
     /// the answer.
     ///
-    /// It is refused and waits as `ask` does.
+    /// A number that was answered gets that answer again, all of it but `fresh`, as long as it is
+    /// kept. It is refused as `Chain`: with `Early` for a number above the next one, with
+    /// `Forgotten` for one that is not kept any more, and with `Exhausted` as `ask` is; else for
+    /// memory alone. It waits as `ask` does.
     pub fn reask<R: Wait, G: Gate>(
         &mut self,
         rt: &R,
@@ -226,6 +239,16 @@ impl<'a, J: Live> Client<'a, J> {
             → Asks (new_chain J.epoch_end J.recovery J.reporters) J.start
             num processed at self.old self.new result }
         ensures request { IfOk result (IsFor (request_of self.old num processed at)) }
+        ensures next { num ≡ next_number self.old → IfOk result (λ issued. issued.fresh ≡ true) }
+        ensures next_refused { num ≡ next_number self.old → IfErr result
+            (λ cause. (cause ≡ ClientError.Chain Exhausted)
+            ⊎ (cause ≡ ClientError.Memory)) }
+        ensures decided { num ≢ next_number self.old → result ≢ Err ClientError.Memory
+            → AskReturns (logged_as (answer_to
+            (chain_of J.epoch_end J.recovery J.reporters self.old.answers)
+            (request_of self.old num processed at))) result }
+        ensures stands { IfOk result (λ issued. slice_get self.new.answers issued.ordinal
+            ≡ Some (record issued { fresh = true })) }
         ensures above { IfOk result (λ issued. issued.fresh ≡ true → (earlier : Issued)
             → Contains self.old.answers earlier → earlier.version < issued.version) }
         ensures above_read { IfOk result (λ issued. issued.fresh ≡ true → 0 < issued.ordinal

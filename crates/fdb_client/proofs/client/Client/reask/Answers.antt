@@ -1,20 +1,24 @@
-use Rattle.std.proofs.Common.{rules, ◌≡◌, ◌≢◌, ◌<◌, true, ◌++◌, length, ◌∷◌, [], Option, None, Some, IfNone, IfSome, Result, Ok, Err, refl, subst, ap, sym, ◌∙◌}
+use Rattle.std.proofs.Common.{rules, ◌≡◌, ◌≢◌, ◌<◌, ◌⊎◌, inl, inr, true, ◌++◌, length, ◌∷◌, [], Option, None, Some, IfNone, IfSome, Result, Ok, Err, refl, subst, ap, sym, ◌∙◌}
 use Rattle.std.specs.Prelude.{Contains}
 use mathlib.Core.List.{IsPrefix}
 use Rattle.fdb_chain.specs.ChainCore.{new_chain}
 use Rattle.fdb_client.proofs.Chained.{HasAgreed, agreed_asked, added_alike, agreed_more, asks_err, asks_ok, either_way, not_answered, same_error, same_issued}
+use Rattle.fdb_client.proofs.Own.{next_is}
 use Rattle.fdb_client.proofs.Refused.{of_sequencer}
 use Rattle.fdb_client.specs.Account.{Account}
-use Rattle.fdb_client.specs.Calls.{Asks}
+use Rattle.fdb_client.specs.Calls.{Asks, next_number, request_of}
 use Rattle.fdb_client.specs.declared.error.ClientError.{ClientError}
 use Rattle.fdb_history.specs.declared.chain.Issued.{Issued}
-use Rattle.fdb_client.specs.declared.error.ClientError.TheVariants.{Memory}
-use Rattle.fdb_client.specs.Returned.{error_of, error_of_sequencer}
+use Rattle.fdb_client.specs.declared.error.ClientError.TheVariants.{Chain, Memory}
+use Rattle.fdb_chain.specs.declared.error.ChainError.TheVariants.{Exhausted}
+use Rattle.fdb_history.specs.Issuing.{answer_to}
+use Rattle.fdb_history.specs.Strays.{logged_as}
+use Rattle.fdb_client.specs.Returned.{AskReturns, error_of, error_of_sequencer}
 use Rattle.fdb_client.specs.private.Refusals.{refusal_for}
 use Rattle.fdb_history.specs.declared.log.CallAnswer.TheVariants.{Refused}
 use Rattle.fdb_history.specs.declared.log.Input.TheVariants.{Ask}
 use Rattle.fdb_history.specs.declared.log.Refusal.{Refusal}
-use Rattle.fdb_live.specs.Holding.{versions}
+use Rattle.fdb_live.specs.Holding.{chain_of, versions}
 use Rattle.fdb_client.proofs.client.Client.reask.Goals as goal
 
 pub returns-in-Ok-clause-logged : goal.returns-in-Ok-clause-logged
@@ -90,3 +94,42 @@ returns-in-Ok-clause-extends g c = subst (λ (account : Account). IsPrefix accou
 pub returns-in-Ok-clause-above : goal.returns-in-Ok-clause-above
 returns-in-Ok-clause-above g c =
     subst (λ (account : Account). c.in-Ok.issued.fresh ≡ true → (earlier : Issued) → Contains account.answers earlier → earlier.version < c.in-Ok.issued.version) c.self.view_is c.in-Ok.ensures.above
+
+pub returns-in-Ok-clause-next : goal.returns-in-Ok-clause-next
+returns-in-Ok-clause-next g c =
+    let before : Account = record { number = c.self.inside.id; begun = c.self.inside.begun; calls = c.self.inside.journal.calls.items; answers = c.self.inside.token.answers; changes = c.self.inside.token.changes } in
+    subst (λ (account : Account). c.args.num ≡ next_number account → c.in-Ok.issued.fresh ≡ true) c.self.view_is
+    (λ is. c.in-Ok.ensures.next (is ∙ next_is g.J.Service.epoch_end g.J.Service.recovery before c.self.invariant.3))
+
+pub returns-in-Err-clause-next_refused : goal.returns-in-Err-clause-next_refused
+returns-in-Err-clause-next_refused g c =
+    let before : Account = record { number = c.self.inside.id; begun = c.self.inside.begun; calls = c.self.inside.journal.calls.items; answers = c.self.inside.token.answers; changes = c.self.inside.token.changes } in
+    let error_is : c.add_refused.result ≡ error_of_sequencer c.in-Err.cause = c.add_refused.ensures.same ∙ c.from-error.ensures in
+    subst (λ (account : Account). c.args.num ≡ next_number account → (c.add_refused.result ≡ Chain Exhausted) ⊎ (c.add_refused.result ≡ Memory)) c.self.view_is
+    (λ is. elim (c.in-Err.ensures.next_refused (is ∙ next_is g.J.Service.epoch_end g.J.Service.recovery before c.self.invariant.3)) [
+      | inl exhausted ↦ inl (error_is ∙ ap error_of_sequencer exhausted)
+      | inr memory ↦ inr (error_is ∙ ap error_of_sequencer memory)
+    ])
+
+pub returns-in-Ok-clause-decided : goal.returns-in-Ok-clause-decided
+returns-in-Ok-clause-decided g c =
+    let before : Account = record { number = c.self.inside.id; begun = c.self.inside.begun; calls = c.self.inside.journal.calls.items; answers = c.self.inside.token.answers; changes = c.self.inside.token.changes } in
+    let result : Result Issued ClientError = Ok c.in-Ok.issued in
+    subst (λ (account : Account). c.args.num ≢ next_number account → result ≢ Err Memory → AskReturns (logged_as (answer_to (chain_of g.J.Service.epoch_end g.J.Service.recovery g.J.Service.reporters account.answers) (request_of account c.args.num c.args.processed c.args.at))) result) c.self.view_is
+    (λ other not_memory.
+    subst (λ answer. AskReturns (logged_as answer) result)
+    (sym (c.in-Ok.ensures.decided (λ is. other (is ∙ sym (next_is g.J.Service.epoch_end g.J.Service.recovery before c.self.invariant.3))))) refl)
+
+pub returns-in-Err-clause-decided : goal.returns-in-Err-clause-decided
+returns-in-Err-clause-decided g c =
+    let before : Account = record { number = c.self.inside.id; begun = c.self.inside.begun; calls = c.self.inside.journal.calls.items; answers = c.self.inside.token.answers; changes = c.self.inside.token.changes } in
+    let result : Result Issued ClientError = Err c.add_refused.result in
+    subst (λ (account : Account). c.args.num ≢ next_number account → result ≢ Err Memory → AskReturns (logged_as (answer_to (chain_of g.J.Service.epoch_end g.J.Service.recovery g.J.Service.reporters account.answers) (request_of account c.args.num c.args.processed c.args.at))) result) c.self.view_is
+    (λ other not_memory.
+    let error_is : c.add_refused.result ≡ error_of_sequencer c.in-Err.cause = c.add_refused.ensures.same ∙ c.from-error.ensures in
+    let apart : error_of_sequencer c.in-Err.cause ≢ Memory = λ is. not_memory (ap Err (error_is ∙ is)) in
+    let decided = c.in-Err.ensures.decided (λ is. other (is ∙ sym (next_is g.J.Service.epoch_end g.J.Service.recovery before c.self.invariant.3))) in
+    let (refusal, known, is) = of_sequencer _ c.in-Err.cause decided apart in
+    let same : refusal_for c.from-error.result ≡ Some refusal = ap refusal_for c.from-error.ensures ∙ known in
+    let logged : c.add_refused.result ≡ error_of refusal = c.add_refused.ensures.same ∙ subst (λ (o : Option Refusal). IfSome o (λ why. c.from-error.result ≡ error_of why)) same c.add_refused.ensures.error in
+    subst (λ answer. AskReturns (logged_as answer) result) (sym is) (ap Err logged))
