@@ -1,5 +1,5 @@
 -- Each call leaves what a client has logged in agreement with its token.
-use Rattle.std.proofs.Common.{◌≡◌, ◌≢◌, ℕ, zero, suc, ◌+◌, ◌-◌, ◌<◌, ◌≤◌, Bool, true, false, IsTrue, List, [], ◌∷◌, ◌++◌, length, Option, None, Some, IfNone, IfSome, Result, Ok, Err, if◌then◌else◌, refl, sym, ap, ◌∙◌, arith, slice_get, take, subst, inl, inr, length-append}
+use Rattle.std.proofs.Common.{◌≡◌, ℕ, zero, suc, ◌+◌, ◌-◌, ◌<◌, ◌≤◌, Bool, true, false, IsTrue, List, [], ◌∷◌, ◌++◌, length, Option, Some, Result, Ok, Err, if◌then◌else◌, refl, sym, ap, ◌∙◌, arith, slice_get, take, subst, inl, inr, length-append}
 use Rattle.std.specs.List.{AllByRecursion}
 use Rattle.std.proofs.lemmas.Grind.{flat_map-append}
 use Rattle.std.proofs.lemmas.List.{append-nil, take-append-le}
@@ -24,10 +24,9 @@ use Rattle.fdb_history.specs.declared.register.Record.{Record}
 use Rattle.fdb_live.specs.Seen.{IsChangedBy, last_record, own_positions}
 use Rattle.fdb_live.specs.declared.ack.Ack.{Ack}
 use Rattle.fdb_live.specs.declared.change.Change.{Change}
-use Rattle.fdb_client.specs.Account.{Account, Logs, new_account, sight}
+use Rattle.fdb_client.specs.Account.{Account, Logs, sight}
 use Rattle.fdb_client.specs.Calls.{Asks, IsReadAnswer, IsReportAnswer, Reads, Reports, request_of}
 use Rattle.fdb_client.specs.declared.error.ClientError.{ClientError}
-use Rattle.fdb_client.specs.private.Refusals.{refusal_for}
 use Rattle.fdb_client.specs.declared.read.ReadVersion.{ReadVersion}
 use Rattle.fdb_client.proofs.Calls.{position_of_added}
 use Rattle.fdb_client.specs.Agreeing.{Agrees, AgreesAt, IsMade, changed_positions, record_at}

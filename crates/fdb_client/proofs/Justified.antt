@@ -1,21 +1,14 @@
 -- The chain justifies each call of a client, by the answers that its token proves.
-use Rattle.std.proofs.Common.{◌≡◌, ◌≢◌, ℕ, zero, suc, ◌+◌, ◌-◌, ◌<◌, ◌≤◌, ◌==◌, ◌&&◌, not, Bool, true, false, cond, IsTrue, List, [], ◌∷◌, ◌++◌, length, Option, None, Some, Result, Ok, Err, refl, sym, ap, ◌∙◌, arith, slice_get, subst, append-nil, append_assoc, filter}
-use Rattle.std.specs.Prelude.{nat_eq, nat_le, nat_lt, reverse, Contains}
+use Rattle.std.proofs.Common.{◌≡◌, ℕ, ◌==◌, ◌&&◌, not, Bool, true, false, List, [], ◌∷◌, ◌++◌, Option, None, Some, refl, sym, arith, subst, append-nil, append_assoc}
+use Rattle.std.specs.Prelude.{nat_eq}
 use Rattle.std.specs.Cmp.{booleans_Decides}
 use Rattle.std.specs.Cmp.Lexicographic.{pointwise}
-use Rattle.std.specs.Option.{option_eq, option_map_or}
-use Rattle.std.proofs.lemmas.Bool.{and_parts, eq-eqb}
-use Rattle.std.proofs.lemmas.List.{length-take-le}
-use Rattle.std.proofs.lemmas.Option.{slice_get_within}
+use Rattle.std.specs.Option.{option_eq}
+use Rattle.std.proofs.lemmas.Bool.{eq-eqb}
 use Rattle.std.proofs.lemmas.Bool.Decides.{nat_tests}
 use mathlib.Core.Bool.{beq}
-use Rattle.fdb_history.specs.Chain.{IsChain, last_answer, latest, prev_after, step, version_after}
-use Rattle.fdb_history.specs.Issuing.{answer_to, by_number, fresh_answer, kept, kept_answer, next_answer}
-use Rattle.fdb_history.specs.Issuing as issuing
-use Rattle.fdb_history.specs.Strays.{goes_with, is_again, is_due, is_early, is_fresh_answer, is_justified, is_justified_by, is_near_the_end, is_of_chain, is_of_issued, is_rightly_locked_out, is_same, logged_as, may_refuse}
-use Rattle.fdb_history.specs.declared.chain.Ask.{Ask}
+use Rattle.fdb_history.specs.Strays.{is_justified, is_of_issued, is_same, may_refuse}
 use Rattle.fdb_history.specs.declared.chain.Issued.{Issued}
-use Rattle.fdb_history.specs.declared.chain.TheConstants.{MAX_STEP}
 use Rattle.fdb_history.specs.declared.grv.GrvOpts.{GrvOpts}
 use Rattle.fdb_history.specs.declared.log.Call.{Call}
 use Rattle.fdb_history.specs.declared.log.CallAnswer.{CallAnswer}
@@ -24,12 +17,7 @@ use Rattle.fdb_history.specs.declared.log.Input.TheVariants as input
 use Rattle.fdb_history.specs.declared.log.Refusal.{Refusal}
 use Rattle.fdb_history.specs.declared.log.Refusal.TheVariants.{Early, Forgotten, UnknownProxy, Exhausted, BadCount, BatchThrottled, Full, ProxyClosed, NotIssued, Stranger, TooLarge, MinAbove}
 use Rattle.fdb_history.specs.declared.register.Record.{Record}
-use Rattle.fdb_history.specs.declared.register.TheConstants.{MAX_VERSION}
-use mathlib.Core.List.{IsPrefix}
-use Rattle.fdb_chain.specs.ChainCore.{IsEpoch}
-use Rattle.fdb_history.specs.Log.{answer_in, fresh_answers}
-use Rattle.fdb_live.specs.Holding.{above_last, answers_to, least_above}
-use Rattle.fdb_client.specs.Account.{Account, drawn_in}
+use Rattle.fdb_client.specs.Account.{Account}
 use Rattle.fdb_client.specs.Agreeing.{AreJustified}
 use Rattle.fdb_client.specs.Calls.{IsReadAnswer, IsReportAnswer, IsReportRefusal}
 use Rattle.fdb_history.specs.Strays.{issued_under}

@@ -1,8 +1,8 @@
 -- No answer is stray in the logs of clients whose tokens have closed the chain.
-use Rattle.std.proofs.Common.{◌≡◌, ℕ, zero, suc, ◌<◌, ◌≤◌, ◌==◌, ◌||◌, Bool, true, false, cond, List, [], ◌∷◌, ◌++◌, length, Some, Result, Ok, Err, IfErr, refl, sym, ap, ◌∙◌, arith, slice_get, take, subst, append-nil, append_assoc, inl, inr, filter}
+use Rattle.std.proofs.Common.{◌≡◌, ℕ, zero, suc, ◌<◌, ◌==◌, ◌||◌, Bool, true, false, cond, List, [], ◌∷◌, ◌++◌, length, Some, Result, Ok, Err, IfErr, refl, sym, ap, ◌∙◌, arith, slice_get, take, subst, append-nil, append_assoc, inl, inr, filter}
 use Rattle.std.specs.Prelude.{All}
 use Rattle.std.specs.List.{list_any}
-use Rattle.std.proofs.lemmas.Bool.{cases_lt, false≢true}
+use Rattle.std.proofs.lemmas.Bool.{false≢true}
 use Rattle.std.proofs.lemmas.List.{length-take-le}
 use Rattle.std.proofs.lemmas.Option.{get_or_from_slice_get, slice_get_within}
 use mathlib.Core.List.{IsPrefix}
@@ -10,7 +10,7 @@ use Rattle.fdb_history.specs.Chain.{IsChain, IsNext}
 use Rattle.fdb_history.specs.Audit.{IsAudited, Low}
 use Rattle.fdb_history.specs.Faults.{IsFaultless, Nowhere}
 use Rattle.fdb_history.specs.Log.{answers_in, calls_of, fresh_answers}
-use Rattle.fdb_history.specs.Strays.{HasUndrawn, IsStray, NotJustified, is_drawn, is_justified, is_same}
+use Rattle.fdb_history.specs.Strays.{HasUndrawn, IsStray, NotJustified, is_justified, is_same}
 use Rattle.fdb_history.specs.declared.chain.Issued.{Issued}
 use Rattle.fdb_history.specs.declared.event.History.{History}
 use Rattle.fdb_history.specs.declared.fault.AuditFault.{AuditFault}
@@ -18,11 +18,11 @@ use Rattle.fdb_history.specs.declared.fault.AuditFault.TheVariants.{Order, Clash
 use Rattle.fdb_history.specs.declared.register.Record.{Record}
 use Rattle.fdb_history.specs.declared.log.Call.{Call}
 use Rattle.fdb_history.specs.declared.log.ClientLog.{ClientLog}
-use Rattle.fdb_live.specs.Holding.{AreNumbered, Holding, answers_among, answers_to, own_answers}
+use Rattle.fdb_live.specs.Holding.{Holding, answers_to}
 use Rattle.fdb_client.specs.Agreeing.{AreJustified}
 use Rattle.fdb_client.specs.Settling.{AllAgreeWithChain}
 use Rattle.fdb_client.proofs.Justified.{same_answer, same_number}
-use Rattle.fdb_client.proofs.Settled.{calls_beyond, inside, take_more}
+use Rattle.fdb_client.proofs.Settled.{inside, take_more}
 
 justified_at : (chain : List Issued) (client : ℕ) (before calls : List Call) (place : ℕ) (call : Call) → AreJustified chain client before calls → slice_get calls place ≡ Some call → is_justified chain client (before ++ take place calls) call ≡ true
 justified_at chain client before [] place call each is = absurd (cc is)

@@ -1,5 +1,4 @@
 use Rattle.std.proofs.Common.{ap, sym, subst, ◌∙◌}
-use mathlib.Core.List.{IsPrefix}
 use Rattle.fdb_history.specs.Faults.{Nowhere}
 use Rattle.fdb_history.specs.Strays.{IsStray}
 use Rattle.fdb_live.specs.Holding.{answers_among}

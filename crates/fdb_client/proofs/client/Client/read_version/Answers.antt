@@ -1,4 +1,4 @@
-use Rattle.std.proofs.Common.{rules, ◌≡◌, ◌≢◌, ◌++◌, ◌∷◌, [], Option, Some, IfSome, Result, Err, refl, subst, sym, ap}
+use Rattle.std.proofs.Common.{rules, ◌≡◌, ◌≢◌, ◌++◌, ◌∷◌, [], Option, Some, IfSome, Result, Err, refl, subst, ap}
 use Rattle.fdb_client.specs.Account.{Account, Logs}
 use Rattle.fdb_client.specs.declared.error.ClientError.{ClientError}
 use Rattle.fdb_client.specs.declared.error.ClientError.TheVariants.{Memory}

@@ -1,4 +1,4 @@
-use Rattle.std.proofs.Common.{rules, ◌≡◌, ◌≢◌, ◌<◌, ◌⊎◌, inl, inr, true, ◌++◌, length, ◌∷◌, [], Option, None, Some, IfNone, IfSome, Result, Ok, Err, refl, subst, ap, sym, ◌∙◌}
+use Rattle.std.proofs.Common.{rules, ◌≡◌, ◌≢◌, ◌<◌, ◌⊎◌, inl, inr, true, ◌++◌, ◌∷◌, [], Option, None, Some, IfNone, IfSome, Result, Ok, Err, refl, subst, ap, sym, ◌∙◌}
 use Rattle.std.specs.Prelude.{Contains}
 use mathlib.Core.List.{IsPrefix}
 use Rattle.fdb_chain.specs.ChainCore.{new_chain}

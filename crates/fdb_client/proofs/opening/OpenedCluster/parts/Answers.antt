@@ -1,6 +1,5 @@
-use Rattle.std.proofs.Common.{◌≡◌, ◌≢◌, ◌<◌, ℕ, zero, suc, [], Some, length, slice_get, slice_set, ap, ◌∙◌, sym, arith}
+use Rattle.std.proofs.Common.{◌≡◌, ◌≢◌, zero, suc, Some, slice_get, ap, ◌∙◌, sym, arith}
 use Rattle.std.proofs.lemmas.Option.{slice_get-get_or, slice_get_within}
-use Rattle.fdb_live.specs.Holding.{Holding}
 use Rattle.fdb_client.proofs.Chains.{get_other, get_written}
 use Rattle.fdb_client.proofs.opening.OpenedCluster.parts.Goals as goal
 
