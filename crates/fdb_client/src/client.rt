@@ -1,6 +1,6 @@
 //! A client that calls the service, one call at a time, and logs each call.
 
-ghost use Rattle.std.specs.Prelude.{◌≡◌, ◌≢◌, ◌<◌, ◌≤◌, ◌⊎◌, ℕ, [], length, slice_get, true};
+ghost use Rattle.std.specs.Prelude.{◌≡◌, ◌≢◌, ◌+◌, ◌<◌, ◌≤◌, ◌⊎◌, ℕ, [], length, slice_get, true};
 ghost use mathlib.Core.List.{IsPrefix};
 ghost use Rattle.std.specs.Prelude.{Contains, IfOk, IfErr, OnOk, OnErr, None, Some};
 ghost use Rattle.fdb_client.specs.Account.{Account, IsSameClient, holding, new_account};
@@ -14,7 +14,7 @@ ghost use Rattle.fdb_history.specs.Issuing.{answer_to};
 ghost use Rattle.fdb_history.specs.Log.{position_after_calls};
 ghost use Rattle.fdb_history.specs.Strays.{issued_under, logged_as};
 ghost use Rattle.fdb_history.specs.declared.chain.Issued.{Issued};
-ghost use Rattle.fdb_live.specs.Holding.{chain_of, own_answers, sight_of};
+ghost use Rattle.fdb_live.specs.Holding.{chain_of, least_above, own_answers, sight_of};
 ghost use Rattle.fdb_live.specs.Seen.{IsBounded, IsNotBehind, last_record, own_positions};
 
 use crate::error::ClientError;
@@ -157,6 +157,7 @@ impl<'a, J: Live> Client<'a, J> {
         ensures never_falls { IsNotBehind
             (last_record J.start self.old.changes)
             (last_record J.start self.new.changes) }
+        ensures least { least_above self.old.answers ≤ least_above self.new.answers }
         ensures memory { result ≡ Err ClientError.Memory → self.new ≡ self.old }
         ensures client { IsSameClient self.old self.new }
     {
@@ -207,6 +208,10 @@ impl<'a, J: Live> Client<'a, J> {
             (λ issued. slice_get self.new.answers issued.ordinal ≡ Some issued) }
         ensures above { IfOk result (λ issued. (earlier : Issued)
             → Contains self.old.answers earlier → earlier.version < issued.version) }
+        ensures above_old { IfOk result
+            (λ issued. least_above self.old.answers ≤ issued.version) }
+        ensures least { IfOk result
+            (λ issued. least_above self.new.answers ≡ issued.version + 1) }
         ensures above_read { IfOk result (λ issued. 0 < issued.ordinal
             → (last_record J.start self.old.changes).version < issued.version) }
         ensures extends { IsPrefix self.old.answers self.new.answers }
@@ -251,6 +256,10 @@ impl<'a, J: Live> Client<'a, J> {
             ≡ Some (record issued { fresh = true })) }
         ensures above { IfOk result (λ issued. issued.fresh ≡ true → (earlier : Issued)
             → Contains self.old.answers earlier → earlier.version < issued.version) }
+        ensures above_old { IfOk result (λ issued. issued.fresh ≡ true
+            → least_above self.old.answers ≤ issued.version) }
+        ensures least { IfOk result (λ issued. issued.fresh ≡ true
+            → least_above self.new.answers ≡ issued.version + 1) }
         ensures above_read { IfOk result (λ issued. issued.fresh ≡ true → 0 < issued.ordinal
             → (last_record J.start self.old.changes).version < issued.version) }
         ensures extends { IsPrefix self.old.answers self.new.answers }
@@ -307,6 +316,7 @@ impl<'a, J: Live> Client<'a, J> {
         ensures position { IfOk result (λ ack. ack.position ≡ length self.new.changes) }
         ensures bounded { OnOk result
             (IsBounded (length self.new.changes) (last_record J.start self.new.changes)) }
+        ensures least { least_above self.old.answers ≤ least_above self.new.answers }
         ensures memory { result ≡ Err ClientError.Memory → self.new ≡ self.old }
         ensures client { IsSameClient self.old self.new }
     {
@@ -391,6 +401,9 @@ impl<'a, J: Live> Client<'a, J> {
         ensures covers { OnOk result (IsNotBehind
             (last_record J.start told.changes)
             (last_record J.start self.new.changes)) }
+        ensures least { least_above self.old.answers ≤ least_above self.new.answers }
+        ensures least_told { OnOk result
+            (least_above told.answers ≤ least_above self.new.answers) }
         ensures memory { IfErr result (λ refused. refused.0 ≡ ClientError.Memory) }
         ensures handed_back { IfErr result (λ refused. refused.1 ≡ told) }
         ensures unchanged { OnErr result (self.new ≡ self.old) }

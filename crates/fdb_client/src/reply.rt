@@ -6,7 +6,7 @@ ghost use Rattle.fdb_client.specs.Calls.{IsReadOf, Reads};
 ghost use Rattle.fdb_client.specs.Returned.{ReadReturns};
 ghost use Rattle.fdb_client.specs.private.Exchange.{answer_of};
 ghost use Rattle.fdb_history.specs.Log.{position_after_calls};
-ghost use Rattle.fdb_live.specs.Holding.{own_answers, sight_of};
+ghost use Rattle.fdb_live.specs.Holding.{least_above, own_answers, sight_of};
 ghost use Rattle.fdb_live.specs.Seen.{IsBounded, IsNotBehind, last_record, own_positions};
 ghost use mathlib.Core.List.{IsPrefix};
 
@@ -64,6 +64,7 @@ pub(crate) fn take_reply<J: Live, R: Wait>(
     ensures never_falls { IsNotBehind
         (last_record J.start token.old.changes)
         (last_record J.start token.new.changes) }
+    ensures least { least_above token.old.answers ≤ least_above token.new.answers }
     ensures come_to { result ≢ Err ClientError.Memory
         → (begun : ℕ) → position_after_calls begun journal.new.calls.items
         ≡ length token.new.changes }
@@ -106,6 +107,7 @@ fn hear<J: Live, R: Wait>(rt: &R, master: &Master<J>, token: &mut Token<J>, told
     ensures changes { token.new.changes ≡ told.changes }
     ensures extends { IsPrefix token.old.changes token.new.changes }
     ensures answers { IsPrefix token.old.answers token.new.answers }
+    ensures least { least_above token.old.answers ≤ least_above token.new.answers }
     ensures own { own_answers token.new ≡ own_answers token.old }
     ensures own_changes { own_positions (sight_of token.new)
         ≡ own_positions (sight_of token.old) }

@@ -120,6 +120,7 @@ impl<J: Live> Master<J> {
         ensures number { token.new.number ≡ token.old.number }
         ensures changes { IsPrefix token.old.changes token.new.changes }
         ensures answers { IsPrefix token.old.answers token.new.answers }
+        ensures least { least_above token.old.answers ≤ least_above token.new.answers }
         ensures own { own_answers token.new ≡ own_answers token.old }
         ensures own_changes { own_positions (sight_of token.new)
             ≡ own_positions (sight_of token.old) }
@@ -132,6 +133,8 @@ impl<J: Live> Master<J> {
         ensures chain { IsChain J.epoch_end J.recovery token.new.answers }
         ensures log { IsLog J.start J.reporters token.new.changes }
     {
+        // The check learns here that the versions of a chain rise.
+        laws::versions_rise();
         let fetched = passes::look(rt, &self.live.cell, &mut token.pass);
         token.position = fetched.position;
         fetched
@@ -222,6 +225,7 @@ impl<J: Live> Master<J> {
         ensures changes_kept { IsPrefix token.old.changes token.new.changes }
         ensures changes_told { IsPrefix told.changes token.new.changes }
         ensures answers { IsPrefix token.old.answers token.new.answers }
+        ensures least { least_above token.old.answers ≤ least_above token.new.answers }
         ensures own { own_answers token.new ≡ own_answers token.old }
         ensures own_changes { own_positions (sight_of token.new)
             ≡ own_positions (sight_of token.old) }
@@ -236,6 +240,8 @@ impl<J: Live> Master<J> {
         ensures chain { IsChain J.epoch_end J.recovery token.new.answers }
         ensures log { IsLog J.start J.reporters token.new.changes }
     {
+        // The check learns here that the versions of a chain rise.
+        laws::versions_rise();
         let Seen {
             number: _,
             position,
@@ -272,6 +278,7 @@ impl<J: Live> Master<J> {
         ensures number { token.new.number ≡ token.old.number }
         ensures changes { IsPrefix token.old.changes token.new.changes }
         ensures answers { IsPrefix token.old.answers token.new.answers }
+        ensures least { least_above token.old.answers ≤ least_above token.new.answers }
         ensures own { own_answers token.new ≡ own_answers token.old }
         ensures position { IfOk result (λ ack. ack.position ≡ length token.new.changes) }
         ensures never_falls { IsNotBehind
@@ -287,6 +294,8 @@ impl<J: Live> Master<J> {
         ensures not_changed { IfOk result (λ ack. ack.changed ≡ false →
             IsNotChangedBy J.start rec ack.raised (sight_of token.old) (sight_of token.new)) }
     {
+        // The check learns here that the versions of a chain rise.
+        laws::versions_rise();
         if rec.min_known > rec.version {
             return Err(LiveError::MinAbove);
         }

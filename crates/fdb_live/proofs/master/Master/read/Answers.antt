@@ -1,4 +1,5 @@
 use Rattle.std.proofs.Common.{rules}
+use Rattle.fdb_live.proofs.Above.{least_grows}
 use Rattle.fdb_live.proofs.Tokens.{looked_below, looked_taken, member_drawn, member_looked}
 use Rattle.fdb_live.proofs.master.Master.read.Goals as goal
 
@@ -15,3 +16,7 @@ pub returns-clause-bounded : goal.returns-clause-bounded
 returns-clause-bounded g c =
     let taken = looked_taken c.token.invariant.2 c.look-fetched.ensures.looks in
     record { below = looked_below c.token.invariant.2 c.look-fetched.ensures.looks; within = taken.within; in_range = taken.in_range }
+
+pub returns-clause-least : goal.returns-clause-least
+returns-clause-least g c =
+    least_grows c.versions_rise.ensures g.J.Service.epoch_end g.J.Service.recovery c.args.token.now.answers _ (member_drawn c.token.invariant.2 c.token.invariant.3 c.look-fetched.ensures.looks).legal (search rules)
