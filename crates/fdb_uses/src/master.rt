@@ -46,19 +46,20 @@ fn draw_both<J: Live + Send + Sync, R: Print + Threads + Wait + Sync>(
     master: &Master<J>,
     tokens: &mut [Token<J>],
 ) -> Result<()> {
-    let [first, second] = tokens else {
+    if tokens.len() != 2 {
         return Err(anyhow!("two commit proxies are wanted"));
-    };
-    let (one, two) = thread::join(
+    }
+    let (zero, one) = tokens.split_at_mut(1);
+    let (first, second) = thread::join(
         rt,
-        || draw_and_tell(rt, master, first),
-        || draw_and_tell(rt, master, second),
+        || draw_and_tell(rt, master, &mut zero[0]),
+        || draw_and_tell(rt, master, &mut one[0]),
     );
-    let (one, two) = (one?, two?);
+    let (of_first, of_second) = (first?, second?);
     let (by_first, by_second) = thread::join(
         rt,
-        || draw_once_told(rt, master, first, two),
-        || draw_once_told(rt, master, second, one),
+        || draw_once_told(rt, master, &mut zero[0], of_second),
+        || draw_once_told(rt, master, &mut one[0], of_first),
     );
     println!(rt; "the last of four versions is {}", by_first?.1.max(by_second?.1))?;
     Ok(())
