@@ -1,5 +1,5 @@
 -- No answer is stray in the logs of clients whose tokens have closed the chain.
-use Rattle.std.proofs.Common.{◌≡◌, ℕ, zero, suc, ◌<◌, ◌==◌, ◌||◌, Bool, true, false, cond, List, [], ◌∷◌, ◌++◌, length, Some, Result, Ok, Err, IfErr, refl, sym, ap, ◌∙◌, arith, slice_get, take, subst, append-nil, append_assoc, inl, inr, filter}
+use Rattle.std.proofs.Common.{◌≡◌, ℕ, zero, suc, ◌<◌, ◌==◌, ◌||◌, Bool, true, false, cond, List, [], ◌∷◌, ◌++◌, length, Some, refl, sym, ap, ◌∙◌, arith, slice_get, take, subst, append-nil, append_assoc, inl, inr, filter}
 use Rattle.std.specs.Prelude.{All}
 use Rattle.std.specs.List.{list_any}
 use Rattle.std.proofs.lemmas.Bool.{false≢true}
@@ -7,15 +7,10 @@ use Rattle.std.proofs.lemmas.List.{length-take-le}
 use Rattle.std.proofs.lemmas.Option.{get_or_from_slice_get, slice_get_within}
 use mathlib.Core.List.{IsPrefix}
 use Rattle.fdb_history.specs.Chain.{IsChain, IsNext}
-use Rattle.fdb_history.specs.Audit.{IsAudited, Low}
-use Rattle.fdb_history.specs.Faults.{IsFaultless, Nowhere}
+use Rattle.fdb_history.specs.Faults.{Nowhere}
 use Rattle.fdb_history.specs.Log.{answers_in, calls_of, fresh_answers}
 use Rattle.fdb_history.specs.Strays.{HasUndrawn, IsStray, NotJustified, is_justified, is_same}
 use Rattle.fdb_history.specs.declared.chain.Issued.{Issued}
-use Rattle.fdb_history.specs.declared.event.History.{History}
-use Rattle.fdb_history.specs.declared.fault.AuditFault.{AuditFault}
-use Rattle.fdb_history.specs.declared.fault.AuditFault.TheVariants.{Order, Clash, Gap, Wrong, Stray, NotAbove, Memory}
-use Rattle.fdb_history.specs.declared.register.Record.{Record}
 use Rattle.fdb_history.specs.declared.log.Call.{Call}
 use Rattle.fdb_history.specs.declared.log.ClientLog.{ClientLog}
 use Rattle.fdb_live.specs.Holding.{Holding, answers_to}
@@ -98,15 +93,3 @@ module _ (each_is_next : EachIsNext) (epoch_end recovery reporters : ℕ) (logs 
   pub no_stray : Nowhere (IsStray chain logs)
   no_stray client place (inl not) = no_unjustified client place not
   no_stray client place (inr (at, undrawn)) = no_undrawn client undrawn
-
--- Where no fault stands, an audit is refused for memory alone.
-pub memory_alone : (start : Record) (chain : List Issued) (logs : List ClientLog) (result : Result History AuditFault) → IsFaultless start logs → Nowhere (IsStray chain logs) → Nowhere (Low start logs) → IsAudited start chain logs result
-    → IfErr result (λ fault. fault ≡ Memory)
-memory_alone start chain logs (Ok history) faultless stray low audited = tt
-memory_alone start chain logs (Err Memory) faultless stray low audited = refl
-memory_alone start chain logs (Err (Order client call)) faultless stray low audited = absurd (faultless.order client call audited.stands)
-memory_alone start chain logs (Err (Clash position)) faultless stray low audited = absurd (faultless.clash position audited.1.stands)
-memory_alone start chain logs (Err (Gap position)) faultless stray low audited = absurd (faultless.gap position audited.2.stands)
-memory_alone start chain logs (Err (Wrong client call)) faultless stray low audited = absurd (faultless.wrong client call audited.3.stands)
-memory_alone start chain logs (Err (Stray client call)) faultless stray low audited = absurd (stray client call audited.1.stands)
-memory_alone start chain logs (Err (NotAbove client call)) faultless stray low audited = absurd (low client call audited.2.stands)

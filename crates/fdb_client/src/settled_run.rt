@@ -1,8 +1,9 @@
 //! A run of a cluster, whose logs its clients' tokens have settled.
 
-ghost use Rattle.std.specs.Prelude.{◌≡◌, ◌≢◌, ◌≤◌, IfErr, IfOk, length};
-ghost use Rattle.fdb_history.specs.Audit.{IsAudited, Low};
+ghost use Rattle.std.specs.Prelude.{◌≡◌, ◌≤◌, IfOk, length};
+ghost use Rattle.fdb_history.specs.Audit.{Low};
 ghost use Rattle.fdb_history.specs.Chain.{IsChain};
+ghost use Rattle.fdb_history.specs.Explained.{explained};
 ghost use Rattle.fdb_history.specs.Faults.{IsFaultless, Nowhere, changes_in};
 ghost use Rattle.fdb_history.specs.Laws.{HaveMinimaWithin};
 ghost use Rattle.fdb_history.specs.Linear.{IsLinear};
@@ -12,9 +13,9 @@ ghost use Rattle.fdb_live.specs.declared.opened.TheConstants.{MAX_REPORTERS};
 use crate::cluster::Cluster;
 use crate::finishing::Finished;
 use crate::settling::{Closed, close};
-use fdb_history::{AuditFault, ClientLog, History, Issued, Record, history_of};
+use fdb_history::{ClientLog, History, Issued, Record, history_of};
 use fdb_live::{Live, Seen};
-use std::alloc::Global;
+use std::alloc::{AllocError, Global};
 use std::sync::Wait;
 
 /// What a run of a cluster has left, once it is settled: no fault stands in its logs, neither of the
@@ -41,16 +42,15 @@ pub struct SettledRun {
 impl SettledRun {
     /// The history that explains all answered reads and reports, in the fixed order.
     ///
-    /// It is refused for memory alone, at any time. It takes time in proportion to the calls and to the chain,
-    /// up to a sort of the reads and reports by position.
-    pub fn history(&self, alloc: Global) -> Result<History, AuditFault>
+    /// It takes time in proportion to the calls, up to a sort of the reads and reports by position.
+    /// Memory may be refused at any time.
+    pub fn history(&self, alloc: Global) -> Result<History, AllocError>
         ensures linear { IfOk result
             (λ history. IsLinear self.now.start self.now.logs.items history.events) }
-        ensures audited { IsAudited
-            self.now.start self.now.chain.items self.now.logs.items result }
-        ensures memory { IfErr result (λ fault. fault ≡ AuditFault.Memory) }
+        ensures in_order { IfOk result
+            (λ history. history.events ≡ explained self.now.logs.items) }
     {
-        history_of(alloc, self.start, &self.chain, &self.logs)
+        history_of(alloc, &self.logs)
     }
 }
 

@@ -8,5 +8,4 @@ pub mod FirstMissing
 pub mod RegisterTable
 pub mod ReachedPositions
 pub mod ChangeFaults
-pub mod InTurn
 pub mod FirstStray

@@ -44,13 +44,6 @@ IsFirstFault start chain logs (NotAbove client call) =
     IsFaultless start logs × Nowhere (IsStray chain logs) × IsFirst (Low start logs) client call
 IsFirstFault start chain logs Memory = Unit {0}
 
--- A fault of one answer: `Stray` or `NotAbove`. Nothing justifies it, or it is a commit version
--- that is not above what its asker had seen.
-abbrev pub IsOfAnAnswer : AuditFault → Type 0
-IsOfAnAnswer (Stray client call) = Unit {0}
-IsOfAnAnswer (NotAbove client call) = Unit {0}
-IsOfAnAnswer _ = ⊥
-
 -- Where no fault stands, the answer is the history of the logs in the fixed order.
 abbrev pub IsAudited : Record → List Issued → List ClientLog → Result History AuditFault → Type 0
 IsAudited start chain logs (Ok history) =

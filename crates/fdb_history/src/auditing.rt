@@ -1,8 +1,8 @@
 //! The audit of a run's logs: their history, or the first fault that stands.
 
-ghost use Rattle.std.specs.Prelude.{◌≡◌, ◌≤◌, ◌^◌, ◌⊎◌, ◌≢◌, length, map, List, OnOk, IfOk, IfErr};
+ghost use Rattle.std.specs.Prelude.{◌≡◌, ◌≤◌, ◌^◌, ◌⊎◌, length, map, List, OnOk, IfOk, IfErr};
 ghost use Rattle.std.specs.Prelude.{Ok, Err};
-ghost use Rattle.fdb_history.specs.Audit.{IsAudited, IsFirstFault, IsOfAnAnswer, Low};
+ghost use Rattle.fdb_history.specs.Audit.{IsAudited, IsFirstFault, Low};
 ghost use Rattle.fdb_history.specs.Explained.{explained};
 ghost use Rattle.fdb_history.specs.private.Auditing.{AreChangesOf, AreRegisters};
 ghost use Rattle.fdb_history.specs.private.Explaining.{AreEventsByPosition, changes_of};
@@ -11,6 +11,7 @@ ghost use Rattle.fdb_history.specs.Linear.{IsLinear};
 ghost use Rattle.fdb_history.specs.Strays.{IsStray};
 ghost use Rattle.fdb_history.specs.declared.chain.Issued.{Issued};
 ghost use Rattle.fdb_history.specs.declared.event.Event.{Event};
+ghost use Rattle.fdb_history.specs.declared.register.Record.{Record};
 
 mod changes;
 mod explaining;
@@ -57,27 +58,19 @@ pub fn audit(
 }
 
 /// The history of logs in which no fault of the register's history stands, as where their clients'
-/// tokens were brought together, in the fixed order; or the first fault of an answer. It looks for
-/// `Stray` and `NotAbove` alone.
+/// tokens were brought together, in the fixed order. It looks for no fault.
 ///
-/// Memory may be refused at any time. It takes the time that [`audit`] does.
-pub fn history_of(
-    alloc: Global,
-    start: Record,
-    chain: &[Issued],
-    logs: &[ClientLog],
-) -> Result<History, AuditFault>
-    requires few { length logs.now ≤ 2 ^ 32 }
-    requires faultless { IsFaultless start logs.now }
-    ensures audited { IsAudited start chain.now logs.now result }
-    ensures linear { IfOk result (λ history. IsLinear start logs.now history.events) }
-    ensures of_an_answer { IfErr result
-        (λ fault. fault ≢ AuditFault.Memory → IsOfAnAnswer fault) }
+/// Memory may be refused at any time. It takes time in proportion to the calls, up to a sort of the
+/// register's events by position.
+pub fn history_of(alloc: Global, logs: &[ClientLog]) -> Result<History, AllocError>
+    requires { length logs.now ≤ 2 ^ 32 }
+    ensures in_order { IfOk result (λ history. (start : Record) → IsFaultless start logs.now
+        → history.events ≡ explained logs.now) }
+    ensures linear { IfOk result (λ history. (start : Record) → IsFaultless start logs.now
+        → IsLinear start logs.now history.events) }
 {
     let events = placed::events_by_position(alloc, logs)?;
-    let changes = changes::changes_of(alloc, &events)?;
-    let registers = registers::after_each(alloc, start, &changes)?;
-    answers_or_fault(alloc, chain, logs, events, &registers)
+    explaining::explain(alloc, events)
 }
 
 /// The history, or the first fault of an answer: the half of an audit that looks at answers. The

@@ -7,11 +7,7 @@ use Rattle.fdb_history.specs.Faults.{Nowhere}
 use Rattle.fdb_history.specs.Laws.{reports_of}
 use Rattle.fdb_history.specs.Linear.{IsLinear}
 use Rattle.fdb_history.specs.Strays.{IsStray}
-use Rattle.fdb_history.specs.declared.fault.AuditFault.{AuditFault}
-use Rattle.fdb_history.specs.declared.fault.AuditFault.TheVariants as audit
 use Rattle.fdb_history.specs.declared.register.Record.{Record}
-use Rattle.fdb_replay.specs.declared.fault.RunFault.{RunFault}
-use Rattle.fdb_replay.specs.declared.fault.RunFault.TheVariants.{Memory, Audit}
 use Rattle.fdb_script.specs.Answering.{Answers}
 use Rattle.fdb_script.specs.Plan.{Plan}
 use Rattle.fdb_script.specs.declared.outcome.Outcome.{Outcome}
@@ -42,13 +38,3 @@ pub record IsRunOf (plan : Plan) (outcome : Outcome) : Type 0 where
   -- each commit version that was drawn, but for the first,
   -- is above the register that its asker had seen
   pub none_low : Nowhere (Low (opening plan.setup.recovery) outcome.logs.items)
-
--- how a run fails where its audit does: out of memory is the run's own
-abbrev pub run_fault : AuditFault → RunFault
-run_fault audit.Memory = Memory
-run_fault fault = Audit fault
-
--- A run fails for memory alone.
-abbrev pub Fails : Plan → RunFault → Type 0
-Fails plan Memory = Unit {0}
-Fails plan (Audit fault) = ⊥

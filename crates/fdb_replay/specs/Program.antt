@@ -3,11 +3,11 @@ use Rattle.std.specs.Prelude.{◌≡◌, ◌≢◌, ◌≤◌, ℕ, List, [], �
 use Rattle.std.specs.Option.{option_map_or}
 use Rattle.std.specs.Str.Parse.{digits_value, without_leading_plus}
 use Rattle.std.specs.declared.alloc.Global.{Global}
+use Rattle.std.specs.declared.convert.Infallible.{Infallible}
 use Rattle.clap.specs.Words.{App, Text, matches_of, one_of}
 use Rattle.fdb_client.specs.declared.cluster.TheConstants.{MAX_GRV_PROXIES}
 use Rattle.fdb_command.specs.Arguments.{command_of, file_rule, flag_rule, is_set, number_rule}
 use Rattle.fdb_command.specs.Driving.{Promise}
-use Rattle.fdb_history.specs.declared.fault.AuditFault.{AuditFault}
 use Rattle.fdb_replay.specs.Replay.{Replays}
 use Rattle.fdb_replay.specs.declared.opts.ReplayOpts.{ReplayOpts}
 use Rattle.fdb_replay.specs.declared.program.ScriptRefused.{ScriptRefused}
@@ -37,8 +37,8 @@ pub record IsAsked (arguments : List Text) (opts : ReplayOpts) : Type 0 where
 
 -- It takes all bytes as they come, and tells of no progress. It prints the text of a run of the
 -- script that the bytes stand for, with the history where that is asked for. It refuses what stands
--- for no script; that memory was refused says nothing of the bytes. It finds no fault.
-abbrev pub replay : Promise ReplayOpts (Vec ℕ Global) ScriptRefused AuditFault
+-- for no script; that memory was refused says nothing of the bytes. There is nothing to be found.
+abbrev pub replay : Promise ReplayOpts (Vec ℕ Global) ScriptRefused Infallible
 replay = record {
   app = command;
   most = MAX_SCRIPT_BYTES;

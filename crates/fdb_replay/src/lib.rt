@@ -3,7 +3,6 @@
 #![tactic(auto)]
 
 mod clients;
-mod fault;
 mod opts;
 mod player;
 mod program;
@@ -14,7 +13,6 @@ mod serving;
 mod tell;
 mod world;
 
-pub use fault::RunFault;
 pub use fdb_command::{Fault, command_line};
 pub use fdb_script::MAX_SCRIPT_BYTES;
 pub use opts::ReplayOpts;

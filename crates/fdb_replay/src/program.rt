@@ -8,7 +8,6 @@ ghost use Rattle.fdb_command.specs.Driving.{IsDriven, Stops};
 ghost use Rattle.fdb_replay.specs.Program.{command, proxies_named, replay};
 ghost use Rattle.fdb_replay.specs.Replay.{Refuses, Replays};
 
-use crate::fault::RunFault;
 use crate::opts::ReplayOpts;
 use crate::replaying::{ReplayFault, replayed_text};
 use clap::{ArgMatches, Command};
@@ -16,9 +15,10 @@ use fdb_command::{
     Answer, Fault, Program, file_argument, flag_argument, is_given, new_command, number,
     number_argument,
 };
-use fdb_history::{AuditFault, OpenGate};
+use fdb_history::OpenGate;
 use fdb_script::{MAX_SCRIPT_BYTES, ScriptError};
 use std::alloc::{AllocError, Global};
+use std::convert::Infallible;
 use std::fs::Files;
 use std::io;
 use std::io::{Read, Write};
@@ -32,10 +32,9 @@ const AFTER_HELP: &str = "Exit status:
   1  the script is refused: NotJson, BadLimit, or BadField with the round and the command
   2  the words are refused
   3  want of memory
-  4  the audit found a fault in the run
   5  reading or writing failed
 
-docs/FORMATS.md has the script, what is written, and what each refusal and fault means.";
+docs/FORMATS.md has the script, what is written, and what each refusal means.";
 
 const PROXIES_HELP: &str = "The number of GRV proxies, from 1 to 16 [default: 1]";
 
@@ -48,7 +47,7 @@ pub struct ScriptRefused {
 }
 
 /// The text of a replay, or the fault with which it stops.
-type Made = Result<Answer<AuditFault>, Fault<ScriptRefused, AuditFault>>;
+type Made = Result<Answer<Infallible>, Fault<ScriptRefused, Infallible>>;
 
 /// The program that replays a script, and writes its replies, the audit line and, where it is
 /// wanted, the history. It has nothing to write where the script is refused or memory runs out.
@@ -65,7 +64,7 @@ impl Program for Replay {
 
     type Refusal = ScriptRefused;
 
-    type Finding = AuditFault;
+    type Finding = Infallible;
 
     const NAME: &'static str = "fdb_replay";
 
@@ -94,7 +93,7 @@ impl Program for Replay {
         &self,
         mut script: Vec<u8>,
         bytes: &[u8],
-    ) -> Result<Vec<u8>, Fault<ScriptRefused, AuditFault>> {
+    ) -> Result<Vec<u8>, Fault<ScriptRefused, Infallible>> {
         match script.extend_from_slice(bytes) {
             Ok(()) => Ok(script),
             Err(_) => Err(Fault::Memory),
@@ -191,18 +190,15 @@ fn wants_history(matches: &ArgMatches) -> bool
 }
 
 /// The fault that a replay with no text ends with.
-fn fault_of(cause: ReplayFault) -> Fault<ScriptRefused, AuditFault>
+fn fault_of(cause: ReplayFault) -> Fault<ScriptRefused, Infallible>
     ensures stops { (bytes : List _) → Refuses bytes cause → cause ≢ ReplayFault.Write
         → Stops replay bytes result }
     ensures memory { result ≡ Fault.Memory → (cause ≡ ReplayFault.Script ScriptError.Memory)
-        ⊎ (cause ≡ ReplayFault.Run RunFault.Memory) }
+        ⊎ (cause ≡ ReplayFault.Memory) }
 {
     match cause {
-        ReplayFault::Script(ScriptError::Memory) | ReplayFault::Run(RunFault::Memory) => {
-            Fault::Memory
-        }
+        ReplayFault::Script(ScriptError::Memory) | ReplayFault::Memory => Fault::Memory,
         ReplayFault::Script(error) => Fault::Refused(ScriptRefused { error }),
-        ReplayFault::Run(RunFault::Audit(found)) => Fault::Found(found),
         ReplayFault::Write => Fault::Writing,
     }
 }

@@ -6,7 +6,6 @@ ghost use Rattle.fdb_client.specs.declared.cluster.TheConstants.{MAX_GRV_PROXIES
 ghost use Rattle.fdb_replay.specs.Replay.{IsCut, Replays, Refuses};
 ghost use Rattle.fdb_script.specs.Reading.{ReadsAs};
 
-use crate::fault::RunFault;
 use crate::opts::ReplayOpts;
 use crate::running::run;
 use fdb_command::{OutputFault, write_whole};
@@ -18,15 +17,15 @@ use std::sync::Wait;
 use std::thread::Threads;
 use thiserror::Error;
 
-/// Why a replay failed: in its script, in its run or in writing, in this order.
+/// Why a replay failed: in its script, for memory in its run, or in writing, in this order.
 #[derive(Clone, Copy, Debug, PartialEq, Eq, Error)]
 pub enum ReplayFault {
     /// The script was refused, or memory for its text.
     #[error("script refused: {0}")]
     Script(ScriptError),
-    /// The run has no outcome, which is for want of memory alone.
-    #[error(transparent)]
-    Run(RunFault),
+    /// Memory was refused to the run, or a thread could not be had. A run fails for nothing else.
+    #[error("want of memory")]
+    Memory,
     /// The writer failed, and took a part of the text before it did, from its start on.
     #[error("writing failed")]
     Write,
@@ -35,7 +34,7 @@ pub enum ReplayFault {
 /// Reads a script, plays it, and writes the replies, the
 /// audit line and, where it is wanted, the history.
 ///
-/// Refuses bytes that stand for no script, then a run that fails, then a writer that fails. There
+/// Refuses bytes that stand for no script, then a run for memory, then a writer that fails. There
 /// are 1 to [`MAX_GRV_PROXIES`](fdb_client::MAX_GRV_PROXIES) GRV proxies. Nothing is written before
 /// the run is done, and nothing after a write that failed.
 pub fn replay<R: Threads + Wait + Sync, G: Gate, W: Write>(
@@ -100,7 +99,7 @@ fn run_text<R: Threads + Wait + Sync, G: Gate>(
 {
     let outcome = match run(rt, alloc, script, opts.proxies, gate) {
         Ok(outcome) => outcome,
-        Err(fault) => return Err(ReplayFault::Run(fault)),
+        Err(_) => return Err(ReplayFault::Memory),
     };
     match text(alloc, script, &outcome, opts.with_history) {
         Ok(lines) => Ok(lines),

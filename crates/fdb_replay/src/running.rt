@@ -1,15 +1,14 @@
 //! A run of a script, from its plan to its outcome.
 
-ghost use Rattle.std.specs.Prelude.{◌≡◌, ◌<◌, ◌≤◌, ℕ, [], IfOk, IfErr, Some, slice_get, vec_len};
+ghost use Rattle.std.specs.Prelude.{◌≡◌, ◌<◌, ◌≤◌, ℕ, [], IfOk, Some, slice_get, vec_len};
 ghost use Rattle.fdb_client.specs.Cluster.{IsClusterConfig};
 ghost use Rattle.fdb_client.specs.declared.cluster.TheConstants.{MAX_GRV_PROXIES};
-ghost use Rattle.fdb_replay.specs.Outcome.{IsRunOf, Fails, opening};
+ghost use Rattle.fdb_replay.specs.Outcome.{IsRunOf, opening};
 ghost use Rattle.fdb_replay.specs.private.Configured.{IsConfigFor};
 ghost use Rattle.fdb_script.specs.Answering.{Answers};
 ghost use Rattle.fdb_script.specs.Plan.{IsPlan, Plan};
 
 use crate::clients::Clients;
-use crate::fault::RunFault;
 use crate::serving::served;
 use crate::world::World;
 use fdb_client::{Cluster, ClusterConfig, ClusterParts, Finished, OpenedCluster, clients_of};
@@ -21,9 +20,8 @@ use std::marker::Brand;
 use std::sync::Wait;
 use std::thread::Threads;
 
-/// Plays a script, audits what it leaves, and answers it: the logs of its clients, the
-/// chain of commit versions, and a history that explains them, in the fixed order. It
-/// plays the rounds in order. In a round each client that has commands does them in
+/// Plays a script, and answers what it leaves: the logs of its clients, the chain of commit
+/// versions, and a history that explains them, in the fixed order. It plays the rounds in order. In a round each client that has commands does them in
 /// order, in a thread of its own; what was told in a round is learnt at its end.
 ///
 /// There are 1 to [`MAX_GRV_PROXIES`](fdb_client::MAX_GRV_PROXIES) GRV proxies, each in a thread of
@@ -31,19 +29,18 @@ use std::thread::Threads;
 /// sequencer's lock is held, where that of the reports is, and where an answer to a read has come.
 ///
 /// It fails for memory alone: where that runs out, or a thread for a proxy or a client cannot be had.
-/// The audit finds nothing: the logs come settled, which shows that no fault stands in them. Each
-/// thread has been joined by then.
+/// An audit of what it leaves would find nothing: the logs come settled, which shows that no fault
+/// stands in them. Each thread has been joined by then.
 pub fn run<R: Threads + Wait + Sync, G: Gate>(
     rt: &R,
     alloc: Global,
     script: &Script,
     proxies: u32,
     gate: &G,
-) -> Result<Outcome, RunFault>
+) -> Result<Outcome, AllocError>
     requires some_proxy { 0 < proxies }
     requires few_proxies { proxies ≤ MAX_GRV_PROXIES }
-    ensures ok { IfOk result (IsRunOf script.now) }
-    ensures err { IfErr result (Fails script.now) }
+    ensures { IfOk result (IsRunOf script.now) }
 {
     let opened = config_of(script, proxies).open(rt, alloc)?;
     run_named::<Brand, R, G>(rt, alloc, opened, script, gate)
@@ -71,14 +68,14 @@ fn config_of(script: &Script, proxies: u32) -> ClusterConfig<'_>
     }
 }
 
-/// Plays a script under a name that stands for its cluster, and audits what it leaves.
+/// Plays a script under a name that stands for its cluster.
 fn run_named<J: Live + Send + Sync, R: Threads + Wait + Sync, G: Gate>(
     rt: &R,
     alloc: Global,
     opened: OpenedCluster<'_>,
     script: &Script,
     gate: &G,
-) -> Result<Outcome, RunFault>
+) -> Result<Outcome, AllocError>
     requires plan { IsPlan script.now }
     requires config { IsConfigFor script.now opened.config }
     requires founding { opened.founding ≡ record {
@@ -88,8 +85,7 @@ fn run_named<J: Live + Send + Sync, R: Threads + Wait + Sync, G: Gate>(
       epoch_end = J.epoch_end;
       recovery = J.recovery;
     } }
-    ensures ok { IfOk result (IsRunOf script.now) }
-    ensures err { IfErr result (Fails script.now) }
+    ensures { IfOk result (IsRunOf script.now) }
 {
     let ClusterParts {
         cluster,

@@ -1,6 +1,6 @@
 -- What an audit answers, by what its parts found.
-use Rattle.std.proofs.Common.{◌≡◌, ◌≢◌, List, Result, Ok, Err, IfOk, IfErr, refl, subst, sym}
-use Rattle.fdb_history.specs.Audit.{IsAudited, IsFirstFault, IsOfAnAnswer, Low}
+use Rattle.std.proofs.Common.{◌≡◌, List, Result, Ok, Err, IfOk, IfErr, refl, subst, sym}
+use Rattle.fdb_history.specs.Audit.{IsAudited, IsFirstFault, Low}
 use Rattle.fdb_history.specs.Faults.{IsFaultless, OutOfOrder, WronglyAnswered, IsClash, IsGap, Nowhere, AtNoPosition}
 use Rattle.fdb_history.specs.Linear.{IsLinear}
 use Rattle.fdb_history.specs.Strays.{IsStray}
@@ -40,20 +40,3 @@ pub audited_complete : (start : Record) (chain : List Issued) (logs : List Clien
 audited_complete start chain logs (Ok answered) audited history explains no_stray none_low = tt
 audited_complete start chain logs (Err fault) audited history explains no_stray none_low =
     fault_of_linear start chain logs (faultless start logs history explains) no_stray none_low fault audited
-
--- where the history has no fault, the first that stands is one of an answer
-of_an_answer : (start : Record) (chain : List Issued) (logs : List ClientLog) (fault : AuditFault) → IsFaultless start logs → IsFirstFault start chain logs fault → fault ≢ Memory
-    → IsOfAnAnswer fault
-of_an_answer start chain logs (Order client call) none first other = none.order client call first.stands
-of_an_answer start chain logs (Clash position) none first other = none.clash position first.1.stands
-of_an_answer start chain logs (Gap position) none first other = none.gap position first.2.stands
-of_an_answer start chain logs (Wrong client call) none first other = none.wrong client call first.3.stands
-of_an_answer start chain logs (Stray client call) none first other = tt
-of_an_answer start chain logs (NotAbove client call) none first other = tt
-of_an_answer start chain logs Memory none first other = other refl
-
--- and so of what an audit answers there
-pub others_of_an_answer : (start : Record) (chain : List Issued) (logs : List ClientLog) (result : Result History AuditFault) → IsFaultless start logs → IsAudited start chain logs result
-    → IfErr result (λ fault. fault ≢ Memory → IsOfAnAnswer fault)
-others_of_an_answer start chain logs (Ok history) none audited = tt
-others_of_an_answer start chain logs (Err fault) none audited = of_an_answer start chain logs fault none audited

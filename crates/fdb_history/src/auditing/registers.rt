@@ -58,20 +58,6 @@ pub(crate) fn registers_of(
     if position <= greatest_position(logs) {
         return Err(AuditFault::Gap { position });
     }
-    let registers = after_each(alloc, start, changes)?;
-    Ok(registers)
-}
-
-/// The register before any change and after each of these in turn. They are looked at no further:
-/// where each stands at its place, these are the registers at the positions.
-pub(crate) fn after_each(
-    alloc: Global,
-    start: Record,
-    changes: &[PlacedChange],
-) -> Result<Registers, AllocError>
-    ensures begins { IfOk result (λ registers. registers.start ≡ start) }
-    ensures table { IfOk result (λ registers. IsTable start changes.now registers.table.items) }
-{
     let table = table_of(alloc, start, changes)?;
     Ok(Registers { start, table })
 }

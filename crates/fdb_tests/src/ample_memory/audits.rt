@@ -286,13 +286,10 @@ impl Left {
 
 /// Whether the history that an audit has found is found again, where no fault of it is looked for.
 fn found_again(left: &Left, history: &History) -> Option<bool>
-    requires few { length left.now.logs.items ≤ 2 ^ 32 }
-    requires linear { IsLinear left.now.start left.now.logs.items history.now.events }
+    requires { length left.now.logs.items ≤ 2 ^ 32 }
 {
-    explained_logs_are_faultless();
-    match history_of(left.alloc, left.start, &left.chain, &left.logs) {
+    match history_of(left.alloc, &left.logs) {
         Ok(again) => Some(again.events == history.events),
-        Err(AuditFault::Memory) => None,
-        Err(_) => Some(false),
+        Err(_) => None,
     }
 }

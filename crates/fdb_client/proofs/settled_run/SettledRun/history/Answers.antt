@@ -1,12 +1,20 @@
-use Rattle.std.proofs.Common.{List, subst}
-use Rattle.fdb_history.specs.Audit.{IsAudited}
-use Rattle.fdb_history.specs.declared.chain.Issued.{Issued}
+use Rattle.std.proofs.Common.{◌≡◌, List, IfOk, subst}
+use Rattle.std.proofs.lemmas.Result.{IfOk-weaker}
+use Rattle.fdb_history.specs.Explained.{explained}
+use Rattle.fdb_history.specs.Faults.{IsFaultless}
+use Rattle.fdb_history.specs.Linear.{IsLinear}
 use Rattle.fdb_history.specs.declared.log.ClientLog.{ClientLog}
-use Rattle.fdb_client.proofs.Strays.{memory_alone}
+use Rattle.fdb_history.specs.declared.register.Record.{Record}
 use Rattle.fdb_client.proofs.settled_run.SettledRun.history.Goals as goal
 
-pub returns-clause-memory : goal.returns-clause-memory
-returns-clause-memory c =
+pub returns-clause-linear : goal.returns-clause-linear
+returns-clause-linear c =
     let run = c.args.self.now in
-    let audited = subst (λ (p : List Issued × List ClientLog). IsAudited run.start p.0 p.1 c.history_of.result) (λ i. (c.deref.ensures.value i, c.deref-2.ensures.value i)) c.history_of.ensures.audited in
-    memory_alone run.start run.chain.items run.logs.items c.history_of.result run.faultless run.justified run.above audited
+    IfOk-weaker c.history_of.result _ (λ history. IsLinear run.start run.logs.items history.events) (λ history linear. linear run.start run.faultless)
+    (subst (λ (logs : List ClientLog). IfOk c.history_of.result (λ history. (start : Record) → IsFaultless start logs → IsLinear start logs history.events)) c.deref.ensures.value c.history_of.ensures.linear)
+
+pub returns-clause-in_order : goal.returns-clause-in_order
+returns-clause-in_order c =
+    let run = c.args.self.now in
+    IfOk-weaker c.history_of.result _ (λ history. history.events ≡ explained run.logs.items) (λ history in_order. in_order run.start run.faultless)
+    (subst (λ (logs : List ClientLog). IfOk c.history_of.result (λ history. (start : Record) → IsFaultless start logs → history.events ≡ explained logs)) c.deref.ensures.value c.history_of.ensures.in_order)

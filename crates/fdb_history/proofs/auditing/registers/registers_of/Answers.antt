@@ -1,4 +1,4 @@
-use Rattle.std.proofs.Common.{ap, get_or, ◌∙◌, arith}
+use Rattle.std.proofs.Common.{◌∙◌, arith}
 use Rattle.fdb_history.specs.declared.auditing.changes.PlacedChange.{PlacedChange}
 use Rattle.fdb_history.proofs.faults.ChangeFaults.{none-at-zero, no-clash, gap-least, no-gap}
 use Rattle.fdb_history.proofs.faults.RegisterTable.{table-right}
@@ -25,7 +25,5 @@ returns-clause-no_gap c =
 pub returns-clause-ok : goal.returns-clause-ok
 returns-clause-ok c = λ position reached.
     let within = c.greatest_position.ensures.above position reached in
-    let registers = c.in_ok-registers.registers in
-    ap (get_or registers.table.items position) c.in_ok-registers.ensures.begins
-    ∙ table-right c.args.start c.args.logs.now c.args.changes.now registers.table.items c.first_missing-position.result c.requires.same
-    (no-clash c.args.logs.now c.args.changes.now c.requires.same c.in_default.ensures) c.first_missing-position.ensures.in_turn c.in_ok-registers.ensures.table position (omega arith)
+    table-right c.args.start c.args.logs.now c.args.changes.now c.in_ok-table.table.items c.first_missing-position.result c.requires.same
+    (no-clash c.args.logs.now c.args.changes.now c.requires.same c.in_default.ensures) c.first_missing-position.ensures.in_turn c.in_ok-table.ensures position (omega arith)
