@@ -4,7 +4,7 @@ use crate::fault::Fault;
 use crate::load::Load;
 use crate::measured::Measured;
 use crate::team::Team;
-use crate::{asking, auditing, queueing, sequencing, serving, throttling};
+use crate::{asking, auditing, drawing, queueing, sequencing, serving, throttling};
 use anyhow::{Context, Result, ensure};
 use std::alloc::Global;
 use std::sync::Wait;
@@ -36,6 +36,9 @@ pub(crate) enum Benchmark {
     /// Requests for commit versions by threads that share a
     /// sequencer. The size is how many there are.
     Sequencer(Team),
+    /// Requests for commit versions by threads that share a master, with tokens. The size is how many
+    /// there are.
+    Master(Team),
     /// Calls on a live record. The load says what the size is.
     Live(Load),
 }
@@ -55,6 +58,9 @@ impl Benchmark {
         Benchmark::Sequencer(Team::One),
         Benchmark::Sequencer(Team::Two),
         Benchmark::Sequencer(Team::Four),
+        Benchmark::Master(Team::One),
+        Benchmark::Master(Team::Two),
+        Benchmark::Master(Team::Four),
         Benchmark::Live(Load::Reads(Team::One)),
         Benchmark::Live(Load::Reads(Team::Two)),
         Benchmark::Live(Load::Reads(Team::Four)),
@@ -86,6 +92,9 @@ impl Benchmark {
             Benchmark::Sequencer(Team::One) => "sequencer_of_one",
             Benchmark::Sequencer(Team::Two) => "sequencer_of_two",
             Benchmark::Sequencer(Team::Four) => "sequencer_of_four",
+            Benchmark::Master(Team::One) => "master_of_one",
+            Benchmark::Master(Team::Two) => "master_of_two",
+            Benchmark::Master(Team::Four) => "master_of_four",
             Benchmark::Live(load) => load.name(),
         }
     }
@@ -110,7 +119,7 @@ impl Benchmark {
     /// Whether threads do it side by side, so that wall time is what counts.
     fn is_shared(self) -> bool {
         match self {
-            Benchmark::Sequencer(_) => true,
+            Benchmark::Sequencer(_) | Benchmark::Master(_) => true,
             Benchmark::Live(load) => load.is_shared(),
             _ => false,
         }
@@ -166,6 +175,7 @@ impl Benchmark {
             Benchmark::Waits => queueing::waits(rt, alloc, size),
             Benchmark::Audit => auditing::audits(rt, alloc, size),
             Benchmark::Sequencer(team) => sequencing::asks(rt, alloc, team.threads(), size),
+            Benchmark::Master(team) => drawing::draws(rt, alloc, team.threads(), size),
             Benchmark::Live(load) => serving::measure(rt, alloc, load, size),
         }
     }

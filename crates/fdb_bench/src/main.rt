@@ -12,6 +12,7 @@ mod auditing;
 mod batching;
 mod benchmark;
 mod checksum;
+mod drawing;
 mod draws;
 mod fault;
 mod load;

@@ -3,6 +3,7 @@
 ghost use Rattle.std.specs.Prelude.{◌≡◌, ◌*◌, ◌<◌, ◌≤◌, ℕ, [], false, true, IfOk, Some};
 ghost use Rattle.fdb_history.specs.Faults.{IsFaultless};
 ghost use Rattle.fdb_history.specs.Strays.{issued_under};
+ghost use Rattle.fdb_live.specs.Holding.{least_above};
 ghost use Rattle.fdb_live.specs.Seen.{last_record};
 
 use fdb_client::{Client, ClientError, ReadVersion, settle};
@@ -61,6 +62,36 @@ pub fn commit_and_read<J: Live, R: Wait>(
     Ok((issued, read))
 }
 
+/// A client commits, and its next commit version is above that.
+pub fn commit_and_ask<J: Live, R: Wait>(
+    rt: &R,
+    client: &mut Client<'_, J>,
+    first: u64,
+    second: u64,
+) -> Result<(u64, u64), ClientError>
+    ensures { IfOk result (λ versions. versions.0 < versions.1) }
+{
+    let one = client.ask(rt, &OpenGate, 0, first)?;
+    client.report(rt, &OpenGate, one.num, false, None, 0)?;
+    let two = client.ask(rt, &OpenGate, 0, second)?;
+    Ok((one.version, two.version))
+}
+
+/// Who was told draws a version above the one that the teller had drawn.
+pub fn ask_once_told<J: Live, R: Wait>(
+    rt: &R,
+    teller: &mut Client<'_, J>,
+    learner: &mut Client<'_, J>,
+    at: u64,
+) -> Result<(u64, u64), ClientError>
+    ensures { IfOk result (λ versions. versions.0 < versions.1) }
+{
+    let one = teller.ask(rt, &OpenGate, 0, at)?;
+    tell(rt, teller, learner)?;
+    let two = learner.ask(rt, &OpenGate, 0, at)?;
+    Ok((one.version, two.version))
+}
+
 /// Who was told reads no older version than the teller had read.
 pub fn read_once_told<J: Live, R: Wait>(
     rt: &R,
@@ -106,6 +137,8 @@ pub fn tell<J: Live, R: Wait>(
     ensures stays { teller.new.changes ≡ teller.old.changes }
     ensures knows { IfOk result (λ _. (last_record J.start teller.old.changes).version
         ≤ (last_record J.start learner.new.changes).version) }
+    ensures drew { IfOk result
+        (λ _. least_above teller.old.answers ≤ least_above learner.new.answers) }
 {
     let told = teller.tell(learner.number())?;
     match learner.learn(rt, teller.number(), told) {

@@ -3,13 +3,15 @@
 ghost use Rattle.std.specs.Prelude.{◌≡◌, ◌≤◌, IfOk};
 ghost use Rattle.fdb_client.specs.Cluster.{IsClusterConfig};
 ghost use Rattle.fdb_client.specs.Settling.{AreNew};
+ghost use Rattle.fdb_history.specs.Faults.{Nowhere};
 ghost use Rattle.fdb_history.specs.Linear.{IsLinear};
+ghost use Rattle.fdb_history.specs.Strays.{IsStray};
 
 use fdb_client::{
     Client, Cluster, ClusterConfig, ClusterParts, FinishError, Finished, OpenedCluster, Served,
     SettledRun, Workload, WorkloadError, WorkloadOutcome, clients_of, run_workload, serve_while,
 };
-use fdb_history::{AuditFault, GrvOpts, History, OpenGate, Priority, Sequence};
+use fdb_history::{GrvOpts, History, OpenGate, Priority, Sequence};
 use fdb_live::Live;
 use fdb_proxy::Desk;
 use std::alloc::{AllocError, Global};
@@ -23,7 +25,7 @@ pub fn read_side_by_side<J: Live + Send + Sync, R: Threads + Wait + Sync>(
     rt: &R,
     alloc: Global,
     opened: OpenedCluster<'_>,
-) -> Result<(SettledRun, Result<History, AuditFault>), WorkloadError>
+) -> Result<(SettledRun, Result<History, AllocError>), WorkloadError>
     requires { opened.founding ≡ record {
       table = J.table;
       start = J.start;
@@ -80,16 +82,19 @@ fn read<J: Live, R: Wait>(rt: &R, alloc: Global, desk: &Desk<J>, client: &mut Cl
     let _read = client.read_version(rt, &OpenGate, desk, opts);
 }
 
-/// Whatever a workload does, one history of the register explains what its clients were answered.
+/// Whatever a workload does, one history of the register explains what its clients were answered,
+/// and no answer is stray: each commit version was issued to the one call that drew it.
 pub fn run_whole<R: Threads + Wait + Sync, W: Workload<R> + Drop>(
     rt: &R,
     alloc: Global,
     config: ClusterConfig<'_>,
     workload: W,
-) -> Result<(WorkloadOutcome<W::Output>, Result<History, AuditFault>), WorkloadError>
+) -> Result<(WorkloadOutcome<W::Output>, Result<History, AllocError>), WorkloadError>
     requires { IsClusterConfig config }
-    ensures { IfOk result (λ left. IfOk left.1 (λ history.
+    ensures linear { IfOk result (λ left. IfOk left.1 (λ history.
         IsLinear config.entry.start left.0.run.logs.items history.events)) }
+    ensures justified { IfOk result
+        (λ left. Nowhere (IsStray left.0.run.chain.items left.0.run.logs.items)) }
 {
     let ran = run_workload(rt, alloc, config, workload)?;
     let history = ran.run.history(alloc);

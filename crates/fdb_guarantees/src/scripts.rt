@@ -6,9 +6,9 @@ ghost use Rattle.fdb_history.specs.Event.{positions_from, register_after};
 ghost use Rattle.fdb_replay.specs.Outcome.{opening};
 
 use fdb_history::{OpenGate, laws};
-use fdb_replay::{RunFault, run};
+use fdb_replay::run;
 use fdb_script::{Outcome, Script};
-use std::alloc::Global;
+use std::alloc::{AllocError, Global};
 use std::sync::Wait;
 use std::thread::Threads;
 
@@ -18,7 +18,7 @@ pub fn run_within<R: Threads + Wait + Sync>(
     alloc: Global,
     script: &Script,
     proxies: u32,
-) -> Result<Outcome, RunFault>
+) -> Result<Outcome, AllocError>
     requires some_proxy { 0 < proxies }
     requires few_proxies { proxies ≤ MAX_GRV_PROXIES }
     ensures { IfOk result (λ outcome. (place position : ℕ)
