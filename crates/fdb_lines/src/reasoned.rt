@@ -36,7 +36,7 @@ pub fn findings(alloc: Global, log: &Log, opts: &AuditOpts) -> Result<Vec<Findin
     if found.is_empty() {
         return Ok(Vec::new(alloc));
     }
-    let grounds = grounds_of(alloc, log)?;
+    let grounds = grounds_of(alloc, log, &found)?;
     let reasoned = with_reasons(alloc, &tables, &grounds, log, opts, &found)?;
     Ok(reasoned)
 }
@@ -60,8 +60,8 @@ pub fn first_finding(
     let tables = tables_of(alloc, log, opts)?;
     match first_fault_by(alloc, &tables, log, opts)? {
         Some(found) => {
-            let grounds = grounds_of(alloc, log)?;
-            let reason = reason_of(&tables, &grounds, log, opts, found);
+            let grounds = grounds_of(alloc, log, &[found])?;
+            let reason = reason_of(alloc, &tables, &grounds, log, opts, found)?;
             Ok(Some(Finding { found, reason }))
         }
         None => Ok(None),
@@ -87,7 +87,7 @@ fn with_reasons(
     let mut findings = Vec::with_capacity(alloc, found.len())?;
     for one in found {
         let found = *one;
-        let reason = reason_of(tables, grounds, log, opts, found);
+        let reason = reason_of(alloc, tables, grounds, log, opts, found)?;
         findings.push(Finding { found, reason })?;
     }
     Ok(findings)
