@@ -1,11 +1,11 @@
 -- The first line of a version and a group, by when lines ended, found line by line or in a sorted table.
-use Rattle.std.proofs.Common.{◌≡◌, ℕ, ◌+◌, ◌*◌, ◌^◌, ◌<◌, ◌≤◌, nat_lt, true, cond, List, length, Option, None, Some, ap, sym, subst, ◌∙◌, inl, inr, arith}
+use Rattle.std.proofs.Common.{◌≡◌, ℕ, ◌+◌, ◌<◌, ◌≤◌, nat_lt, List, length, Option, None, Some, ap, sym, subst, ◌∙◌, inl, inr, arith}
 use Rattle.std.proofs.lemmas.Bool.{cases_lt, cond-true, cond-false, lt-ltb, le-ltb}
 use Rattle.fdb_lines.specs.declared.line.Line.{Line}
 use Rattle.fdb_lines.specs.declared.mark.Mark.{Mark}
 use Rattle.fdb_lines.specs.declared.sort.Sort.{Sort}
 use Rattle.fdb_lines.specs.Lines.{line_at}
-use Rattle.fdb_lines.specs.private.Marks.{time_in, timed, mark_at, sooner, moment_of, AreMarks, IsEarliest, IsFirstBefore, IsFirstMark, IsMarkOf, IsMarkedAs, IsMarkWith}
+use Rattle.fdb_lines.specs.private.Marks.{time_in, timed, sooner, moment_of, AreMarks, IsEarliest, IsFirstMark, IsMarkOf, IsMarkedAs, IsMarkWith}
 use Rattle.fdb_lines.proofs.Marking.{mark_is, mark_for}
 
 -- ---- line by line
