@@ -12,8 +12,9 @@ use crate::sort::Sort;
 use crate::witnesses::{Witnesses, witnesses_of};
 use std::alloc::{AllocError, Global};
 
-/// For so many faults the lines are gone through; for more a table of them is made.
-const FEW: usize = 8;
+/// For so many faults all lines are gone through, which costs less than to sort them; for more a
+/// table is made of those that are looked for.
+const FEW: usize = 16;
 
 /// The lines by which calls knew of versions, and those that report, draw and ask for them.
 #[derive(Drop)]
@@ -25,8 +26,8 @@ pub(crate) struct Grounds {
     pub(crate) asks: Lookup,
 }
 
-/// What the reasons of these faults are found in: next to no memory for a few, and for more
-/// tables, made in `n log n` of how many lines there are.
+/// What the reasons of these faults are found in: for a few the lines themselves, which takes no
+/// memory, and for more tables, made in `n log n` of how many lines there are.
 pub(crate) fn grounds_of(alloc: Global, log: &Log, found: &[Found]) -> Result<Grounds, AllocError>
     ensures { IfOk result (λ grounds. AreGrounds (lines_of log.now) grounds) }
 {

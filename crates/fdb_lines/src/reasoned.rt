@@ -22,7 +22,8 @@ use std::alloc::{AllocError, Global};
 /// The faults of a log, as [`faults`](crate::faults) lists them, each with why it stands. An error
 /// only where memory is refused.
 ///
-/// `n log n` in how many lines there are, however many faults.
+/// `n log n` in how many lines there are, however many faults. The reasons of a few take next to no
+/// memory, and those of more than 16 up to six entries of 24 bytes for each line.
 pub fn findings(alloc: Global, log: &Log, opts: &AuditOpts) -> Result<Vec<Finding>, AllocError>
     ensures listed { IfOk result (λ findings. map found_of findings.items
         ≡ faults_of (case_of (lines_of log.now) opts.now)) }
@@ -44,7 +45,7 @@ pub fn findings(alloc: Global, log: &Log, opts: &AuditOpts) -> Result<Vec<Findin
 /// The first fault of a log, if there is one, with why it stands. An error only where memory is
 /// refused.
 ///
-/// `n log n` in how many lines there are.
+/// `n log n` in how many lines there are. The reason takes next to no memory.
 pub fn first_finding(
     alloc: Global,
     log: &Log,
