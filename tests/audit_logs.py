@@ -17,6 +17,8 @@ OK, REFUSED, FAULTY = 0, 1, 4
 # How many random logs there are, and how many simulated clusters of each kind.
 # The model looks at what is said of the first few of these.
 RANDOM, SEEDS, LOOKED_AT = 3_000, 20, 2
+# How many long random logs, and how many of the others stand one after the other in each.
+LONG, JOINED = 60, 20
 # What is asked for besides, in turn.
 ASKED = ([], ["--all", "--history"], ["--history"], ["--all"])
 # Lines of two calls, with times and without.
@@ -145,6 +147,18 @@ def random_logs(_program):
         asked = [*words, *ASKED[number % len(ASKED)]]
         fault = why_wrong(given, asked, run([PROGRAM, *asked], given))
         yield name, fault and f"{fault}, of {given} with {asked}"
+
+
+def long_logs(_program):
+    """So are longer ones, most with more faults of one kind than are looked up line by line."""
+    for number in range(LONG):
+        dice = random.Random(f"long {number}")
+        drawn = [it for it in (random_lines(dice) for _ in range(3 * JOINED)) if it]
+        alike = [it for it in drawn if ("began" in it[0]) == ("began" in drawn[0][0])]
+        given = text_of([line for lines in alike[:JOINED] for line in lines])
+        asked = [*random_words(dice), "--all"]
+        fault = why_wrong(given, asked, run([PROGRAM, *asked], given))
+        yield f"log {number}", fault and f"{fault}, of {given} with {asked}"
 
 
 # ---- simulated clusters

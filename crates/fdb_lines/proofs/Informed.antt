@@ -63,9 +63,14 @@ by_client margin seen lines k version (Some a) (Some heard) lt is most has =
           ne (omega arith)))
     ]
 
+pub heard_is : (margin : ℕ) (seen : Seen) (lines : List Line) (k version : ℕ) (heard : Option Heard) (by : Option Witness)
+    → IsNewestOf seen lines k (line_at lines k).client heard → k < length lines → newest_known (by_telling lines) seen lines k ≤ version → by ≡ of_version version heard
+    → IsFound (by_telling lines) margin seen lines k version by
+heard_is margin seen lines k version heard by is_newest lt most is =
+    subst (Found margin seen lines k version) (sym is) (by_client margin seen lines k version (line_at lines k).client heard lt refl most is_newest)
+
 pub told_is : (margin : ℕ) (seen : Seen) (lines : List Line) (k version : ℕ) (heard : List (Option Heard)) (by : Option Witness) → AreHeard seen lines (length lines) heard
     → k < length lines → newest_known (by_telling lines) seen lines k ≤ version → by ≡ of_version version (slice_index_or heard k None)
     → IsFound (by_telling lines) margin seen lines k version by
 told_is margin seen lines k version heard by are lt most is =
-    subst (Found margin seen lines k version) (sym is)
-    (by_client margin seen lines k version (line_at lines k).client (slice_index_or heard k None) lt refl most (are.1 k None lt))
+    heard_is margin seen lines k version (slice_index_or heard k None) by (are.1 k None lt) lt most is

@@ -24,6 +24,7 @@ pub mod Marking
 pub mod Retold
 pub mod Informed
 pub mod Firsts
+pub mod Earliest
 pub mod Reasoning
 pub mod Tallies
 pub mod Witnessing

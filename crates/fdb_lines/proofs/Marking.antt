@@ -1,10 +1,11 @@
 -- The marks of lines, one by one, and the first of a version in a sorted table.
-use Rattle.std.proofs.Common.{◌≡◌, ℕ, ◌<◌, ◌==◌, Bool, true, List, length, ap, sym, subst, ◌∙◌}
+use Rattle.std.proofs.Common.{◌≡◌, ℕ, ◌+◌, ◌<◌, ◌==◌, Bool, true, false, List, [], ◌∷◌, ◌++◌, length, ap, sym, subst, ◌∙◌, inl, inr, arith}
+use Rattle.std.specs.List.{list_any, All}
 use Rattle.std.specs.List.Sorted.{IsPermutation}
-use Rattle.std.proofs.lemmas.Bool.{eqb-true}
+use Rattle.std.proofs.lemmas.Bool.{cases_lt, both_ways, or_left, or_right, eq-eqb, eqb-true}
 use Rattle.std.proofs.lemmas.List.{get_or_default}
-use Rattle.std.proofs.lemmas.List.Elements.{All-get_or}
-use Rattle.std.proofs.lemmas.List.Folds.{Any-from_list_any}
+use Rattle.std.proofs.lemmas.List.Elements.{All-get_or, All-push}
+use Rattle.std.proofs.lemmas.List.Folds.{Any-from_list_any, list_any-append}
 use Rattle.std.proofs.lemmas.List.Sorted.{All-permutation, list_any-IsPermutation}
 use Rattle.fdb_lines.specs.declared.line.Line.{Line}
 use Rattle.fdb_lines.specs.declared.mark.Mark.{Mark}
@@ -29,6 +30,33 @@ marks_moved sort lines n marks moved same are = record {
 
 pub mark_is : (sort : Sort) (lines : List Line) (n : ℕ) (marks : List Mark) → AreMarks sort lines n marks → (i : ℕ) → i < length marks → IsMarkIn sort lines n (mark_at marks i)
 mark_is sort lines n marks are i lt = All-get_or (IsMarkIn sort lines n) marks i no_mark lt are.of
+
+-- line by line
+further : (sort : Sort) (lines : List Line) (k : ℕ) (marks : List Mark) → All (IsMarkIn sort lines k) marks → All (IsMarkIn sort lines (k + 1)) marks
+further sort lines k marks in' i d lt = let is = in' i d lt in let below = is.0 in (omega arith, is.1)
+
+pub unmarked_more : (sort : Sort) (lines : List Line) (k : ℕ) (marks : List Mark) → AreMarks sort lines k marks → is_marked sort (line_at lines k) ≡ false
+    → AreMarks sort lines (k + 1) marks
+unmarked_more sort lines k marks are unmarked = record {
+  of = further sort lines k marks are.of;
+  all = λ j lt marked. elim (cases_lt j k) [
+    | inl less ↦ are.all j less marked
+    | inr ge ↦ let same : j ≡ k = omega arith in absurd (both_ways (is_marked sort (line_at lines k)) unmarked (subst (λ i. is_marked sort (line_at lines i) ≡ true) same marked))
+  ];
+}
+
+pub marked_more : (sort : Sort) (lines : List Line) (k : ℕ) (marks : List Mark) (mark : Mark) → AreMarks sort lines k marks → IsMarkOf sort (line_at lines k) k mark
+    → AreMarks sort lines (k + 1) (marks ++ mark ∷ [])
+marked_more sort lines k marks mark are is =
+    let place = is.4 in
+    let here : IsMarkIn sort lines (k + 1) mark = (omega arith, subst (λ p. IsMarkOf sort (line_at lines p) p mark) (sym is.4) is) in
+    record {
+      of = All-push (IsMarkIn sort lines (k + 1)) marks mark (further sort lines k marks are.of) here;
+      all = λ j lt marked. list_any-append (is_at j) marks (mark ∷ []) ∙ elim (cases_lt j k) [
+        | inl less ↦ or_left (list_any (is_at j) marks) _ (are.all j less marked)
+        | inr ge ↦ or_right (list_any (is_at j) marks) _ (or_left (is_at j mark) _ (eq-eqb mark.place j (omega arith)))
+      ];
+    }
 
 -- each line that is marked has a mark
 pub mark_for : (sort : Sort) (lines : List Line) (n : ℕ) (marks : List Mark) → AreMarks sort lines n marks → (j : ℕ) → j < n → is_marked sort (line_at lines j) ≡ true

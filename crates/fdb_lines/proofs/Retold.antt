@@ -218,7 +218,7 @@ none_yet seen lines q j has counted = both_ways false refl has
 
 -- ---- the list of what was heard of
 
-newest_of : (seen : Seen) (lines : List Line) (k : ℕ) (newest : ℕ → Option Heard) (client : Option ℕ) → ((p : ℕ) → IsNewest seen lines k p (newest p))
+pub newest_of : (seen : Seen) (lines : List Line) (k : ℕ) (newest : ℕ → Option Heard) (client : Option ℕ) → ((p : ℕ) → IsNewest seen lines k p (newest p))
     → IsNewestOf seen lines k client (of_client newest client)
 newest_of seen lines k newest None are = refl
 newest_of seen lines k newest (Some a) are = are a

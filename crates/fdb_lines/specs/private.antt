@@ -9,6 +9,7 @@ pub mod Tables
 pub mod Late
 pub mod Spots
 pub mod Marks
+pub mod Lookup
 pub mod Heard
 pub mod Witnesses
 pub mod Grounds

@@ -1,9 +1,11 @@
 //! The newest version that a client has heard of, and by which line.
 
-ghost use Rattle.std.specs.Prelude.{◌≡◌, ◌≤◌, ℕ, IfOk, OnOk, cond, length, nat_eq};
+ghost use Rattle.std.specs.Prelude.{◌≡◌, ◌≤◌, ◌<◌, ℕ, IfOk, OnOk, cond, length, nat_eq};
 ghost use Rattle.std.specs.HashMap.{get};
 ghost use Rattle.fdb_lines.specs.Before.{is_of};
+ghost use Rattle.fdb_lines.specs.Lines.{line_at};
 ghost use Rattle.fdb_lines.specs.private.Heard.{gained, learnt_by, newer, of_client, AreHeard};
+ghost use Rattle.fdb_lines.specs.private.Heard.{IsNewest, IsNewestOf};
 
 use crate::line::{Call, Line};
 use crate::reason::{Means, Witness};
@@ -35,6 +37,41 @@ pub(crate) fn heard_by_telling(
         hear(&mut newest, line, place as u32, seen)?;
     }
     Ok(heard)
+}
+
+/// Without times: the same for the line at one place. Linear in how many lines there are.
+pub(crate) fn heard_at(
+    alloc: Global,
+    lines: &[Line],
+    place: usize,
+    seen: Seen,
+) -> Result<Option<Heard>, AllocError>
+    requires few { length lines.now ≤ 4294967295 }
+    requires place { place < length lines.now }
+    ensures { IfOk result
+        (λ heard. IsNewestOf seen lines.now place (line_at lines.now place).client heard) }
+{
+    let newest = newest_by(alloc, lines, place, seen)?;
+    Ok(of_client(&newest, lines[place].client))
+}
+
+/// What each client has heard of by the line at a place.
+fn newest_by(
+    alloc: Global,
+    lines: &[Line],
+    place: usize,
+    seen: Seen,
+) -> Result<HashMap<u32, Heard>, AllocError>
+    requires few { length lines.now ≤ 4294967295 }
+    requires place { place < length lines.now }
+    ensures { IfOk result
+        (λ newest. (q : ℕ) → IsNewest seen lines.now place q (get nat_eq newest q)) }
+{
+    let mut newest = HashMap::new(alloc);
+    for above in 0..place {
+        hear(&mut newest, &lines[above], above as u32, seen)?;
+    }
+    Ok(newest)
 }
 
 /// What a client has heard of, where it is known who it is.

@@ -15,6 +15,7 @@ mod known;
 pub mod laws;
 mod line;
 mod log;
+mod lookup;
 mod mark;
 mod marks;
 mod nears;

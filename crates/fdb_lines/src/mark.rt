@@ -9,8 +9,8 @@ use std::cmp::Ordering;
 #[derive(Clone, Copy, Debug, Drop)]
 pub(crate) struct Mark {
     pub(crate) version: u64,
-    pub(crate) group: u32,
     pub(crate) time: u64,
+    pub(crate) group: u32,
     pub(crate) place: u32,
     ghost fits: { (group < 2 ^ 32) × (time < 2 ^ 64) × (place < 2 ^ 32) },
 }
@@ -26,8 +26,8 @@ impl Mark {
     {
         Mark {
             version,
-            group,
             time,
+            group,
             place,
         }
     }

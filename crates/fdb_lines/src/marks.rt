@@ -1,8 +1,8 @@
 //! A table of the marks of lines, in which the first of a version is found by a search.
 
-ghost use Rattle.std.specs.Prelude.{◌≡◌, ◌≤◌, ◌+◌, ◌*◌, ◌^◌, IfOk, List, length};
+ghost use Rattle.std.specs.Prelude.{◌≡◌, ◌≤◌, [], IfOk, List, length};
 ghost use Rattle.std.specs.List.Sorted.{IsNonDecreasingBy};
-ghost use Rattle.fdb_lines.specs.private.Marks.{mark_key, AreMarks, IsFirstBefore, IsFirstMark};
+ghost use Rattle.fdb_lines.specs.private.Marks.{mark_key, AreMarks, IsFirstMark};
 ghost use Rattle.fdb_lines.specs.declared.line.Line.{Line};
 ghost use Rattle.fdb_lines.specs.declared.sort.Sort.{Sort};
 ghost use Rattle.fdb_lines.specs.private.Marks.{is_marked_at, IsBare, IsFirstFrom};
@@ -10,7 +10,7 @@ ghost use Rattle.fdb_lines.specs.private.Marks.{IsMarksFront};
 
 use crate::line::Line;
 use crate::mark::Mark;
-use crate::sort::{Sort, mark_of};
+use crate::sort::{Sort, is_marked, mark_of};
 use std::alloc::{AllocError, Global};
 use std::cmp::Ordering;
 
@@ -57,24 +57,6 @@ impl Marks {
             None => None,
         }
     }
-
-    /// The line of the first mark of a version and a group, if that stands before a moment.
-    pub(crate) fn first_before(
-        &self,
-        version: u64,
-        group: u32,
-        time: u64,
-        place: u32,
-    ) -> Option<u32>
-        ensures { IsFirstBefore self.now.marks.items version group (time * 2 ^ 32 + place) result }
-    {
-        let first = self.first(version, group, 0)?;
-        if first.time < time || (first.time == time && first.place < place) {
-            Some(first.place)
-        } else {
-            None
-        }
-    }
 }
 
 /// The marks of lines, line by line.
@@ -82,13 +64,21 @@ fn marks_of(alloc: Global, lines: &[Line], sort: Sort) -> Result<Vec<Mark>, Allo
     requires { length lines.now ≤ 4294967295 }
     ensures { IfOk result (λ marks. AreMarks sort lines.now (length lines.now) marks.items) }
 {
-    let mut marks = Vec::new(alloc);
+    let mut marks = room_for(alloc, lines, sort)?;
     for (place, line) in lines.iter().enumerate() {
         if let Some(mark) = mark_of(line, place as u32, sort) {
             marks.push(mark)?;
         }
     }
     Ok(marks)
+}
+
+/// Room for the marks of lines, and no more.
+fn room_for(alloc: Global, lines: &[Line], sort: Sort) -> Result<Vec<Mark>, AllocError>
+    ensures { IfOk result (λ marks. marks.items ≡ []) }
+{
+    let many = lines.iter().filter(|line| is_marked(line, sort)).count();
+    Vec::with_capacity(alloc, many)
 }
 
 /// How many stand before one in the table.

@@ -22,7 +22,8 @@ use std::alloc::{AllocError, Global};
 /// The faults of a log, as [`faults`](crate::faults) lists them, each with why it stands. An error
 /// only where memory is refused.
 ///
-/// `n log n` in how many lines there are, however many faults.
+/// `n log n` in how many lines there are, however many faults. The reasons of a few take next to no
+/// memory, and those of more than 16 up to six entries of 24 bytes for each line.
 pub fn findings(alloc: Global, log: &Log, opts: &AuditOpts) -> Result<Vec<Finding>, AllocError>
     ensures listed { IfOk result (λ findings. map found_of findings.items
         ≡ faults_of (case_of (lines_of log.now) opts.now)) }
@@ -36,7 +37,7 @@ pub fn findings(alloc: Global, log: &Log, opts: &AuditOpts) -> Result<Vec<Findin
     if found.is_empty() {
         return Ok(Vec::new(alloc));
     }
-    let grounds = grounds_of(alloc, log)?;
+    let grounds = grounds_of(alloc, log, &found)?;
     let reasoned = with_reasons(alloc, &tables, &grounds, log, opts, &found)?;
     Ok(reasoned)
 }
@@ -44,7 +45,7 @@ pub fn findings(alloc: Global, log: &Log, opts: &AuditOpts) -> Result<Vec<Findin
 /// The first fault of a log, if there is one, with why it stands. An error only where memory is
 /// refused.
 ///
-/// `n log n` in how many lines there are.
+/// `n log n` in how many lines there are. The reason takes next to no memory.
 pub fn first_finding(
     alloc: Global,
     log: &Log,
@@ -60,8 +61,8 @@ pub fn first_finding(
     let tables = tables_of(alloc, log, opts)?;
     match first_fault_by(alloc, &tables, log, opts)? {
         Some(found) => {
-            let grounds = grounds_of(alloc, log)?;
-            let reason = reason_of(&tables, &grounds, log, opts, found);
+            let grounds = grounds_of(alloc, log, &[found])?;
+            let reason = reason_of(alloc, &tables, &grounds, log, opts, found)?;
             Ok(Some(Finding { found, reason }))
         }
         None => Ok(None),
@@ -87,7 +88,7 @@ fn with_reasons(
     let mut findings = Vec::with_capacity(alloc, found.len())?;
     for one in found {
         let found = *one;
-        let reason = reason_of(tables, grounds, log, opts, found);
+        let reason = reason_of(alloc, tables, grounds, log, opts, found)?;
         findings.push(Finding { found, reason })?;
     }
     Ok(findings)

@@ -32,7 +32,8 @@ pub(crate) fn mark_of(line: &Line, place: u32, sort: Sort) -> Option<Mark>
     Some(Mark::new(version, group_in(line, sort), time_in(line, sort), place))
 }
 
-fn is_marked(line: &Line, sort: Sort) -> bool
+/// Whether a line is of a sort.
+pub(crate) fn is_marked(line: &Line, sort: Sort) -> bool
     ensures { result ≡ is_marked sort line.now }
 {
     match sort {

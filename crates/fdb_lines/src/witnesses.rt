@@ -1,23 +1,21 @@
 //! Finds the line by which a call knew of a version, in a log with times or without.
 
-ghost use Rattle.std.specs.Prelude.{◌≡◌, ◌+◌, ◌*◌, ◌^◌, ◌≤◌, ◌<◌, IfOk, List, Option};
+ghost use Rattle.std.specs.Prelude.{◌≡◌, ◌+◌, ◌*◌, ◌^◌, ◌≤◌, ◌<◌, IfOk, Option};
 ghost use Rattle.std.specs.Prelude.{length, slice_index_or};
 ghost use Rattle.fdb_lines.specs.Before.{began, by_time, comes_before};
-ghost use Rattle.fdb_lines.specs.Lines.{line_at};
 ghost use Rattle.fdb_lines.specs.Log.{lines_of};
 ghost use Rattle.fdb_lines.specs.declared.heard.Heard.{Heard};
-ghost use Rattle.fdb_lines.specs.declared.line.Line.{Line};
 ghost use Rattle.fdb_lines.specs.declared.sort.Sort.TheVariants.{Ended, Own};
 ghost use Rattle.fdb_lines.specs.declared.seen.Seen.{Seen};
 ghost use Rattle.fdb_lines.specs.private.Heard.{of_version};
 ghost use Rattle.fdb_lines.specs.private.Known.{newest_known};
-ghost use Rattle.fdb_lines.specs.private.Marks.{AreMarks};
+ghost use Rattle.fdb_lines.specs.private.Lookup.{IsLookup};
 ghost use Rattle.fdb_lines.specs.private.Witnesses.{AreWitnesses, IsFirstOwn, IsFound};
 
-use crate::heard::{Heard, heard_by_telling};
+use crate::heard::{Heard, heard_at, heard_by_telling};
 use crate::line::Line;
 use crate::log::Log;
-use crate::marks::Marks;
+use crate::lookup::Lookup;
 use crate::reason::{Means, Witness};
 use crate::seen::Seen;
 use crate::sort::Sort;
@@ -27,85 +25,99 @@ use std::alloc::{AllocError, Global};
 #[derive(Drop)]
 pub(crate) enum Witnesses {
     /// With times: the lines that ended, of all clients and by client.
-    Timed(Marks, Marks),
+    Timed(Lookup, Lookup),
     /// Without times: what the client of each line had heard of.
     Told(Vec<Option<Heard>>),
+    /// Without times: what clients had heard of is found anew for each call.
+    Telling(Seen),
 }
 
-/// The lines by which the calls of a log knew of versions. `n log n` in how many it has.
-pub(crate) fn witnesses_of(alloc: Global, log: &Log, seen: Seen) -> Result<Witnesses, AllocError>
+/// The lines by which the calls of a log knew of versions. Where they are asked for many calls,
+/// tables are made: with times in `n log n` of how many lines there are, without in `n`.
+pub(crate) fn witnesses_of(
+    alloc: Global,
+    log: &Log,
+    seen: Seen,
+    many: bool,
+) -> Result<Witnesses, AllocError>
     ensures { IfOk result (λ witnesses. AreWitnesses (lines_of log.now) seen witnesses) }
 {
-    let lines = log.lines();
     if log.is_timed() {
-        let ended = Marks::new(alloc, lines, Sort::Ended(seen))?;
-        let own = Marks::new(alloc, lines, Sort::Own(seen))?;
+        let ended = Lookup::new(alloc, log, Sort::Ended(seen), many)?;
+        let own = Lookup::new(alloc, log, Sort::Own(seen), many)?;
         Ok(Witnesses::Timed(ended, own))
-    } else {
-        let heard = heard_by_telling(alloc, lines, seen)?;
+    } else if many {
+        let heard = heard_by_telling(alloc, log.lines(), seen)?;
         Ok(Witnesses::Told(heard))
+    } else {
+        Ok(Witnesses::Telling(seen))
     }
 }
 
 impl Witnesses {
     /// A line by which the call at a place knew of a version, where that is as new as all that it
-    /// knew, and how it knew of the line. Logarithmic.
-    pub(crate) fn of(&self, log: &Log, margin: u64, place: usize, version: u64) -> Option<Witness>
+    /// knew, and how it knew of the line. Logarithmic where tables were made, else linear.
+    pub(crate) fn of(
+        &self,
+        alloc: Global,
+        log: &Log,
+        margin: u64,
+        place: usize,
+        version: u64,
+    ) -> Result<Option<Witness>, AllocError>
         requires { place < length (lines_of log.now).lines }
         ensures { (seen : Seen) → let lines = lines_of log.now in
             let before = comes_before lines.timed margin lines.lines in
             AreWitnesses lines seen self.now
             → newest_known before seen lines.lines place ≤ version
-            → IsFound before margin seen lines.lines place version result }
+            → IfOk result (λ by. IsFound before margin seen lines.lines place version by) }
     {
         match self {
             Witnesses::Timed(ended, own) => {
-                by_time(
-                    ended,
-                    own,
-                    &log.lines()[place],
-                    margin,
-                    place as u32,
-                    version,
-                )
+                Ok(by_time(ended, own, log, margin, place as u32, version))
             }
-            Witnesses::Told(heard) => by_telling(heard, place, version),
+            Witnesses::Told(heard) => Ok(by_telling(heard, place, version)),
+            Witnesses::Telling(seen) => {
+                let heard = heard_at(alloc, log.lines(), place, *seen)?;
+                Ok(of_version(heard, version))
+            }
         }
     }
 }
 
 /// By time: the first line that shows a version to end, or the client's own.
 fn by_time(
-    ended: &Marks,
-    own: &Marks,
-    line: &Line,
+    ended: &Lookup,
+    own: &Lookup,
+    log: &Log,
     margin: u64,
     place: u32,
     version: u64,
 ) -> Option<Witness>
-    ensures { (seen : Seen) (lines : List Line) → length lines ≤ 4294967295
-        → line.now ≡ line_at lines place
-        → AreMarks (Ended seen) lines (length lines) ended.now.marks.items
-        → AreMarks (Own seen) lines (length lines) own.now.marks.items
+    requires { place < length (lines_of log.now).lines }
+    ensures { (seen : Seen) → let lines = (lines_of log.now).lines in
+        IsLookup (Ended seen) lines ended.now → IsLookup (Own seen) lines own.now
         → IsFound (by_time margin lines) margin seen lines place version result }
 {
+    let line = &log.lines()[place as usize];
     let before = line.began().saturating_sub(margin);
-    match ended.first_before(version, 0, before, 0) {
+    match ended.first_before(log, version, 0, before, 0) {
         Some(line) => Some(Witness {
             line,
             means: Means::Ended,
         }),
-        None => own_by_time(own, line, place, version),
+        None => own_by_time(own, log, line, place, version),
     }
 }
 
 /// By time: the client's own line that is the first to show a version, if it had ended.
-fn own_by_time(own: &Marks, line: &Line, place: u32, version: u64) -> Option<Witness>
-    ensures { IsFirstOwn own.now.marks.items version line.now.client
+fn own_by_time(own: &Lookup, log: &Log, line: &Line, place: u32, version: u64) -> Option<Witness>
+    ensures { (seen : Seen) → let lines = (lines_of log.now).lines in
+        IsLookup (Own seen) lines own.now → IsFirstOwn seen lines version line.now.client
         (began line.now * 2 ^ 32 + place) result }
 {
     let client = line.client?;
-    let line = own.first_before(version, client, line.began(), place)?;
+    let line = own.first_before(log, version, client, line.began(), place)?;
     let means = Means::Own;
     Some(Witness { line, means })
 }

@@ -8,15 +8,15 @@ use Rattle.fdb_lines.specs.declared.seen.Seen.TheVariants.{Shown, Drawn}
 use Rattle.fdb_lines.specs.declared.sort.Sort.TheVariants.{Reports, Draws, Asks}
 use Rattle.fdb_lines.specs.Faults.{stands}
 use Rattle.fdb_lines.specs.Lines.{Case, Lines}
-use Rattle.fdb_lines.specs.private.Marks.{AreMarks}
+use Rattle.fdb_lines.specs.private.Lookup.{IsLookup}
 use Rattle.fdb_lines.specs.private.Witnesses.{AreWitnesses}
 
 pub record AreGrounds (log : Lines) (grounds : Grounds) : Type 0 where
   pub shown : AreWitnesses log Shown grounds.shown
   pub drawn : AreWitnesses log Drawn grounds.drawn
-  pub reports : AreMarks Reports log.lines (length log.lines) grounds.reports.marks.items
-  pub draws : AreMarks Draws log.lines (length log.lines) grounds.draws.marks.items
-  pub asks : AreMarks Asks log.lines (length log.lines) grounds.asks.marks.items
+  pub reports : IsLookup Reports log.lines grounds.reports
+  pub draws : IsLookup Draws log.lines grounds.draws
+  pub asks : IsLookup Asks log.lines grounds.asks
 
 abbrev pub drawn_by : Option ℕ → Reason
 drawn_by None = Undrawn

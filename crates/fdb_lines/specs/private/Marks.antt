@@ -1,5 +1,5 @@
 -- The marks of lines: by version, whose they are, time and place.
-use Rattle.std.specs.Prelude.{◌≡◌, ℕ, ◌+◌, ◌*◌, ◌^◌, ◌<◌, ◌≤◌, ◌==◌, ◌&&◌, Bool, true, false, List, Option, None, Some, is_some, unwrap_or, length, slice_index_or}
+use Rattle.std.specs.Prelude.{◌≡◌, ℕ, ◌+◌, ◌*◌, ◌^◌, ◌<◌, ◌≤◌, ◌==◌, nat_lt, ◌&&◌, Bool, true, false, cond, List, Option, None, Some, is_some, unwrap_or, length, slice_index_or}
 use Rattle.std.specs.List.{list_any, All}
 use Rattle.std.proofs.Math.Dec.{lit<}
 use Rattle.fdb_lines.specs.declared.line.Line.{Line}
@@ -81,13 +81,38 @@ IsFirstMark marks version group place (Some mark) =
     ((i : ℕ) × (i < length marks) × (mark ≡ mark_at marks i)) × ComesFrom version group place mark
     × ((i : ℕ) → i < length marks → ComesFrom version group place (mark_at marks i) → timed mark ≤ timed (mark_at marks i))
 
--- the place of the first mark of a version and a group, if that comes before a moment
-abbrev pub IsFirstBefore : List Mark → ℕ → ℕ → ℕ → Option ℕ → Type 0
-IsFirstBefore marks version group moment None =
-    (i : ℕ) → i < length marks → ComesFrom version group 0 (mark_at marks i) → moment ≤ timed (mark_at marks i)
-IsFirstBefore marks version group moment (Some place) =
-    (i : ℕ) × (i < length marks) × ComesFrom version group 0 (mark_at marks i) × (timed (mark_at marks i) < moment)
-    × (place ≡ (mark_at marks i).place)
+-- ---- the first line of a version and a group, by when lines ended and by place
+
+-- a line is marked with a version and a group
+abbrev pub IsMarkedAs : Sort → ℕ → ℕ → Line → Type 0
+IsMarkedAs sort version group line = (is_marked sort line ≡ true) × (version_of line.call ≡ version) × (group_in sort line ≡ group)
+
+-- the mark of the line at a place, if it is marked so
+abbrev pub IsMarkWith : Sort → ℕ → ℕ → Line → ℕ → Option Mark → Type 0
+IsMarkWith sort version group line place None = IsMarkedAs sort version group line → ⊥
+IsMarkWith sort version group line place (Some mark) = IsMarkOf sort line place mark × (mark.version ≡ version) × (mark.group ≡ group)
+
+abbrev pub sooner : Option Mark → Option Mark → Option Mark
+sooner None other = other
+sooner (Some one) None = Some one
+sooner (Some one) (Some other) = Some (cond (nat_lt other.time one.time) other one)
+
+abbrev pub moment_of : Sort → List Line → ℕ → ℕ
+moment_of sort lines j = time_in sort (line_at lines j) * 2 ^ 32 + j
+
+-- of the first n lines that are marked so, this is the mark of the first
+abbrev pub IsEarliest : Sort → List Line → ℕ → ℕ → ℕ → Option Mark → Type 0
+IsEarliest sort lines version group n None = (j : ℕ) → j < n → IsMarkedAs sort version group (line_at lines j) → ⊥
+IsEarliest sort lines version group n (Some mark) =
+    (mark.place < n) × IsMarkedAs sort version group (line_at lines mark.place) × (mark.time ≡ time_in sort (line_at lines mark.place))
+    × ((j : ℕ) → j < n → IsMarkedAs sort version group (line_at lines j) → timed mark ≤ moment_of sort lines j)
+
+-- its place, if it comes before a moment
+abbrev pub IsFirstBefore : Sort → List Line → ℕ → ℕ → ℕ → Option ℕ → Type 0
+IsFirstBefore sort lines version group moment None =
+    (j : ℕ) → j < length lines → IsMarkedAs sort version group (line_at lines j) → moment ≤ moment_of sort lines j
+IsFirstBefore sort lines version group moment (Some j) =
+    (j < length lines) × IsMarkedAs sort version group (line_at lines j) × (moment_of sort lines j < moment)
 
 -- ---- the first line of some, from a place on
 

@@ -16,11 +16,11 @@ loop-one-preserved c =
     let before = c.loop-one.findings.items in
     let first : Found = record { line = 0; fault = Order } in
     let found = get_or xs i first in
-    let one : Finding = record { found = found; reason = c.reason_of-reason.result } in
+    let one : Finding = record { found = found; reason = c.in_ok-reason.reason } in
     let items = c.in_ok-push.ensures.items in
     let Reasoned = HasReason (lines_of c.args.log.now) c.args.opts.now in
     record {
       listed = ap (map found_of) items
           ∙ (map-append found_of before (one ∷ []) ∙ (ap (λ l. l ++ found ∷ []) c.loop-one.invariant.listed ∙ sym (take_more xs i first c.loop-one-test.true)));
-      reasons = subst (All Reasoned) (sym items) (All-push Reasoned before one c.loop-one.invariant.reasons c.reason_of-reason.ensures);
+      reasons = subst (All Reasoned) (sym items) (All-push Reasoned before one c.loop-one.invariant.reasons c.in_ok-reason.ensures);
     }

@@ -17,4 +17,4 @@ returns c =
     let is : version ≡ knows (case_of log opts) k =
     c.knows-version.ensures ∙ (ap (λ n. max n (slice_index shown k)) c.start.ensures ∙ knows_is (case_of log opts) c.args.tables.now c.requires.tables k c.requires.place) in
     let most : newest log opts Shown k ≤ version = omega arith in
-    order_is log opts k version c.of-by.result c.requires.stands is (c.of-by.ensures Shown c.requires.grounds.shown most)
+    order_is log opts k version c.in_ok-by.by c.requires.stands is (c.in_ok-by.ensures Shown c.requires.grounds.shown most)

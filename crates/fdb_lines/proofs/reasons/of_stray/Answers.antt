@@ -20,5 +20,5 @@ returns c =
     let item = c.index-lines-place.result in
     let line : get_or c.lines.result.now k item ≡ line_at lines k = ap (λ l. get_or l k item) c.lines.ensures ∙ get_or_default lines k item nobody c.requires.place in
     let version : c.version-version.result ≡ version_at (case_of log opts) k = c.version-version.ensures ∙ ap (λ (l : Line). version_of l.call) line in
-    let first = subst (λ v. IsFirstFrom (is_marked_at Draws lines v) 0 (length lines) c.first_line.result) version (c.first_line.ensures Draws lines (λ l. (refl, refl)) c.requires.grounds.draws) in
+    let first = subst (λ v. IsFirstFrom (is_marked_at Draws lines v) 0 (length lines) c.first_line.result) version (c.first_line.ensures Draws (λ l. (refl, refl)) c.requires.grounds.draws) in
     subst (IsReason log opts k Stray) (sym c.drawn.ensures) (stray_is log opts k c.first_line.result c.requires.stands first)

@@ -29,11 +29,11 @@ returns c =
           subst (IsFirstFrom (draws_again it k) 0 n) (sym w.first-is)
           (beside_a_commit it k w.first_line-first.result (sym commit ∙ w.if-is_commit.true)
           (subst (λ v. IsFirstFrom (is_marked_at Asks lines v) 0 n w.first_line-first.result) (w.version.ensures ∙ version)
-          (w.first_line-first.ensures Asks lines (λ l. (refl, refl)) c.requires.grounds.asks)))
+          (w.first_line-first.ensures Asks (λ l. (refl, refl)) c.requires.grounds.asks)))
       | else-is_commit w ↦
           subst (IsFirstFrom (draws_again it k) 0 n) (sym w.first-is)
           (beside_an_ask it k w.first_other-first.result (sym commit ∙ w.if-is_commit.false)
           (subst (λ v. IsFirstFrom (λ j. not (j == k) && is_marked_at Draws lines v j) 0 n w.first_other-first.result) (w.version-else-is_commit.ensures ∙ version)
-          (w.first_other-first.ensures lines c.requires.grounds.draws)))
+          w.first_other-first.ensures))
     ] in
     subst (IsReason log opts k Twice) (sym c.drawn.ensures) (twice_is log opts k c.if-is_commit.first c.requires.stands first)
