@@ -69,7 +69,10 @@ pub(crate) enum Case<'a> {
 }
 
 /// A record with no lock and no metadata version.
-pub(crate) fn unlocked(version: u64) -> Record {
+pub(crate) fn unlocked(version: u64) -> Record
+    ensures version { result.version ≡ version }
+    ensures least { result.min_known ≡ 0 }
+{
     Record {
         version,
         locked: false,

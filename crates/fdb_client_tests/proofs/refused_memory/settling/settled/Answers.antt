@@ -1,4 +1,4 @@
-use Rattle.std.proofs.Common.{◌≡◌, ℕ, zero, suc, [], ◌∷◌}
+use Rattle.std.proofs.Common.{◌≡◌, ℕ, zero, suc}
 use Rattle.fdb_client.specs.Account.{Account, holding}
 use Rattle.fdb_client.specs.Agreeing.{Agrees}
 use Rattle.fdb_history.specs.declared.log.ClientLog.{ClientLog}
