@@ -1,7 +1,8 @@
 //! Clients. Each line of a text is a call of a client; where
 //! clients read, the test serves the desk itself, or proxies do.
 
-ghost use Rattle.std.specs.Prelude.{◌≡◌, ◌<◌, ◌≤◌};
+ghost use Rattle.std.specs.Prelude.{◌≡◌, ◌<◌, ◌≤◌, ℕ, [], IfOk, Some, slice_get, vec_len};
+ghost use Rattle.fdb_chain.specs.ChainCore.{IsEpoch};
 
 mod kinds;
 mod lines;
@@ -12,11 +13,10 @@ mod served;
 use crate::client::lines::play_lines;
 use crate::client::pair::over_two_proxies;
 use crate::refused_memory::clients::begin_each;
-use fdb_chain::{ChainCore, Sequencer};
-use fdb_checks::CaseError;
-use fdb_client::Client;
-use fdb_history::Record;
-use fdb_live::{Live, LiveRecord, Opened, Seen};
+use fdb_checks::{CaseError, same};
+use fdb_client::{Client, clients_of};
+use fdb_history::{MAX_VERSION, Record};
+use fdb_live::{Live, Master, OpenedMaster, Seen, Token};
 use fdb_proxy::Desk;
 use std::alloc::Global;
 use std::marker::Brand;
@@ -24,12 +24,11 @@ use std::sync::Wait;
 use std::test::Fail;
 use std::thread::Threads;
 
-/// What clients call: the live record, the sequencer, and the desks of two GRV proxies.
+/// What clients call: the master, and the desks of two GRV proxies.
 #[derive(Drop)]
 pub(crate) struct Service<J: Live> {
     pub(crate) alloc: Global,
-    pub(crate) live: LiveRecord<J>,
-    pub(crate) sequencer: Sequencer<J>,
+    pub(crate) master: Master<J>,
     pub(crate) desk: Desk<J>,
     pub(crate) other: Desk<J>,
     /// Whether memory is refused at most once.
@@ -44,7 +43,17 @@ pub(crate) struct Stand<'a, J: Live> {
     pub(crate) served: Seen<J>,
     pub(crate) clients: Vec<Client<'a, J>>,
     /// What was told and not learnt yet.
-    pub(crate) told: Vec<Seen<J>>,
+    pub(crate) told: Vec<Token<J>>,
+}
+
+/// A service that nobody has called yet, and its tokens, none of which has seen anything.
+#[derive(Drop)]
+pub(crate) struct ServiceParts<J: Live> {
+    pub(crate) service: Service<J>,
+    /// A token of the live record alone.
+    pub(crate) first: Seen<J>,
+    /// The token of each client, at the place of its number.
+    pub(crate) tokens: Vec<Token<J>>,
 }
 
 /// What a test does with the clients of a service.
@@ -60,7 +69,10 @@ pub(crate) enum Case<'a> {
 }
 
 /// A record with no lock and no metadata version.
-pub(crate) fn unlocked(version: u64) -> Record {
+pub(crate) fn unlocked(version: u64) -> Record
+    ensures version { result.version ≡ version }
+    ensures least { result.min_known ≡ 0 }
+{
     Record {
         version,
         locked: false,
@@ -69,100 +81,168 @@ pub(crate) fn unlocked(version: u64) -> Record {
     }
 }
 
-/// Plays a case with so many clients and a sequencer for so many
-/// commit proxies. It fails where memory is refused, and passes else.
+/// Plays a case with so many clients, whose first commit version is 100. It fails where memory is
+/// refused, and passes else.
 pub(crate) fn play<R: Threads + Wait + Sync>(
     rt: &R,
     alloc: Global,
     clients: u32,
-    proxies: u32,
     case: Case<'_>,
 ) -> Result<(), CaseError>
     requires some_client { 0 < clients }
     requires few_clients { clients ≤ 64 }
 {
-    let Ok(opened) = LiveRecord::<Brand>::open(rt, alloc, unlocked(100), clients) else {
-        return Err(CaseError::Memory);
-    };
-    match ChainCore::new(alloc, 0, 100, proxies) {
-        Ok(core) => play_named::<Brand, R>(rt, alloc, opened, core, case),
-        Err(_) => Err(CaseError::Memory),
-    }
+    play_from(rt, alloc, clients, 100, case)
+}
+
+/// The same with this first commit version.
+fn play_from<R: Threads + Wait + Sync>(
+    rt: &R,
+    alloc: Global,
+    clients: u32,
+    recovery: u64,
+    case: Case<'_>,
+) -> Result<(), CaseError>
+    requires some_client { 0 < clients }
+    requires few_clients { clients ≤ 64 }
+    requires epoch { IsEpoch 0 recovery }
+{
+    let opened = Master::<Brand>::open(rt, alloc, 0, recovery, unlocked(recovery), clients)?;
+    play_named::<Brand, R>(rt, alloc, opened, case)
 }
 
 /// Plays a case under the name of the service.
 fn play_named<J: Live + Send + Sync, R: Threads + Wait + Sync>(
     rt: &R,
     alloc: Global,
-    opened: Opened,
-    core: ChainCore,
+    opened: OpenedMaster,
     case: Case<'_>,
 ) -> Result<(), CaseError>
-    requires opened { opened
-        ≡ record { table = J.table; start = J.start; reporters = J.reporters } }
-    requires epoch_end { core.epoch_end ≡ J.epoch_end }
-    requires recovery { core.recovery ≡ J.recovery }
+    requires opened { opened ≡ record {
+      table = J.table;
+      start = J.start;
+      members = J.reporters;
+      epoch_end = J.epoch_end;
+      recovery = J.recovery;
+    } }
+    requires few { opened.members ≤ 64 }
 {
-    let Ok((live, served, tokens)) = opened.parts::<J>() else {
-        return Err(CaseError::Memory);
-    };
-    let service = Service {
-        alloc,
-        live,
-        sequencer: Sequencer::new(core),
-        desk: Desk::new(alloc),
-        other: Desk::new(alloc),
-        once: matches!(case, Case::BeginEach { once: true }),
-    };
-    play_at(rt, &service, served, tokens, case)
+    let once = matches!(case, Case::BeginEach { once: true });
+    let ServiceParts {
+        service,
+        first,
+        tokens,
+    } = parts_of::<J>(alloc, opened, once)?;
+    let clients = clients_at(&service, tokens)?;
+    play_at(rt, &service, first, clients, case)
 }
 
-fn play_at<J: Live + Send + Sync, R: Threads + Wait + Sync>(
-    rt: &R,
+/// The service that was opened, under its name, with its tokens.
+pub(crate) fn parts_of<J: Live>(
+    alloc: Global,
+    opened: OpenedMaster,
+    once: bool,
+) -> Result<ServiceParts<J>, CaseError>
+    requires { opened ≡ record {
+      table = J.table;
+      start = J.start;
+      members = J.reporters;
+      epoch_end = J.epoch_end;
+      recovery = J.recovery;
+    } }
+    ensures count { IfOk result (λ parts. vec_len parts.tokens ≡ J.reporters) }
+    ensures tokens { IfOk result (λ parts. (k : ℕ) → k < J.reporters
+        → slice_get parts.tokens.items k
+        ≡ Some (record { number = Some k; answers = []; changes = [] })) }
+{
+    let (master, mut tokens) = opened.parts::<J>()?;
+    let first = first_of(&master, tokens.as_mut_slice())?;
+    let service = Service {
+        alloc,
+        master,
+        desk: Desk::new(alloc),
+        other: Desk::new(alloc),
+        once,
+    };
+    Ok(ServiceParts {
+        service,
+        first,
+        tokens,
+    })
+}
+
+/// A token of the live record that has seen what the first of some tokens has. They stay as they
+/// are.
+fn first_of<J: Live>(master: &Master<J>, tokens: &mut [Token<J>]) -> Result<Seen<J>, Fail>
+    ensures { tokens.new ≡ tokens.old }
+{
+    match tokens.first_mut() {
+        Some(token) => Ok(master.seen(token)),
+        None => Err(Fail::new("a token is wanted")),
+    }
+}
+
+/// A client for each token, at the place of its number, who has called nobody and seen nothing.
+pub(crate) fn clients_at<J: Live>(
     service: &Service<J>,
+    tokens: Vec<Token<J>>,
+) -> Result<Vec<Client<'_, J>>, CaseError>
+    requires few { vec_len tokens ≤ 64 }
+    requires tokens { (k : ℕ) → k < vec_len tokens
+        → slice_get tokens.items k
+        ≡ Some (record { number = Some k; answers = []; changes = [] }) }
+{
+    let clients = clients_of(service.alloc, &service.master, tokens)?;
+    are_new(&clients)?;
+    Ok(clients)
+}
+
+/// Checks that each client stands at the place of its number, and has called and seen nothing.
+fn are_new<J: Live>(clients: &[Client<'_, J>]) -> Result<(), Fail> {
+    for (place, client) in clients.iter().enumerate() {
+        let found = (
+            client.number() as usize,
+            client.begun(),
+            client.calls().len(),
+        );
+        same(
+            &found,
+            &(place, 0, 0),
+            &"a new client's number, position and calls",
+        )?;
+    }
+    Ok(())
+}
+
+fn play_at<'a, J: Live + Send + Sync, R: Threads + Wait + Sync>(
+    rt: &R,
+    service: &'a Service<J>,
     served: Seen<J>,
-    tokens: Vec<Seen<J>>,
+    clients: Vec<Client<'a, J>>,
     case: Case<'_>,
 ) -> Result<(), CaseError> {
     match case {
-        Case::Lines(text) => play_lines(rt, &mut stand_of(service, served, tokens)?, text),
-        Case::OverTwoProxies => over_two_proxies(rt, &mut stand_of(service, served, tokens)?),
-        Case::BeginEach { once } => begin_each(rt, service, served, tokens, once),
+        Case::Lines(text) => play_lines(rt, &mut stand_of(service, served, clients), text),
+        Case::OverTwoProxies => over_two_proxies(rt, &mut stand_of(service, served, clients)),
+        Case::BeginEach { once } => begin_each(rt, service, served, clients, once),
     }
 }
 
-/// A client for each token, with what they call.
+/// Some clients with what they call.
 fn stand_of<'a, J: Live>(
     service: &'a Service<J>,
     served: Seen<J>,
-    tokens: Vec<Seen<J>>,
-) -> Result<Stand<'a, J>, CaseError> {
-    let mut clients = Vec::new(service.alloc);
-    for token in tokens {
-        clients.push(client_of(service, token)?)?;
-    }
-    Ok(Stand {
+    clients: Vec<Client<'a, J>>,
+) -> Stand<'a, J> {
+    Stand {
         service,
         served,
         clients,
         told: Vec::new(service.alloc),
-    })
-}
-
-/// The client whose token it is, and which has seen nothing.
-pub(crate) fn client_of<'a, J: Live>(
-    service: &'a Service<J>,
-    token: Seen<J>,
-) -> Result<Client<'a, J>, Fail> {
-    match token.reporter() {
-        Some(number) if token.position() == 0 => {
-            Ok(Client::new(service.alloc, number, &service.live, token))
-        }
-        _ => Err(Fail::new("the token has seen something, or is nobody's")),
     }
 }
 
-/// What no GRV proxy has to do with. The sequencer knows one commit proxy, so client 1 is none.
+/// What no GRV proxy has to do with. Client 1 draws no version, so that its next number is 1.
 const CALLS: &str = "
 report 0 1 => no commit version was issued under this number
 ask 0 0 1000 => 100 after 0, fresh
@@ -175,8 +255,8 @@ report 0 1 => not changed at 1
 reask 0 2 1 9000 => 2100 after 100, kept
 ask 0 2 9000 => 8100 after 2100, fresh
 reask 0 1 0 9000 => the answer is not kept any more
-ask 1 0 9000 => there is no such commit proxy
-last 1 => refused UnknownProxy
+reask 1 3 0 9000 => the next request number is 1
+last 1 => refused Early 1
 report 1 1 => no commit version was issued under this number
 log 0 => 11 calls, at 1
 log 1 => 2 calls, at 0
@@ -193,7 +273,37 @@ meet => ok
 
 #[test]
 fn calls_without_a_proxy(rt: HostRuntime) -> Result<(), Fail> {
-    play(&rt, rt.alloc(), 2, 1, Case::Lines(CALLS))?;
+    play(&rt, rt.alloc(), 2, Case::Lines(CALLS))?;
+    Ok(())
+}
+
+/// The first commit version is the greatest there is. Who is refused another one goes on with all
+/// that draws none.
+const USED_UP: &str = "
+ask 0 0 1000 => 9223372036854775807 after 0, fresh
+ask 1 0 3000 => the versions are used up
+last 1 => refused Exhausted
+ask 0 0 3000 => the versions are used up
+last 0 => refused Exhausted
+reask 1 1 0 3000 => the versions are used up
+last 1 => refused Exhausted
+reask 0 1 0 3000 => 9223372036854775807 after 0, kept
+reask 0 3 0 3000 => the next request number is 2
+report 1 1 => no commit version was issued under this number
+report 0 2 => no commit version was issued under this number
+report 0 1 => not changed at 0
+log 1 => 3 calls, at 0
+least 0 1 9223372036854775807 => changed at 1
+read 1 served => 9223372036854775807 at 1
+known 1 served => 9223372036854775807 at 1
+log 0 => 7 calls, at 1
+log 1 => 5 calls, at 1
+meet => ok
+";
+
+#[test]
+fn versions_that_are_used_up(rt: HostRuntime) -> Result<(), Fail> {
+    play_from(&rt, rt.alloc(), 2, MAX_VERSION, Case::Lines(USED_UP))?;
     Ok(())
 }
 
@@ -226,7 +336,7 @@ ask 0 0 5000 => 4100 after 3100, fresh
 report 0 4 => raised at 3
 log 1 => 9 calls, at 2
 # client 1 goes on, with calls that need no proxy and with another proxy's desk
-ask 1 0 6000 => there is no such commit proxy
+reask 1 2 0 6000 => the next request number is 1
 report 1 1 => no commit version was issued under this number
 tell 1 0 => at 2
 log 1 => 12 calls, at 2
@@ -239,12 +349,11 @@ meet => ok
 
 #[test]
 fn reads_at_a_desk(rt: HostRuntime) -> Result<(), Fail> {
-    play(&rt, rt.alloc(), 2, 1, Case::Lines(READS))?;
+    play(&rt, rt.alloc(), 2, Case::Lines(READS))?;
     Ok(())
 }
 
-/// A desk that is closed between two reads of a client, who goes on with all that needs no proxy:
-/// it is a commit proxy that the sequencer knows.
+/// A desk that is closed between two reads of a client, who goes on with all that needs no proxy.
 const CLOSED: &str = "
 ask 1 0 1000 => 100 after 0, fresh
 read 1 served => 100 at 0
@@ -266,7 +375,7 @@ meet => ok
 
 #[test]
 fn a_desk_that_is_closed_between_two_reads(rt: HostRuntime) -> Result<(), Fail> {
-    play(&rt, rt.alloc(), 2, 2, Case::Lines(CLOSED))?;
+    play(&rt, rt.alloc(), 2, Case::Lines(CLOSED))?;
     Ok(())
 }
 
@@ -298,12 +407,12 @@ meet => ok
 
 #[test]
 fn minimum_known_versions(rt: HostRuntime) -> Result<(), Fail> {
-    play(&rt, rt.alloc(), 2, 1, Case::Lines(MINIMUM))?;
+    play(&rt, rt.alloc(), 2, Case::Lines(MINIMUM))?;
     Ok(())
 }
 
 #[test]
 fn two_clients_over_two_proxies(rt: HostRuntime) -> Result<(), Fail> {
-    play(&rt, rt.alloc(), 2, 2, Case::OverTwoProxies)?;
+    play(&rt, rt.alloc(), 2, Case::OverTwoProxies)?;
     Ok(())
 }

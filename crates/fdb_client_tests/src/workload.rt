@@ -3,12 +3,11 @@
 ghost use Rattle.std.specs.Prelude.{IfOk};
 ghost use Rattle.fdb_client.specs.Cluster.{IsClusterConfig};
 
-use fdb_chain::ChainError;
 use fdb_checks::{CaseError, holds, same};
 use fdb_client::{
     Client, ClientError, Cluster, ClusterConfig, SettledRun, Workload, WorkloadError, run_workload,
 };
-use fdb_history::{Ask, AuditFault, GrvOpts, OpenGate, Priority, Record, Sequence};
+use fdb_history::{AuditFault, GrvOpts, OpenGate, Priority, Record, Sequence};
 use fdb_live::Live;
 use fdb_queue::QueueConfig;
 use std::alloc::Global;
@@ -56,7 +55,7 @@ impl CommitAndRead {
         cluster: &Cluster<'_, J>,
         client: &mut Client<'_, J>,
     ) -> Result<(), ClientError> {
-        client.ask(rt, &OpenGate, cluster.sequencer(), 0, 1_000)?;
+        client.ask(rt, &OpenGate, 0, 1_000)?;
         client.report(rt, &OpenGate, 1, true, Some([8; 10]), 90)?;
         for number in 0..self.grv_proxies {
             client.read_version(rt, &OpenGate, cluster.desk(number), one_read(self.alloc))?;
@@ -214,32 +213,24 @@ fn each_desk_is_closed_alone(rt: HostRuntime) -> Result<(), Fail> {
     Ok(())
 }
 
-/// Draws a version as each commit proxy of a cluster in turn.
+/// Has each client of a cluster in turn draw a version.
 #[derive(Drop)]
-struct AskAsEach;
+struct AskByEach;
 
-impl<R: Wait> Workload<R> for AskAsEach {
-    type Output = Option<(u32, ChainError)>;
+impl<R: Wait> Workload<R> for AskByEach {
+    type Output = Result<usize, ClientError>;
 
-    /// Answers the first commit proxy that is refused a version, and why.
+    /// Answers how many clients have drawn one, unless one is refused.
     fn start<J: Live>(
         self,
         rt: &R,
-        cluster: &Cluster<'_, J>,
-        _clients: &mut [Client<'_, J>],
-    ) -> Option<(u32, ChainError)> {
-        for proxy in 0..100 {
-            let ask = Ask {
-                proxy,
-                num: 1,
-                processed: 0,
-                at: 0,
-            };
-            if let Err(cause) = cluster.sequencer().ask(rt, &OpenGate, ask) {
-                return Some((proxy, cause));
-            }
+        _cluster: &Cluster<'_, J>,
+        clients: &mut [Client<'_, J>],
+    ) -> Result<usize, ClientError> {
+        for client in clients.iter_mut() {
+            client.ask(rt, &OpenGate, 0, 0)?;
         }
-        None
+        Ok(clients.len())
     }
 }
 
@@ -248,10 +239,24 @@ impl<R: Wait> Workload<R> for AskAsEach {
 fn a_commit_proxy_for_each_client(rt: HostRuntime) -> Result<(), Fail> {
     for clients in 1..=64 {
         let config = config_of(clients, 1)?;
-        let ran = run_workload(&rt, rt.alloc(), config, AskAsEach)?;
-        let wanted = Some((clients, ChainError::UnknownProxy));
-        same(&ran.output, &wanted, &"the first that is refused")?;
+        let ran = run_workload(&rt, rt.alloc(), config, AskByEach)?;
+        same(&ran.output, &Ok(clients as usize), &"clients")?;
         same(&ran.run.chain.len(), &(clients as usize), &"chain")?;
+        are_each_proxys(&ran.run)?;
+    }
+    Ok(())
+}
+
+/// Checks that each version was drawn by the commit proxy of its place, with its first request. All
+/// are one above the one before it, since no time passes.
+fn are_each_proxys(run: &SettledRun) -> Result<(), Fail> {
+    for (place, issued) in run.chain.iter().enumerate() {
+        let found = (issued.proxy as usize, issued.num, issued.version);
+        same(
+            &found,
+            &(place, 1, (place as u64).saturating_add(100)),
+            &"proxy, number and version",
+        )?;
     }
     Ok(())
 }

@@ -3,7 +3,7 @@
 use crate::ample_memory::clusters::at_throttled;
 use fdb_checks::tag;
 use fdb_client::{Client, Cluster, Workload};
-use fdb_history::{Ask, GrvOpts, OpenGate, Priority, Sequence, Tag};
+use fdb_history::{GrvOpts, OpenGate, Priority, Sequence, Tag};
 use fdb_live::Live;
 use std::alloc::Global;
 use std::sync::Wait;
@@ -53,7 +53,7 @@ impl<R: Wait> Workload<R> for Calls<'_> {
         }
         let (client, others) = clients.split_first_mut()?;
         if of == "tells" {
-            raised(rt, cluster, client, 2)?;
+            raised(rt, client, 2)?;
             return told(rt, client, others.first_mut()?, number);
         }
         called_by(rt, alloc, cluster, client, of, number)
@@ -70,11 +70,11 @@ fn called_by<J: Live, R: Wait>(
     number: u64,
 ) -> Option<bool> {
     match of {
-        "requests" => asked(rt, cluster, client, number),
-        "repeats of a request" => repeated(rt, cluster, client, number),
-        "answers out of turn" => out_of_turn(rt, cluster, client, number),
-        "reports that raise the record" => raised(rt, cluster, client, number),
-        "reports that change nothing" => unchanged(rt, cluster, client, number),
+        "requests" => asked(rt, client, number),
+        "repeats of a request" => repeated(rt, client, number),
+        "answers out of turn" => out_of_turn(rt, client, number),
+        "reports that raise the record" => raised(rt, client, number),
+        "reports that change nothing" => unchanged(rt, client, number),
         "reads" => read(rt, alloc, cluster, client, number),
         "tags, each with a limit" => { read_of(rt, alloc, cluster, client, (1, number)) }
         "a count" => read_of(rt, alloc, cluster, client, (number, 1)),
@@ -119,7 +119,7 @@ fn reads_through_each<J: Live, R: Wait>(
     cluster: &Cluster<'_, J>,
     client: &mut Client<'_, J>,
 ) -> Option<bool> {
-    client.ask(rt, &OpenGate, cluster.sequencer(), 0, 0).ok()?;
+    client.ask(rt, &OpenGate, 0, 0).ok()?;
     client.report(rt, &OpenGate, 1, false, None, 0).ok()?;
     let proxies = cluster.config().grv_proxies;
     for number in 0..proxies {
@@ -130,75 +130,45 @@ fn reads_through_each<J: Live, R: Wait>(
 }
 
 /// So many requests, each of which says that all before it are processed.
-fn asked<J: Live, R: Wait>(
-    rt: &R,
-    cluster: &Cluster<'_, J>,
-    client: &mut Client<'_, J>,
-    number: u64,
-) -> Option<bool> {
+fn asked<J: Live, R: Wait>(rt: &R, client: &mut Client<'_, J>, number: u64) -> Option<bool> {
     let mut in_turn = true;
     for before in 0..number {
-        let sequencer = cluster.sequencer();
-        let issued = client.ask(rt, &OpenGate, sequencer, before, 0).ok()?;
+        let issued = client.ask(rt, &OpenGate, before, 0).ok()?;
         in_turn &= issued.version == before.saturating_add(100);
     }
     Some(in_turn && client.calls().len() as u64 == number)
 }
 
 /// A request that is repeated so often, and answered each time with the version that is kept.
-fn repeated<J: Live, R: Wait>(
-    rt: &R,
-    cluster: &Cluster<'_, J>,
-    client: &mut Client<'_, J>,
-    number: u64,
-) -> Option<bool> {
-    let sequencer = cluster.sequencer();
-    let first = client.ask(rt, &OpenGate, sequencer, 0, 0).ok()?;
+fn repeated<J: Live, R: Wait>(rt: &R, client: &mut Client<'_, J>, number: u64) -> Option<bool> {
+    let first = client.ask(rt, &OpenGate, 0, 0).ok()?;
     let mut same = true;
     for _ in 0..number {
-        let again = client.reask(rt, &OpenGate, sequencer, 1, 0, 0).ok()?;
+        let again = client.reask(rt, &OpenGate, 1, 0, 0).ok()?;
         same &= again.version == first.version && !again.fresh;
     }
     Some(same)
 }
 
-/// So many answers that others heard, and the client by the last number first.
-fn out_of_turn<J: Live, R: Wait>(
-    rt: &R,
-    cluster: &Cluster<'_, J>,
-    client: &mut Client<'_, J>,
-    number: u64,
-) -> Option<bool> {
-    let sequencer = cluster.sequencer();
-    for num in 1..=number {
-        let ask = Ask {
-            proxy: client.number(),
-            num,
-            processed: 0,
-            at: 0,
-        };
-        sequencer.ask(rt, &OpenGate, ask).ok()?;
+/// So many requests whose answers are all kept, each of which is repeated, the last one first.
+fn out_of_turn<J: Live, R: Wait>(rt: &R, client: &mut Client<'_, J>, number: u64) -> Option<bool> {
+    for _ in 0..number {
+        client.ask(rt, &OpenGate, 0, 0).ok()?;
     }
     let mut right = true;
     for before in 0..number {
         let num = number.saturating_sub(before);
-        let issued = client.reask(rt, &OpenGate, sequencer, num, 0, 0).ok()?;
-        right &= issued.version == num.saturating_add(99);
+        let issued = client.reask(rt, &OpenGate, num, 0, 0).ok()?;
+        right &= issued.version == num.saturating_add(99) && !issued.fresh;
     }
     Some(right)
 }
 
 /// So many reports, each of another version and minimum. Those of the first are the start's.
-fn raised<J: Live, R: Wait>(
-    rt: &R,
-    cluster: &Cluster<'_, J>,
-    client: &mut Client<'_, J>,
-    number: u64,
-) -> Option<bool> {
+fn raised<J: Live, R: Wait>(rt: &R, client: &mut Client<'_, J>, number: u64) -> Option<bool> {
     let mut right = true;
     for before in 0..number {
-        let sequencer = cluster.sequencer();
-        let num = client.ask(rt, &OpenGate, sequencer, before, 0).ok()?.num;
+        let num = client.ask(rt, &OpenGate, before, 0).ok()?.num;
         let (locked, metadata) = (before % 2 == 1, (before % 3 == 2).then_some([8; 10]));
         let ack = client
             .report(rt, &OpenGate, num, locked, metadata, before)
@@ -209,13 +179,8 @@ fn raised<J: Live, R: Wait>(
 }
 
 /// So many reports of one version, that of the start.
-fn unchanged<J: Live, R: Wait>(
-    rt: &R,
-    cluster: &Cluster<'_, J>,
-    client: &mut Client<'_, J>,
-    number: u64,
-) -> Option<bool> {
-    client.ask(rt, &OpenGate, cluster.sequencer(), 0, 0).ok()?;
+fn unchanged<J: Live, R: Wait>(rt: &R, client: &mut Client<'_, J>, number: u64) -> Option<bool> {
+    client.ask(rt, &OpenGate, 0, 0).ok()?;
     let mut right = true;
     for _ in 0..number {
         let ack = client.report(rt, &OpenGate, 1, false, None, 0).ok()?;

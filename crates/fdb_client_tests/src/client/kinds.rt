@@ -44,13 +44,25 @@ read {client} served => the GRV proxy is closed
     )
 }
 
-/// The requests of a client that is no commit proxy.
-fn unknown_to(alloc: Global, client: u32) -> Result<String, AllocError> {
+/// The requests of a client beside those of client 0, of which none is under its own numbers.
+fn beside_another(alloc: Global, client: u32) -> Result<String, AllocError> {
     format!(in alloc;
         "
-ask {client} 0 1000 => there is no such commit proxy
-ask {client} 1 1000 => there is no such commit proxy
-reask {client} 1 1 1000 => there is no such commit proxy
+ask 0 0 1000 => 100 after 0, fresh
+ask 0 0 3000 => 2100 after 100, fresh
+reask {client} 2 0 3000 => the next request number is 1
+last {client} => refused Early 1
+report {client} 1 => no commit version was issued under this number
+ask {client} 0 4000 => 3100 after 2100, fresh
+reask {client} 3 1 4000 => the next request number is 2
+reask {client} 1 1 4000 => 3100 after 2100, kept
+reask 0 1 0 4000 => 100 after 0, kept
+ask 0 0 5000 => 4100 after 3100, fresh
+ask {client} 1 6000 => 5100 after 4100, fresh
+reask {client} 1 1 6000 => the answer is not kept any more
+reask 0 1 0 6000 => 100 after 0, kept
+report {client} 1 => raised at 1
+report 0 1 => not changed at 1
 "
     )
 }
@@ -59,10 +71,10 @@ reask {client} 1 1 1000 => there is no such commit proxy
 fn calls_of_clients_of_several_numbers(rt: HostRuntime) -> Result<(), Fail> {
     let alloc = rt.alloc();
     for client in [0, 8, 31, 63] {
-        play(&rt, alloc, 64, 64, Case::Lines(&calls_of(alloc, client)?))?;
+        play(&rt, alloc, 64, Case::Lines(&calls_of(alloc, client)?))?;
     }
     for client in [8, 31, 63] {
-        play(&rt, alloc, 64, 1, Case::Lines(&unknown_to(alloc, client)?))?;
+        play(&rt, alloc, 64, Case::Lines(&beside_another(alloc, client)?))?;
     }
     Ok(())
 }

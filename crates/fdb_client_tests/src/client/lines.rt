@@ -6,7 +6,7 @@ use crate::client::served::{Reading, Way, Whom, read_served};
 use fdb_checks::{CaseError, Line, calls, tag};
 use fdb_client::{Client, ClientError, ReadVersion};
 use fdb_history::{Call, CallAnswer, GrvOpts, Issued, Place, Priority, Sequence};
-use fdb_live::{Ack, Live, Seen};
+use fdb_live::{Ack, Live, Token};
 use std::alloc::{AllocError, Global};
 use std::sync::Wait;
 use std::test::Fail;
@@ -64,13 +64,13 @@ fn asked<J: Live, R: Wait>(
     stand: &mut Stand<'_, J>,
     line: &mut Line<'_>,
 ) -> Result<String, CaseError> {
-    let service = stand.service;
+    let alloc = stand.service.alloc;
     let client = client_at(stand, line)?;
     let gate = Noting::new(client.number(), Place::SequencerHeld);
     let (processed, at) = (line.number()?, line.number()?);
-    let found = client.ask(rt, &gate, &service.sequencer, processed, at);
+    let found = client.ask(rt, &gate, processed, at);
     gate.was_passed(1, line.text)?;
-    Ok(issued_text(service.alloc, found)?)
+    Ok(issued_text(alloc, found)?)
 }
 
 fn reasked<J: Live, R: Wait>(
@@ -78,13 +78,13 @@ fn reasked<J: Live, R: Wait>(
     stand: &mut Stand<'_, J>,
     line: &mut Line<'_>,
 ) -> Result<String, CaseError> {
-    let service = stand.service;
+    let alloc = stand.service.alloc;
     let client = client_at(stand, line)?;
     let gate = Noting::new(client.number(), Place::SequencerHeld);
     let (num, processed, at) = (line.number()?, line.number()?, line.number()?);
-    let found = client.reask(rt, &gate, &service.sequencer, num, processed, at);
+    let found = client.reask(rt, &gate, num, processed, at);
     gate.was_passed(1, line.text)?;
-    Ok(issued_text(service.alloc, found)?)
+    Ok(issued_text(alloc, found)?)
 }
 
 /// A report, which passes the gate once, unless it is refused.
@@ -172,7 +172,7 @@ fn told<J: Live>(stand: &mut Stand<'_, J>, line: &mut Line<'_>) -> Result<String
 }
 
 /// Keeps what was told for the next `learn`, and answers its position.
-fn keeps<J: Live>(stand: &mut Stand<'_, J>, token: Seen<J>) -> Result<String, AllocError> {
+fn keeps<J: Live>(stand: &mut Stand<'_, J>, token: Token<J>) -> Result<String, AllocError> {
     let position = token.position();
     stand.told.push(token)?;
     at(stand.service.alloc, position)
@@ -197,10 +197,10 @@ fn learns<J: Live, R: Wait>(
     alloc: Global,
     client: &mut Client<'_, J>,
     from: u32,
-    token: Seen<J>,
+    token: Token<J>,
 ) -> Result<String, AllocError> {
-    if token.reporter().is_some() {
-        return String::from_str(alloc, "a reporter's token");
+    if token.number().is_some() {
+        return String::from_str(alloc, "a commit proxy's token");
     }
     match client.learn(rt, from, token) {
         Ok(()) => at(alloc, client.position()),
@@ -246,7 +246,7 @@ fn last_answered<J: Live>(
 /// Both clients finish and their tokens meet, which have their own numbers still.
 fn meet<J: Live, R: Wait>(rt: &R, stand: &mut Stand<'_, J>) -> Result<String, CaseError> {
     let (one, zero) = meet_at_the_end(rt, stand)?;
-    let own = (one.reporter(), zero.reporter()) == (Some(1), Some(0));
+    let own = (one.number(), zero.number()) == (Some(1), Some(0));
     let found = if own { "ok" } else { "the tokens of others" };
     Ok(String::from_str(stand.service.alloc, found)?)
 }
@@ -255,14 +255,14 @@ fn meet<J: Live, R: Wait>(rt: &R, stand: &mut Stand<'_, J>) -> Result<String, Ca
 pub(crate) fn meet_at_the_end<J: Live, R: Wait>(
     rt: &R,
     stand: &mut Stand<'_, J>,
-) -> Result<(Seen<J>, Seen<J>), Fail> {
+) -> Result<(Token<J>, Token<J>), Fail> {
     let (mut one, mut zero) = (finished(stand)?, finished(stand)?);
-    stand.service.live.meet(rt, &mut one, &mut zero);
+    stand.service.master.meet(rt, &mut one, &mut zero);
     Ok((one, zero))
 }
 
 /// The token of the last client that is left, which finishes.
-fn finished<J: Live>(stand: &mut Stand<'_, J>) -> Result<Seen<J>, Fail> {
+fn finished<J: Live>(stand: &mut Stand<'_, J>) -> Result<Token<J>, Fail> {
     match stand.clients.pop() {
         Some(client) => Ok(client.finish().1),
         None => Err(Fail::new("two clients are wanted")),

@@ -5,7 +5,7 @@ use crate::client::{Service, Stand};
 use fdb_checks::{CaseError, holds, same};
 use fdb_client::{Client, ClientError, ReadVersion};
 use fdb_history::{GrvOpts, OpenGate, Priority, Sequence};
-use fdb_live::{Ack, Live, Seen};
+use fdb_live::{Ack, Live, Seen, Token};
 use fdb_proxy::{Desk, GrvProxy};
 use fdb_queue::{GrvQueue, QueueConfig};
 use std::alloc::{AllocError, Global};
@@ -47,7 +47,8 @@ fn proxy_of<'a, J: Live>(
     let Ok(queue) = GrvQueue::new(service.alloc, config) else {
         return Err(AllocError);
     };
-    let (live, token) = (&service.live, service.live.split(seen));
+    let live = service.master.live();
+    let token = live.split(seen);
     Ok(GrvProxy::new(service.alloc, live, desk, queue, 1_000_000, token))
 }
 
@@ -84,11 +85,7 @@ fn work<J: Live + Send + Sync, R: Threads + Wait + Sync>(
     zero: &mut Client<'_, J>,
     one: &mut Client<'_, J>,
 ) -> Result<u64, Fail> {
-    let committed = thread::join(
-        rt,
-        || commit(rt, service, zero).is_ok(),
-        || commit(rt, service, one).is_ok(),
-    );
+    let committed = thread::join(rt, || commit(rt, zero).is_ok(), || commit(rt, one).is_ok());
     same(
         &committed,
         &(true, true),
@@ -112,13 +109,9 @@ fn meet<J: Live, R: Wait>(rt: &R, stand: &mut Stand<'_, J>, told: u64) -> Result
 }
 
 /// Draws a commit version twice, and reports the second one.
-fn commit<J: Live, R: Wait>(
-    rt: &R,
-    service: &Service<J>,
-    client: &mut Client<'_, J>,
-) -> Result<Ack, ClientError> {
+fn commit<J: Live, R: Wait>(rt: &R, client: &mut Client<'_, J>) -> Result<Ack, ClientError> {
     for at in [1_000, 2_000] {
-        client.ask(rt, &OpenGate, &service.sequencer, 0, at)?;
+        client.ask(rt, &OpenGate, 0, at)?;
     }
     client.report(rt, &OpenGate, 2, false, None, 0)
 }
@@ -148,7 +141,7 @@ fn exchange<J: Live, R: Wait>(
 }
 
 /// The token that a client tells another, or a failure where the tell is refused memory.
-fn told<J: Live>(teller: &mut Client<'_, J>, to: u32) -> Result<Seen<J>, Fail> {
+fn told<J: Live>(teller: &mut Client<'_, J>, to: u32) -> Result<Token<J>, Fail> {
     match teller.tell(to) {
         Ok(token) => Ok(token),
         Err(_) => Err(Fail::new("a tell is refused")),
@@ -160,9 +153,9 @@ fn learnt<J: Live, R: Wait>(
     rt: &R,
     client: &mut Client<'_, J>,
     from: u32,
-    token: Seen<J>,
+    token: Token<J>,
 ) -> Result<(), Fail> {
-    if token.reporter().is_none() {
+    if token.number().is_none() {
         let learnt = client.learn(rt, from, token).is_ok();
         holds(learnt, &"a learn")?;
     }

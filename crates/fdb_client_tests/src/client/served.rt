@@ -200,8 +200,9 @@ fn replied<J: Live, R: Wait>(
 ) -> Option<Answer<J>> {
     let (client, serial) = (request.client, request.serial);
     let asked = request.asked.saturating_add(later);
-    service.live.learn(rt, served, request.seen);
-    let fetched = service.live.read(rt, served);
+    let live = service.master.live();
+    live.learn(rt, served, request.seen);
+    let fetched = live.read(rt, served);
     if fetched.position < asked {
         return None;
     }
@@ -209,7 +210,7 @@ fn replied<J: Live, R: Wait>(
         client,
         serial,
         asked,
-        seen: service.live.split(served),
+        seen: live.split(served),
         rec: fetched.rec,
         position: fetched.position,
         limits: Sequence::new(service.alloc),

@@ -2,12 +2,12 @@
 
 ghost use Rattle.std.specs.Prelude.{◌≡◌};
 
-use crate::client::{Case, Service, client_of, play, unlocked};
+use crate::client::{Case, Service, play, unlocked};
 use fdb_chain::ChainError;
 use fdb_checks::{CaseError, holds, same, tag};
 use fdb_client::{Client, ClientError, ReadVersion};
 use fdb_history::{GrvOpts, OpenGate, Priority, Sequence};
-use fdb_live::{Ack, Fetched, Live, Seen};
+use fdb_live::{Ack, Fetched, Live, Seen, Token};
 use fdb_proxy::{GrvProxy, Request};
 use fdb_queue::{GrvQueue, QueueConfig};
 use std::alloc::{AllocError, Global};
@@ -27,21 +27,23 @@ pub(crate) struct Caller<'a, J: Live> {
 }
 
 impl<'a, J: Live> Caller<'a, J> {
-    /// The client of the last of some tokens of reporters.
-    pub(crate) fn new(service: &'a Service<J>, tokens: &mut Vec<Seen<J>>) -> Result<Self, Fail> {
-        let mut token = tokens.pop().ok_or("no token is left")?;
-        let witness = service.live.split(&mut token);
-        let client = client_of(service, token)?;
+    /// The last of some clients, beside a witness who has seen what the holder of a token has.
+    pub(crate) fn new(
+        service: &'a Service<J>,
+        clients: &mut Vec<Client<'a, J>>,
+        first: &mut Seen<J>,
+    ) -> Result<Self, Fail> {
+        let client = clients.pop().ok_or("no client is left")?;
         Ok(Caller {
             service,
             client,
-            witness,
+            witness: service.master.live().split(first),
         })
     }
 
     /// What stands in the live record, as the witness reads it.
     fn looks<R: Wait>(&mut self, rt: &R) -> Fetched {
-        self.service.live.read(rt, &mut self.witness)
+        self.service.master.live().read(rt, &mut self.witness)
     }
 
     /// Checks that its log has so many calls, and comes to this position.
@@ -68,10 +70,9 @@ impl<'a, J: Live> Caller<'a, J> {
 
     /// The version under a number, or under the next one where that is 0.
     fn asked<R: Wait>(&mut self, rt: &R, num: u64) -> Result<u64, ClientError> {
-        let sequencer = &self.service.sequencer;
         let issued = match num {
-            0 => self.client.ask(rt, &OpenGate, sequencer, 0, 0)?,
-            _ => self.client.reask(rt, &OpenGate, sequencer, num, 0, 0)?,
+            0 => self.client.ask(rt, &OpenGate, 0, 0)?,
+            _ => self.client.reask(rt, &OpenGate, num, 0, 0)?,
         };
         Ok(issued.version)
     }
@@ -95,7 +96,7 @@ impl<'a, J: Live> Caller<'a, J> {
     }
 
     /// Tells another client. A tell that is refused memory is not logged.
-    fn tells(&mut self, to: u32) -> Result<Seen<J>, CaseError> {
+    fn tells(&mut self, to: u32) -> Result<Token<J>, CaseError> {
         let (calls, position) = (self.client.calls().len(), self.client.position());
         let told = match self.client.tell(to) {
             Err(_) => {
@@ -108,8 +109,8 @@ impl<'a, J: Live> Caller<'a, J> {
     }
 
     /// Learns what another client told. A token that comes back is the one that was told.
-    fn learns<R: Wait>(&mut self, rt: &R, from: u32, told: Seen<J>) -> Result<(), CaseError>
-        requires { told.reporter ≡ None }
+    fn learns<R: Wait>(&mut self, rt: &R, from: u32, told: Token<J>) -> Result<(), CaseError>
+        requires { told.number ≡ None }
     {
         let (calls, position) = (self.client.calls().len(), self.client.position());
         let at = told.position();
@@ -182,34 +183,35 @@ fn tagged(alloc: Global) -> Result<GrvOpts, AllocError> {
 
 /// Each of six clients begins with another call. It fails where memory is refused twice to one of
 /// them, or once to what stands round them.
-pub(crate) fn begin_each<J: Live + Send + Sync, R: Threads + Wait + Sync>(
+pub(crate) fn begin_each<'a, J: Live + Send + Sync, R: Threads + Wait + Sync>(
     rt: &R,
-    service: &Service<J>,
+    service: &'a Service<J>,
     mut served: Seen<J>,
-    mut tokens: Vec<Seen<J>>,
+    mut clients: Vec<Client<'a, J>>,
     once: bool,
 ) -> Result<(), CaseError> {
-    commit_and_tell(rt, service, &mut tokens)?;
-    begin_otherwise(rt, service, &mut tokens)?;
-    ask_again(rt, service, &mut tokens)?;
-    let mut reader = Caller::new(service, &mut tokens)?;
-    let token = service.live.split(&mut served);
+    commit_and_tell(rt, service, &mut clients, &mut served)?;
+    begin_otherwise(rt, service, &mut clients, &mut served)?;
+    ask_again(rt, service, &mut clients, &mut served)?;
+    let mut reader = Caller::new(service, &mut clients, &mut served)?;
+    let token = service.master.live().split(&mut served);
     serve(rt, &mut reader, token, once)
 }
 
 /// One client asks, reports and tells, and another learns.
-fn commit_and_tell<J: Live, R: Wait>(
+fn commit_and_tell<'a, J: Live, R: Wait>(
     rt: &R,
-    service: &Service<J>,
-    tokens: &mut Vec<Seen<J>>,
+    service: &'a Service<J>,
+    clients: &mut Vec<Client<'a, J>>,
+    first: &mut Seen<J>,
 ) -> Result<(), CaseError> {
-    let mut first = Caller::new(service, tokens)?;
-    commit(rt, &mut first)?;
-    let mut learner = Caller::new(service, tokens)?;
-    exchange(rt, &mut first, &mut learner)?;
-    first.is_at(6, 1)?;
+    let mut teller = Caller::new(service, clients, first)?;
+    commit(rt, &mut teller)?;
+    let mut learner = Caller::new(service, clients, first)?;
+    exchange(rt, &mut teller, &mut learner)?;
+    teller.is_at(6, 1)?;
     learner.is_at(1, 1)?;
-    leaves(first, 6)?;
+    leaves(teller, 6)?;
     leaves(learner, 1)?;
     Ok(())
 }
@@ -220,7 +222,7 @@ fn leaves<J: Live>(caller: Caller<'_, J>, calls: usize) -> Result<(), Fail> {
     let number = caller.client.number();
     let (log, token) = caller.client.finish();
     same(&log.calls.len(), &calls, &"the log that is left")?;
-    let left = (token.reporter(), token.position());
+    let left = (token.number(), token.position());
     same(&left, &(Some(number), 1), &"the token that is left")
 }
 
@@ -238,41 +240,43 @@ fn commit<J: Live, R: Wait>(rt: &R, client: &mut Caller<'_, J>) -> Result<(), Ca
     client.reports(rt, 4, Ok(first))
 }
 
-/// One client tells another, which learns unless the token is a reporter's.
+/// One client tells another, which learns unless the token is a commit proxy's.
 fn exchange<J: Live, R: Wait>(
     rt: &R,
     teller: &mut Caller<'_, J>,
     learner: &mut Caller<'_, J>,
 ) -> Result<(), CaseError> {
     let told = teller.tells(learner.client.number())?;
-    if told.reporter().is_none() {
+    if told.number().is_none() {
         learner.learns(rt, teller.client.number(), told)?;
     }
     Ok(())
 }
 
 /// Two clients begin with a tell and with a report.
-fn begin_otherwise<J: Live, R: Wait>(
+fn begin_otherwise<'a, J: Live, R: Wait>(
     rt: &R,
-    service: &Service<J>,
-    tokens: &mut Vec<Seen<J>>,
+    service: &'a Service<J>,
+    clients: &mut Vec<Client<'a, J>>,
+    first: &mut Seen<J>,
 ) -> Result<(), CaseError> {
-    let mut teller = Caller::new(service, tokens)?;
+    let mut teller = Caller::new(service, clients, first)?;
     teller.tells(5)?;
     teller.is_at(1, 0)?;
-    let mut reporter = Caller::new(service, tokens)?;
+    let mut reporter = Caller::new(service, clients, first)?;
     reporter.reports(rt, 1, Err(ClientError::NotIssued))?;
     reporter.is_at(1, 0)?;
     Ok(())
 }
 
 /// A client asks under numbers of its own choice: its next, the same again, and one ahead.
-fn ask_again<J: Live, R: Wait>(
+fn ask_again<'a, J: Live, R: Wait>(
     rt: &R,
-    service: &Service<J>,
-    tokens: &mut Vec<Seen<J>>,
+    service: &'a Service<J>,
+    clients: &mut Vec<Client<'a, J>>,
+    first: &mut Seen<J>,
 ) -> Result<(), CaseError> {
-    let mut asking = Caller::new(service, tokens)?;
+    let mut asking = Caller::new(service, clients, first)?;
     asking.asks(rt, 1, Ok(104))?;
     asking.asks(rt, 1, Ok(104))?;
     let early = ChainError::Early { expected: 2 };
@@ -290,7 +294,7 @@ fn serve<J: Live + Send + Sync, R: Threads + Wait + Sync>(
     once: bool,
 ) -> Result<(), CaseError> {
     let service = reader.service;
-    let (alloc, live, desk) = (service.alloc, &service.live, &service.desk);
+    let (alloc, live, desk) = (service.alloc, service.master.live(), &service.desk);
     let queue = throttled_queue(alloc)?;
     let proxy = GrvProxy::new(alloc, live, desk, queue, 1_000_000, token);
     thread::scope(thread::scope_env(), rt, |scope| {
@@ -347,9 +351,9 @@ fn throttled_queue<J: Live>(alloc: Global) -> Result<GrvQueue<Request<J>>, Alloc
 #[test]
 fn a_client_bears_it(rt: HostRuntime) -> Result<(), Fail> {
     let once = Case::BeginEach { once: true };
-    if let Err(error) = play(&rt, rt.alloc(), 6, 6, once) {
+    if let Err(error) = play(&rt, rt.alloc(), 6, once) {
         error.was_refusal()?;
-        play(&rt, rt.alloc(), 6, 6, once)?;
+        play(&rt, rt.alloc(), 6, once)?;
     }
     Ok(())
 }
@@ -358,7 +362,7 @@ fn a_client_bears_it(rt: HostRuntime) -> Result<(), Fail> {
 /// memory, or as ever.
 #[test]
 fn without_memory(rt: HostRuntime) -> Result<(), Fail> {
-    if let Err(error) = play(&rt, rt.alloc(), 6, 6, Case::BeginEach { once: false }) {
+    if let Err(error) = play(&rt, rt.alloc(), 6, Case::BeginEach { once: false }) {
         error.was_refusal()?;
     }
     Ok(())

@@ -2,13 +2,11 @@
 
 ghost use Rattle.std.specs.Prelude.{◌≡◌};
 
-use crate::client::{Service, unlocked};
+use crate::client::{ServiceParts, clients_at, parts_of, unlocked};
 use crate::refused_memory::clients::Caller;
-use fdb_chain::{ChainCore, Sequencer};
 use fdb_checks::{CaseError, same};
 use fdb_client::{Client, settle};
-use fdb_live::{Ack, Live, LiveRecord, Opened, Seen};
-use fdb_proxy::Desk;
+use fdb_live::{Ack, Live, Master, OpenedMaster, Seen};
 use std::alloc::Global;
 use std::marker::Brand;
 use std::sync::Wait;
@@ -17,44 +15,36 @@ use std::test::Fail;
 /// Opens a service for two clients, who make calls, and settles their logs. It fails where memory
 /// is refused twice to one of them, or once to what stands round them, and passes else.
 fn settle_two<R: Wait>(rt: &R, alloc: Global, once: bool) -> Result<(), CaseError> {
-    let Ok(opened) = LiveRecord::<Brand>::open(rt, alloc, unlocked(100), 2) else {
-        return Err(CaseError::Memory);
-    };
-    match ChainCore::new(alloc, 0, 100, 2) {
-        Ok(core) => settle_named::<Brand, R>(rt, alloc, opened, core, once),
-        Err(_) => Err(CaseError::Memory),
-    }
+    let opened = Master::<Brand>::open(rt, alloc, 0, 100, unlocked(100), 2)?;
+    settle_named::<Brand, R>(rt, alloc, opened, once)
 }
 
 /// The same under the name of the service.
 fn settle_named<J: Live, R: Wait>(
     rt: &R,
     alloc: Global,
-    opened: Opened,
-    core: ChainCore,
+    opened: OpenedMaster,
     once: bool,
 ) -> Result<(), CaseError>
-    requires opened { opened
-        ≡ record { table = J.table; start = J.start; reporters = J.reporters } }
-    requires two { opened.reporters ≡ 2 }
-    requires epoch_end { core.epoch_end ≡ J.epoch_end }
-    requires recovery { core.recovery ≡ J.recovery }
+    requires opened { opened ≡ record {
+      table = J.table;
+      start = J.start;
+      members = J.reporters;
+      epoch_end = J.epoch_end;
+      recovery = J.recovery;
+    } }
+    requires two { opened.members ≡ 2 }
 {
-    let Ok((live, first, mut tokens)) = opened.parts::<J>() else {
-        return Err(CaseError::Memory);
-    };
-    let service = Service {
-        alloc,
-        live,
-        sequencer: Sequencer::new(core),
-        desk: Desk::new(alloc),
-        other: Desk::new(alloc),
-        once,
-    };
-    let mut one = Caller::new(&service, &mut tokens)?;
-    let mut zero = Caller::new(&service, &mut tokens)?;
+    let ServiceParts {
+        service,
+        mut first,
+        tokens,
+    } = parts_of::<J>(alloc, opened, once)?;
+    let mut clients = clients_at(&service, tokens)?;
+    let mut one = Caller::new(&service, &mut clients, &mut first)?;
+    let mut zero = Caller::new(&service, &mut clients, &mut first)?;
     report_in_turn(rt, &mut zero, &mut one)?;
-    settle_both(rt, &service.live, first, zero.client, one.client)?;
+    settle_both(rt, &service.master, first, zero.client, one.client)?;
     Ok(())
 }
 
@@ -90,7 +80,7 @@ fn commit<J: Live, R: Wait>(
 /// nothing when it began.
 fn settle_both<J: Live, R: Wait>(
     rt: &R,
-    live: &LiveRecord<J>,
+    master: &Master<J>,
     first: Seen<J>,
     zero: Client<'_, J>,
     one: Client<'_, J>,
@@ -102,26 +92,26 @@ fn settle_both<J: Live, R: Wait>(
     if !is_zero || !is_one {
         return Err(Fail::new("clients 0 and 1 from position 0 on are wanted"));
     }
-    settled(rt, live, first, zero, one)
+    settled(rt, master, first, zero, one)
 }
 
 /// Checks what comes of it: two reports changed the record, and all have seen both.
 fn settled<J: Live, R: Wait>(
     rt: &R,
-    live: &LiveRecord<J>,
+    master: &Master<J>,
     mut first: Seen<J>,
     zero: Client<'_, J>,
     one: Client<'_, J>,
 ) -> Result<(), Fail>
     requires two { J.reporters ≡ 2 }
-    requires zero { (zero.number ≡ 0) × (zero.begun ≡ 0) }
-    requires one { (one.number ≡ 1) × (one.begun ≡ 0) }
+    requires zero { zero.number ≡ 0 }
+    requires one { one.number ≡ 1 }
 {
     let (log, token) = zero.finish();
     let (other_log, other_token) = one.finish();
     let logs = [log, other_log];
     let mut tokens = [token, other_token];
-    let changes = settle(rt, live, &mut first, &mut tokens, &logs);
+    let changes = settle(rt, master, &mut first, &mut tokens, &logs);
     same(&changes, &2, &"reports that changed the record")?;
     for token in &tokens {
         same(&token.position(), &2, &"what each has then seen")?;

@@ -5,4 +5,4 @@ abbrev pub ghosts-settle_named-J-Live : goal.ghosts-settle_named-J-Live
 ghosts-settle_named-J-Live g a = record { table = a.opened.table }
 
 abbrev pub ghosts-settle_named-J-Service : goal.ghosts-settle_named-J-Service
-ghosts-settle_named-J-Service g a = record { epoch_end = a.core.epoch_end; recovery = a.core.recovery; start = a.opened.start; reporters = a.opened.reporters }
+ghosts-settle_named-J-Service g a = record { epoch_end = a.opened.epoch_end; recovery = a.opened.recovery; start = a.opened.start; reporters = a.opened.members }
