@@ -7,7 +7,7 @@ use fdb_checks::{CaseError, holds, same};
 use fdb_client::{
     Client, ClientError, Cluster, ClusterConfig, SettledRun, Workload, WorkloadError, run_workload,
 };
-use fdb_history::{AuditFault, GrvOpts, OpenGate, Priority, Record, Sequence};
+use fdb_history::{GrvOpts, OpenGate, Priority, Record, Sequence};
 use fdb_live::Live;
 use fdb_queue::QueueConfig;
 use std::alloc::Global;
@@ -139,11 +139,7 @@ fn explained(
 ) -> Result<(), CaseError> {
     same(&run.logs.len(), &(clients as usize), &"logs")?;
     same(&run.chain.len(), &(clients as usize), &"chain")?;
-    let events = match run.history(alloc) {
-        Ok(history) => history.events.len() as u64,
-        Err(AuditFault::Memory) => return Err(CaseError::Memory),
-        Err(fault) => return Err(CaseError::Failed(Fail::new(fault))),
-    };
+    let events = run.history(alloc)?.events.len() as u64;
     let wanted = u64::from(clients) * (1 + u64::from(grv_proxies));
     same(&events, &wanted, &"events")?;
     Ok(())

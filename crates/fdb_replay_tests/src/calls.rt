@@ -5,9 +5,9 @@ ghost use Rattle.std.specs.Prelude.{◌<◌, ◌≤◌, IfOk};
 ghost use Rattle.fdb_script.specs.Answering.{Answers};
 
 use fdb_history::{Gate, OpenGate};
-use fdb_replay::{ReplayFault, ReplayOpts, RunFault, drive, replay, run};
+use fdb_replay::{ReplayFault, ReplayOpts, drive, replay, run};
 use fdb_script::{Outcome, Script, ScriptError, read_script, text};
-use std::alloc::Global;
+use std::alloc::{AllocError, Global};
 use std::fs::Files;
 use std::io;
 use std::io::{Read, Write};
@@ -27,11 +27,11 @@ pub(crate) fn outcome_of<R: Threads + Wait + Sync>(
     rt: &R,
     alloc: Global,
     script: &Script,
-) -> Result<Outcome, RunFault>
+) -> Result<Outcome, AllocError>
     ensures { IfOk result (λ outcome. Answers script.now outcome.logs.items) }
 {
     match run(rt, alloc, script, 2, &OpenGate) {
-        Err(RunFault::Memory) => run(rt, alloc, script, 2, &OpenGate),
+        Err(_) => run(rt, alloc, script, 2, &OpenGate),
         result => result,
     }
 }

@@ -7,7 +7,7 @@ ghost use Rattle.fdb_queue.specs.Throttles.{is_throttle};
 use crate::ample_memory::calls::Calls;
 use fdb_checks::tag;
 use fdb_client::{ClusterConfig, run_workload};
-use fdb_history::{AuditFault, MAX_VERSION, Priority, Record, Tag};
+use fdb_history::{MAX_VERSION, Priority, Record, Tag};
 use fdb_queue::{QueueConfig, Throttle};
 use std::alloc::Global;
 use std::sync::Wait;
@@ -113,7 +113,7 @@ fn at_cluster<R: Threads + Wait + Sync>(
     };
     let alloc = calls.alloc;
     let ran = run_workload(rt, alloc, config, calls).ok()?;
-    let refused = matches!(ran.run.history(alloc), Err(AuditFault::Memory));
+    let refused = ran.run.history(alloc).is_err();
     if refused || !ran.ends.all_served() {
         return None;
     }

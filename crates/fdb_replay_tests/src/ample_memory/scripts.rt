@@ -6,9 +6,9 @@ ghost use Rattle.fdb_script.specs.Answering.{Answers};
 use crate::ample_memory::written::script_with;
 use crate::calls::{drives, text_of};
 use fdb_history::{Event, History, OpenGate, Record, Sequence};
-use fdb_replay::{RunFault, run};
+use fdb_replay::run;
 use fdb_script::{Outcome, Script, push_verdict, read_script};
-use std::alloc::Global;
+use std::alloc::{AllocError, Global};
 use std::fs::Files;
 use std::sync::Wait;
 use std::thread::Threads;
@@ -57,7 +57,7 @@ fn outcome_of<R: Threads + Wait + Sync>(
     alloc: Global,
     script: &Script,
     proxies: u32,
-) -> Result<Outcome, RunFault>
+) -> Result<Outcome, AllocError>
     requires some_proxy { 0 < proxies }
     requires few_proxies { proxies ≤ 16 }
     ensures { IfOk result (λ outcome. Answers script.now outcome.logs.items) }

@@ -3,7 +3,7 @@
 use crate::calls::{outcome_of, replays, script_of, text_of};
 use crate::replay::{REPLIES, SCRIPT};
 use fdb_checks::{holds, same, same_text};
-use fdb_replay::{ReplayFault, ReplayOpts, RunFault};
+use fdb_replay::{ReplayFault, ReplayOpts};
 use fdb_script::ScriptError;
 use std::alloc::Global;
 use std::io;
@@ -103,7 +103,7 @@ impl Write for Page {
 fn wants_memory(fault: ReplayFault) -> bool {
     matches!(
         fault,
-        ReplayFault::Script(ScriptError::Memory) | ReplayFault::Run(RunFault::Memory)
+        ReplayFault::Script(ScriptError::Memory) | ReplayFault::Memory
     )
 }
 

@@ -3,8 +3,8 @@
 use super::SCRIPT;
 use crate::calls::{outcome_of, script_of, text_of};
 use fdb_checks::{same_text, says};
-use fdb_history::{AuditFault, Call};
-use fdb_replay::{ReplayFault, RunFault};
+use fdb_history::Call;
+use fdb_replay::ReplayFault;
 use fdb_script::{Outcome, ScriptError};
 use std::alloc::{AllocError, Global};
 use std::str::from_utf8;
@@ -114,10 +114,6 @@ fn faults_of_a_replay_as_text(rt: HostRuntime) -> Result<(), Fail> {
     let refused = ReplayFault::Script(ScriptError::BadField { round, command });
     let text = "script refused: BadField 10000 9999";
     says(rt.alloc(), &refused, text)?;
-    let memory = ReplayFault::Run(RunFault::Memory);
-    says(rt.alloc(), &memory, "want of memory")?;
-    let clash = RunFault::Audit(AuditFault::Clash { position: 3 });
-    let found = ReplayFault::Run(clash);
-    says(rt.alloc(), &found, "audit fault: Clash 3")?;
+    says(rt.alloc(), &ReplayFault::Memory, "want of memory")?;
     says(rt.alloc(), &ReplayFault::Write, "writing failed")
 }
