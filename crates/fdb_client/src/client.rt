@@ -35,10 +35,10 @@ use std::sync::Wait;
 /// number.
 ///
 /// Contracts see it as its number, the position that it began with, its calls, and the answers and
-/// the changes that it has seen. Each call below adds one entry to the log, and returns what `specs/Returned.antt`
-/// says for the answer that it logged. A call that is refused for memory is not logged, and leaves
-/// the client as it was; a refused call changes nothing but the log. Of the answers an ask sees all
-/// so far, whatever comes of it.
+/// the changes that it has seen. Each call below adds one entry to the log, and returns what
+/// `specs/Returned.antt` says for the answer that it logged. A call that is refused for memory is
+/// not logged; a refused call changes nothing but the log. An ask may show more answers, whatever
+/// comes of it.
 #[derive(Drop)]
 pub struct Client<'a, J: Live> {
     alloc: Global,
@@ -189,8 +189,8 @@ impl<'a, J: Live> Client<'a, J> {
     /// It is refused as `Chain` with `Exhausted` where the versions are used up, else for memory
     /// alone. The answer is fresh, and stands at its ordinal among those that the client has then
     /// seen. Its version is above each that the client had seen or was told of, and above what it had
-    /// read. The moments are microseconds. It waits for the other asks, and takes constant time, the
-    /// growth of the log aside.
+    /// read, which the first of all may equal. The moments are microseconds. It waits for the other
+    /// asks, and takes constant time, the growth of the log aside.
     pub fn ask<R: Wait, G: Gate>(
         &mut self,
         rt: &R,
@@ -214,6 +214,8 @@ impl<'a, J: Live> Client<'a, J> {
             (λ issued. least_above self.new.answers ≡ issued.version + 1) }
         ensures above_read { IfOk result (λ issued. 0 < issued.ordinal
             → (last_record J.start self.old.changes).version < issued.version) }
+        ensures at_least_read { IfOk result
+            (λ issued. (last_record J.start self.old.changes).version ≤ issued.version) }
         ensures extends { IsPrefix self.old.answers self.new.answers }
         ensures refused { IfErr result (λ cause. (cause ≡ ClientError.Chain Exhausted)
             ⊎ (cause ≡ ClientError.Memory)) }
@@ -262,6 +264,8 @@ impl<'a, J: Live> Client<'a, J> {
             → least_above self.new.answers ≡ issued.version + 1) }
         ensures above_read { IfOk result (λ issued. issued.fresh ≡ true → 0 < issued.ordinal
             → (last_record J.start self.old.changes).version < issued.version) }
+        ensures at_least_read { IfOk result (λ issued. issued.fresh ≡ true
+            → (last_record J.start self.old.changes).version ≤ issued.version) }
         ensures extends { IsPrefix self.old.answers self.new.answers }
         ensures memory { result ≡ Err ClientError.Memory
             → self.new ≡ record self.old { answers = self.new.answers } }

@@ -40,7 +40,7 @@ pub enum ClientError {
     /// version.
     #[error(transparent)]
     Live(LiveError),
-    /// Memory was refused. The call is not logged, and the client is as it was.
+    /// Memory was refused. The call is not logged; an ask may have shown the client more answers.
     #[error("want of memory")]
     Memory,
 }

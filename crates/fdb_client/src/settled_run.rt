@@ -58,7 +58,8 @@ impl<'c, J: Live> Cluster<'c, J> {
     /// Brings together what the clients of this cluster have seen, and so shows that no fault stands
     /// in their logs: no call was answered from before what its client had seen, each position has
     /// one change, each read and report was answered as the record at its position would, each
-    /// answer of a request is due, of the chain and its client's own, and above what that had seen.
+    /// answer of a request is due, of the chain and its client's own, and but for the first above what
+    /// that had seen.
     /// Any token of the cluster's live record serves as `first`.
     ///
     /// It refuses nothing, takes no memory, and waits as a read does. It takes time in proportion

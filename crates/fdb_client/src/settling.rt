@@ -18,8 +18,8 @@ use std::sync::Wait;
 /// its log, and so shows that no fault of the register's history stands in their logs: no call was
 /// answered from before what its client had seen, each position has one change, and each read and
 /// report was answered as the record at its position would. Nor did a report tell of a minimum known
-/// committed version above its version, and no version was drawn that is not above what its asker
-/// had seen. Answers how many reports changed the record.
+/// committed version above its version, and no version but the first was drawn that is not above
+/// what its asker had seen. Answers how many reports changed the record.
 ///
 /// It refuses nothing, takes no memory, and waits as a read does. It takes time in proportion to
 /// the number of clients.

@@ -8,12 +8,12 @@ use Rattle.std.proofs.lemmas.List.{get_or_append_left, get_or_default}
 use Rattle.std.proofs.lemmas.List.Elements.{All-contains, Contains-append_left, All-head, All-map, All-tail, All-weaker}
 use Rattle.std.proofs.lemmas.Option.{get_or_from_slice_get, slice_get-get_or, slice_get_within}
 use mathlib.Core.List.{IsPrefix}
-use Rattle.fdb_history.specs.Chain.{IsChain}
+use Rattle.fdb_history.specs.Chain.{IsChain, last_answer, version_after}
 use Rattle.fdb_history.specs.Register.{after_report, raises}
 use Rattle.fdb_history.specs.declared.chain.Issued.{Issued}
 use Rattle.fdb_history.specs.declared.register.Record.{Record}
 use Rattle.fdb_chain.specs.declared.error.ChainError.{ChainError}
-use Rattle.fdb_live.specs.Holding.{Holding, IsDrawn, above_last, least_above, versions}
+use Rattle.fdb_live.specs.Holding.{AreDrawn, Holding, IsDrawn, above_last, least_above, versions}
 use Rattle.fdb_live.specs.Seen.{last_record}
 use Rattle.fdb_live.specs.declared.change.Change.{Change}
 use Rattle.fdb_live.proofs.Drawn.{all_begins, chain_begins}
@@ -76,6 +76,30 @@ module _ (law : Law) (epoch_end recovery : ℕ) (old new : Holding) (chain : IsC
       last_below start old.changes n (omega arith) (All-weaker (λ (c : Change). Contains (versions d.before) c.rec.version) (λ (c : Change). c.rec.version < n) (λ c has. drawn_below d.before c.rec.version n all has) old.changes d.read)
       )
   above_read start (Err cause) begun drawn = tt
+
+  none_read : (changes : List Change) → All (λ change. Contains [] change.rec.version) changes → changes ≡ []
+  none_read [] all = refl
+  none_read (c ∷ changes) all = (let has = All-head (λ (change : Change). Contains [] change.rec.version) c changes all in let no = has.1 in absurd (omega arith))
+
+  -- the first version of all is not below the start record, which is all that anybody has read by then
+  pub at_least_read : (start : Record) (result : Result Issued ChainError) → start.version ≤ recovery → IfOk result (λ issued. issued.fresh ≡ true → IsDrawn epoch_end recovery issued old new)
+      → IfOk result (λ issued. issued.fresh ≡ true → (last_record start old.changes).version ≤ issued.version)
+  at_least_read start (Ok issued) begun drawn = λ fresh. go fresh (drawn fresh).before refl
+    where
+      go : (fresh : issued.fresh ≡ true) (before : List Issued) → (drawn fresh).before ≡ before → (last_record start old.changes).version ≤ issued.version
+      go fresh [] none =
+          let d = drawn fresh in
+          let nothing = none_read old.changes (subst (λ (l : List Issued). AreDrawn l old.changes) none d.read) in
+          let is : issued.version ≡ recovery = d.next.version ∙ ap (λ (l : List Issued). version_after recovery (last_answer l) issued.at) none in
+          let read : (last_record start old.changes).version ≡ start.version = ap (λ (l : List Change). (last_record start l).version) nothing in
+          omega arith
+      go fresh (x ∷ xs) some =
+          let d = drawn fresh in
+          let ordinal = d.next.ordinal in
+          let long = ap length some in
+          let up = above_read start (Ok issued) begun drawn fresh (omega arith) in
+          omega arith
+  at_least_read start (Err cause) begun drawn = tt
 
 -- of a list with an element
 least_is : (xs : List Issued) (d : Issued) → 0 < length xs → least_above xs ≡ (get_or xs (length xs - 1) d).version + 1

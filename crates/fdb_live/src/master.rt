@@ -55,8 +55,9 @@ impl<J: Live> Master<J> {
     /// the proxy's number, before the chain is asked.
     ///
     /// It is refused as `Early`, `Forgotten` or `Exhausted`, or for memory, and the chain is then as
-    /// it was. The holder sees all answers so far in each case, and no change of the live record. It
-    /// waits for the other asks, and takes constant time, the growth of the chain aside.
+    /// it was. The holder has then seen a fresh answer and all before it, and maybe more answers in
+    /// each other case, but no change of the live record. It waits for the other asks, and takes
+    /// constant time, the growth of the chain aside.
     #[inline]
     pub fn ask<R: Wait, G: Gate>(
         &self,
@@ -91,6 +92,8 @@ impl<J: Live> Master<J> {
         ensures has { IfOk result (λ issued. Contains (versions token.new.answers) issued.version) }
         ensures above_read { IfOk result (λ issued. issued.fresh ≡ true → 0 < issued.ordinal
             → (last_record J.start token.old.changes).version < issued.version) }
+        ensures at_least_read { IfOk result (λ issued. issued.fresh ≡ true
+            → (last_record J.start token.old.changes).version ≤ issued.version) }
         ensures again { IfOk result (λ issued. issued.fresh ≡ false
             → own_answers token.new ≡ own_answers token.old) }
         ensures refused { OnErr result (own_answers token.new ≡ own_answers token.old) }
@@ -356,6 +359,7 @@ impl<J: Live> Master<J> {
         requires numbered { AreNumbered tokens.old }
         ensures epoch_end { result.epoch_end ≡ J.epoch_end }
         ensures recovery { result.recovery ≡ J.recovery }
+        ensures proxies { result.proxies ≡ J.reporters }
         ensures one_chain { IsChain J.epoch_end J.recovery result.answers }
         ensures asked { All (λ answer. answer.proxy < J.reporters) result.answers }
         ensures count { length tokens.new ≡ J.reporters }

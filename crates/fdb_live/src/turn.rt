@@ -100,6 +100,7 @@ impl<J: Live> Turn<J> {
         ensures same { result ≡ self }
         ensures epoch_end { result.epoch_end ≡ J.epoch_end }
         ensures recovery { result.recovery ≡ J.recovery }
+        ensures proxies { result.proxies ≡ J.reporters }
         ensures one_chain { IsChain J.epoch_end J.recovery result.answers }
         ensures asked { All (λ answer. answer.proxy < J.reporters) result.answers }
     {

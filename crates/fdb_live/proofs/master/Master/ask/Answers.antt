@@ -1,4 +1,4 @@
-use Rattle.fdb_live.proofs.Above.{above_each, above_read, least_after, least_before, stands_drawn}
+use Rattle.fdb_live.proofs.Above.{above_each, above_read, at_least_read, least_after, least_before, stands_drawn}
 use Rattle.fdb_live.proofs.Asked.{again, decided, drawn_if, extends, has_any, known, next_fresh, next_refused, refused, stands_any}
 use Rattle.fdb_live.proofs.master.Master.ask.Goals as goal
 
@@ -51,3 +51,7 @@ returns-clause-refused g c = refused _ _ _ _ _ c.ask.ensures.asked c.requires.nu
 
 pub returns-clause-decided : goal.returns-clause-decided
 returns-clause-decided g c = decided c.own_answers_decide.ensures.latest c.own_answers_decide.ensures.kept _ _ _ _ _ c.ask.ensures.asked
+
+pub returns-clause-at_least_read : goal.returns-clause-at_least_read
+returns-clause-at_least_read g c =
+    at_least_read c.versions_rise.ensures _ _ _ _ c.ask.ensures.log _ _ c.ask.ensures.start (drawn_if _ _ _ _ _ c.ask.ensures.asked c.requires.numbered c.ask.ensures.number c.ask.ensures.request c.ask.ensures.log)
