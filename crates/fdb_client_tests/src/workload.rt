@@ -230,7 +230,7 @@ impl<R: Wait> Workload<R> for AskByEach {
     }
 }
 
-/// There is a commit proxy for each client, and no more.
+/// There is a commit proxy for each client.
 #[test]
 fn a_commit_proxy_for_each_client(rt: HostRuntime) -> Result<(), Fail> {
     for clients in 1..=64 {
