@@ -1,8 +1,8 @@
 //! A client of the read-version service, and the log of its calls.
 //!
-//! A [`Client`] reads through the desks of GRV proxies, asks the sequencer for commit versions as a
-//! commit proxy of its own number, and reports them to the live record. Each call that is not
-//! refused for memory adds one entry to its log, which says what was called, what the client had
+//! A [`Client`] reads through the desks of GRV proxies, asks the master for commit versions as the
+//! commit proxy of its own number, and reports them to it. Each call that is not refused for memory
+//! adds one entry to its log, which says what was called, what the client had
 //! seen before and after it, and what came back. In `specs/`, `Account` says how a client's log
 //! grows, `Calls` what may be logged for each call, and `Returned` which value a call returns for
 //! what it logged.

@@ -130,7 +130,8 @@ pub(crate) fn commit_and_read<R: Threads + Wait + Sync>(
     }
 }
 
-/// Checks that each client has a log and a version, and how many events explain all.
+/// Checks that each client has a version and a log of its calls and no others, and how many events
+/// explain all.
 fn explained(
     alloc: Global,
     run: &SettledRun,
@@ -139,6 +140,10 @@ fn explained(
 ) -> Result<(), CaseError> {
     same(&run.logs.len(), &(clients as usize), &"logs")?;
     same(&run.chain.len(), &(clients as usize), &"chain")?;
+    for log in &run.logs {
+        // An ask, a report, and a read at each desk.
+        same(&log.calls.len(), &(2 + grv_proxies as usize), &"calls")?;
+    }
     let events = run.history(alloc)?.events.len() as u64;
     let wanted = u64::from(clients) * (1 + u64::from(grv_proxies));
     same(&events, &wanted, &"events")?;
