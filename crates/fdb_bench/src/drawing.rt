@@ -9,7 +9,7 @@ use crate::measured::Measured;
 use crate::span::{Span, moment};
 use crate::tally::{Tally, Timed};
 use fdb_history::{Ask, OpenGate, Record};
-use fdb_live::{Live, Master, OpenedMaster, Token};
+use fdb_live::{Live, MAX_REPORTERS, Master, OpenedMaster, Token};
 use std::alloc::Global;
 use std::marker::Brand;
 use std::sync::Wait;
@@ -40,8 +40,11 @@ pub(crate) fn draws<R: Clock + Threads + Wait + Sync>(
     threads: u32,
     size: u32,
 ) -> Result<Measured, Fault> {
+    if threads == 0 || threads > MAX_REPORTERS {
+        return Err(Fault::Live);
+    }
     match Master::<Brand>::open(rt, alloc, 0, START.version, START, threads) {
-        Ok(opened) => draws_at::<Brand, R>(rt, alloc, opened, size / threads.max(1)),
+        Ok(opened) => draws_at::<Brand, R>(rt, alloc, opened, size / threads),
         Err(_) => Err(Fault::Live),
     }
 }
