@@ -61,7 +61,10 @@ fn draw_both<J: Live + Send + Sync, R: Print + Threads + Wait + Sync>(
         || draw_once_told(rt, master, &mut zero[0], of_second),
         || draw_once_told(rt, master, &mut one[0], of_first),
     );
-    println!(rt; "the last of four versions is {}", by_first?.1.max(by_second?.1))?;
+    println!(rt;
+        "the last of four versions is {}",
+        by_first?.1.max(by_second?.1)
+    )?;
     Ok(())
 }
 
