@@ -109,11 +109,11 @@ def run_refused(words, preloaded, number, goes_on, given):
         return ran, it.read()
 
 
-def swept(words, preloaded, given, without, fault_of_ran, goes_on, step):
+def swept(words, preloaded, given, without, fault_of_ran, goes_on, step, needed=(THREAD,)):
     """Refuses allocations and starts of threads, by `step`, until runs end without one.
 
-    A run is to end as `without` where a thread was refused, and else as `fault_of_ran` asks, or as
-    `without` where it could not do without the memory, as a sort can do without its buffer. Threads
+    A run is to end as `without` where what is `needed` was refused, and else as `fault_of_ran` asks,
+    or as `without` where it could not do without it, as a sort can do without its buffer. Threads
     do not allocate in the same order in each run, so that a run may end before an allocation that
     another one comes to. Where a run does not end in time there are no further ones.
     """
@@ -122,7 +122,7 @@ def swept(words, preloaded, given, without, fault_of_ran, goes_on, step):
         ran, what = run_refused(words, preloaded, number, goes_on, given)
         fault = fault_of_ran(ran)
         yield Refused(
-            number, what, fault_of(ran, without) if what == THREAD or fault and what else fault
+            number, what, fault_of(ran, without) if what in needed or fault and what else fault
         )
         missed = 0 if what else missed + 1
         if missed == MISSED or ran.status == NOT_ENDED:
@@ -182,7 +182,10 @@ def refused(program):
 
 
 def used(_program):
-    """The library in use ends with an error where it is refused what it needs, and else as ever."""
+    """The library in use ends with an error where it is refused what it needs, and else as ever.
+
+    Where a thread is refused to two who draw versions at once, they do so one after the other.
+    """
     each, printed = lambda at: at + 1, read(f"{ROOT}/crates/fdb_uses/stdout")
     # The last audit prints its fault, whichever that is.
     starved = printed.replace(b"fault: Wrong 1 1\n", b"fault: want of memory\n")
@@ -190,7 +193,7 @@ def used(_program):
     with tempfile.TemporaryDirectory(prefix="refuse-") as folder:
         preloaded, threads = built(folder), 0
         for goes_on in (False, True):
-            for it in swept([USES], preloaded, b"", FAILED, ended, goes_on, each):
+            for it in swept([USES], preloaded, b"", FAILED, ended, goes_on, each, needed=()):
                 threads += it.what == THREAD
                 yield f"{'from ' if goes_on else ''}allocation or thread {it.number}", it.fault
     yield "starts of threads", None if threads > 1 else f"{threads} threads were refused"
