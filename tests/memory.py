@@ -112,8 +112,8 @@ def run_refused(words, preloaded, number, goes_on, given):
 def swept(words, preloaded, given, without, fault_of_ran, goes_on, step, needed=(THREAD,)):
     """Refuses allocations and starts of threads, by `step`, until runs end without one.
 
-    A run is to end as `without` where what is `needed` was refused, and else as `fault_of_ran` asks,
-    or as `without` where it could not do without it, as a sort can do without its buffer. Threads
+    A run is to end as `without` where what is `needed` was refused, and else as `fault_of_ran`
+    asks, or as `without` where it could not do without, as a sort can without its buffer. Threads
     do not allocate in the same order in each run, so that a run may end before an allocation that
     another one comes to. Where a run does not end in time there are no further ones.
     """
