@@ -189,14 +189,22 @@ def used(_program):
     each, printed = lambda at: at + 1, read(f"{ROOT}/crates/fdb_uses/stdout")
     # The last audit prints its fault, whichever that is.
     starved = printed.replace(b"fault: Wrong 1 1\n", b"fault: want of memory\n")
-    ended = lambda ran: fault_of(ran, done(starved if ran.out == starved else printed))
+    statuses = []
+
+    def ended(ran):
+        statuses.append(ran.status)
+        return fault_of(ran, done(starved if ran.out == starved else printed))
+
     with tempfile.TemporaryDirectory(prefix="refuse-") as folder:
-        preloaded, threads = built(folder), 0
+        preloaded, threads, failed = built(folder), 0, 0
         for goes_on in (False, True):
             for it in swept([USES], preloaded, b"", FAILED, ended, goes_on, each, needed=()):
                 threads += it.what == THREAD
+                failed += it.what == THREAD and statuses[-1] == FAILED.status
                 yield f"{'from ' if goes_on else ''}allocation or thread {it.number}", it.fault
     yield "starts of threads", None if threads > 1 else f"{threads} threads were refused"
+    # Without a thread for each of its two GRV proxies nobody reads.
+    yield "threads of GRV proxies", None if failed > 1 else f"it went on but for {failed}"
 
 
 def audits():
