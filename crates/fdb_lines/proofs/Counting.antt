@@ -1,15 +1,9 @@
 -- How many versions are equal to one, and how many numbers pass a test.
-use Rattle.std.proofs.Common.{◌≡◌, ℕ, zero, suc, max, ◌+◌, ◌<◌, ◌≤◌, ◌==◌, nat_lt, nat_le, not, Bool, true, false, cond, ◌&&◌, ◌||◌, List, [], ◌∷◌, ◌++◌, length, get_or, slice_index, count_by, refl, ap, sym, ◌∙◌, inl, inr, arith, add-one}
+use Rattle.std.proofs.Common.{◌≡◌, ℕ, zero, suc, ◌+◌, ◌<◌, ◌≤◌, ◌==◌, not, Bool, true, false, cond, ◌&&◌, List, [], ◌∷◌, length, count_by, refl, ap, sym, ◌∙◌, inl, inr, arith}
 use Rattle.std.specs.List.Sorted.{IsPartitionPoint}
-use Rattle.std.proofs.lemmas.Bool.{both_ways, cases_Bool, cases_eq, cases_order, eq-eqb, ne_eqb, lt-ltb, le-ltb, le-leb, lt-leb}
-use Rattle.std.proofs.lemmas.List.{get_or_default}
-use Rattle.std.proofs.lemmas.List.Sums.{sum_by-cons, sum_by-append}
-use Rattle.fdb_lines.specs.declared.choice.Choice.{Choice}
-use Rattle.fdb_lines.specs.declared.line.Line.{Line}
-use Rattle.fdb_lines.specs.Lines.{nobody, line_at, kind_of, version_of}
-use Rattle.fdb_lines.specs.Faults.{some_below}
+use Rattle.std.proofs.lemmas.Bool.{both_ways, cases_eq, eq-eqb, ne_eqb}
+use Rattle.std.proofs.lemmas.List.Sums.{sum_by-cons}
 use Rattle.fdb_lines.specs.Summary.{tally}
-use Rattle.fdb_lines.specs.private.Versions.{times_in, is_chosen, is_choice, AreBelow}
 
 -- what a test adds to a count
 abbrev adds : Bool → ℕ
@@ -37,73 +31,6 @@ counted p (x ∷ xs) (suc i) point le =
     let passes : ◌≡◌ {A = ℕ} (cond (p x) 1 0) 1 = ap (λ b. cond b 1 0) (point.0 zero x (omega arith) (omega arith)) in
     sum_by-cons (λ y. cond (p y) 1 0) x xs ∙ omega (arith, passes, rest)
 
--- the versions up to one are those below it and itself
-pub split_at : (xs : List ℕ) (v : ℕ) → count_by (λ x. nat_le x v) xs ≡ count_by (λ x. nat_lt x v) xs + times_in v xs
-split_at [] v = refl
-split_at (x ∷ xs) v =
-    let rest = split_at xs v in
-    let a = sum_by-cons (λ y. cond (nat_le y v) 1 0) x xs in
-    let b = sum_by-cons (λ y. cond (nat_lt y v) 1 0) x xs in
-    let c = sum_by-cons (λ y. cond (y == v) 1 0) x xs in
-    elim (cases_order x v) [
-      | inl same ↦
-          let d = one_more (nat_le x v) (le-leb x v (omega arith)) in
-          let e = no_more (nat_lt x v) (le-ltb x v (omega arith)) in
-          let f = one_more (x == v) (eq-eqb x v same) in
-          omega arith
-      | inr other ↦ elim other [
-        | inl less ↦
-            let d = one_more (nat_le x v) (le-leb x v (omega arith)) in
-            let e = one_more (nat_lt x v) (lt-ltb x v less) in
-            let f = no_more (x == v) (ne_eqb x v (λ same. omega arith)) in
-            omega arith
-        | inr more ↦
-            let d = no_more (nat_le x v) (lt-leb x v more) in
-            let e = no_more (nat_lt x v) (le-ltb x v (omega arith)) in
-            let f = no_more (x == v) (ne_eqb x v (λ same. omega arith)) in
-            omega arith
-      ]
-    ]
-
-count_push : (xs : List ℕ) (v q : ℕ) → times_in q (xs ++ v ∷ []) ≡ times_in q xs + cond (v == q) 1 0
-count_push xs v q =
-    let a = sum_by-append (λ y. cond (y == q) 1 0) xs (v ∷ []) in
-    let b = sum_by-cons (λ y. cond (y == q) 1 0) v [] in
-    omega arith
-
--- ---- the versions of a choice, line by line
-
-pub chosen_more : (choice : Choice) (start : ℕ) (shown : List ℕ) (lines : List Line) (k : ℕ) (versions : List ℕ) (line : Line)
-    → AreBelow choice start shown lines k versions → k < length lines → line ≡ get_or lines k line
-    → is_chosen choice (kind_of line.call) (version_of line.call) (max start (slice_index shown k)) ≡ true
-    → AreBelow choice start shown lines (k + 1) (versions ++ version_of line.call ∷ [])
-chosen_more choice start shown lines k versions line are lt is chosen q =
-    let at : line ≡ line_at lines k = is ∙ get_or_default lines k line nobody lt in
-    let push = count_push versions (version_of line.call) q in
-    let before = are q in
-    let next : tally (is_choice choice start shown lines q) (k + 1) ≡ cond (is_choice choice start shown lines q k) 1 0 + tally (is_choice choice start shown lines q) k =
-    ap (tally (is_choice choice start shown lines q)) (add-one k) in
-    let here : is_choice choice start shown lines q k ≡ (version_of line.call == q) =
-    ap (λ (l : Line). is_chosen choice (kind_of l.call) (version_of l.call) (max start (slice_index shown k)) && version_of l.call == q) (sym at)
-    ∙ ap (λ b. b && version_of line.call == q) chosen in
-    let same = ap adds here in
-    omega arith
-
-pub other_more : (choice : Choice) (start : ℕ) (shown : List ℕ) (lines : List Line) (k : ℕ) (versions : List ℕ) (line : Line)
-    → AreBelow choice start shown lines k versions → k < length lines → line ≡ get_or lines k line
-    → is_chosen choice (kind_of line.call) (version_of line.call) (max start (slice_index shown k)) ≡ false
-    → AreBelow choice start shown lines (k + 1) versions
-other_more choice start shown lines k versions line are lt is chosen q =
-    let at : line ≡ line_at lines k = is ∙ get_or_default lines k line nobody lt in
-    let before = are q in
-    let next : tally (is_choice choice start shown lines q) (k + 1) ≡ cond (is_choice choice start shown lines q k) 1 0 + tally (is_choice choice start shown lines q) k =
-    ap (tally (is_choice choice start shown lines q)) (add-one k) in
-    let here : is_choice choice start shown lines q k ≡ false =
-    ap (λ (l : Line). is_chosen choice (kind_of l.call) (version_of l.call) (max start (slice_index shown k)) && version_of l.call == q) (sym at)
-    ∙ ap (λ b. b && version_of line.call == q) chosen in
-    let same = no_more (is_choice choice start shown lines q k) here in
-    omega arith
-
 -- ---- tallies
 
 pub tally_same : (one other : ℕ → Bool) (n : ℕ) → ((i : ℕ) → i < n → one i ≡ other i) → tally one n ≡ tally other n
@@ -112,24 +39,6 @@ tally_same one other (suc n) h =
     let rest = tally_same one other n (λ i l. h i (omega arith)) in
     let here = ap adds (h n (omega arith)) in
     omega arith
-
--- some pass a test exactly where their tally is above 0
-pub some_tally : (test : ℕ → Bool) (n : ℕ) → some_below test n ≡ nat_lt 0 (tally test n)
-some_tally test zero = refl
-some_tally test (suc n) =
-    let rest = some_tally test n in
-    elim (cases_Bool (test n)) [
-      | inl passes ↦
-          let e = one_more (test n) passes in
-          ap (λ b. b || some_below test n) passes ∙ sym (lt-ltb 0 (cond (test n) 1 0 + tally test n) (omega arith))
-      | inr fails ↦
-          ap (λ b. b || some_below test n) fails ∙ (rest ∙ ap (λ m. nat_lt 0 m) (let e = no_more (test n) fails in let sum : tally test n ≡ cond (test n) 1 0 + tally test n = omega arith in sum))
-    ]
-
-pub some_same : (one other : ℕ → Bool) (n : ℕ) → ((i : ℕ) → i < n → one i ≡ other i) → some_below one n ≡ some_below other n
-some_same one other zero h = refl
-some_same one other (suc n) h =
-    ap (λ b. b || some_below one n) (h n (omega arith)) ∙ ap (λ b. other n || b) (some_same one other n (λ i l. h i (omega arith)))
 
 apart_before : (test : ℕ → Bool) (k n : ℕ) → n ≤ k → tally test n ≡ tally (λ j. not (j == k) && test j) n
 apart_before test k n le =

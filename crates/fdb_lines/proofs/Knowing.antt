@@ -1,45 +1,119 @@
--- What each line knows by time, from two tables.
-use Rattle.std.proofs.Common.{◌≡◌, ℕ, max, ◌+◌, ◌-◌, ◌<◌, ◌==◌, nat_lt, Bool, true, false, cond, ◌&&◌, ◌||◌, List, [], ◌∷◌, ◌++◌, length, get_or, option_to_list, Option, None, Some, refl, ap, sym, ◌∙◌, arith, add-one, append-nil}
-use Rattle.std.proofs.lemmas.Bool.{both_ways, le-ltb}
-use Rattle.std.proofs.lemmas.List.{get_or_default}
-use Rattle.fdb_lines.specs.declared.end.End.{End}
+-- What a call knows: the newest of lines that pass a test, or one of two.
+use Rattle.std.proofs.Common.{◌≡◌, ℕ, ◌+◌, ◌-◌, ◌<◌, ◌≤◌, ◌==◌, nat_lt, Bool, true, false, ◌&&◌, ◌||◌, List, [], ◌∷◌, ◌++◌, length, Option, None, Some, refl, ap, sym, subst, ◌∙◌, inl, inr, arith, length-append}
+use Rattle.std.proofs.lemmas.Bool.{cases_Bool, cases_eq, cases_lt, both_ways, and_parts, and_from, or_cases, or_left, or_right, cond-true, cond-false, eq-eqb, eqb-true, ne_eqb, le-ltb, ltb-true, ltb-false, false_from_ne_true}
+use Rattle.std.proofs.lemmas.List.{get_or_append_left, get_or_push}
 use Rattle.fdb_lines.specs.declared.line.Line.{Line}
+use Rattle.fdb_lines.specs.declared.reason.Means.{Means}
+use Rattle.fdb_lines.specs.declared.reason.Means.TheVariants.{Ended, Own}
+use Rattle.fdb_lines.specs.declared.reason.Witness.{Witness}
 use Rattle.fdb_lines.specs.declared.seen.Seen.{Seen}
-use Rattle.fdb_lines.specs.Lines.{nobody, line_at, version_of}
 use Rattle.fdb_lines.specs.Before.{began, ended, one_client, ended_before, by_time}
 use Rattle.fdb_lines.specs.Faults.{greatest_of}
-use Rattle.fdb_lines.specs.private.Ends.{top, is_earlier, newest_before}
-use Rattle.fdb_lines.specs.private.Known.{counts_at, version_in, newest_known, in_group, had_ended, stands_in, newest_in, IsTable, newest_of_end, newest_of_own}
-use Rattle.fdb_lines.proofs.Numbers.{greatest_same, greatest_least}
-use Rattle.fdb_lines.proofs.Search.{greatest_either}
+use Rattle.fdb_lines.specs.Lines.{line_at}
+use Rattle.fdb_lines.specs.Reasons.{IsMeans}
+use Rattle.fdb_lines.specs.private.Ends.{is_earlier}
+use Rattle.fdb_lines.specs.private.Entries.{IsNewest}
+use Rattle.fdb_lines.specs.private.Known.{by_at, counts_at, had_ended, in_group, newer, newest_known, of_all, of_client, of_own, of_version, tells, version_by, version_in, witness, lets_know, AreKnownOf, IsFound, IsKnownBy, KnowsOf}
+use Rattle.fdb_lines.proofs.Numbers.{greatest_bound, greatest_least}
 use Rattle.fdb_lines.proofs.Tests.{with_false, only_left, swapped, spread, same_tests}
 
--- ---- a table grows
+-- ---- in general
 
-top_more : {X : Type 0} (test : X → Bool) (f : X → ℕ) (xs : List X) (y : X) → top test f (xs ++ y ∷ []) ≡ max (cond (test y) (f y) 0) (top test f xs)
-top_more test f [] y = refl
-top_more test f (x ∷ xs) y = let rest = top_more test f xs y in omega arith
+-- by tests that agree, and kinds of witness of which one is the other too
+pub as_well : (a b : ℕ → Bool) (Is IsToo : Witness → Type 0) (lines : List Line) (o : Option Witness)
+    → ((j : ℕ) → j < length lines → a j ≡ b j) → ((by : Witness) → Is by → IsToo by) → IsKnownBy a Is lines o → IsKnownBy b IsToo lines o
+as_well a b Is IsToo lines None same too none = λ j lt. sym (same j lt) ∙ none j lt
+as_well a b Is IsToo lines (Some by) same too is =
+    (is.0, sym (same by.line is.0) ∙ is.1, too by is.2, λ j lt passes. is.3 j lt (same j lt ∙ passes))
 
-newest_more : (ends : List End) (o : Option End) (group time place : ℕ)
-    → newest_before (ends ++ option_to_list o) group time place ≡ max (newest_of_end o group time place) (newest_before ends group time place)
-newest_more ends None group time place = ap (λ l. newest_before l group time place) (append-nil ends) ∙ omega arith
-newest_more ends (Some end) group time place =
-    top_more (λ (e : End). e.group == group && is_earlier e.time e.place time place) (λ (e : End). e.version) ends end
+-- the newer of two is that of both
+pub newer_is : (a b : ℕ → Bool) (Is : Witness → Type 0) (lines : List Line) (one other : Option Witness)
+    → IsKnownBy a Is lines one → IsKnownBy b Is lines other → IsKnownBy (λ j. a j || b j) Is lines (newer lines one other)
+newer_is a b Is lines None None none no_other = λ j lt. ap (λ x. x || b j) (none j lt) ∙ no_other j lt
+newer_is a b Is lines None (Some y) none is =
+    (is.0, or_right (a y.line) _ is.1, is.2, λ j lt passes. is.3 j lt (sym (ap (λ x. x || b j) (none j lt)) ∙ passes))
+newer_is a b Is lines (Some x) None is none =
+    (is.0, or_left (a x.line) _ is.1, is.2, λ j lt passes. is.3 j lt (sym (ap (λ y. a j || y) (none j lt) ∙ only_left (a j)) ∙ passes))
+newer_is a b Is lines (Some x) (Some y) is_x is_y =
+    let v = version_in lines x.line in
+    let w = version_in lines y.line in
+    let Newest : Witness → Type 0 = λ z. IsKnownBy (λ j. a j || b j) Is lines (Some z) in
+    let bound = λ (z : Witness) (up : v ≤ version_in lines z.line) (too : w ≤ version_in lines z.line) (j : ℕ) (lt : j < length lines) (passes : (a j || b j) ≡ true).
+    elim (or_cases (a j) (b j) passes) as (λ p. version_in lines j ≤ version_in lines z.line) [
+      | inl p ↦ let most = is_x.3 j lt p in omega arith
+      | inr p ↦ let most = is_y.3 j lt p in omega arith
+    ] in
+    elim (cases_Bool (nat_lt v w)) [
+      | inl less ↦
+          let l = ltb-true v w less in
+          subst Newest (sym (cond-true (nat_lt v w) y x less)) (is_y.0, or_right (a y.line) _ is_y.1, is_y.2, bound y (omega arith) (omega arith))
+      | inr not_less ↦
+          let ge = ltb-false v w not_less in
+          subst Newest (sym (cond-false (nat_lt v w) y x not_less)) (is_x.0, or_left (a x.line) _ is_x.1, is_x.2, bound x (omega arith) (omega arith))
+    ]
 
-pub table_more : (by_client : Bool) (seen : Seen) (lines : List Line) (k : ℕ) (ends : List End) (line : Line) (o : Option End)
-    → IsTable by_client seen lines k ends → k < length lines → line ≡ get_or lines k line
-    → ((group time place : ℕ) → newest_of_end o group time place ≡ cond (stands_in by_client seen line k group time place) (version_of line.call) 0)
-    → IsTable by_client seen lines (k + 1) (ends ++ option_to_list o)
-table_more by_client seen lines k ends line o table lt is adds group time place =
-    let at : line ≡ line_at lines k = is ∙ get_or_default lines k line nobody lt in
-    let a = newest_more ends o group time place in
-    let b = table group time place in
-    let d = adds group time place ∙ ap (λ (l : Line). cond (stands_in by_client seen l k group time place) (version_of l.call) 0) at in
-    let e : newest_in by_client seen lines group time place (k + 1) ≡ max (cond (stands_in by_client seen (line_at lines k) k group time place) (version_in lines k) 0) (newest_in by_client seen lines group time place k) =
-    ap (newest_in by_client seen lines group time place) (add-one k) in
+-- its version is the greatest
+pub version_is : (test : ℕ → Bool) (Is : Witness → Type 0) (lines : List Line) (o : Option Witness) → IsKnownBy test Is lines o
+    → version_by lines o ≡ greatest_of test (version_in lines) (length lines)
+version_is test Is lines None none =
+    let most = greatest_least test (version_in lines) (length lines) 0 (λ j lt passes. absurd (both_ways (test j) (none j lt) passes)) in
+    omega arith
+version_is test Is lines (Some by) is =
+    let most = greatest_least test (version_in lines) (length lines) (version_in lines by.line) is.3 in
+    let least = greatest_bound test (version_in lines) (length lines) by.line is.0 is.1 in
     omega arith
 
--- ---- what comes before by time stands in one of the tables
+told : (before : ℕ → ℕ → Bool) (seen : Seen) (lines : List Line) (k version j : ℕ) → tells before seen lines k version j ≡ true
+    → (lets_know before seen lines k j ≡ true) × (version_in lines j ≡ version)
+told before seen lines k version j does =
+    let p = and_parts (before j k) (counts_at seen lines j && version_in lines j == version) does in
+    let q = and_parts (counts_at seen lines j) (version_in lines j == version) p.1 in
+    (and_from (before j k) _ p.0 q.0, eqb-true (version_in lines j) version q.1)
+
+-- and where that is at most a version, it is the witness of that version
+pub found_is : (before : ℕ → ℕ → Bool) (margin : ℕ) (seen : Seen) (lines : List Line) (k version : ℕ) (o : Option Witness)
+    → KnowsOf (lets_know before seen lines) margin lines k o → newest_known before seen lines k ≤ version
+    → IsFound before margin seen lines k version (of_version lines version o)
+found_is before margin seen lines k version None none most =
+    λ j lt. false_from_ne_true (tells before seen lines k version j) (λ does. both_ways _ (none j lt) (told before seen lines k version j does).0)
+found_is before margin seen lines k version (Some w) is most =
+    let v = version_in lines w.line in
+    let p = and_parts (before w.line k) (counts_at seen lines w.line) is.1 in
+    let up = greatest_bound (lets_know before seen lines k) (version_in lines) (length lines) w.line is.0 is.1 in
+    elim (cases_eq v version) [
+      | inl same ↦
+          subst (IsFound before margin seen lines k version) (sym (cond-true (v == version) (Some w) None (eq-eqb v version same)))
+          (is.0, and_from (before w.line k) _ p.0 (and_from (counts_at seen lines w.line) _ p.1 (eq-eqb v version same)), is.2)
+      | inr other ↦
+          subst (IsFound before margin seen lines k version) (sym (cond-false (v == version) (Some w) None (ne_eqb v version other)))
+          (λ j lt. false_from_ne_true (tells before seen lines k version j) (λ does.
+          let t = told before seen lines k version j does in
+          let most_of = is.3 j lt t.0 in
+          let its = t.1 in
+          other (omega arith)))
+    ]
+
+-- one line more, and what it knows
+pub known_more : (test : ℕ → ℕ → Bool) (margin : ℕ) (lines : List Line) (n : ℕ) (known : List (Option Witness)) (by : Option Witness)
+    → AreKnownOf test margin lines n known → KnowsOf test margin lines n by → AreKnownOf test margin lines (n + 1) (known ++ by ∷ [])
+known_more test margin lines n known by are is = (
+  length-append known (by ∷ []) ∙ ap (λ m. m + 1) are.0,
+  λ k lt. elim (cases_lt k n) [
+    | inl old ↦ let len = are.0 in subst (KnowsOf test margin lines k) (sym (get_or_append_left known (by ∷ []) None k (omega arith))) (are.1 k old)
+    | inr ge ↦
+        let at : n ≡ k = omega arith in
+        subst (λ m. KnowsOf test margin lines m (by_at (known ++ by ∷ []) m)) at (subst (KnowsOf test margin lines n) (sym (get_or_push known by None n are.0)) is)
+  ],
+)
+
+-- ---- by time
+
+-- the newest line is known by means that each line that passes has
+pub known_so : (test : ℕ → ℕ → Bool) (margin : ℕ) (lines : List Line) (k : ℕ) (means : Means) (o : Option ℕ)
+    → ((j : ℕ) → test k j ≡ true → IsMeans margin lines j k means) → IsNewest (test k) (version_in lines) (length lines) o
+    → KnowsOf test margin lines k (witness o means)
+known_so test margin lines k means None so none = none
+known_so test margin lines k means (Some j) so is = (is.0, is.1, so j is.1, is.2)
 
 -- an end before a moment and any place is just an end before it
 pub at_zero : (end time above : ℕ) → is_earlier end above time 0 ≡ nat_lt end time
@@ -51,22 +125,34 @@ margins : (end margin time above : ℕ) → nat_lt (end + margin) time ≡ is_ea
 margins end margin time above =
     same_tests (end + margin) time end (time - margin) (λ l. omega arith) (λ l. omega arith) ∙ sym (at_zero end (time - margin) above)
 
--- the test of a client's own table, where the client is known
-abbrev own_test : Seen → List Line → Option ℕ → ℕ → ℕ → ℕ → Bool
-own_test seen lines None time place j = false
-own_test seen lines (Some a) time place j = stands_in true seen (line_at lines j) j a time place
+pub ended_means : (margin : ℕ) (seen : Seen) (lines : List Line) (k j : ℕ) → of_all margin seen lines k j ≡ true → IsMeans margin lines j k Ended
+ended_means margin seen lines k j is = by (ended (line_at lines j)) refl (and_parts (counts_at seen lines j) _ is).1
+  where
+    by : (o : Option ℕ) → ended (line_at lines j) ≡ o → had_ended o j (began (line_at lines k) - margin) 0 ≡ true → IsMeans margin lines j k Ended
+    by None e had = absurd (both_ways false refl had)
+    by (Some end) e had = (end, e, ltb-true (end + margin) (began (line_at lines k)) (margins end margin (began (line_at lines k)) j ∙ had))
 
-grouped : (o : Option ℕ) (a : ℕ) → one_client o (Some a) ≡ in_group true o a
+grouped : (o : Option ℕ) (a : ℕ) → in_group true o a ≡ one_client o (Some a)
 grouped None a = refl
 grouped (Some b) a = refl
+
+pub own_means : (margin : ℕ) (seen : Seen) (lines : List Line) (k j : ℕ) → of_own seen lines k j ≡ true → IsMeans margin lines j k Own
+own_means margin seen lines k j is = by (line_at lines k).client refl is
+  where
+    by : (o : Option ℕ) → (line_at lines k).client ≡ o → of_client seen lines o k j ≡ true → IsMeans margin lines j k Own
+    by None e is = absurd (both_ways false refl is)
+    by (Some a) e is =
+        ap (one_client (line_at lines j).client) e
+        ∙ (sym (grouped (line_at lines j).client a) ∙ (and_parts (in_group true (line_at lines j).client a) _ (and_parts (counts_at seen lines j) _ is).1).0)
 
 pub no_client : (o : Option ℕ) → one_client o None ≡ false
 no_client None = refl
 no_client (Some b) = refl
 
+-- what comes before by time stands in one of the tables
 by_two : (seen : Seen) (lines : List Line) (margin j k : ℕ) (o client : Option ℕ) → ended (line_at lines j) ≡ o → (line_at lines k).client ≡ client
     → (ended_before margin (nat_lt j k) (line_at lines j) o (line_at lines k) && counts_at seen lines j)
-    ≡ (stands_in false seen (line_at lines j) j 0 (began (line_at lines k) - margin) 0 || own_test seen lines client (began (line_at lines k)) k j)
+    ≡ (of_all margin seen lines k j || of_client seen lines client k j)
 by_two seen lines margin j k None None e f = sym (ap (λ o. (counts_at seen lines j && (true && had_ended o j (began (line_at lines k) - margin) 0)) || false) e ∙ ap (λ b. b || false) (with_false (counts_at seen lines j)))
 by_two seen lines margin j k None (Some a) e f =
     sym (ap (λ o. (counts_at seen lines j && (true && had_ended o j (began (line_at lines k) - margin) 0)) || (counts_at seen lines j && (in_group true (line_at lines j).client a && had_ended o j (began (line_at lines k)) k))) e
@@ -87,27 +173,17 @@ by_two seen lines margin j k (Some end) (Some a) e f =
     let c = counts_at seen lines j in
     let own = (line_at lines j).client in
     ap (λ q. (nat_lt (end + margin) time || (one_client own q && (nat_lt end time || (nat_lt j k && end == time)))) && c) f
-    ∙ (ap (λ q. (nat_lt (end + margin) time || (q && (nat_lt end time || (nat_lt j k && end == time)))) && c) (grouped own a)
+    ∙ (ap (λ q. (nat_lt (end + margin) time || (q && (nat_lt end time || (nat_lt j k && end == time)))) && c) (sym (grouped own a))
     ∙ (spread (nat_lt (end + margin) time) (in_group true own a && (nat_lt end time || (nat_lt j k && end == time))) c
     ∙ (ap (λ q. (c && q) || (c && (in_group true own a && (nat_lt end time || (nat_lt j k && end == time))))) (margins end margin time j)
     ∙ (ap (λ q. (c && is_earlier end j (time - margin) 0) || (c && (in_group true own a && (nat_lt end time || q)))) (swapped (nat_lt j k) (end == time))
     ∙ ap (λ o. (c && (true && had_ended o j (time - margin) 0)) || (c && (in_group true own a && had_ended o j time k))) (sym e)))))
 
-own_is : (seen : Seen) (lines : List Line) (client : Option ℕ) (time place : ℕ)
-    → greatest_of (own_test seen lines client time place) (version_in lines) (length lines) ≡ newest_of_own seen lines client time place
-own_is seen lines None time place =
-    let none = greatest_least (λ j. false) (version_in lines) (length lines) 0 (λ j l p. absurd (both_ways false refl p)) in
-    omega arith
-own_is seen lines (Some a) time place = refl
-
-pub known_by_two : (margin : ℕ) (seen : Seen) (lines : List Line) (k : ℕ)
-    → newest_known (by_time margin lines) seen lines k
-    ≡ max (newest_in false seen lines 0 (began (line_at lines k) - margin) 0 (length lines)) (newest_of_own seen lines (line_at lines k).client (began (line_at lines k)) k)
-known_by_two margin seen lines k =
-    let client = (line_at lines k).client in
-    let time = began (line_at lines k) in
-    greatest_same (λ j. by_time margin lines j k && counts_at seen lines j)
-    (λ j. stands_in false seen (line_at lines j) j 0 (time - margin) 0 || own_test seen lines client time k j) (version_in lines) (length lines)
-    (λ j l. by_two seen lines margin j k (ended (line_at lines j)) client refl refl)
-    ∙ (greatest_either (λ j. stands_in false seen (line_at lines j) j 0 (time - margin) 0) (own_test seen lines client time k) (version_in lines) (length lines)
-    ∙ ap (max (newest_in false seen lines 0 (time - margin) 0 (length lines))) (own_is seen lines client time k))
+pub both_are : (margin : ℕ) (seen : Seen) (lines : List Line) (k : ℕ) (one other : Option Witness)
+    → KnowsOf (of_all margin seen lines) margin lines k one → KnowsOf (of_own seen lines) margin lines k other
+    → KnowsOf (lets_know (by_time margin lines) seen lines) margin lines k (newer lines one other)
+both_are margin seen lines k one other is too =
+    let Is : Witness → Type 0 = λ (by : Witness). IsMeans margin lines by.line k by.means in
+    as_well (λ j. of_all margin seen lines k j || of_own seen lines k j) (lets_know (by_time margin lines) seen lines k) Is Is lines (newer lines one other)
+    (λ j lt. sym (by_two seen lines margin j k (ended (line_at lines j)) (line_at lines k).client refl refl)) (λ by h. h)
+    (newer_is (of_all margin seen lines k) (of_own seen lines k) Is lines one other is too)

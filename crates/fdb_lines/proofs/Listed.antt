@@ -1,9 +1,6 @@
 -- The list of faults is empty exactly where none stands.
-use Rattle.std.proofs.Common.{◌≡◌, ◌↔◌, ℕ, zero, suc, ◌<◌, ◌≤◌, false, List, [], ◌∷◌, ◌++◌, length, slice_get, Option, None, Some, refl, ap, sym, subst, ◌∙◌, inl, inr, arith, append_assoc, append-nil}
+use Rattle.std.proofs.Common.{◌≡◌, ◌↔◌, ℕ, zero, suc, ◌<◌, ◌≤◌, false, List, [], ◌∷◌, ◌++◌, length, slice_get, Option, None, Some, refl, ap, sym, ◌∙◌, inl, inr, arith, append_assoc, append-nil}
 use Rattle.std.proofs.lemmas.Bool.{cases_Bool, cases_eq, cond-true, cond-false}
-use Rattle.std.specs.List.{All}
-use Rattle.std.proofs.lemmas.List.Elements.{All-append, All-cons, All-get_or, All-nil, All-same}
-use Rattle.std.proofs.lemmas.Option.{get_or_from_slice_get, slice_get_within}
 use Rattle.fdb_lines.specs.declared.fault.Fault.{Fault}
 use Rattle.fdb_lines.specs.declared.fault.Fault.TheVariants.{Order, Wrong, NotAbove, Twice, Stray}
 use Rattle.fdb_lines.specs.declared.fault.Found.{Found}
@@ -12,7 +9,6 @@ use Rattle.fdb_lines.specs.Audit.{case_of, AreExplained}
 use Rattle.fdb_lines.specs.Faults.{stands, IsFaultless}
 use Rattle.fdb_lines.specs.Lines.{Case, Lines}
 use Rattle.fdb_lines.specs.Listing.{found_if, faults_at, faults_below, faults_of}
-use Rattle.fdb_lines.specs.private.Grounds.{IsStanding}
 use Rattle.fdb_lines.specs.Order.{history, rank_of}
 use Rattle.fdb_lines.proofs.Sound.{invented}
 use Rattle.fdb_lines.proofs.Complete.{explained}
@@ -116,39 +112,3 @@ pub first_of_all : (c : Case) (k : ℕ) (first : Found) → k ≤ length c.lines
 first_of_all c k first le e =
     let all = goes_on c k (length c.lines) le in
     sym (ap (λ l. slice_get l 0) all.1 ∙ first_of_two (faults_below c k) all.0 first e)
-
--- ---- each stands
-
-standing_if : (c : Case) (fault : Fault) (k : ℕ) → k < length c.lines → All (IsStanding c) (found_if c fault k)
-standing_if c fault k lt =
-    let here : Found = record { line = k; fault = fault } in
-    elim (cases_Bool (stands c fault k)) [
-      | inl is ↦
-          All-same (IsStanding c) (found_if c fault k) (here ∷ []) (cond-true (stands c fault k) (here ∷ []) [] is)
-          (All-cons (IsStanding c) here [] (lt, is) (All-nil (IsStanding c)))
-      | inr is_not ↦ All-same (IsStanding c) (found_if c fault k) [] (nothing_if c fault k is_not) (All-nil (IsStanding c))
-    ]
-
-standing_at : (c : Case) (k : ℕ) → k < length c.lines → All (IsStanding c) (faults_at c k)
-standing_at c k lt =
-    let P = IsStanding c in
-    let here : (fault : Fault) → All P (found_if c fault k) = λ fault. standing_if c fault k lt in
-    let two = All-append P (found_if c Order k) (found_if c Wrong k) (here Order) (here Wrong) in
-    let three = All-append P (found_if c Order k ++ found_if c Wrong k) (found_if c NotAbove k) two (here NotAbove) in
-    let four = All-append P (found_if c Order k ++ found_if c Wrong k ++ found_if c NotAbove k) (found_if c Twice k) three (here Twice) in
-    All-append P (found_if c Order k ++ found_if c Wrong k ++ found_if c NotAbove k ++ found_if c Twice k) (found_if c Stray k) four (here Stray)
-
-standing_below : (c : Case) (n : ℕ) → n ≤ length c.lines → All (IsStanding c) (faults_below c n)
-standing_below c zero le = All-nil (IsStanding c)
-standing_below c (suc n) le =
-    All-append (IsStanding c) (faults_below c n) (faults_at c n) (standing_below c n (omega arith)) (standing_at c n (omega arith))
-
-pub all_stand : (c : Case) → All (IsStanding c) (faults_of c)
-all_stand c = standing_below c (length c.lines) (omega arith)
-
--- and so does the first
-pub first_stands : (c : Case) (found : Found) → Some found ≡ slice_get (faults_of c) 0 → IsStanding c found
-first_stands c found is =
-    let at = get_or_from_slice_get (faults_of c) 0 found found (sym is) in
-    let some = slice_get_within (faults_of c) 0 found (sym is) in
-    subst (IsStanding c) at (All-get_or (IsStanding c) (faults_of c) 0 found some (all_stand c))

@@ -1,12 +1,11 @@
--- The newest version before a moment, found in a sorted table.
-use Rattle.std.proofs.Common.{◌≡◌, ◌≢◌, ◌⊎◌, ℕ, zero, suc, max, ◌-◌, ◌^◌, ◌<◌, ◌≤◌, ◌==◌, nat_lt, true, ◌&&◌, List, length, refl, ap, sym, ◌∙◌, inl, inr, arith}
+-- The newest line of a group before a moment, found in a sorted table.
+use Rattle.std.proofs.Common.{◌≡◌, ◌≢◌, ◌⊎◌, ℕ, ◌-◌, ◌^◌, ◌<◌, ◌≤◌, ◌==◌, nat_lt, true, ◌&&◌, List, length, Option, None, Some, refl, ap, sym, ◌∙◌, inl, inr, arith}
 use Rattle.std.specs.List.Sorted.{IsNonDecreasingBy}
-use Rattle.std.proofs.lemmas.Bool.{cases_lt, cases_order, and_parts, and_from, or_cases, or_left, or_right, cond-true, eq-eqb, eqb-true, ltb-true, lt-ltb}
+use Rattle.std.proofs.lemmas.Bool.{cases_eq, cases_lt, cases_order, and_parts, and_from, or_cases, or_left, or_right, eq-eqb, eqb-true, ltb-true, lt-ltb, false_from_ne_true}
 use Rattle.fdb_lines.specs.declared.end.End.{End}
-use Rattle.fdb_lines.specs.Faults.{greatest_of}
-use Rattle.fdb_lines.specs.private.Ends.{key, end_key, end_at, no_end, is_earlier, newest_before, newest_at, IsFront}
-use Rattle.fdb_lines.proofs.Numbers.{greatest_bound, greatest_least, greatest_same}
-use Rattle.fdb_lines.proofs.Search.{top_places}
+use Rattle.fdb_lines.specs.private.Ends.{key, end_key, end_at, no_end, is_earlier, comes_by, IsFront, IsNewestAt}
+use Rattle.fdb_lines.specs.private.Entries.{IsNewest}
+use Rattle.fdb_lines.specs.private.Known.{moment}
 
 group_below : (one other : End) → end_key one ≤ end_key other → one.group ≤ other.group
 group_below one other h =
@@ -20,50 +19,45 @@ groups_rise xs sorted i j le lt = group_below (end_at xs i) (end_at xs j) (sorte
 
 -- ---- the newest so far
 
-abbrev version_at : List End → ℕ → ℕ
-version_at xs i = (end_at xs i).version
+-- an end is the newest, where those of its group before it are no newer
+itself : (xs : List End) (i : ℕ) → ((j : ℕ) → j < i → (end_at xs j).group ≡ (end_at xs i).group → (end_at xs j).version ≤ (end_at xs i).version) → IsNewestAt xs i i
+itself xs i most = (
+  omega arith,
+  eq-eqb (end_at xs i).group (end_at xs i).group refl,
+  λ j lt same. elim (cases_eq j i) [
+    | inl at ↦ let e = ap (λ k. (end_at xs k).version) at in omega arith
+    | inr other ↦ most j (omega arith) (eqb-true (end_at xs j).group (end_at xs i).group same)
+  ],
+)
 
-begins : (xs : List End) → (end_at xs 0).version ≡ newest_at xs 0
-begins xs = let e = cond-true ((end_at xs 0).group == (end_at xs 0).group) (end_at xs 0).version 0 (eq-eqb (end_at xs 0).group (end_at xs 0).group refl) in omega arith
+pub first_of_group : (xs : List End) → IsNonDecreasingBy end_key xs → (i : ℕ) → i < length xs → (i ≡ 0) ⊎ ((end_at xs (i - 1)).group ≢ (end_at xs i).group) → IsNewestAt xs i i
+first_of_group xs sorted i lt apart =
+    itself xs i (λ j less same. elim apart [
+      | inl zero ↦ absurd (omega arith)
+      | inr ne ↦
+          let a = groups_rise xs sorted j (i - 1) (omega arith) (omega arith) in
+          let b = groups_rise xs sorted (i - 1) i (omega arith) lt in
+          absurd (ne (omega arith))
+    ])
 
-goes_on : (xs : List End) (m : ℕ) → (end_at xs m).group ≡ (end_at xs (suc m)).group
-    → max (end_at xs (suc m)).version (newest_at xs m) ≡ newest_at xs (suc m)
-goes_on xs m same =
-    let e = cond-true ((end_at xs (suc m)).group == (end_at xs (suc m)).group) (end_at xs (suc m)).version 0 (eq-eqb (end_at xs (suc m)).group (end_at xs (suc m)).group refl) in
-    let rest = greatest_same (λ j. (end_at xs j).group == (end_at xs m).group) (λ j. (end_at xs j).group == (end_at xs (suc m)).group) (version_at xs) (suc m) (λ j l. ap (λ g. (end_at xs j).group == g) same) in
-    omega arith
+pub newer_yet : (xs : List End) (i k : ℕ) → 0 < i → (end_at xs (i - 1)).group ≡ (end_at xs i).group → IsNewestAt xs (i - 1) k
+    → (end_at xs k).version < (end_at xs i).version → IsNewestAt xs i i
+newer_yet xs i k some same is less =
+    itself xs i (λ j lt own.
+    let up = is.2 j (omega arith) (eq-eqb (end_at xs j).group (end_at xs (i - 1)).group (own ∙ sym same)) in
+    omega arith)
 
-starts : (xs : List End) → IsNonDecreasingBy end_key xs → (m : ℕ) → suc m < length xs → (end_at xs m).group ≢ (end_at xs (suc m)).group
-    → (end_at xs (suc m)).version ≡ newest_at xs (suc m)
-starts xs sorted m lt ne =
-    let e = cond-true ((end_at xs (suc m)).group == (end_at xs (suc m)).group) (end_at xs (suc m)).version 0 (eq-eqb (end_at xs (suc m)).group (end_at xs (suc m)).group refl) in
-    let none : greatest_of (λ j. (end_at xs j).group == (end_at xs (suc m)).group) (version_at xs) (suc m) ≤ 0 =
-    greatest_least (λ j. (end_at xs j).group == (end_at xs (suc m)).group) (version_at xs) (suc m) 0
-    (λ j l p.
-    let same = eqb-true (end_at xs j).group (end_at xs (suc m)).group p in
-    let a = groups_rise xs sorted j m (omega arith) (omega arith) in
-    let b = groups_rise xs sorted m (suc m) (omega arith) lt in
-    absurd (ne (omega arith))) in
-    omega arith
-
-less_one : (m : ℕ) → suc m - 1 ≡ m
-less_one m = omega arith
-
--- one more
-pub next : (xs : List End) → IsNonDecreasingBy end_key xs → (i so_far : ℕ) → i < length xs
-    → ((0 < i) × ((end_at xs (i - 1)).group ≡ (end_at xs i).group) × (so_far ≡ newest_at xs (i - 1)))
-    ⊎ ((so_far ≡ 0) × ((i ≡ 0) ⊎ ((end_at xs (i - 1)).group ≢ (end_at xs i).group)))
-    → max (end_at xs i).version so_far ≡ newest_at xs i
-next xs sorted zero so_far lt (inl h) = absurd (omega (arith, h.0))
-next xs sorted zero so_far lt (inr h) = let e = begins xs in omega (arith, h.0)
-next xs sorted (suc m) so_far lt (inl h) =
-    let before = ap (λ n. (end_at xs n).group) (sym (less_one m)) in
-    let newest = ap (newest_at xs) (less_one m) in
-    ap (max (end_at xs (suc m)).version) (h.2 ∙ newest) ∙ goes_on xs m (before ∙ h.1)
-next xs sorted (suc m) so_far lt (inr h) =
-    let before = ap (λ n. (end_at xs n).group) (less_one m) in
-    let e = starts xs sorted m lt (elim h.1 [ inl z ↦ absurd (omega arith) | inr ne ↦ λ same. ne (before ∙ same) ]) in
-    omega (arith, h.0, e)
+pub newest_yet : (xs : List End) (i k : ℕ) → 0 < i → (end_at xs (i - 1)).group ≡ (end_at xs i).group → IsNewestAt xs (i - 1) k
+    → (end_at xs i).version ≤ (end_at xs k).version → IsNewestAt xs i k
+newest_yet xs i k some same is le =
+    let inside = is.0 in (
+      omega arith,
+      eq-eqb (end_at xs k).group (end_at xs i).group (eqb-true (end_at xs k).group (end_at xs (i - 1)).group is.1 ∙ same),
+      λ j lt own. elim (cases_eq j i) [
+        | inl at ↦ let e = ap (λ n. (end_at xs n).version) at in omega arith
+        | inr other ↦ is.2 j (omega arith) (eq-eqb (end_at xs j).group (end_at xs (i - 1)).group (eqb-true (end_at xs j).group (end_at xs i).group own ∙ sym same))
+      ],
+    )
 
 -- ---- the search
 
@@ -92,11 +86,8 @@ from_key end time place fits h =
       ]
     ]
 
-abbrev IsFound : List End → ℕ → ℕ → ℕ → ℕ → Type 0
-IsFound xs group time place i = ((end_at xs i).group == group && is_earlier (end_at xs i).time (end_at xs i).place time place) ≡ true
-
 -- what is found stands in the front
-in_front : (xs : List End) (group time place front i : ℕ) → IsFront xs (key group time place) front → i < length xs → IsFound xs group time place i
+in_front : (xs : List End) (group time place front i : ℕ) → IsFront xs (key group time place) front → i < length xs → comes_by (moment group time place) (end_at xs i) ≡ true
     → (i < front) × ((end_at xs i).group ≡ group)
 in_front xs group time place front i parts lt found =
     let p = and_parts ((end_at xs i).group == group) (is_earlier (end_at xs i).time (end_at xs i).place time place) found in
@@ -104,40 +95,28 @@ in_front xs group time place front i parts lt found =
     let below = to_key (end_at xs i) time place p.1 in
     (elim (cases_lt i front) [ inl l ↦ l | inr ge ↦ let above = parts.1 i ge lt in absurd (omega arith) ], same)
 
-places : (xs : List End) (group time place : ℕ)
-    → newest_before xs group time place
-    ≡ greatest_of (λ i. (end_at xs i).group == group && is_earlier (end_at xs i).time (end_at xs i).place time place) (version_at xs) (length xs)
-places xs group time place = sym (top_places (λ (end : End). end.group == group && is_earlier end.time end.place time place) (λ (end : End). end.version) no_end xs)
+abbrev pub Found : List End → ℕ → ℕ → ℕ → Option ℕ → Type 0
+Found xs group time place = IsNewest (λ i. comes_by (moment group time place) (end_at xs i)) (λ i. (end_at xs i).version) (length xs)
 
-pub found : (xs : List End) → IsNonDecreasingBy end_key xs → (group time place front : ℕ) → time < 2 ^ 64 → place < 2 ^ 32 → front ≤ length xs
-    → IsFront xs (key group time place) front → 0 < front → (end_at xs (front - 1)).group ≡ group
-    → newest_at xs (front - 1) ≡ newest_before xs group time place
-found xs sorted group time place front ft fp le parts some same =
-    let e = places xs group time place in
-    let up = greatest_least (λ j. (end_at xs j).group == (end_at xs (front - 1)).group) (version_at xs) (suc (front - 1))
-    (greatest_of (λ i. (end_at xs i).group == group && is_earlier (end_at xs i).time (end_at xs i).place time place) (version_at xs) (length xs))
-    (λ j l p.
-    let own = eqb-true (end_at xs j).group (end_at xs (front - 1)).group p ∙ same in
-    let below = parts.0 j (omega arith) in
-    greatest_bound (λ i. (end_at xs i).group == group && is_earlier (end_at xs i).time (end_at xs i).place time place) (version_at xs) (length xs) j (omega arith)
-    (and_from _ _ (eq-eqb (end_at xs j).group group own) (from_key (end_at xs j) time place fp (let k = ap (λ g. key g time place) own in omega arith)))) in
-    let down = greatest_least (λ i. (end_at xs i).group == group && is_earlier (end_at xs i).time (end_at xs i).place time place) (version_at xs) (length xs)
-    (newest_at xs (front - 1))
-    (λ j l p.
-    let at = in_front xs group time place front j parts l p in
-    let inside = at.0 in
-    greatest_bound (λ i. (end_at xs i).group == (end_at xs (front - 1)).group) (version_at xs) (suc (front - 1)) j (omega arith)
-    (eq-eqb (end_at xs j).group (end_at xs (front - 1)).group (at.1 ∙ sym same))) in
-    omega arith
+pub found : (xs : List End) (group time place front k : ℕ) → place < 2 ^ 32 → front ≤ length xs → IsFront xs (key group time place) front
+    → 0 < front → (end_at xs (front - 1)).group ≡ group → IsNewestAt xs (front - 1) k → Found xs group time place (Some k)
+found xs group time place front k fits le parts some same is =
+    let inside = is.0 in
+    let own = eqb-true (end_at xs k).group (end_at xs (front - 1)).group is.1 ∙ same in
+    let below = parts.0 k (omega arith) in (
+      omega arith,
+      and_from _ _ (eq-eqb (end_at xs k).group group own) (from_key (end_at xs k) time place fits (let e = ap (λ g. key g time place) own in omega arith)),
+      λ j lt comes.
+          let at = in_front xs group time place front j parts lt comes in
+          let before = at.0 in
+          is.2 j (omega arith) (eq-eqb (end_at xs j).group (end_at xs (front - 1)).group (at.1 ∙ sym same)),
+    )
 
 pub not_found : (xs : List End) → IsNonDecreasingBy end_key xs → (group time place front : ℕ) → time < 2 ^ 64 → place < 2 ^ 32 → front ≤ length xs
-    → IsFront xs (key group time place) front → (front ≡ 0) ⊎ ((end_at xs (front - 1)).group ≢ group)
-    → 0 ≡ newest_before xs group time place
-not_found xs sorted group time place front ft fp le parts other =
-    let e = places xs group time place in
-    let none = greatest_least (λ i. (end_at xs i).group == group && is_earlier (end_at xs i).time (end_at xs i).place time place) (version_at xs) (length xs) 0
-    (λ j l p.
-    let at = in_front xs group time place front j parts l p in
+    → IsFront xs (key group time place) front → (front ≡ 0) ⊎ ((end_at xs (front - 1)).group ≢ group) → Found xs group time place None
+not_found xs sorted group time place front ft fp le parts other j lt =
+    false_from_ne_true (comes_by (moment group time place) (end_at xs j)) (λ comes.
+    let at = in_front xs group time place front j parts lt comes in
     let inside = at.0 in
     let own = at.1 in
     elim other [
@@ -145,8 +124,7 @@ not_found xs sorted group time place front ft fp le parts other =
       | inr ne ↦
           let a = groups_rise xs sorted j (front - 1) (omega arith) (omega arith) in
           let b = parts.0 (front - 1) (omega arith) in
-          let moment : End = record { group = group; time = time; place = place; version = 0; fits = (ft, fp) } in
-          let d = group_below (end_at xs (front - 1)) moment (omega arith) in
-          absurd (ne (omega arith))
-    ]) in
-    omega arith
+          let last : End = record { group = group; time = time; place = place; version = 0; fits = (ft, fp) } in
+          let d = group_below (end_at xs (front - 1)) last (omega arith) in
+          ne (omega arith)
+    ])

@@ -1,5 +1,5 @@
--- Why a fault stands, from what was found.
-use Rattle.std.proofs.Common.{◌≡◌, ◌⊎◌, ℕ, zero, suc, max, ◌<◌, ◌≤◌, ◌==◌, nat_lt, nat_le, not, Bool, true, false, cond, ◌&&◌, ◌||◌, length, Option, None, Some, refl, ap, sym, ◌∙◌, inl, inr, arith}
+-- What the tables of a log say, and why a fault stands.
+use Rattle.std.proofs.Common.{◌≡◌, ◌⊎◌, ℕ, zero, suc, max, ◌<◌, ◌≤◌, ◌==◌, nat_lt, nat_le, not, Bool, true, false, cond, ◌&&◌, ◌||◌, List, length, Option, None, Some, is_none, is_some, unwrap_or, refl, ap, sym, ◌∙◌, inl, inr, arith}
 use Rattle.std.proofs.lemmas.Bool.{cases_Bool, cases_eq, cases_lt, both_ways, and_parts, and_from, or_cases, or_left, or_right, not-true, cond-true, cond-false, eq-eqb, ne_eqb, lt-ltb, ltb-true, leb-true, false_from_ne_true}
 use Rattle.fdb_lines.specs.declared.fault.Fault.TheVariants.{Order, Wrong, NotAbove, Twice, Stray}
 use Rattle.fdb_lines.specs.declared.opts.AuditOpts.{AuditOpts}
@@ -7,19 +7,172 @@ use Rattle.fdb_lines.specs.declared.reason.Reason.TheVariants.{Known, Reported, 
 use Rattle.fdb_lines.specs.declared.reason.Witness.{Witness}
 use Rattle.fdb_lines.specs.declared.seen.Seen.{Seen}
 use Rattle.fdb_lines.specs.declared.seen.Seen.TheVariants.{Shown, Drawn}
-use Rattle.fdb_lines.specs.declared.sort.Sort.TheVariants.{Asks, Draws}
-use Rattle.fdb_lines.specs.Audit.{case_of}
+use Rattle.fdb_lines.specs.declared.sort.Sort.TheVariants.{Raises, Owned, Nameless}
+use Rattle.fdb_lines.specs.Audit.{case_of, start_of}
 use Rattle.fdb_lines.specs.Before.{comes_before}
 use Rattle.fdb_lines.specs.Faults.{greatest_of, is_drawn, is_own, is_raised, is_twice, knows, last, some_below, stands}
-use Rattle.fdb_lines.specs.Lines.{Case, Kind, Lines, draws, is_ask, is_commit, is_read, is_report, kind_at, kind_of, line_at, reports, shows, version_at, version_of}
+use Rattle.fdb_lines.specs.Lines.{Case, Kind, Read, Commit, Ask, Report, Learn, Lines, client_at, draws, is_ask, is_commit, is_read, is_report, kind_at, kind_of, line_at, reports, same_client, shows, version_at, version_of}
 use Rattle.fdb_lines.specs.Reasons.{IsFirst, IsKnown, IsReason, draws_again, draws_it, reports_it, shows_or_draws}
-use Rattle.fdb_lines.specs.private.Grounds.{drawn_by}
-use Rattle.fdb_lines.specs.private.Known.{counts_at, newest_known, version_in}
-use Rattle.fdb_lines.specs.private.Marks.{is_marked_at, IsFirstFrom}
-use Rattle.fdb_lines.specs.private.Witnesses.{tells, IsFound}
-use Rattle.fdb_lines.proofs.Firsts.{first_same}
-use Rattle.fdb_lines.proofs.Numbers.{some_at, some_find}
-use Rattle.fdb_lines.proofs.Verdicts.{beside_ask, beside_commit, no_ask}
+use Rattle.fdb_lines.specs.private.Entries.{IsFirstFrom}
+use Rattle.fdb_lines.specs.private.Known.{by_at, counts_at, newest_known, of_version, tells, version_by, version_in}
+use Rattle.fdb_lines.specs.private.Marks.{is_marked_at, knows_at, name}
+use Rattle.fdb_lines.specs.private.Tables.{drawn_by, AreKnownIn, IsFoundIn}
+use Rattle.fdb_lines.proofs.Entries.{first_is, first_same, some_same}
+use Rattle.fdb_lines.proofs.Knowing.{found_is, version_is}
+use Rattle.fdb_lines.proofs.Numbers.{some_at}
+use Rattle.fdb_lines.proofs.Tests.{with_false}
+
+-- ---- the tables
+
+abbrev pub newest : Lines → AuditOpts → Seen → ℕ → ℕ
+newest log opts seen k = newest_known (comes_before log.timed opts.margin log.lines) seen log.lines k
+
+pub newest_is : (log : Lines) (opts : AuditOpts) (seen : Seen) (known : List (Option Witness)) (k : ℕ) → AreKnownIn log opts seen known → k < length log.lines
+    → version_by log.lines (by_at known k) ≡ newest log opts seen k
+newest_is log opts seen known k are lt = version_is _ _ log.lines (by_at known k) (are.1 k lt)
+
+pub knows_is : (log : Lines) (opts : AuditOpts) (shown : List (Option Witness)) (k : ℕ) → AreKnownIn log opts Shown shown → k < length log.lines
+    → knows_at (start_of opts.complete) log.lines shown k ≡ knows (case_of log opts) k
+knows_is log opts shown k are lt = ap (max (start_of opts.complete)) (newest_is log opts Shown shown k are lt)
+
+pub known_is : (log : Lines) (opts : AuditOpts) (seen : Seen) (known : List (Option Witness)) (k version : ℕ) → AreKnownIn log opts seen known → k < length log.lines
+    → newest log opts seen k ≤ version → IsFoundIn log opts seen k version (of_version log.lines version (by_at known k))
+known_is log opts seen known k version are lt most =
+    found_is (comes_before log.timed opts.margin log.lines) opts.margin seen log.lines k version (by_at known k) (are.1 k lt) most
+
+-- a test of a version, and that it is another one
+moved : (b : Bool) (known v w : ℕ) → ((b && nat_lt known w) && w == v) ≡ (b && (w == v && nat_lt known v))
+moved false known v w = refl
+moved true known v w =
+    elim (cases_eq w v) [
+      | inl same ↦ ap (λ e. nat_lt known w && e) (eq-eqb w v same) ∙ (ends (nat_lt known w) ∙ (ap (nat_lt known) same ∙ ap (λ e. e && nat_lt known v) (sym (eq-eqb w v same))))
+      | inr other ↦ ap (λ e. nat_lt known w && e) (ne_eqb w v other) ∙ (with_false (nat_lt known w) ∙ ap (λ e. e && nat_lt known v) (sym (ne_eqb w v other)))
+    ]
+  where
+    ends : (b : Bool) → (b && true) ≡ b
+    ends true = refl
+    ends false = refl
+
+pub raised_is : (log : Lines) (opts : AuditOpts) (shown : List (Option Witness)) (v : ℕ) (first : Option ℕ) → AreKnownIn log opts Shown shown
+    → IsFirstFrom (is_marked_at Raises (start_of opts.complete) log.lines shown (name v 0)) 0 (length log.lines) first → is_raised (case_of log opts) v ≡ is_some first
+raised_is log opts shown v first are found =
+    let c = case_of log opts in
+    let test = is_marked_at Raises (start_of opts.complete) log.lines shown (name v 0) in
+    sym (some_same test (λ j. reports (kind_at c j) && (version_at c j == v && nat_lt (knows c j) v)) (length log.lines)
+    (λ j l. moved (reports (kind_at c j)) (knows_at (start_of opts.complete) log.lines shown j) v (version_at c j)
+    ∙ ap (λ n. reports (kind_at c j) && (version_at c j == v && nat_lt n v)) (knows_is log opts shown j are l)))
+    ∙ first_is test (length log.lines) first found
+
+-- who drew a version
+owned_by : (kind : Kind) (client : Option ℕ) (a : ℕ) (e : Bool) → (unwrap_or client 0 == a && ((draws kind && is_some client) && e)) ≡ (draws kind && (e && same_client client (Some a)))
+owned_by kind None a e = owned_none (draws kind) (0 == a) e
+  where
+    owned_none : (d g e : Bool) → (g && ((d && false) && e)) ≡ (d && (e && false))
+    owned_none true true true = refl
+    owned_none true true false = refl
+    owned_none true false true = refl
+    owned_none true false false = refl
+    owned_none false true e = refl
+    owned_none false false e = refl
+owned_by kind (Some b) a e = owned_some (draws kind) (b == a) e
+  where
+    owned_some : (d g e : Bool) → (g && ((d && true) && e)) ≡ (d && (e && g))
+    owned_some true true true = refl
+    owned_some true true false = refl
+    owned_some true false true = refl
+    owned_some true false false = refl
+    owned_some false true e = refl
+    owned_some false false e = refl
+
+nameless_by : (kind : Kind) (client : Option ℕ) (e : Bool) → ((draws kind && is_none client) && e) ≡ (draws kind && (e && same_client client None))
+nameless_by kind None e = by (draws kind) e
+  where
+    by : (d e : Bool) → ((d && true) && e) ≡ (d && (e && true))
+    by true true = refl
+    by true false = refl
+    by false e = refl
+nameless_by kind (Some b) e = by (draws kind) e
+  where
+    by : (d e : Bool) → ((d && false) && e) ≡ (d && (e && false))
+    by true true = refl
+    by true false = refl
+    by false e = refl
+
+pub owned_is : (log : Lines) (opts : AuditOpts) (shown : List (Option Witness)) (k a : ℕ) (first : Option ℕ) → client_at (case_of log opts) k ≡ Some a
+    → IsFirstFrom (is_marked_at Owned (start_of opts.complete) log.lines shown (name (version_at (case_of log opts) k) a)) 0 (length log.lines) first
+    → is_own (case_of log opts) k ≡ is_some first
+owned_is log opts shown k a first whose found =
+    let c = case_of log opts in
+    let test = is_marked_at Owned (start_of opts.complete) log.lines shown (name (version_at c k) a) in
+    sym (some_same test (λ j. draws (kind_at c j) && (version_at c j == version_at c k && same_client (client_at c j) (client_at c k))) (length log.lines)
+    (λ j l. owned_by (kind_at c j) (client_at c j) a (version_at c j == version_at c k)
+    ∙ ap (λ o. draws (kind_at c j) && (version_at c j == version_at c k && same_client (client_at c j) o)) (sym whose)))
+    ∙ first_is test (length log.lines) first found
+
+pub nameless_is : (log : Lines) (opts : AuditOpts) (shown : List (Option Witness)) (k : ℕ) (first : Option ℕ) → client_at (case_of log opts) k ≡ None
+    → IsFirstFrom (is_marked_at Nameless (start_of opts.complete) log.lines shown (name (version_at (case_of log opts) k) 0)) 0 (length log.lines) first
+    → is_own (case_of log opts) k ≡ is_some first
+nameless_is log opts shown k first whose found =
+    let c = case_of log opts in
+    let test = is_marked_at Nameless (start_of opts.complete) log.lines shown (name (version_at c k) 0) in
+    sym (some_same test (λ j. draws (kind_at c j) && (version_at c j == version_at c k && same_client (client_at c j) (client_at c k))) (length log.lines)
+    (λ j l. nameless_by (kind_at c j) (client_at c j) (version_at c j == version_at c k)
+    ∙ ap (λ o. draws (kind_at c j) && (version_at c j == version_at c k && same_client (client_at c j) o)) (sym whose)))
+    ∙ first_is test (length log.lines) first found
+
+-- ---- drawn twice
+
+no_ask : (kind : Kind) → is_commit kind ≡ true → is_ask kind ≡ false
+no_ask Read h = refl
+no_ask Commit h = refl
+no_ask Ask h = absurd (both_ways false refl h)
+no_ask Report h = refl
+no_ask Learn h = refl
+
+beside_commit : (kind : Kind) (e : Bool) → (draws kind && (e && not (is_commit kind && true))) ≡ (is_ask kind && e)
+beside_commit Read e = refl
+beside_commit Commit e = with_false e
+beside_commit Ask true = refl
+beside_commit Ask false = refl
+beside_commit Report e = refl
+beside_commit Learn e = refl
+
+beside_ask : (kind : Kind) (e : Bool) → (draws kind && (e && not (is_commit kind && false))) ≡ (draws kind && e)
+beside_ask Read e = refl
+beside_ask Commit true = refl
+beside_ask Commit false = refl
+beside_ask Ask true = refl
+beside_ask Ask false = refl
+beside_ask Report e = refl
+beside_ask Learn e = refl
+
+-- beside a commit the asks of its version, and beside an ask what else draws it
+pub beside_a_commit : (c : Case) (k : ℕ) (first : Option ℕ) → is_commit (kind_at c k) ≡ true
+    → IsFirstFrom (λ j. is_ask (kind_at c j) && version_at c j == version_at c k) 0 (length c.lines) first → IsFirstFrom (draws_again c k) 0 (length c.lines) first
+beside_a_commit c k first commit =
+    first_same (λ j. is_ask (kind_at c j) && version_at c j == version_at c k) (draws_again c k) (length c.lines) first (λ j. sym (same j))
+  where
+    same : (j : ℕ) → draws_again c k j ≡ (is_ask (kind_at c j) && version_at c j == version_at c k)
+    same j =
+        let e = version_at c j == version_at c k in
+        ap (λ b. not (j == k) && (draws (kind_at c j) && (e && not (is_commit (kind_at c j) && b)))) commit
+        ∙ elim (cases_eq j k) [
+          | inl at ↦
+              ap (λ b. not b && (draws (kind_at c j) && (e && not (is_commit (kind_at c j) && true)))) (eq-eqb j k at)
+              ∙ sym (ap (λ i. is_ask (kind_at c i) && e) at ∙ ap (λ b. b && e) (no_ask (kind_at c k) commit))
+          | inr other ↦
+              ap (λ b. not b && (draws (kind_at c j) && (e && not (is_commit (kind_at c j) && true)))) (ne_eqb j k other)
+              ∙ beside_commit (kind_at c j) e
+        ]
+
+pub beside_an_ask : (c : Case) (k : ℕ) (first : Option ℕ) → is_commit (kind_at c k) ≡ false
+    → IsFirstFrom (λ j. not (j == k) && draws_it c (version_at c k) j) 0 (length c.lines) first → IsFirstFrom (draws_again c k) 0 (length c.lines) first
+beside_an_ask c k first not_commit =
+    first_same (λ j. not (j == k) && draws_it c (version_at c k) j) (draws_again c k) (length c.lines) first
+    (λ j.
+    let e = version_at c j == version_at c k in
+    sym (ap (λ b. not (j == k) && (draws (kind_at c j) && (e && not (is_commit (kind_at c j) && b)))) not_commit
+    ∙ ap (λ b. not (j == k) && b) (beside_ask (kind_at c j) e)))
 
 -- ---- a version that was known
 
@@ -44,10 +197,7 @@ abbrev before : Lines → AuditOpts → ℕ → ℕ → Bool
 before log opts = comes_before log.timed opts.margin log.lines
 
 abbrev Found : Lines → AuditOpts → Seen → ℕ → ℕ → Option Witness → Type 0
-Found log opts seen k version by = IsFound (before log opts) opts.margin seen log.lines k version by
-
-abbrev pub newest : Lines → AuditOpts → Seen → ℕ → ℕ
-newest log opts seen k = newest_known (before log opts) seen log.lines k
+Found = IsFoundIn
 
 -- what is known and that no line lets be known is 0
 untold : (log : Lines) (opts : AuditOpts) (seen : Seen) (k version : ℕ) → Found log opts seen k version None → newest log opts seen k ≡ version → version ≡ 0
@@ -135,10 +285,8 @@ order_is log opts k version by stand is found =
     let below = ltb-true (version_at c k) (knows c k) (and_parts (is_read (kind_at c k)) _ stand).1 in
     (omega arith, is, shown_is log opts k version by found is)
 
--- no line that a search would have found
-pub none_below : (test : ℕ → Bool) (n : ℕ) → IsFirstFrom test 0 n None → some_below test n ≡ false
-none_below test n none =
-    false_from_ne_true (some_below test n) (λ some. let f = some_find test n some in both_ways (test f.0) (none f.0 (omega arith) f.1) f.2)
+none_below : (test : ℕ → Bool) (n : ℕ) → IsFirstFrom test 0 n None → some_below test n ≡ false
+none_below test n none = first_is test n None none
 
 is_first : (test : ℕ → Bool) (n j : ℕ) → IsFirstFrom test 0 n (Some j) → IsFirst test n j
 is_first test n j first = (first.1, first.2, λ i lt. first.3 i (omega arith) lt)
@@ -180,34 +328,6 @@ twice_is log opts k None stand none =
     let c = case_of log opts in
     both_ways (is_twice c k) (none_below (draws_again c k) (length log.lines) none) (and_parts (draws (kind_at c k)) _ stand).1
 twice_is log opts k (Some j) stand first = is_first (draws_again (case_of log opts) k) (length log.lines) j first
-
--- beside a commit the asks of its version, and beside an ask what else draws it
-pub beside_a_commit : (c : Case) (k : ℕ) (first : Option ℕ) → is_commit (kind_at c k) ≡ true
-    → IsFirstFrom (is_marked_at Asks c.lines (version_at c k)) 0 (length c.lines) first → IsFirstFrom (draws_again c k) 0 (length c.lines) first
-beside_a_commit c k first commit =
-    first_same (is_marked_at Asks c.lines (version_at c k)) (draws_again c k) (length c.lines) first (λ j. sym (same j))
-  where
-    same : (j : ℕ) → draws_again c k j ≡ is_marked_at Asks c.lines (version_at c k) j
-    same j =
-        let e = version_at c j == version_at c k in
-        ap (λ b. not (j == k) && (draws (kind_at c j) && (e && not (is_commit (kind_at c j) && b)))) commit
-        ∙ elim (cases_eq j k) [
-          | inl at ↦
-              ap (λ b. not b && (draws (kind_at c j) && (e && not (is_commit (kind_at c j) && true)))) (eq-eqb j k at)
-              ∙ sym (ap (λ i. is_ask (kind_at c i) && e) at ∙ ap (λ b. b && e) (no_ask (kind_at c k) commit))
-          | inr other ↦
-              ap (λ b. not b && (draws (kind_at c j) && (e && not (is_commit (kind_at c j) && true)))) (ne_eqb j k other)
-              ∙ beside_commit (kind_at c j) e
-        ]
-
-pub beside_an_ask : (c : Case) (k : ℕ) (first : Option ℕ) → is_commit (kind_at c k) ≡ false
-    → IsFirstFrom (λ j. not (j == k) && is_marked_at Draws c.lines (version_at c k) j) 0 (length c.lines) first → IsFirstFrom (draws_again c k) 0 (length c.lines) first
-beside_an_ask c k first not_commit =
-    first_same (λ j. not (j == k) && is_marked_at Draws c.lines (version_at c k) j) (draws_again c k) (length c.lines) first
-    (λ j.
-    let e = version_at c j == version_at c k in
-    sym (ap (λ b. not (j == k) && (draws (kind_at c j) && (e && not (is_commit (kind_at c j) && b)))) not_commit
-    ∙ ap (λ b. not (j == k) && b) (beside_ask (kind_at c j) e)))
 
 pub stray_is : (log : Lines) (opts : AuditOpts) (k : ℕ) (first : Option ℕ) → stands (case_of log opts) Stray k ≡ true
     → IsFirstFrom (draws_it (case_of log opts) (version_at (case_of log opts) k)) 0 (length log.lines) first → IsReason log opts k Stray (drawn_by first)

@@ -1,6 +1,6 @@
 //! Calls that ended, of which those before a moment are counted by a search.
 
-ghost use Rattle.std.specs.Prelude.{◌≡◌, ℕ, ◌≤◌, IfOk, length};
+ghost use Rattle.std.specs.Prelude.{◌≡◌, ℕ, ◌≤◌, IfOk, count_by, length, nat_lt};
 ghost use Rattle.std.specs.List.Sorted.{IsNonDecreasing, IsNonDecreasingBy};
 ghost use Rattle.fdb_lines.specs.private.Ended.{count_above, count_before, end_above, ended_above};
 ghost use Rattle.fdb_lines.specs.private.Ended.{HasEnds, HasTimes};
@@ -9,7 +9,6 @@ ghost use Rattle.fdb_lines.specs.private.Ends.{end_key};
 use crate::end::End;
 use crate::ends::{front_near, order};
 use crate::line::Line;
-use crate::versions::below;
 use std::alloc::{AllocError, Global};
 
 /// When calls ended, and the ends of those of known clients, by client, time and place.
@@ -89,4 +88,12 @@ fn end_of(line: &Line, above: u32) -> Option<End>
     let client = line.client?;
     let time = line.ended()?;
     Some(End::new(client, time, above, line.call.version()))
+}
+
+/// How many numbers are below this one.
+fn below(rising: &[u64], time: u64) -> usize
+    requires { IsNonDecreasing rising.now }
+    ensures { result ≡ count_by (λ t. nat_lt t time) rising.now }
+{
+    rising.partition_point(|t| *t < time)
 }

@@ -1,10 +1,16 @@
 //! A table of calls that ended, in which the newest version before a moment is found by a search.
 
-ghost use Rattle.std.specs.Prelude.{◌≡◌, ℕ, ◌≤◌, IfOk, IfSome, length, nat_lt};
-ghost use Rattle.std.specs.List.Sorted.{IsNonDecreasingBy};
+ghost use Rattle.std.specs.Prelude.{◌≡◌, ◌<◌, ◌≤◌, ℕ, Bool, IfOk, IfSome, List, length};
+ghost use Rattle.std.specs.Prelude.{cond, nat_lt, slice_index};
+ghost use Rattle.std.specs.List.Sorted.{IsNonDecreasingBy, IsPermutation};
 ghost use Rattle.std.specs.Ordering.{nat_cmp};
-ghost use Rattle.fdb_lines.specs.private.Ends.{end_key, newest_before, AreNewest};
-ghost use Rattle.fdb_lines.specs.private.Ends.{AreSettled, IsFront};
+ghost use Rattle.fdb_lines.specs.Lines.{line_at};
+ghost use Rattle.fdb_lines.specs.declared.line.Line.{Line};
+ghost use Rattle.fdb_lines.specs.declared.seen.Seen.{Seen};
+ghost use Rattle.fdb_lines.specs.private.Ends.{comes_by, end_at, end_key, AreNewest};
+ghost use Rattle.fdb_lines.specs.private.Ends.{AreSettled, IsFront, IsNewestAt};
+ghost use Rattle.fdb_lines.specs.private.Entries.{IsNewest};
+ghost use Rattle.fdb_lines.specs.private.Known.{moment, stands_in, version_in, AreEnds};
 
 use crate::end::End;
 use std::alloc::{AllocError, Global};
@@ -16,37 +22,56 @@ const NEXT: usize = 8;
 /// How far around a place a search looks before it looks through all.
 const NEAR: usize = 1_024;
 
-/// The calls that ended, by group, time and place, and after each the newest version of its group.
+/// The calls that ended, by group, time and place, and up to each where the newest of its group is.
 #[derive(Drop)]
 pub(crate) struct Ends {
     ends: Vec<End>,
-    newest: Vec<u64>,
+    newest: Vec<u32>,
 }
 
 impl Ends {
     /// A table of these. `n log n` in how many there are.
     pub(crate) fn new(alloc: Global, mut ends: Vec<End>) -> Result<Ends, AllocError>
+        requires { length ends.items ≤ 4294967295 }
         ensures settled { IfOk result (λ table. AreSettled table) }
-        ensures same { IfOk result (λ table. (group time place : ℕ)
-            → newest_before table.ends.items group time place ≡ newest_before ends.items group time place) }
+        ensures same { IfOk result (λ table. IsPermutation ends.items table.ends.items) }
     {
         ends.sort_unstable_by(|a, b| order(a, b));
         let newest = newest_of(alloc, &ends)?;
         Ok(Ends { ends, newest })
     }
 
-    /// The newest version of a group before a moment; 0 where there is none. It is looked for first
-    /// near the place that the last search left there. Logarithmic.
-    pub(crate) fn newest_before(&self, group: u32, time: u64, place: u32, near: &mut usize) -> u64
+    /// The newest line of a group before a moment, if there is one. Logarithmic.
+    pub(crate) fn newest_before(
+        &self,
+        group: u32,
+        time: u64,
+        place: u32,
+        near: &mut usize,
+    ) -> Option<u32>
         requires { AreSettled self.now }
-        ensures { result ≡ newest_before self.now.ends.items group time place }
+        ensures { (by_client : Bool) (seen : Seen) (lines : List Line)
+            → AreEnds by_client seen lines (length lines) self.now.ends.items
+            → IsNewest (λ j. stands_in by_client seen (line_at lines j) j (moment group time place))
+            (version_in lines) (length lines) result }
+    {
+        let newest = self.newest_end(group, time, place, near)?;
+        Some(self.ends[newest].place)
+    }
+
+    /// Where the newest of a group before a moment stands in the table. It is looked for first near
+    /// the place that the last search left there.
+    fn newest_end(&self, group: u32, time: u64, place: u32, near: &mut usize) -> Option<usize>
+        requires { AreSettled self.now }
+        ensures { IsNewest (λ i. comes_by (moment group time place) (end_at self.now.ends.items i))
+            (λ i. (end_at self.now.ends.items i).version) (length self.now.ends.items) result }
     {
         let front = front_near(&self.ends, &End::new(group, time, place, 0), *near);
         *near = front;
         if front > 0 && self.ends[front - 1].group == group {
-            self.newest[front - 1]
+            Some(self.newest[front - 1] as usize)
         } else {
-            0
+            None
         }
     }
 }
@@ -108,19 +133,45 @@ fn front_of(ends: &[End], moment: &End) -> usize
     ends.partition_point(|end| is_before(end, moment))
 }
 
-/// After each end of a sorted table, the newest version of its group.
-fn newest_of(alloc: Global, ends: &[End]) -> Result<Vec<u64>, AllocError>
-    requires { IsNonDecreasingBy end_key ends.now }
+/// Up to each end of a sorted table, where the newest of its group is.
+fn newest_of(alloc: Global, ends: &[End]) -> Result<Vec<u32>, AllocError>
+    requires sorted { IsNonDecreasingBy end_key ends.now }
+    requires few { length ends.now ≤ 4294967295 }
     ensures { IfOk result (λ newest. AreNewest ends.now newest.items) }
 {
     let mut newest = Vec::with_capacity(alloc, ends.len())?;
-    for (i, end) in ends.iter().enumerate() {
-        let so_far = if i > 0 && ends[i - 1].group == end.group {
-            newest[i - 1]
-        } else {
-            0
-        };
-        newest.push(end.version.max(so_far))?;
+    for i in 0..ends.len() {
+        let at = newest_at(ends, &newest, i);
+        newest.push(at)?;
     }
     Ok(newest)
+}
+
+/// Where the newest up to an end of its group is, by where it is up to the one before.
+fn newest_at(ends: &[End], newest: &[u32], i: usize) -> u32
+    requires sorted { IsNonDecreasingBy end_key ends.now }
+    requires few { length ends.now ≤ 4294967295 }
+    requires place { i < length ends.now }
+    requires as_many { length newest.now ≡ i }
+    requires before { (k : ℕ) → k < i → IsNewestAt ends.now k (slice_index newest.now k) }
+    ensures { IsNewestAt ends.now i result }
+{
+    if i > 0 && ends[i - 1].group == ends[i].group {
+        newer_of(ends, newest[i - 1], i as u32)
+    } else {
+        i as u32
+    }
+}
+
+/// Which of two ends has the newer version, and the first where none is newer.
+fn newer_of(ends: &[End], one: u32, other: u32) -> u32
+    requires one { one < length ends.now }
+    requires other { other < length ends.now }
+    ensures { result ≡ cond (nat_lt (end_at ends.now one).version (end_at ends.now other).version) other one }
+{
+    if ends[one as usize].version < ends[other as usize].version {
+        other
+    } else {
+        one
+    }
 }

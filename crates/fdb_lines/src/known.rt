@@ -1,93 +1,102 @@
-//! What each line knows in a log with times.
+//! What each line knows: a line before it whose version is newest, and how it is known.
 
-ghost use Rattle.std.specs.Prelude.{◌≡◌, ℕ, ◌≤◌, IfOk, OnOk, cond, length};
-ghost use Rattle.fdb_lines.specs.Before.{began, by_time};
-ghost use Rattle.fdb_lines.specs.Lines.{version_of};
+ghost use Rattle.std.specs.Prelude.{◌≡◌, ◌≤◌, IfOk, List, OnOk, length, true};
+ghost use Rattle.fdb_lines.specs.declared.line.Line.{Line};
+ghost use Rattle.fdb_lines.specs.declared.seen.Seen.{Seen};
+ghost use Rattle.fdb_lines.specs.Before.{by_time};
+ghost use Rattle.fdb_lines.specs.Lines.{line_at};
 ghost use Rattle.fdb_lines.specs.private.Ends.{AreSettled};
-ghost use Rattle.fdb_lines.specs.private.Known.{newest_of_end, own_newest, stands_in};
-ghost use Rattle.fdb_lines.specs.private.Known.{AreKnown, AreOfAll, HasOwn, IsTable};
+ghost use Rattle.fdb_lines.specs.private.Entries.{IsNewest};
+ghost use Rattle.fdb_lines.specs.private.Known.{by_at, newer, of_all, of_own, version_by};
+ghost use Rattle.fdb_lines.specs.private.Known.{version_in, witness, AreEnds, AreKnown};
+ghost use Rattle.fdb_lines.specs.private.Known.{AreKnownOf, IsEndOf};
 
 use crate::end::End;
 use crate::ends::Ends;
 use crate::line::Line;
 use crate::nears::Nears;
+use crate::reason::{Means, Witness};
 use crate::seen::{Seen, counts};
 use std::alloc::{AllocError, Global};
 
-/// By time: for each line the newest version that lines before it let know, and 0 where there is
-/// none. `n log n` in how many lines there are.
+/// By time: for each line the newest of the lines before it that let their versions be known, if
+/// there are some. `n log n` in how many lines there are.
 pub(crate) fn known_by_time(
     alloc: Global,
     lines: &[Line],
     margin: u64,
     seen: Seen,
-) -> Result<Vec<u64>, AllocError>
+) -> Result<Vec<Option<Witness>>, AllocError>
     requires { length lines.now ≤ 4294967295 }
     ensures { IfOk result
-        (λ known. AreKnown (by_time margin lines.now) seen lines.now known.items) }
+        (λ known. AreKnown (by_time margin lines.now) margin seen lines.now known.items) }
 {
     let mut known = known_of_all(alloc, lines, margin, seen)?;
-    add_own(alloc, lines, seen, &mut known)?;
+    add_own(alloc, lines, margin, seen, &mut known)?;
     Ok(known)
 }
 
-/// For each line the newest version of all that had ended by more than the margin before.
+/// For each line the newest of all that had ended by more than the margin before.
 fn known_of_all(
     alloc: Global,
     lines: &[Line],
     margin: u64,
     seen: Seen,
-) -> Result<Vec<u64>, AllocError>
+) -> Result<Vec<Option<Witness>>, AllocError>
     requires { length lines.now ≤ 4294967295 }
-    ensures { IfOk result (λ known. AreOfAll margin seen lines.now known.items) }
+    ensures { IfOk result (λ known. AreKnownOf (of_all margin seen lines.now) margin lines.now
+        (length lines.now) known.items) }
 {
     let table = table_of(alloc, lines, seen, false)?;
     let mut known = Vec::with_capacity(alloc, lines.len())?;
     let mut near = 0;
     for line in lines {
         let bound = line.began().saturating_sub(margin);
-        known.push(table.newest_before(0, bound, 0, &mut near))?;
+        let newest = table.newest_before(0, bound, 0, &mut near);
+        known.push(witness(newest, Means::Ended))?;
     }
     Ok(known)
 }
 
-/// Adds to each the newest version of the client's own lines that had ended.
+/// Adds to each the newest of the client's own lines that had ended.
 fn add_own(
     alloc: Global,
     lines: &[Line],
+    margin: u64,
     seen: Seen,
-    known: &mut Vec<u64>,
+    known: &mut Vec<Option<Witness>>,
 ) -> Result<(), AllocError>
     requires few { length lines.now ≤ 4294967295 }
-    requires as_many { length known.old.items ≡ length lines.now }
-    ensures { OnOk result (HasOwn seen lines.now known.old.items known.new.items) }
+    requires known { AreKnownOf (of_all margin seen lines.now) margin lines.now
+        (length lines.now) known.old.items }
+    ensures { OnOk result (AreKnown (by_time margin lines.now) margin seen lines.now known.new.items) }
 {
     let table = table_of(alloc, lines, seen, true)?;
     let mut nears = Nears::new();
     for (place, line) in lines.iter().enumerate() {
         let own = own_before(&table, line, place as u32, &mut nears);
-        known[place] = known[place].max(own);
+        known[place] = newer(lines, known[place], witness(own, Means::Own));
     }
     Ok(())
 }
 
-/// The newest version of a client's own lines that had ended when its line at a place began.
-fn own_before(table: &Ends, line: &Line, place: u32, nears: &mut Nears) -> u64
+/// The newest of the client's own lines that had ended when its line at a place began.
+fn own_before(table: &Ends, line: &Line, place: u32, nears: &mut Nears) -> Option<u32>
     requires { AreSettled table.now }
-    ensures { result ≡ own_newest table.now.ends.items line.now.client (began line.now) place }
+    ensures { (seen : Seen) (lines : List Line) → line.now ≡ line_at lines place
+        → AreEnds true seen lines (length lines) table.now.ends.items
+        → IsNewest (of_own seen lines place) (version_in lines) (length lines) result }
 {
-    match line.client {
-        Some(client) => table.newest_before(client, line.began(), place, nears.of(client)),
-        None => 0,
-    }
+    let client = line.client?;
+    table.newest_before(client, line.began(), place, nears.of(client))
 }
 
 /// The table of the lines that let a version be known and that ended.
 fn table_of(alloc: Global, lines: &[Line], seen: Seen, by_client: bool) -> Result<Ends, AllocError>
     requires { length lines.now ≤ 4294967295 }
     ensures settled { IfOk result (λ table. AreSettled table) }
-    ensures table { IfOk result
-        (λ table. IsTable by_client seen lines.now (length lines.now) table.ends.items) }
+    ensures ends { IfOk result
+        (λ table. AreEnds by_client seen lines.now (length lines.now) table.ends.items) }
 {
     let mut ends = Vec::new(alloc);
     for (place, line) in lines.iter().enumerate() {
@@ -100,8 +109,7 @@ fn table_of(alloc: Global, lines: &[Line], seen: Seen, by_client: bool) -> Resul
 
 /// The end of a line, where it stands in the table.
 fn end_of(line: &Line, above: u32, seen: Seen, by_client: bool) -> Option<End>
-    ensures { (group time place : ℕ) → newest_of_end result group time place
-        ≡ cond (stands_in by_client seen line.now above group time place) (version_of line.now.call) 0 }
+    ensures { IsEndOf by_client seen line.now above result }
 {
     if !counts(seen, line.call) {
         return None;
@@ -109,4 +117,58 @@ fn end_of(line: &Line, above: u32, seen: Seen, by_client: bool) -> Option<End>
     let time = line.ended()?;
     let group = if by_client { line.client? } else { 0 };
     Some(End::new(group, time, above, line.call.version()))
+}
+
+/// The line at a place, as what was known so.
+fn witness(place: Option<u32>, means: Means) -> Option<Witness>
+    ensures { result ≡ witness place means }
+{
+    match place {
+        Some(line) => Some(Witness { line, means }),
+        None => None,
+    }
+}
+
+/// The one with the newer version, and the first where none is newer.
+pub(crate) fn newer(lines: &[Line], one: Option<Witness>, other: Option<Witness>) -> Option<Witness>
+    ensures { result ≡ newer lines.now one other }
+{
+    match (one, other) {
+        (Some(one), Some(other)) => {
+            let is_newer = version_in(lines, one.line) < version_in(lines, other.line);
+            Some(if is_newer { other } else { one })
+        }
+        (Some(one), None) => Some(one),
+        (None, other) => other,
+    }
+}
+
+/// The version of the line at a place; 0 where there is none.
+pub(crate) fn version_in(lines: &[Line], place: u32) -> u64
+    ensures { result ≡ version_in lines.now place }
+{
+    match lines.get(place as usize) {
+        Some(line) => line.call.version(),
+        None => 0,
+    }
+}
+
+/// What is known of the call at a place.
+pub(crate) fn by_at(known: &[Option<Witness>], place: usize) -> Option<Witness>
+    ensures { result ≡ by_at known.now place }
+{
+    match known.get(place) {
+        Some(by) => *by,
+        None => None,
+    }
+}
+
+/// The version that a witness lets be known; 0 where there is none.
+pub(crate) fn version_by(lines: &[Line], by: Option<Witness>) -> u64
+    ensures { result ≡ version_by lines.now by }
+{
+    match by {
+        Some(by) => version_in(lines, by.line),
+        None => 0,
+    }
 }

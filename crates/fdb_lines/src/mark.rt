@@ -5,28 +5,25 @@ ghost use Rattle.std.specs.Ordering.{nat_cmp};
 
 use std::cmp::Ordering;
 
-/// The mark of a line: its version, whose it is, when it ended, and its place.
+/// The mark of a line: its version, whose it is, where that is looked for, and its place.
 #[derive(Clone, Copy, Debug, Drop)]
 pub(crate) struct Mark {
     pub(crate) version: u64,
-    pub(crate) time: u64,
     pub(crate) group: u32,
     pub(crate) place: u32,
-    ghost fits: { (group < 2 ^ 32) × (time < 2 ^ 64) × (place < 2 ^ 32) },
+    ghost fits: { (group < 2 ^ 32) × (place < 2 ^ 32) },
 }
 
 impl Mark {
-    ghost use Rattle.fdb_lines.specs.private.Marks.{mark_key, named, timed};
+    ghost use Rattle.fdb_lines.specs.private.Marks.{is_named, mark_key, name};
 
-    pub(crate) fn new(version: u64, group: u32, time: u64, place: u32) -> Self
+    pub(crate) fn new(version: u64, group: u32, place: u32) -> Self
         ensures version { result.version ≡ version }
         ensures group { result.group ≡ group }
-        ensures time { result.time ≡ time }
         ensures place { result.place ≡ place }
     {
         Mark {
             version,
-            time,
             group,
             place,
         }
@@ -34,31 +31,18 @@ impl Mark {
 
     /// Whether it is of this version and group.
     pub(crate) fn is_of(&self, version: u64, group: u32) -> bool
-        ensures { result ≡ (self.now.version == version && self.now.group == group) }
+        ensures { result ≡ is_named (name version group) self.now }
     {
-        self.version == version && self.group == group
+        self.group == group && self.version == version
     }
 
-    /// The order of the table: by version and group, and then by time and place.
+    /// The order of the table: by version, then by group, then by place.
     pub(crate) fn order(&self, other: &Mark) -> Ordering
         ensures { result ≡ nat_cmp (mark_key self.now) (mark_key other.now) }
-    {
-        self.order_of_names(other).then(self.order_of_times(other))
-    }
-
-    fn order_of_names(&self, other: &Mark) -> Ordering
-        ensures { result ≡ nat_cmp (named self.now) (named other.now) }
     {
         self.version
             .cmp(&other.version)
             .then(self.group.cmp(&other.group))
-    }
-
-    fn order_of_times(&self, other: &Mark) -> Ordering
-        ensures { result ≡ nat_cmp (timed self.now) (timed other.now) }
-    {
-        self.time
-            .cmp(&other.time)
             .then(self.place.cmp(&other.place))
     }
 }

@@ -82,7 +82,7 @@ fn add_spots(
     opts: &AuditOpts,
     place: usize,
 ) -> Result<(), AllocError>
-    requires tables { AreTables (case_of (lines_of log.now) opts.now) tables.now }
+    requires tables { AreTables (lines_of log.now) opts.now tables.now }
     requires place { place < length (lines_of log.now).lines }
     ensures lines { OnOk result (AreSpotsOf (case_of (lines_of log.now) opts.now) spots.old.items
         → AreSpotsOf (case_of (lines_of log.now) opts.now) spots.new.items) }
@@ -95,8 +95,8 @@ fn add_spots(
 {
     let line = &log.lines()[place];
     let start = opts.start();
-    let known = tables.knows(place, start);
-    let reported = tables.is_reported(line.call.version());
+    let known = tables.knows(log, opts, place);
+    let reported = tables.is_reported(log, opts, line.call.version());
     add_spot(spots, Spot::ask(line, place as u32, start))?;
     add_spot(spots, Spot::take(line, place as u32, known))?;
     add_spot(spots, Spot::report(line, start, reported))

@@ -1,167 +1,141 @@
-//! The reason of a fault, found by searches in the tables of a log.
+//! Whether a fault stands at a line, and why.
 
-ghost use Rattle.std.specs.Prelude.{◌≡◌, ◌<◌, ◌==◌, ◌&&◌, ℕ, not, true, IfOk, length};
+ghost use Rattle.std.specs.Prelude.{◌≡◌, ◌<◌, true, length};
 ghost use Rattle.fdb_lines.specs.Audit.{case_of};
 ghost use Rattle.fdb_lines.specs.Faults.{stands};
+ghost use Rattle.fdb_lines.specs.Lines.{version_at};
 ghost use Rattle.fdb_lines.specs.Log.{lines_of};
 ghost use Rattle.fdb_lines.specs.Reasons.{IsReason};
-ghost use Rattle.fdb_lines.specs.declared.fault.Fault.TheVariants.{NotAbove, Order, Stray};
-ghost use Rattle.fdb_lines.specs.declared.fault.Fault.TheVariants.{Twice, Wrong};
-ghost use Rattle.fdb_lines.specs.declared.sort.Sort.TheVariants.{Draws};
-ghost use Rattle.fdb_lines.specs.private.Grounds.{drawn_by, AreGrounds};
-ghost use Rattle.fdb_lines.specs.private.Marks.{is_marked_at, IsFirstFrom};
-ghost use Rattle.fdb_lines.specs.private.Tables.{AreTables};
+ghost use Rattle.fdb_lines.specs.declared.fault.Fault.TheVariants.{NotAbove, Order, Wrong};
+ghost use Rattle.fdb_lines.specs.private.Tables.{drawn_by, is_stray, is_wrong, AreTables};
+ghost use Rattle.fdb_lines.specs.private.Tables.{IsAnswer};
 
-use crate::fault::{Fault, Found};
-use crate::grounds::Grounds;
+use crate::fault::Fault;
 use crate::log::Log;
 use crate::opts::AuditOpts;
 use crate::reason::Reason;
 use crate::tables::Tables;
-use std::alloc::{AllocError, Global};
 
-/// Why a fault stands that is known to stand at its line. Logarithmic where tables were made, else
-/// linear in how many lines there are.
+/// Why a fault stands at a line; none where it does not. Logarithmic.
 pub(crate) fn reason_of(
-    alloc: Global,
     tables: &Tables,
-    grounds: &Grounds,
     log: &Log,
     opts: &AuditOpts,
-    found: Found,
-) -> Result<Reason, AllocError>
-    requires tables { AreTables (case_of (lines_of log.now) opts.now) tables.now }
-    requires grounds { AreGrounds (lines_of log.now) grounds.now }
-    requires line { found.line < length (lines_of log.now).lines }
-    requires stands { stands (case_of (lines_of log.now) opts.now) found.fault found.line ≡ true }
-    ensures { IfOk result (IsReason (lines_of log.now) opts.now found.line found.fault) }
+    place: usize,
+    fault: Fault,
+) -> Option<Reason>
+    requires tables { AreTables (lines_of log.now) opts.now tables.now }
+    requires place { place < length (lines_of log.now).lines }
+    ensures { IsAnswer (lines_of log.now) opts.now place fault result }
 {
-    let place = found.line as usize;
-    match found.fault {
-        Fault::Order => of_order(alloc, tables, grounds, log, opts, place),
-        Fault::Wrong => of_wrong(alloc, tables, grounds, log, opts, place),
-        Fault::NotAbove => of_not_above(alloc, tables, grounds, log, opts, place),
-        Fault::Twice => Ok(of_twice(grounds, log, opts, place)),
-        Fault::Stray => Ok(of_stray(grounds, log, opts, place)),
+    if !stands(tables, log, opts, place, fault) {
+        return None;
+    }
+    Some(match fault {
+        Fault::Order => of_order(tables, log, opts, place),
+        Fault::Wrong => of_wrong(tables, log, opts, place),
+        Fault::NotAbove => of_not_above(tables, log, opts, place),
+        Fault::Twice => drawn_by(tables.drawn_again(log, opts, place)),
+        Fault::Stray => {
+            let version = log.lines()[place].call.version();
+            drawn_by(tables.first_draw(log, opts, version))
+        }
+    })
+}
+
+/// Whether a fault stands at a line.
+fn stands(tables: &Tables, log: &Log, opts: &AuditOpts, place: usize, fault: Fault) -> bool
+    requires tables { AreTables (lines_of log.now) opts.now tables.now }
+    requires place { place < length (lines_of log.now).lines }
+    ensures { result ≡ stands (case_of (lines_of log.now) opts.now) fault place }
+{
+    let line = &log.lines()[place];
+    let version = line.call.version();
+    let knows = tables.knows(log, opts, place);
+    match fault {
+        Fault::Order => line.call.is_read() && version < knows,
+        Fault::Wrong => line.call.is_read() && is_wrong(tables, log, opts, version),
+        Fault::NotAbove => {
+            line.call.draws() && version <= knows.max(tables.last(log, opts, place))
+        }
+        Fault::Twice => line.call.draws() && tables.drawn_again(log, opts, place).is_some(),
+        Fault::Stray => line.call.is_report() && is_stray(tables, log, opts, place, version),
+    }
+}
+
+/// Whether a version is not there: nobody reported it without knowing as much before.
+fn is_wrong(tables: &Tables, log: &Log, opts: &AuditOpts, version: u64) -> bool
+    requires { AreTables (lines_of log.now) opts.now tables.now }
+    ensures { result ≡ is_wrong (case_of (lines_of log.now) opts.now) version }
+{
+    version != opts.start()
+        && !tables.is_raised(log, opts, version)
+        && (opts.is_complete() || tables.is_reported(log, opts, version))
+}
+
+/// Whether others drew the version of the line at a place, or nobody can have drawn it.
+fn is_stray(tables: &Tables, log: &Log, opts: &AuditOpts, place: usize, version: u64) -> bool
+    requires tables { AreTables (lines_of log.now) opts.now tables.now }
+    requires place { place < length (lines_of log.now).lines }
+    requires version { version ≡ version_at (case_of (lines_of log.now) opts.now) place }
+    ensures { result ≡ is_stray (case_of (lines_of log.now) opts.now) place }
+{
+    if tables.is_drawn(log, opts, version) {
+        !tables.is_own(log, opts, place)
+    } else {
+        opts.is_complete() || version <= opts.start()
     }
 }
 
 /// The newest version that the call knew, which is newer than what it read.
-fn of_order(
-    alloc: Global,
-    tables: &Tables,
-    grounds: &Grounds,
-    log: &Log,
-    opts: &AuditOpts,
-    place: usize,
-) -> Result<Reason, AllocError>
-    requires tables { AreTables (case_of (lines_of log.now) opts.now) tables.now }
-    requires grounds { AreGrounds (lines_of log.now) grounds.now }
+fn of_order(tables: &Tables, log: &Log, opts: &AuditOpts, place: usize) -> Reason
+    requires tables { AreTables (lines_of log.now) opts.now tables.now }
     requires place { place < length (lines_of log.now).lines }
     requires stands { stands (case_of (lines_of log.now) opts.now) Order place ≡ true }
-    ensures { IfOk result (IsReason (lines_of log.now) opts.now place Order) }
+    ensures { IsReason (lines_of log.now) opts.now place Order result }
 {
-    let version = tables.knows(place, opts.start());
-    let by = grounds.shown.of(alloc, log, opts.margin, place, version)?;
-    Ok(Reason::Known { version, by })
+    let version = tables.knows(log, opts, place);
+    let by = tables.shown(log, opts, place, version);
+    Reason::Known { version, by }
 }
 
 /// The first line that reports the version, and the newest version that it knew.
-fn of_wrong(
-    alloc: Global,
-    tables: &Tables,
-    grounds: &Grounds,
-    log: &Log,
-    opts: &AuditOpts,
-    place: usize,
-) -> Result<Reason, AllocError>
-    requires tables { AreTables (case_of (lines_of log.now) opts.now) tables.now }
-    requires grounds { AreGrounds (lines_of log.now) grounds.now }
+fn of_wrong(tables: &Tables, log: &Log, opts: &AuditOpts, place: usize) -> Reason
+    requires tables { AreTables (lines_of log.now) opts.now tables.now }
     requires place { place < length (lines_of log.now).lines }
     requires stands { stands (case_of (lines_of log.now) opts.now) Wrong place ≡ true }
-    ensures { IfOk result (IsReason (lines_of log.now) opts.now place Wrong) }
+    ensures { IsReason (lines_of log.now) opts.now place Wrong result }
 {
     let version = log.lines()[place].call.version();
-    match grounds.reports.first_line(log, version, 0) {
+    match tables.first_report(log, opts, version) {
         Some(line) => {
-            let version = tables.knows(line as usize, opts.start());
-            let by = grounds
-                .shown
-                .of(alloc, log, opts.margin, line as usize, version)?;
-            Ok(Reason::Reported { line, version, by })
+            let version = tables.knows(log, opts, line as usize);
+            let by = tables.shown(log, opts, line as usize, version);
+            Reason::Reported { line, version, by }
         }
-        None => Ok(Reason::Unreported),
+        None => Reason::Unreported,
     }
 }
 
 /// The newest version that the call knew or that was drawn before it.
-fn of_not_above(
-    alloc: Global,
-    tables: &Tables,
-    grounds: &Grounds,
-    log: &Log,
-    opts: &AuditOpts,
-    place: usize,
-) -> Result<Reason, AllocError>
-    requires tables { AreTables (case_of (lines_of log.now) opts.now) tables.now }
-    requires grounds { AreGrounds (lines_of log.now) grounds.now }
+fn of_not_above(tables: &Tables, log: &Log, opts: &AuditOpts, place: usize) -> Reason
+    requires tables { AreTables (lines_of log.now) opts.now tables.now }
     requires place { place < length (lines_of log.now).lines }
     requires stands { stands (case_of (lines_of log.now) opts.now) NotAbove place ≡ true }
-    ensures { IfOk result (IsReason (lines_of log.now) opts.now place NotAbove) }
+    ensures { IsReason (lines_of log.now) opts.now place NotAbove result }
 {
-    let version = tables.knows(place, opts.start()).max(tables.last(place));
-    let shown = grounds.shown.of(alloc, log, opts.margin, place, version)?;
-    let by = match shown {
+    let version = tables
+        .knows(log, opts, place)
+        .max(tables.last(log, opts, place));
+    let by = match tables.shown(log, opts, place, version) {
         Some(by) => Some(by),
-        None => grounds.drawn.of(alloc, log, opts.margin, place, version)?,
+        None => tables.drawn(log, opts, place, version),
     };
-    Ok(Reason::Known { version, by })
-}
-
-/// The first other line that drew the version, where not both are commits.
-fn of_twice(grounds: &Grounds, log: &Log, opts: &AuditOpts, place: usize) -> Reason
-    requires grounds { AreGrounds (lines_of log.now) grounds.now }
-    requires place { place < length (lines_of log.now).lines }
-    requires stands { stands (case_of (lines_of log.now) opts.now) Twice place ≡ true }
-    ensures { IsReason (lines_of log.now) opts.now place Twice result }
-{
-    let call = log.lines()[place].call;
-    let first = if call.is_commit() {
-        grounds.asks.first_line(log, call.version(), 0)
-    } else {
-        first_other(grounds, log, call.version(), place as u32)
-    };
-    drawn(first)
-}
-
-/// The first line but this one that drew a version.
-fn first_other(grounds: &Grounds, log: &Log, version: u64, place: u32) -> Option<u32>
-    requires grounds { AreGrounds (lines_of log.now) grounds.now }
-    requires place { place < 4294967295 }
-    ensures { let lines = (lines_of log.now).lines in
-        let test = λ (j : ℕ). not (j == place) && is_marked_at Draws lines version j in
-        IsFirstFrom test 0 (length lines) result }
-{
-    match grounds.draws.first_line(log, version, 0) {
-        None => None,
-        Some(first) if first == place => grounds.draws.first_line(log, version, place + 1),
-        Some(first) => Some(first),
-    }
-}
-
-/// The first line that drew the version, or that none did.
-fn of_stray(grounds: &Grounds, log: &Log, opts: &AuditOpts, place: usize) -> Reason
-    requires grounds { AreGrounds (lines_of log.now) grounds.now }
-    requires place { place < length (lines_of log.now).lines }
-    requires stands { stands (case_of (lines_of log.now) opts.now) Stray place ≡ true }
-    ensures { IsReason (lines_of log.now) opts.now place Stray result }
-{
-    let version = log.lines()[place].call.version();
-    drawn(grounds.draws.first_line(log, version, 0))
+    Reason::Known { version, by }
 }
 
 /// That a line drew the version, or that none did.
-fn drawn(line: Option<u32>) -> Reason
+fn drawn_by(line: Option<u32>) -> Reason
     ensures { result ≡ drawn_by line }
 {
     match line {

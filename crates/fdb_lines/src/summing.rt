@@ -2,7 +2,7 @@
 //! in order.
 
 ghost use Rattle.std.specs.Prelude.{◌≡◌, ◌==◌, ◌&&◌, ◌||◌, ℕ, IfOk, OnOk, length};
-ghost use Rattle.std.specs.Prelude.{cond, nat_eq, not};
+ghost use Rattle.std.specs.Prelude.{[], cond, nat_eq, not};
 ghost use Rattle.std.specs.HashSet.{contains};
 ghost use Rattle.fdb_lines.specs.Audit.{case_of, start_of};
 ghost use Rattle.fdb_lines.specs.Faults.{is_reported};
@@ -75,7 +75,7 @@ fn timed(log: &Log) -> u64
 fn unreported(alloc: Global, log: &Log, opts: &AuditOpts) -> Result<u64, AllocError>
     ensures { IfOk result (λ n. n ≡ unreported (case_of (lines_of log.now) opts.now)) }
 {
-    let reports = Marks::new(alloc, log.lines(), Sort::Reports)?;
+    let reports = Marks::new(alloc, 0, log.lines(), &[], Sort::Reports)?;
     let mut read = HashSet::new(alloc);
     let mut unreported: u64 = 0;
     for line in log.lines() {
@@ -104,8 +104,8 @@ fn is_first_read(read: &mut HashSet<u64>, call: Call) -> Result<bool, AllocError
 /// Whether a version is not the start, and no line reports it.
 fn is_of_others(reports: &Marks, version: u64, start: u64) -> bool
     ensures { (log : Lines) (opts : AuditOpts) → start ≡ start_of opts.complete
-        → AreMarks Reports log.lines (length log.lines) reports.now.marks.items
+        → AreMarks Reports 0 log.lines [] (length log.lines) reports.now.marks.items
         → result ≡ (not (version == start) && not (is_reported (case_of log opts) version)) }
 {
-    version != start && reports.first_line(version, 0).is_none()
+    version != start && reports.first(version, 0, 0).is_none()
 }

@@ -1,73 +1,76 @@
-//! What the lines of a log know and have, found by sorting.
+//! The tables of a log, in which each question of the rule is answered by a search.
 
-ghost use Rattle.std.specs.Prelude.{◌≡◌, ◌<◌, ◌&&◌, ◌||◌, ◌==◌, IfOk, cond, length, max, nat_le};
-ghost use Rattle.std.specs.Prelude.{nat_lt, not, slice_index};
-ghost use Rattle.std.specs.List.{list_any};
-ghost use Rattle.std.specs.List.Sorted.{IsNonDecreasingBy};
-ghost use Rattle.fdb_lines.specs.Audit.{case_of, is_complete, start_of};
-ghost use Rattle.fdb_lines.specs.Before.{comes_before};
-ghost use Rattle.fdb_lines.specs.Lines.{draws, is_commit, is_read, is_report, kind_of, version_of};
+ghost use Rattle.std.specs.Prelude.{◌≡◌, ◌<◌, ◌≤◌, ◌==◌, ◌&&◌, not, IfOk, length};
+ghost use Rattle.fdb_lines.specs.Audit.{case_of};
+ghost use Rattle.fdb_lines.specs.Faults.{is_drawn, is_own, is_raised, is_reported, knows, last};
 ghost use Rattle.fdb_lines.specs.Log.{lines_of};
-ghost use Rattle.fdb_lines.specs.private.Known.{AreKnown};
-ghost use Rattle.fdb_lines.specs.private.Owners.{is_owner, owner_key};
-ghost use Rattle.fdb_lines.specs.private.Tables.{AreTables};
-ghost use Rattle.fdb_lines.specs.private.Versions.{times_in};
+ghost use Rattle.fdb_lines.specs.Reasons.{draws_again, draws_it, reports_it};
+ghost use Rattle.fdb_lines.specs.declared.seen.Seen.TheVariants.{Drawn, Shown};
+ghost use Rattle.fdb_lines.specs.private.Entries.{IsFirstFrom};
+ghost use Rattle.fdb_lines.specs.private.Known.{of_version};
+ghost use Rattle.fdb_lines.specs.private.Tables.{AreKnownIn, AreTables, IsFoundIn};
 
-use crate::choice::{Choice, versions_of};
-use crate::known::known_by_time;
-use crate::line::{Call, Line};
+use crate::known::{by_at, known_by_time, version_by, version_in};
+use crate::line::Line;
 use crate::log::Log;
+use crate::marks::{Marks, knows_at};
 use crate::opts::AuditOpts;
-use crate::owners::Owners;
+use crate::reason::Witness;
 use crate::seen::Seen;
+use crate::sort::Sort;
 use crate::telling::known_by_telling;
-use crate::versions::Versions;
 use std::alloc::{AllocError, Global};
 
-/// What each line knows, and which versions were reported, raised the register, were asked for
-/// by asks alone, were drawn, and by whom.
+/// What each line knows, and which lines report and draw which versions.
 #[derive(Drop)]
 pub(crate) struct Tables {
-    shown: Vec<u64>,
-    drawn: Vec<u64>,
-    reported: Versions,
-    raised: Versions,
-    asked: Versions,
-    versions: Versions,
-    owners: Owners,
+    shown: Vec<Option<Witness>>,
+    drawn: Vec<Option<Witness>>,
+    reports: Marks,
+    raises: Marks,
+    draws: Marks,
+    asks: Marks,
+    owned: Marks,
+    nameless: Marks,
 }
 
-/// The tables of a log. `n log n` in how many lines it has.
+/// The tables of a log. `n log n` in how many lines there are.
 pub(crate) fn tables_of(alloc: Global, log: &Log, opts: &AuditOpts) -> Result<Tables, AllocError>
-    ensures { IfOk result (λ tables. AreTables (case_of (lines_of log.now) opts.now) tables) }
+    ensures { IfOk result (λ tables. AreTables (lines_of log.now) opts.now tables) }
 {
     let lines = log.lines();
     let start = opts.start();
-    let shown = known(alloc, log, opts.margin, Seen::Shown)?;
-    let drawn = known(alloc, log, opts.margin, Seen::Drawn)?;
-    let reported = versions_of(alloc, lines, start, &shown, Choice::Reports)?;
-    let raised = versions_of(alloc, lines, start, &shown, Choice::Raises)?;
-    let asked = versions_of(alloc, lines, start, &shown, Choice::Asks)?;
-    let versions = versions_of(alloc, lines, start, &shown, Choice::Draws)?;
-    let owners = Owners::new(alloc, lines)?;
+    let shown = known(alloc, log, opts, Seen::Shown)?;
+    let drawn = known(alloc, log, opts, Seen::Drawn)?;
+    let reports = Marks::new(alloc, start, lines, &shown, Sort::Reports)?;
+    let raises = Marks::new(alloc, start, lines, &shown, Sort::Raises)?;
+    let draws = Marks::new(alloc, start, lines, &shown, Sort::Draws)?;
+    let asks = Marks::new(alloc, start, lines, &shown, Sort::Asks)?;
+    let owned = Marks::new(alloc, start, lines, &shown, Sort::Owned)?;
+    let nameless = Marks::new(alloc, start, lines, &shown, Sort::Nameless)?;
     Ok(Tables {
         shown,
         drawn,
-        reported,
-        raised,
-        asked,
-        versions,
-        owners,
+        reports,
+        raises,
+        draws,
+        asks,
+        owned,
+        nameless,
     })
 }
 
-/// For each line the newest version that lines before it let know, and 0 where there is none.
-fn known(alloc: Global, log: &Log, margin: u64, seen: Seen) -> Result<Vec<u64>, AllocError>
-    ensures { IfOk result (λ known. let lines = lines_of log.now in
-        AreKnown (comes_before lines.timed margin lines.lines) seen lines.lines known.items) }
+/// For each line the newest of the lines before it that let their versions be known.
+fn known(
+    alloc: Global,
+    log: &Log,
+    opts: &AuditOpts,
+    seen: Seen,
+) -> Result<Vec<Option<Witness>>, AllocError>
+    ensures { IfOk result (λ known. AreKnownIn (lines_of log.now) opts.now seen known.items) }
 {
     if log.is_timed() {
-        known_by_time(alloc, log.lines(), margin, seen)
+        known_by_time(alloc, log.lines(), opts.margin, seen)
     } else {
         known_by_telling(alloc, log.lines(), seen)
     }
@@ -75,74 +78,155 @@ fn known(alloc: Global, log: &Log, margin: u64, seen: Seen) -> Result<Vec<u64>, 
 
 impl Tables {
     /// What the call at a place knows: the newest version that was shown before it.
-    pub(crate) fn knows(&self, place: usize, start: u64) -> u64
-        requires { place < length self.now.shown.items }
-        ensures { result ≡ max start (slice_index self.now.shown.items place) }
+    pub(crate) fn knows(&self, log: &Log, opts: &AuditOpts, place: usize) -> u64
+        requires tables { AreTables (lines_of log.now) opts.now self.now }
+        requires place { place < length (lines_of log.now).lines }
+        ensures { result ≡ knows (case_of (lines_of log.now) opts.now) place }
     {
-        start.max(self.shown[place])
+        knows_at(opts.start(), log.lines(), &self.shown, place)
     }
 
     /// The newest version that was drawn before the call at a place.
-    pub(crate) fn last(&self, place: usize) -> u64
-        requires { place < length self.now.drawn.items }
-        ensures { result ≡ slice_index self.now.drawn.items place }
+    pub(crate) fn last(&self, log: &Log, opts: &AuditOpts, place: usize) -> u64
+        requires tables { AreTables (lines_of log.now) opts.now self.now }
+        requires place { place < length (lines_of log.now).lines }
+        ensures { result ≡ last (case_of (lines_of log.now) opts.now) place }
     {
-        self.drawn[place]
+        version_by(log.lines(), by_at(&self.drawn, place))
     }
 
-    /// Whether a commit or a report of the log reports a version. Logarithmic.
-    pub(crate) fn is_reported(&self, version: u64) -> bool
-        ensures { result ≡ nat_lt 0 (times_in version self.now.reported.rising.items) }
+    /// The line by which the call at a place knew that a version had been shown, where that is as
+    /// new as all that it knew so.
+    pub(crate) fn shown(
+        &self,
+        log: &Log,
+        opts: &AuditOpts,
+        place: usize,
+        version: u64,
+    ) -> Option<Witness>
+        requires tables { AreTables (lines_of log.now) opts.now self.now }
+        requires place { place < length (lines_of log.now).lines }
+        requires newest { knows (case_of (lines_of log.now) opts.now) place ≤ version }
+        ensures { IsFoundIn (lines_of log.now) opts.now Shown place version result }
     {
-        self.reported.has(version)
+        of_version(log.lines(), version, by_at(&self.shown, place))
     }
 
-    /// Whether a read is of a version that is not there.
-    pub(crate) fn is_wrong(&self, call: Call, opts: &AuditOpts) -> bool
-        ensures { result ≡ (is_read (kind_of call)
-            && (not (version_of call == start_of opts.now.complete)
-            && (not (nat_lt 0 (times_in (version_of call) self.now.raised.rising.items))
-            && (is_complete opts.now.complete
-            || nat_lt 0 (times_in (version_of call) self.now.reported.rising.items))))) }
+    /// The same, of versions that were drawn.
+    pub(crate) fn drawn(
+        &self,
+        log: &Log,
+        opts: &AuditOpts,
+        place: usize,
+        version: u64,
+    ) -> Option<Witness>
+        requires tables { AreTables (lines_of log.now) opts.now self.now }
+        requires place { place < length (lines_of log.now).lines }
+        requires newest { last (case_of (lines_of log.now) opts.now) place ≤ version }
+        ensures { IsFoundIn (lines_of log.now) opts.now Drawn place version result }
     {
-        let version = call.version();
-        call.is_read()
-            && version != opts.start()
-            && !self.raised.has(version)
-            && (opts.is_complete() || self.reported.has(version))
+        of_version(log.lines(), version, by_at(&self.drawn, place))
     }
 
-    /// Whether another call drew the version of one that draws, and not both are commits.
-    pub(crate) fn is_twice(&self, call: Call) -> bool
-        ensures { result ≡ (draws (kind_of call) && cond (is_commit (kind_of call))
-            (nat_lt 0 (times_in (version_of call) self.now.asked.rising.items))
-            (nat_lt 1 (times_in (version_of call) self.now.versions.rising.items))) }
+    /// The first line that reports a version. Logarithmic, as all below.
+    pub(crate) fn first_report(&self, log: &Log, opts: &AuditOpts, version: u64) -> Option<u32>
+        requires { AreTables (lines_of log.now) opts.now self.now }
+        ensures { IsFirstFrom (reports_it (case_of (lines_of log.now) opts.now) version) 0
+            (length (lines_of log.now).lines) result }
     {
-        let version = call.version();
-        call.draws()
-            && if call.is_commit() {
-                self.asked.has(version)
-            } else {
-                self.versions.count(version) > 1
-            }
+        self.reports.first(version, 0, 0)
     }
 
-    /// Whether a report is of a version that others drew, or that nobody can have drawn.
-    pub(crate) fn is_stray(&self, line: &Line, opts: &AuditOpts) -> bool
-        requires { IsNonDecreasingBy owner_key self.now.owners.owners.items }
-        ensures { result ≡ (is_report (kind_of line.now.call)
-            && cond (nat_lt 0 (times_in (version_of line.now.call) self.now.versions.rising.items))
-            (not (list_any (is_owner (version_of line.now.call) line.now.client)
-            self.now.owners.owners.items))
-            (is_complete opts.now.complete
-            || nat_le (version_of line.now.call) (start_of opts.now.complete))) }
+    /// Whether a line reports a version.
+    pub(crate) fn is_reported(&self, log: &Log, opts: &AuditOpts, version: u64) -> bool
+        requires { AreTables (lines_of log.now) opts.now self.now }
+        ensures { result ≡ is_reported (case_of (lines_of log.now) opts.now) version }
     {
+        self.first_report(log, opts, version).is_some()
+    }
+
+    /// Whether a line reports a version that knew of none as new.
+    pub(crate) fn is_raised(&self, log: &Log, opts: &AuditOpts, version: u64) -> bool
+        requires { AreTables (lines_of log.now) opts.now self.now }
+        ensures { result ≡ is_raised (case_of (lines_of log.now) opts.now) version }
+    {
+        self.raises.first(version, 0, 0).is_some()
+    }
+
+    /// The first line that draws a version.
+    pub(crate) fn first_draw(&self, log: &Log, opts: &AuditOpts, version: u64) -> Option<u32>
+        requires { AreTables (lines_of log.now) opts.now self.now }
+        ensures { IsFirstFrom (draws_it (case_of (lines_of log.now) opts.now) version) 0
+            (length (lines_of log.now).lines) result }
+    {
+        self.draws.first(version, 0, 0)
+    }
+
+    /// Whether a line draws a version.
+    pub(crate) fn is_drawn(&self, log: &Log, opts: &AuditOpts, version: u64) -> bool
+        requires { AreTables (lines_of log.now) opts.now self.now }
+        ensures { result ≡ is_drawn (case_of (lines_of log.now) opts.now) version }
+    {
+        self.first_draw(log, opts, version).is_some()
+    }
+
+    /// The first other line that draws the version of the one at a place, where not both are
+    /// commits.
+    pub(crate) fn drawn_again(&self, log: &Log, opts: &AuditOpts, place: usize) -> Option<u32>
+        requires tables { AreTables (lines_of log.now) opts.now self.now }
+        requires place { place < length (lines_of log.now).lines }
+        ensures { IsFirstFrom (draws_again (case_of (lines_of log.now) opts.now) place) 0
+            (length (lines_of log.now).lines) result }
+    {
+        let call = log.lines()[place].call;
+        if call.is_commit() {
+            self.asks.first(call.version(), 0, 0)
+        } else {
+            self.other_draw(log, opts, call.version(), place as u32)
+        }
+    }
+
+    /// The first line but the one at a place that draws a version.
+    fn other_draw(&self, log: &Log, opts: &AuditOpts, version: u64, place: u32) -> Option<u32>
+        requires tables { AreTables (lines_of log.now) opts.now self.now }
+        requires place { place < length (lines_of log.now).lines }
+        ensures { IsFirstFrom (λ j. not (j == place)
+            && draws_it (case_of (lines_of log.now) opts.now) version j) 0
+            (length (lines_of log.now).lines) result }
+    {
+        let first = self.draws.first(version, 0, 0)?;
+        if first == place {
+            self.draws.first(version, 0, place + 1)
+        } else {
+            Some(first)
+        }
+    }
+
+    /// Whether the client of the line at a place drew its version; or, where it is not known, one
+    /// that is not known.
+    pub(crate) fn is_own(&self, log: &Log, opts: &AuditOpts, place: usize) -> bool
+        requires tables { AreTables (lines_of log.now) opts.now self.now }
+        requires place { place < length (lines_of log.now).lines }
+        ensures { result ≡ is_own (case_of (lines_of log.now) opts.now) place }
+    {
+        let line = &log.lines()[place];
         let version = line.call.version();
-        line.call.is_report()
-            && if self.versions.has(version) {
-                !self.owners.has(version, line.client)
-            } else {
-                opts.is_complete() || version <= opts.start()
-            }
+        let own = match line.client {
+            Some(client) => self.owned.first(version, client, 0),
+            None => self.nameless.first(version, 0, 0),
+        };
+        own.is_some()
+    }
+}
+
+/// The witness, if its line has the version.
+fn of_version(lines: &[Line], version: u64, by: Option<Witness>) -> Option<Witness>
+    ensures { result ≡ of_version lines.now version by }
+{
+    let by = by?;
+    if version_in(lines, by.line) == version {
+        Some(by)
+    } else {
+        None
     }
 }

@@ -1,13 +1,17 @@
--- What each line knows, and the ends that it is found in.
-use Rattle.std.specs.Prelude.{◌≡◌, ℕ, ◌<◌, ◌==◌, ◌-◌, ◌&&◌, max, Bool, true, false, cond, List, Option, None, Some, length, slice_index}
+-- What each line knows: a line before it whose version is newest, and how it is known.
+use Rattle.std.specs.Prelude.{◌≡◌, ℕ, ◌<◌, ◌≤◌, ◌==◌, ◌-◌, ◌&&◌, nat_lt, Bool, true, false, cond, List, Option, None, Some, length, slice_index_or}
 use Rattle.fdb_lines.specs.declared.end.End.{End}
 use Rattle.fdb_lines.specs.declared.line.Line.{Line}
+use Rattle.fdb_lines.specs.declared.reason.Means.{Means}
+use Rattle.fdb_lines.specs.declared.reason.Witness.{Witness}
 use Rattle.fdb_lines.specs.declared.seen.Seen.{Seen}
 use Rattle.fdb_lines.specs.Lines.{line_at, kind_of, version_of}
 use Rattle.fdb_lines.specs.Before.{began, ended}
 use Rattle.fdb_lines.specs.Faults.{greatest_of}
+use Rattle.fdb_lines.specs.Reasons.{IsMeans}
+use Rattle.fdb_lines.specs.private.Ends.{Moment, comes_by, is_earlier}
+use Rattle.fdb_lines.specs.private.Entries.{AreEntries, IsEntry}
 use Rattle.fdb_lines.specs.private.Seen.{counts}
-use Rattle.fdb_lines.specs.private.Ends.{is_earlier, newest_before}
 
 -- whether a line lets its version be known
 abbrev pub counts_at : Seen → List Line → ℕ → Bool
@@ -20,11 +24,61 @@ version_in lines j = version_of (line_at lines j).call
 abbrev pub newest_known : (ℕ → ℕ → Bool) → Seen → List Line → ℕ → ℕ
 newest_known before seen lines k = greatest_of (λ j. before j k && counts_at seen lines j) (version_in lines) (length lines)
 
-abbrev pub AreKnown : (ℕ → ℕ → Bool) → Seen → List Line → List ℕ → Type 0
-AreKnown before seen lines known =
-    (length known ≡ length lines) × ((k : ℕ) → k < length lines → slice_index known k ≡ newest_known before seen lines k)
+-- ---- a line that is known
 
--- ---- the tables of ends, of all clients or by client
+-- One of the lines that pass a test whose version is newest, by a witness of a kind; none where none passes.
+abbrev pub IsKnownBy : (ℕ → Bool) → (Witness → Type 0) → List Line → Option Witness → Type 0
+IsKnownBy test Is lines None = (j : ℕ) → j < length lines → test j ≡ false
+IsKnownBy test Is lines (Some by) =
+    (by.line < length lines) × (test by.line ≡ true) × Is by
+    × ((j : ℕ) → j < length lines → test j ≡ true → version_in lines j ≤ version_in lines by.line)
+
+-- the version that it lets be known, and 0
+abbrev pub version_by : List Line → Option Witness → ℕ
+version_by lines None = 0
+version_by lines (Some by) = version_in lines by.line
+
+-- the newer of two, and the first where none is
+abbrev pub newer : List Line → Option Witness → Option Witness → Option Witness
+newer lines None other = other
+newer lines (Some one) None = Some one
+newer lines (Some one) (Some other) = Some (cond (nat_lt (version_in lines one.line) (version_in lines other.line)) other one)
+
+abbrev pub by_at : List (Option Witness) → ℕ → Option Witness
+by_at known k = slice_index_or known k None
+
+-- what the call at a place knows, of lines that pass a test for it
+abbrev pub KnowsOf : (ℕ → ℕ → Bool) → ℕ → List Line → ℕ → Option Witness → Type 0
+KnowsOf test margin lines k = IsKnownBy (test k) (λ (by : Witness). IsMeans margin lines by.line k by.means) lines
+
+-- what the calls of the first n lines know
+abbrev pub AreKnownOf : (ℕ → ℕ → Bool) → ℕ → List Line → ℕ → List (Option Witness) → Type 0
+AreKnownOf test margin lines n known = (length known ≡ n) × ((k : ℕ) → k < n → KnowsOf test margin lines k (by_at known k))
+
+-- of all lines before them that let their versions be known
+abbrev pub lets_know : (ℕ → ℕ → Bool) → Seen → List Line → ℕ → ℕ → Bool
+lets_know before seen lines k j = before j k && counts_at seen lines j
+
+abbrev pub AreKnown : (ℕ → ℕ → Bool) → ℕ → Seen → List Line → List (Option Witness) → Type 0
+AreKnown before margin seen lines known = AreKnownOf (lets_know before seen lines) margin lines (length lines) known
+
+-- ---- whether a line before one lets a version be known
+
+abbrev pub tells : (ℕ → ℕ → Bool) → Seen → List Line → ℕ → ℕ → ℕ → Bool
+tells before seen lines k version j = before j k && (counts_at seen lines j && version_in lines j == version)
+
+-- one that does, and how it was known, or none does
+abbrev pub IsFound : (ℕ → ℕ → Bool) → ℕ → Seen → List Line → ℕ → ℕ → Option Witness → Type 0
+IsFound before margin seen lines k version None = (j : ℕ) → j < length lines → tells before seen lines k version j ≡ false
+IsFound before margin seen lines k version (Some by) =
+    (by.line < length lines) × (tells before seen lines k version by.line ≡ true) × IsMeans margin lines by.line k by.means
+
+-- the witness, if its line has the version
+abbrev pub of_version : List Line → ℕ → Option Witness → Option Witness
+of_version lines version None = None
+of_version lines version (Some by) = cond (version_in lines by.line == version) (Some by) None
+
+-- ---- by time: the tables of ends, of all clients or by client
 
 -- All lines stand in one group, or those of each client in its own.
 abbrev pub in_group : Bool → Option ℕ → ℕ → Bool
@@ -37,41 +91,36 @@ had_ended None above time place = false
 had_ended (Some end) above time place = is_earlier end above time place
 
 -- whether a line stands in a table, in a group and before a moment
-abbrev pub stands_in : Bool → Seen → Line → ℕ → ℕ → ℕ → ℕ → Bool
-stands_in by_client seen line above group time place =
-    counts seen (kind_of line.call) && (in_group by_client line.client group && had_ended (ended line) above time place)
+abbrev pub stands_in : Bool → Seen → Line → ℕ → Moment → Bool
+stands_in by_client seen line above moment =
+    counts seen (kind_of line.call)
+    && (in_group by_client line.client moment.group && had_ended (ended line) above moment.time moment.place)
 
-abbrev pub newest_in : Bool → Seen → List Line → ℕ → ℕ → ℕ → ℕ → ℕ
-newest_in by_client seen lines group time place n =
-    greatest_of (λ j. stands_in by_client seen (line_at lines j) j group time place) (version_in lines) n
+abbrev pub AreEnds : Bool → Seen → List Line → ℕ → List End → Type 0
+AreEnds by_client seen lines =
+    AreEntries (λ (end : End). end.place) (λ (end : End). end.version) comes_by (version_in lines)
+    (λ moment j. stands_in by_client seen (line_at lines j) j moment)
 
-abbrev pub IsTable : Bool → Seen → List Line → ℕ → List End → Type 0
-IsTable by_client seen lines n ends =
-    (group time place : ℕ) → newest_before ends group time place ≡ newest_in by_client seen lines group time place n
+abbrev pub IsEndOf : Bool → Seen → Line → ℕ → Option End → Type 0
+IsEndOf by_client seen line above =
+    IsEntry (λ (end : End). end.place) (λ (end : End). end.version) comes_by above (version_of line.call) (stands_in by_client seen line above)
 
--- what one end adds: its version, where it comes before the moment, or 0
-abbrev pub newest_of_end : Option End → ℕ → ℕ → ℕ → ℕ
-newest_of_end None group time place = 0
-newest_of_end (Some end) group time place = cond (end.group == group && is_earlier end.time end.place time place) end.version 0
+abbrev pub moment : ℕ → ℕ → ℕ → Moment
+moment group time place = record { group = group; time = time; place = place }
 
--- the newest of a client's own lines, where the client is known
-abbrev pub own_newest : List End → Option ℕ → ℕ → ℕ → ℕ
-own_newest ends None time place = 0
-own_newest ends (Some a) time place = newest_before ends a time place
+-- whether a line of all had ended by more than the margin before another began
+abbrev pub of_all : ℕ → Seen → List Line → ℕ → ℕ → Bool
+of_all margin seen lines k j = stands_in false seen (line_at lines j) j (moment 0 (began (line_at lines k) - margin) 0)
 
--- for each line the newest of all lines that had ended by more than the margin
-abbrev pub AreOfAll : ℕ → Seen → List Line → List ℕ → Type 0
-AreOfAll margin seen lines known =
-    (length known ≡ length lines)
-    × ((k : ℕ) → k < length lines → slice_index known k ≡ newest_in false seen lines 0 (began (line_at lines k) - margin) 0 (length lines))
+-- whether a line of its client's, where that is known, had ended before it began
+abbrev pub of_client : Seen → List Line → Option ℕ → ℕ → ℕ → Bool
+of_client seen lines None k j = false
+of_client seen lines (Some a) k j = stands_in true seen (line_at lines j) j (moment a (began (line_at lines k)) k)
 
--- the newest of the lines of a line's client, where it is known
-abbrev pub newest_of_own : Seen → List Line → Option ℕ → ℕ → ℕ → ℕ
-newest_of_own seen lines None time place = 0
-newest_of_own seen lines (Some a) time place = newest_in true seen lines a time place (length lines)
+abbrev pub of_own : Seen → List Line → ℕ → ℕ → Bool
+of_own seen lines k = of_client seen lines (line_at lines k).client k
 
-abbrev pub HasOwn : Seen → List Line → List ℕ → List ℕ → Type 0
-HasOwn seen lines old new =
-    (length new ≡ length old)
-    × ((k : ℕ) → k < length lines → slice_index new k
-    ≡ max (slice_index old k) (newest_of_own seen lines (line_at lines k).client (began (line_at lines k)) k))
+-- the line at a place, as what was known so
+abbrev pub witness : Option ℕ → Means → Option Witness
+witness None means = None
+witness (Some place) means = Some (record { line = place; means = means })

@@ -1,20 +1,65 @@
--- The tables of a log, for a case.
-use Rattle.std.specs.Prelude.{length}
-use Rattle.std.specs.List.Sorted.{IsNonDecreasingBy}
-use Rattle.fdb_lines.specs.declared.choice.Choice.TheVariants.{Reports, Raises, Draws, Asks}
+-- The tables of a log.
+use Rattle.std.specs.Prelude.{◌≡◌, ℕ, ◌++◌, ◌==◌, ◌&&◌, ◌||◌, not, nat_le, Bool, true, false, cond, List, Option, None, Some, length, map}
+use Rattle.std.specs.List.{All}
+use Rattle.fdb_lines.specs.declared.fault.Fault.{Fault}
+use Rattle.fdb_lines.specs.declared.opts.AuditOpts.{AuditOpts}
+use Rattle.fdb_lines.specs.declared.reason.Reason.{Reason}
+use Rattle.fdb_lines.specs.declared.reason.Reason.TheVariants.{Drawn as DrawnBy, Undrawn}
+use Rattle.fdb_lines.specs.declared.seen.Seen.{Seen}
 use Rattle.fdb_lines.specs.declared.seen.Seen.TheVariants.{Shown, Drawn}
+use Rattle.fdb_lines.specs.declared.sort.Sort.{Sort}
+use Rattle.fdb_lines.specs.declared.sort.Sort.TheVariants.{Reports, Raises, Draws, Asks, Owned, Nameless}
 use Rattle.fdb_lines.specs.declared.tables.Tables.{Tables}
-use Rattle.fdb_lines.specs.Lines.{Case}
-use Rattle.fdb_lines.specs.private.Known.{AreKnown}
-use Rattle.fdb_lines.specs.private.Owners.{owner_key, AreOwners}
-use Rattle.fdb_lines.specs.private.Versions.{AreOf}
+use Rattle.fdb_lines.specs.declared.fault.Found.{Found}
+use Rattle.fdb_lines.specs.declared.reason.Finding.{Finding}
+use Rattle.fdb_lines.specs.declared.mark.Mark.{Mark}
+use Rattle.fdb_lines.specs.declared.reason.Witness.{Witness}
+use Rattle.fdb_lines.specs.Audit.{case_of, start_of}
+use Rattle.fdb_lines.specs.Before.{comes_before}
+use Rattle.fdb_lines.specs.Faults.{is_drawn, is_own, is_raised, is_reported, stands}
+use Rattle.fdb_lines.specs.Lines.{Case, Lines, version_at}
+use Rattle.fdb_lines.specs.Reasons.{found_of, HasReason, IsReason}
+use Rattle.fdb_lines.specs.private.Known.{AreKnown, IsFound}
+use Rattle.fdb_lines.specs.private.Marks.{AreMarks}
 
-pub record AreTables (c : Case) (tables : Tables) : Type 0 where
-  pub shown : AreKnown c.before Shown c.lines tables.shown.items
-  pub drawn : AreKnown c.before Drawn c.lines tables.drawn.items
-  pub reported : AreOf Reports c.start tables.shown.items c.lines tables.reported.rising.items
-  pub raised : AreOf Raises c.start tables.shown.items c.lines tables.raised.rising.items
-  pub asked : AreOf Asks c.start tables.shown.items c.lines tables.asked.rising.items
-  pub versions : AreOf Draws c.start tables.shown.items c.lines tables.versions.rising.items
-  pub sorted : IsNonDecreasingBy owner_key tables.owners.owners.items
-  pub owners : AreOwners c.lines (length c.lines) tables.owners.owners.items
+abbrev pub AreKnownIn : Lines → AuditOpts → Seen → List (Option Witness) → Type 0
+AreKnownIn log opts seen = AreKnown (comes_before log.timed opts.margin log.lines) opts.margin seen log.lines
+
+abbrev pub AreMarksIn : Lines → AuditOpts → Sort → List (Option Witness) → List Mark → Type 0
+AreMarksIn log opts sort known = AreMarks sort (start_of opts.complete) log.lines known (length log.lines)
+
+pub record AreTables (log : Lines) (opts : AuditOpts) (tables : Tables) : Type 0 where
+  pub shown : AreKnownIn log opts Shown tables.shown.items
+  pub drawn : AreKnownIn log opts Drawn tables.drawn.items
+  pub reports : AreMarksIn log opts Reports tables.shown.items tables.reports.marks.items
+  pub raises : AreMarksIn log opts Raises tables.shown.items tables.raises.marks.items
+  pub draws : AreMarksIn log opts Draws tables.shown.items tables.draws.marks.items
+  pub asks : AreMarksIn log opts Asks tables.shown.items tables.asks.marks.items
+  pub owned : AreMarksIn log opts Owned tables.shown.items tables.owned.marks.items
+  pub nameless : AreMarksIn log opts Nameless tables.shown.items tables.nameless.marks.items
+
+-- a line before one that lets a version be known, or none does
+abbrev pub IsFoundIn : Lines → AuditOpts → Seen → ℕ → ℕ → Option Witness → Type 0
+IsFoundIn log opts seen = IsFound (comes_before log.timed opts.margin log.lines) opts.margin seen log.lines
+
+abbrev pub drawn_by : Option ℕ → Reason
+drawn_by None = Undrawn
+drawn_by (Some line) = DrawnBy line
+
+-- why a fault stands at a line; none where it does not
+abbrev pub IsAnswer : Lines → AuditOpts → ℕ → Fault → Option Reason → Type 0
+IsAnswer log opts k fault None = stands (case_of log opts) fault k ≡ false
+IsAnswer log opts k fault (Some reason) = (stands (case_of log opts) fault k ≡ true) × IsReason log opts k fault reason
+
+-- whether a version is not there: nobody reported it without knowing as much before
+abbrev pub is_wrong : Case → ℕ → Bool
+is_wrong c v = not (v == c.start) && (not (is_raised c v) && (c.complete || is_reported c v))
+
+-- whether others drew the version of a line, or nobody can have drawn it
+abbrev pub is_stray : Case → ℕ → Bool
+is_stray c k = cond (is_drawn c (version_at c k)) (not (is_own c k)) (c.complete || nat_le (version_at c k) c.start)
+
+-- some findings, and these faults with why they stand
+abbrev pub ListsMore : Lines → AuditOpts → List Finding → List Finding → List Found → Type 0
+ListsMore log opts before after found =
+    (map found_of after ≡ map found_of before ++ found) × (All (HasReason log opts) before → All (HasReason log opts) after)

@@ -1,24 +1,42 @@
--- What clients know of in a log without times.
-use Rattle.std.specs.Prelude.{ℕ, ◌&&◌, cond, List, Option, None, Some, length}
+-- What clients have heard of in a log without times.
+use Rattle.std.specs.Prelude.{◌≡◌, ℕ, ◌<◌, ◌&&◌, true, cond, List, Option, None, Some}
 use Rattle.fdb_lines.specs.declared.line.Call.{Call}
 use Rattle.fdb_lines.specs.declared.line.Line.{Line}
+use Rattle.fdb_lines.specs.declared.reason.Means.{Means}
+use Rattle.fdb_lines.specs.declared.reason.Means.TheVariants.{Ended, Own, Learnt}
+use Rattle.fdb_lines.specs.declared.reason.Witness.{Witness}
 use Rattle.fdb_lines.specs.declared.seen.Seen.{Seen}
-use Rattle.fdb_lines.specs.Lines.{kind_of, version_of, is_learn, teller_of}
-use Rattle.fdb_lines.specs.Before.{has_heard}
-use Rattle.fdb_lines.specs.Faults.{greatest_of}
+use Rattle.fdb_lines.specs.Before.{has_heard, one_client}
+use Rattle.fdb_lines.specs.Lines.{line_at, kind_of, is_learn, teller_of}
+use Rattle.fdb_lines.specs.private.Known.{counts_at, IsKnownBy}
 use Rattle.fdb_lines.specs.private.Seen.{counts}
-use Rattle.fdb_lines.specs.private.Known.{counts_at, version_in}
 
--- the newest version that a client knows of, of what each client knows
-abbrev pub known_to : (ℕ → ℕ) → Option ℕ → ℕ
-known_to newest None = 0
-known_to newest (Some a) = newest a
+-- ---- what the code computes from one line to the next
 
--- what a line lets its client know of, from what each client knows
-abbrev pub gain : Seen → (ℕ → ℕ) → Call → ℕ
-gain seen newest call =
-    cond (is_learn (kind_of call)) (newest (teller_of call)) (cond (counts seen (kind_of call)) (version_of call) 0)
+abbrev pub heard_by : (ℕ → Option Witness) → Option ℕ → Option Witness
+heard_by newest None = None
+heard_by newest (Some a) = newest a
 
--- the newest version that a client has heard of by the first n lines
-abbrev pub newest_heard : Seen → List Line → ℕ → ℕ → ℕ
-newest_heard seen lines n a = greatest_of (λ j. has_heard lines n a j && counts_at seen lines j) (version_in lines) (length lines)
+abbrev pub learnt_by : ℕ → Option Witness → Option Witness
+learnt_by place None = None
+learnt_by place (Some by) = Some (record { line = by.line; means = Learnt place })
+
+-- what a line lets its client hear of
+abbrev pub gained : Seen → (ℕ → Option Witness) → ℕ → Call → Option Witness
+gained seen newest place call =
+    cond (is_learn (kind_of call)) (learnt_by place (newest (teller_of call)))
+    (cond (counts seen (kind_of call)) (Some (record { line = place; means = Own })) None)
+
+-- ---- what it means: of all lines that were heard of, one whose version is newest
+
+-- how a client heard of a line by the first n lines
+abbrev pub IsHeardAs : List Line → ℕ → ℕ → ℕ → Means → Type 0
+IsHeardAs lines n a j Ended = ⊥
+IsHeardAs lines n a j Own = one_client (line_at lines j).client (Some a) ≡ true
+IsHeardAs lines n a j (Learnt m) =
+    (m < n) × (one_client (line_at lines m).client (Some a) ≡ true) × (is_learn (kind_of (line_at lines m).call) ≡ true)
+    × (has_heard lines m (teller_of (line_at lines m).call) j ≡ true)
+
+abbrev pub IsHeard : Seen → List Line → ℕ → ℕ → Option Witness → Type 0
+IsHeard seen lines n a =
+    IsKnownBy (λ j. has_heard lines n a j && counts_at seen lines j) (λ (by : Witness). IsHeardAs lines n a by.line by.means) lines

@@ -1,20 +1,43 @@
-use Rattle.std.proofs.Common.{◌+◌, List, Vec, Global, Some, None, ap, sym, subst, ◌∙◌, append-nil}
+use Rattle.std.proofs.Common.{◌≡◌, ◌+◌, ◌≤◌, ◌++◌, ◌∷◌, [], List, Option, Vec, Global, Some, None, length, option_to_list, ap, sym, subst, ◌∙◌, arith, append-nil, length-append}
+use Rattle.std.proofs.lemmas.List.{get_or_default}
+use Rattle.std.proofs.lemmas.Result.{IfOk-weaker}
 use Rattle.fdb_lines.specs.declared.end.End.{End}
-use Rattle.fdb_lines.specs.private.Known.{IsTable}
-use Rattle.fdb_lines.proofs.Knowing.{table_more}
+use Rattle.fdb_lines.specs.Lines.{nobody, line_at}
+use Rattle.fdb_lines.specs.private.Ends.{comes_by}
+use Rattle.fdb_lines.specs.private.Known.{stands_in, version_in, AreEnds, IsEndOf}
+use Rattle.fdb_lines.proofs.Entries.{more, moved}
 use Rattle.fdb_lines.proofs.known.table_of.Goals as goal
 use Rattle.fdb_lines.proofs.known.table_of.Goals.{in-Some+in_ok-push, in_default}
 
 pub loop-place-preserved : goal.loop-place-preserved
 loop-place-preserved c =
-    let place = c.loop-place.place in
+    let by_client = c.args.by_client in
+    let seen = c.args.seen in
+    let lines = c.args.lines.now in
+    let k = c.loop-place.place in
     let before = c.loop-place.ends.items in
-    let IsNext : List End → Type 0 = λ ends. IsTable c.args.by_client c.args.seen c.args.lines.now (place + 1) ends in
-    elim c.match-end_of.branch [
+    let few = c.loop-place.invariant.few in
+    let item = c.index-lines-place.result in
+    let line : item ≡ line_at lines k = c.index-lines-place.is ∙ get_or_default lines k item nobody c.loop-place-test.true in
+    let Next : List End → Type 0 = λ ends. AreEnds by_client seen lines (k + 1) ends × (length ends ≤ k + 1) in
+    let grown : (o : Option End) → IsEndOf by_client seen item k o → AreEnds by_client seen lines (k + 1) (before ++ option_to_list o) = λ o is.
+    more (λ (e : End). e.place) (λ (e : End). e.version) comes_by (version_in lines) (λ m j. stands_in by_client seen (line_at lines j) j m) k before o c.loop-place.invariant.ends
+    (subst (λ l. IsEndOf by_client seen l k o) line is) in
+    let next : Next c.match-end_of.ends.items = elim c.match-end_of.branch as (λ b. Next c.match-end_of.ends.items) [
       | in-Some+in_ok-push w ↦
-          subst IsNext (sym (ap (λ (v : Vec End Global). v.items) w.ends-is ∙ w.in_ok-push.ensures.items))
-          (table_more c.args.by_client c.args.seen c.args.lines.now place before c.index-lines-place.result (Some w.in-Some.end) c.loop-place.invariant c.loop-place-test.true c.index-lines-place.is w.in-Some.ensures)
+          subst Next (sym (ap (λ (v : Vec End Global). v.items) w.ends-is ∙ w.in_ok-push.ensures.items))
+          (grown (Some w.in-Some.end) w.in-Some.ensures, (let len = length-append before (w.in-Some.end ∷ []) in omega arith))
       | in_default w ↦
-          subst IsNext (append-nil before ∙ sym (ap (λ (v : Vec End Global). v.items) w.ends-is))
-          (table_more c.args.by_client c.args.seen c.args.lines.now place before c.index-lines-place.result None c.loop-place.invariant c.loop-place-test.true c.index-lines-place.is w.in_default.ensures)
-    ]
+          subst Next (append-nil before ∙ sym (ap (λ (v : Vec End Global). v.items) w.ends-is))
+          (grown None w.in_default.ensures, (let len = ap length (append-nil before) in omega arith))
+    ] in
+    record { ends = next.0; few = next.1 }
+
+pub returns-clause-ends : goal.returns-clause-ends
+returns-clause-ends c =
+    let lines = c.args.lines.now in
+    let all : c.loop-place.place ≡ length lines = (let end = c.loop-place.auto.place-end in let test = c.loop-place-test.false in omega arith) in
+    IfOk-weaker c.new.result _ (λ table. AreEnds c.args.by_client c.args.seen lines (length lines) table.ends.items)
+    (λ table same. moved (λ (e : End). e.place) (λ (e : End). e.version) comes_by (version_in lines) (λ m j. stands_in c.args.by_client c.args.seen (line_at lines j) j m) (length lines)
+    c.loop-place.ends.items table.ends.items same (subst (λ n. AreEnds c.args.by_client c.args.seen lines n c.loop-place.ends.items) all c.loop-place.invariant.ends))
+    c.new.ensures.same

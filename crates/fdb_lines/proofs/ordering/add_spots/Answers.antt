@@ -1,4 +1,4 @@
-use Rattle.std.proofs.Common.{◌≡◌, ◌++◌, ◌∙◌, ap, max, map, slice_index, get_or}
+use Rattle.std.proofs.Common.{◌≡◌, ◌++◌, ◌∙◌, ap, map, get_or}
 use Rattle.std.proofs.lemmas.List.{get_or_default}
 use Rattle.std.proofs.lemmas.Result.{IfOk-weaker}
 use Rattle.fdb_lines.specs.Audit.{case_of}
@@ -8,22 +8,18 @@ use Rattle.fdb_lines.specs.Log.{lines_of}
 use Rattle.fdb_lines.specs.private.Spots.{AreSpotsOf, HasSpots, item_of, items_at}
 use Rattle.fdb_lines.proofs.Arranged.{items_added}
 use Rattle.fdb_lines.proofs.Turned.{Keeps, kept_added, own_added, spots_told}
-use Rattle.fdb_lines.proofs.Verdicts.{knows_is, reported_is}
 use Rattle.fdb_lines.proofs.ordering.add_spots.Goals as goal
 
 pub returns-clause-items : goal.returns-clause-items
 returns-clause-items c =
     let it = case_of (lines_of c.args.log.now) c.args.opts.now in
     let lines = it.lines in
-    let t = c.args.tables.now in
     let k = c.args.place in
     let item = c.index-lines-place.result in
     let line : item ≡ line_at lines k = c.index-lines-place.is ∙ (ap (λ l. get_or l k item) c.lines.ensures ∙ get_or_default lines k item nobody c.requires.place) in
     let start : c.start-start.result ≡ it.start = c.start-start.ensures in
-    let known : c.knows-known.result ≡ knows it k =
-    c.knows-known.ensures ∙ (ap (λ s. max s (slice_index t.shown.items k)) start ∙ knows_is it t c.requires.tables k c.requires.place) in
-    let reported : c.is_reported-reported.result ≡ is_reported it (version_of item.call) =
-    c.is_reported-reported.ensures ∙ (reported_is it t c.requires.tables _ ∙ ap (is_reported it) c.version.ensures) in
+    let known : c.knows-known.result ≡ knows it k = c.knows-known.ensures in
+    let reported : c.is_reported-reported.result ≡ is_reported it (version_of item.call) = c.is_reported-reported.ensures ∙ ap (is_reported it) c.version.ensures in
     IfOk-weaker c.add_spot-3.result _ (λ _. map item_of c.add_spot-3.new.spots.items ≡ map item_of c.args.spots.now.items ++ items_at it k)
     (λ _ last. items_added it k item line c.start-start.result c.knows-known.result c.is_reported-reported.result start known reported _ _ _
     c.ask.ensures.item c.take.ensures.item c.report.ensures.item (map item_of c.args.spots.now.items) _ _ _ c.in_ok-add_spot.ensures.items c.in_ok-add_spot-2.ensures.items last)

@@ -1,4 +1,4 @@
-use Rattle.std.proofs.Common.{◌≡◌, ◌⊎◌, inl, inr, length, ◌+◌, ◌==◌, ◌&&◌, ◌||◌, Bool, true, false, not, get_or, nat_eq, ap, sym, subst, ◌∙◌, arith, add-one}
+use Rattle.std.proofs.Common.{◌≡◌, [], ◌⊎◌, inl, inr, length, ◌+◌, ◌==◌, ◌&&◌, ◌||◌, Bool, true, false, not, get_or, nat_eq, ap, sym, subst, ◌∙◌, arith, add-one}
 use Rattle.std.specs.HashSet.{contains}
 use Rattle.std.proofs.lemmas.Bool.{and_from, and_left, and_right}
 use Rattle.std.proofs.lemmas.List.{get_or_default}
@@ -31,7 +31,7 @@ loop-line-preserved c =
     let first_of : Line → Bool = λ l. is_read (kind_of l.call) && not (contains nat_eq c.loop-line.read (version_of l.call)) in
     let new : c.in_ok-new.new ≡ (is_read (kind_at it k) && not (some_below (reads_it it v) k)) =
     c.in_ok-new.ensures.first ∙ (ap first_of line ∙ ap (λ b. is_read (kind_at it k) && not b) (inv.read v)) in
-    let are = subst (λ l. AreMarks Reports l (length l) c.in_ok-reports.reports.marks.items) c.lines.ensures c.in_ok-reports.ensures in
+    let are = subst (λ l. AreMarks Reports 0 l [] (length l) c.in_ok-reports.reports.marks.items) c.lines.ensures c.in_ok-reports.ensures in
     let version = ap (λ (l : Line). version_of l.call) line in
     let others : Bool = not (v == it.start) && not (is_reported it v) in
     let case = elim c.if-new.branch as (λ b. ((is_first_of_others it k ≡ true) × (c.if-new.unreported ≡ c.loop-line.unreported + 1)) ⊎ ((is_first_of_others it k ≡ false) × (c.if-new.unreported ≡ c.loop-line.unreported))) [

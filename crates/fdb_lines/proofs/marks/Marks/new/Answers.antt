@@ -1,11 +1,39 @@
-use Rattle.std.proofs.Common.{rules}
+use Rattle.std.proofs.Common.{◌≡◌, ◌+◌, Vec, Global, List, ◌++◌, Option, Some, None, option_to_list, length, sym, subst, ◌∙◌, arith, rules, append-nil}
+use Rattle.std.proofs.lemmas.List.{get_or_default}
 use Rattle.std.proofs.lemmas.List.Sorted.{IsNonDecreasingBy-from_sort_by}
-use Rattle.fdb_lines.specs.private.Marks.{mark_key}
-use Rattle.fdb_lines.proofs.Marking.{marks_moved}
+use Rattle.fdb_lines.specs.declared.mark.Mark.{Mark}
+use Rattle.fdb_lines.specs.Lines.{nobody, line_at}
+use Rattle.fdb_lines.specs.private.Marks.{is_marked_at, is_named, mark_key, AreMarks, IsMarkOf}
+use Rattle.fdb_lines.proofs.Entries.{more, moved}
 use Rattle.fdb_lines.proofs.marks.Marks.new.Goals as goal
+use Rattle.fdb_lines.proofs.marks.Marks.new.Goals.{in-Some+in_ok-push, in_default}
+
+pub loop-place-preserved : goal.loop-place-preserved
+loop-place-preserved c =
+    let sort = c.args.sort in
+    let start = c.args.start in
+    let lines = c.args.lines.now in
+    let known = c.args.known.now in
+    let k = c.loop-place.place in
+    let marks = c.loop-place.marks.items in
+    let line : c.index-lines-place.result ≡ line_at lines k = c.index-lines-place.is ∙ get_or_default lines k c.index-lines-place.result nobody c.loop-place-test.true in
+    let knows = c.knows_at-knows.ensures in
+    let Next : List Mark → Type 0 = AreMarks sort start lines known (k + 1) in
+    let grown : (o : Option Mark) → IsMarkOf sort c.index-lines-place.result c.knows_at-knows.result k o → Next (marks ++ option_to_list o) = λ o is.
+    more (λ (m : Mark). m.place) (λ (m : Mark). m.place) is_named (λ j. j) (is_marked_at sort start lines known) k marks o c.loop-place.invariant
+    (subst (λ n. IsMarkOf sort (line_at lines k) n k o) knows (subst (λ l. IsMarkOf sort l c.knows_at-knows.result k o) line is)) in
+    elim c.match-mark_of.branch as (λ b. Next c.match-mark_of.marks.items) [
+      | in-Some+in_ok-push w ↦
+          subst (λ (m : Vec Mark Global). Next m.items) (sym w.marks-is) (subst Next (sym w.in_ok-push.ensures.items) (grown (Some w.in-Some.mark) w.in-Some.ensures))
+      | in_default w ↦ subst (λ (m : Vec Mark Global). Next m.items) (sym w.marks-is) (subst Next (append-nil marks) (grown None w.in_default.ensures))
+    ]
 
 pub invariant_of-result : goal.invariant_of-result
 invariant_of-result c = record { in_order = IsNonDecreasingBy-from_sort_by mark_key _ c.sort_unstable_by.ensures.sorted (λ a r f k. search rules) }
 
 pub returns : goal.returns
-returns c = marks_moved c.args.sort c.args.lines.now _ c.in_ok-marks.marks.items c.sort_unstable_by.new.self.items c.sort_unstable_by.ensures.permutation c.in_ok-marks.ensures
+returns c =
+    let all : c.loop-place.place ≡ length c.args.lines.now = (let end = c.loop-place.auto.place-end in let test = c.loop-place-test.false in omega arith) in
+    moved (λ (m : Mark). m.place) (λ (m : Mark). m.place) is_named (λ j. j) (is_marked_at c.args.sort c.args.start c.args.lines.now c.args.known.now) (length c.args.lines.now)
+    c.loop-place.marks.items c.sort_unstable_by.new.self.items c.sort_unstable_by.ensures.permutation
+    (subst (λ n. AreMarks c.args.sort c.args.start c.args.lines.now c.args.known.now n c.loop-place.marks.items) all c.loop-place.invariant)

@@ -1,0 +1,144 @@
+-- Tables of lines grow by a line, may be moved, and have what is looked for.
+use Rattle.std.proofs.Common.{◌≡◌, ◌≢◌, ℕ, zero, suc, ◌+◌, ◌<◌, ◌==◌, not, Bool, true, false, ◌&&◌, ◌||◌, List, [], ◌∷◌, ◌++◌, length, get_or, option_to_list, Option, None, Some, is_some, refl, ap, sym, subst, ◌∙◌, inl, inr, arith, append-nil}
+use Rattle.std.specs.List.{list_any, All}
+use Rattle.std.specs.List.Sorted.{IsPermutation}
+use Rattle.std.proofs.lemmas.Bool.{cases_eq, cases_lt, both_ways, and_from, and_right, or_left, or_right, eq-eqb, eqb-true, ne_eqb, false_from_ne_true}
+use Rattle.std.proofs.lemmas.List.{get_or_default}
+use Rattle.std.proofs.lemmas.List.Elements.{All-get_or, All-push}
+use Rattle.std.proofs.lemmas.List.Folds.{Any-from_list_any, list_any-append}
+use Rattle.std.proofs.lemmas.List.Sorted.{All-permutation, list_any-IsPermutation}
+use Rattle.fdb_lines.specs.Faults.{some_below}
+use Rattle.fdb_lines.specs.private.Entries.{AreEntries, IsEntry, IsFirstFrom, IsNewest}
+use Rattle.fdb_lines.proofs.Numbers.{some_at, some_find}
+
+abbrev Is : {X Q : Type 0} → (X → ℕ) → (X → ℕ) → (Q → X → Bool) → (ℕ → ℕ) → (Q → ℕ → Bool) → ℕ → X → Type 0
+Is {Q = Q} place number answers f test n x = (place x < n) × (number x ≡ f (place x)) × ((q : Q) → answers q x ≡ test q (place x))
+
+-- ---- what tables are made by
+
+-- in any order
+pub moved : {X Q : Type 0} (place number : X → ℕ) (answers : Q → X → Bool) (f : ℕ → ℕ) (test : Q → ℕ → Bool) (n : ℕ) (xs ys : List X)
+    → IsPermutation xs ys → AreEntries place number answers f test n xs → AreEntries place number answers f test n ys
+moved place number answers f test n xs ys same are = record {
+  of = All-permutation (Is place number answers f test n) xs ys same are.of;
+  all = λ q j lt is. sym (list_any-IsPermutation (λ x. place x == j) xs ys same) ∙ are.all q j lt is;
+}
+
+-- line by line
+pub more : {X Q : Type 0} (place number : X → ℕ) (answers : Q → X → Bool) (f : ℕ → ℕ) (test : Q → ℕ → Bool) (n : ℕ) (xs : List X) (o : Option X)
+    → AreEntries place number answers f test n xs → IsEntry place number answers n (f n) (λ q. test q n) o
+    → AreEntries place number answers f test (n + 1) (xs ++ option_to_list o)
+more {X = X} {Q = Q} place number answers f test n xs o are is = by o is
+  where
+    further : All (Is place number answers f test (n + 1)) xs
+    further i d lt = let x = are.of i d lt in let below = x.0 in (omega arith, x.1, x.2)
+
+    by : (o : Option X) → IsEntry place number answers n (f n) (λ q. test q n) o → AreEntries place number answers f test (n + 1) (xs ++ option_to_list o)
+    by None none = subst (AreEntries place number answers f test (n + 1)) (sym (append-nil xs)) (record {
+      of = further;
+      all = λ q j lt passes. elim (cases_lt j n) [
+        | inl less ↦ are.all q j less passes
+        | inr ge ↦ let same : j ≡ n = omega arith in absurd (both_ways (test q n) (none q) (subst (λ i. test q i ≡ true) same passes))
+      ];
+    })
+    by (Some x) one =
+        let at = one.0 in
+        record {
+          of = All-push (Is place number answers f test (n + 1)) xs x further
+              (omega arith, one.1 ∙ ap f (sym at), λ q. one.2 q ∙ ap (test q) (sym at));
+          all = λ q j lt passes. list_any-append (λ y. place y == j) xs (x ∷ []) ∙ elim (cases_lt j n) [
+            | inl less ↦ or_left (list_any (λ y. place y == j) xs) _ (are.all q j less passes)
+            | inr ge ↦ or_right (list_any (λ y. place y == j) xs) _ (or_left (place x == j) _ (eq-eqb (place x) j (omega arith)))
+          ];
+        }
+
+-- ---- what stands in them
+
+pub entry : {X Q : Type 0} (place number : X → ℕ) (answers : Q → X → Bool) (f : ℕ → ℕ) (test : Q → ℕ → Bool) (n : ℕ) (xs : List X) (d : X)
+    → AreEntries place number answers f test n xs → (i : ℕ) → i < length xs → Is place number answers f test n (get_or xs i d)
+entry place number answers f test n xs d are i lt = All-get_or (Is place number answers f test n) xs i d lt are.of
+
+-- each line that answers a question has an entry that answers it
+pub entry_for : {X Q : Type 0} (place number : X → ℕ) (answers : Q → X → Bool) (f : ℕ → ℕ) (test : Q → ℕ → Bool) (n : ℕ) (xs : List X) (d : X)
+    → AreEntries place number answers f test n xs → (q : Q) (j : ℕ) → j < n → test q j ≡ true
+    → (i : ℕ) × (i < length xs) × (place (get_or xs i d) ≡ j) × (answers q (get_or xs i d) ≡ true)
+entry_for place number answers f test n xs d are q j lt passes =
+    let some = Any-from_list_any (λ x. place x == j) xs (are.all q j lt passes) in
+    let i = some.0 in
+    let at : place (get_or xs i d) ≡ j = ap place (get_or_default xs i d some.1 some.2 ∙ some.3) ∙ eqb-true (place some.1) j some.4 in
+    let is = entry place number answers f test n xs d are i some.2 in
+    (i, some.2, at, is.2 q ∙ (ap (test q) at ∙ passes))
+
+-- the newest entry is of the newest line
+pub newest_line : {X Q : Type 0} (place number : X → ℕ) (answers : Q → X → Bool) (f : ℕ → ℕ) (test : Q → ℕ → Bool) (n : ℕ) (xs : List X) (d : X)
+    → AreEntries place number answers f test n xs → (q : Q) (i : ℕ)
+    → IsNewest (λ k. answers q (get_or xs k d)) (λ k. number (get_or xs k d)) (length xs) (Some i) → IsNewest (test q) f n (Some (place (get_or xs i d)))
+newest_line place number answers f test n xs d are q i found =
+    let is = entry place number answers f test n xs d are i found.0 in (
+      is.0,
+      sym (is.2 q) ∙ found.1,
+      λ j lt passes.
+          let own = entry_for place number answers f test n xs d are q j lt passes in
+          let up = found.2 own.0 own.1 own.3 in
+          let here = (entry place number answers f test n xs d are own.0 own.1).1 ∙ ap f own.2 in
+          let there = is.1 in
+          omega arith,
+    )
+
+pub no_line : {X Q : Type 0} (place number : X → ℕ) (answers : Q → X → Bool) (f : ℕ → ℕ) (test : Q → ℕ → Bool) (n : ℕ) (xs : List X) (d : X)
+    → AreEntries place number answers f test n xs → (q : Q)
+    → IsNewest (λ k. answers q (get_or xs k d)) (λ k. number (get_or xs k d)) (length xs) None → IsNewest (test q) f n None
+no_line place number answers f test n xs d are q none j lt =
+    false_from_ne_true (test q j) (λ passes.
+    let own = entry_for place number answers f test n xs d are q j lt passes in
+    both_ways _ (none own.0 own.1) own.3)
+
+-- ---- the first that passes a test
+
+pub first_is : (test : ℕ → Bool) (n : ℕ) (o : Option ℕ) → IsFirstFrom test 0 n o → some_below test n ≡ is_some o
+first_is test n None none = false_from_ne_true (some_below test n) (λ some. let f = some_find test n some in both_ways (test f.0) (none f.0 (omega arith) f.1) f.2)
+first_is test n (Some j) first = some_at test n j first.1 first.2
+
+pub some_same : (one other : ℕ → Bool) (n : ℕ) → ((j : ℕ) → j < n → one j ≡ other j) → some_below one n ≡ some_below other n
+some_same one other zero h = refl
+some_same one other (suc n) h = ap (λ b. b || some_below one n) (h n (omega arith)) ∙ ap (λ b. other n || b) (some_same one other n (λ j l. h j (omega arith)))
+
+-- tests that agree have one first
+pub first_same : (one another : ℕ → Bool) (n : ℕ) (o : Option ℕ) → ((j : ℕ) → one j ≡ another j) → IsFirstFrom one 0 n o → IsFirstFrom another 0 n o
+first_same one another n None same none = λ j ge lt. sym (same j) ∙ none j ge lt
+first_same one another n (Some q) same first =
+    (first.0, first.1, sym (same q) ∙ first.2, λ i ge lt. sym (same i) ∙ first.3 i ge lt)
+
+-- the first but one
+
+abbrev pub other : (ℕ → Bool) → ℕ → ℕ → Bool
+other test k j = not (j == k) && test j
+
+is_other : (test : ℕ → Bool) (k j : ℕ) → j ≢ k → test j ≡ true → other test k j ≡ true
+is_other test k j ne is = and_from (not (j == k)) _ (ap not (ne_eqb j k ne)) is
+
+not_this : (test : ℕ → Bool) (k j : ℕ) → (j ≢ k → test j ≡ false) → other test k j ≡ false
+not_this test k j fails =
+    elim (cases_eq j k) [
+      | inl same ↦ ap (λ b. not b && test j) (eq-eqb j k same)
+      | inr ne ↦ and_right (not (j == k)) (test j) (fails ne)
+    ]
+
+-- those behind the first, where that is the one
+pub other_behind : (test : ℕ → Bool) (k n : ℕ) (o : Option ℕ) → IsFirstFrom test 0 n (Some k) → IsFirstFrom test (k + 1) n o → IsFirstFrom (other test k) 0 n o
+other_behind test k n None first none =
+    λ j ge lt. not_this test k j (λ ne. elim (cases_lt j k) [ inl l ↦ first.3 j (omega arith) l | inr above ↦ none j (omega arith) lt ])
+other_behind test k n (Some q) first next =
+    let above = next.0 in (
+      omega arith,
+      next.1,
+      is_other test k q (λ same. omega arith) next.2,
+      λ i ge lt. not_this test k i (λ ne. elim (cases_lt i k) [ inl l ↦ first.3 i (omega arith) l | inr high ↦ next.3 i (omega arith) lt ]),
+    )
+
+pub other_first : (test : ℕ → Bool) (k n q : ℕ) → q ≢ k → IsFirstFrom test 0 n (Some q) → IsFirstFrom (other test k) 0 n (Some q)
+other_first test k n q ne first =
+    (first.0, first.1, is_other test k q ne first.2, λ i ge lt. not_this test k i (λ apart. first.3 i ge lt))
+
+pub other_none : (test : ℕ → Bool) (k n : ℕ) → IsFirstFrom test 0 n None → IsFirstFrom (other test k) 0 n None
+other_none test k n none j ge lt = not_this test k j (λ apart. none j ge lt)

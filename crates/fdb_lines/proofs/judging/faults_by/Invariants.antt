@@ -1,8 +1,0 @@
-use Rattle.std.proofs.Common.{◌≡◌}
-use Rattle.fdb_lines.specs.Audit.{case_of}
-use Rattle.fdb_lines.specs.Listing.{faults_below}
-use Rattle.fdb_lines.specs.Log.{lines_of}
-use Rattle.fdb_lines.proofs.judging.faults_by.Given as goal
-
-abbrev pub invariant-loop-place : goal.invariant-loop-place
-invariant-loop-place l = l.found.items ≡ faults_below (case_of (lines_of l.log) l.opts) l.place
