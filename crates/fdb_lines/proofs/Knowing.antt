@@ -1,5 +1,6 @@
 -- What a call knows: the newest of lines that pass a test, or one of two.
 use Rattle.std.proofs.Common.{◌≡◌, ℕ, ◌+◌, ◌-◌, ◌<◌, ◌≤◌, ◌==◌, nat_lt, Bool, true, false, ◌&&◌, ◌||◌, List, [], ◌∷◌, ◌++◌, length, Option, None, Some, refl, ap, sym, subst, ◌∙◌, inl, inr, arith, length-append}
+use Rattle.std.proofs.lemmas.Bool.Decides.{nat_tests}
 use Rattle.std.proofs.lemmas.Bool.{cases_Bool, cases_eq, cases_lt, both_ways, and_parts, and_from, or_cases, or_left, or_right, cond-true, cond-false, eq-eqb, eqb-true, ne_eqb, le-ltb, ltb-true, ltb-false, false_from_ne_true}
 use Rattle.std.proofs.lemmas.List.{get_or_append_left, get_or_push}
 use Rattle.fdb_lines.specs.declared.line.Line.{Line}
@@ -117,13 +118,10 @@ known_so test margin lines k means (Some j) so is = (is.0, is.1, so j is.1, is.2
 
 -- an end before a moment and any place is just an end before it
 pub at_zero : (end time above : ℕ) → is_earlier end above time 0 ≡ nat_lt end time
-at_zero end time above =
-    ap (λ b. nat_lt end time || ((end == time) && b)) (le-ltb above 0 (omega arith))
-    ∙ (ap (λ b. nat_lt end time || b) (with_false (end == time)) ∙ only_left (nat_lt end time))
+at_zero end time above = grind (arith, nat_tests)
 
 margins : (end margin time above : ℕ) → nat_lt (end + margin) time ≡ is_earlier end above (time - margin) 0
-margins end margin time above =
-    same_tests (end + margin) time end (time - margin) (λ l. omega arith) (λ l. omega arith) ∙ sym (at_zero end (time - margin) above)
+margins end margin time above = grind (arith, nat_tests)
 
 pub ended_means : (margin : ℕ) (seen : Seen) (lines : List Line) (k j : ℕ) → of_all margin seen lines k j ≡ true → IsMeans margin lines j k Ended
 ended_means margin seen lines k j is = by (ended (line_at lines j)) refl (and_parts (counts_at seen lines j) _ is).1
@@ -149,35 +147,34 @@ pub no_client : (o : Option ℕ) → one_client o None ≡ false
 no_client None = refl
 no_client (Some b) = refl
 
+-- whether a line's client is that of a group, where it is known
+abbrev in_own : Option ℕ → Option ℕ → Bool
+in_own None own = false
+in_own (Some a) own = in_group true own a
+
+abbrev ended_by : ℕ → Bool → Option ℕ → Option ℕ → Option ℕ → ℕ → Bool
+ended_by margin above own None client time = false
+ended_by margin above own (Some end) client time = nat_lt (end + margin) time || (one_client own client && (nat_lt end time || (above && end == time)))
+
 -- what comes before by time stands in one of the tables
-by_two : (seen : Seen) (lines : List Line) (margin j k : ℕ) (o client : Option ℕ) → ended (line_at lines j) ≡ o → (line_at lines k).client ≡ client
-    → (ended_before margin (nat_lt j k) (line_at lines j) o (line_at lines k) && counts_at seen lines j)
-    ≡ (of_all margin seen lines k j || of_client seen lines client k j)
-by_two seen lines margin j k None None e f = sym (ap (λ o. (counts_at seen lines j && (true && had_ended o j (began (line_at lines k) - margin) 0)) || false) e ∙ ap (λ b. b || false) (with_false (counts_at seen lines j)))
-by_two seen lines margin j k None (Some a) e f =
-    sym (ap (λ o. (counts_at seen lines j && (true && had_ended o j (began (line_at lines k) - margin) 0)) || (counts_at seen lines j && (in_group true (line_at lines j).client a && had_ended o j (began (line_at lines k)) k))) e
-    ∙ (ap (λ b. b || (counts_at seen lines j && (in_group true (line_at lines j).client a && false))) (with_false (counts_at seen lines j))
-    ∙ (ap (λ b. counts_at seen lines j && b) (with_false (in_group true (line_at lines j).client a)) ∙ with_false (counts_at seen lines j))))
-by_two seen lines margin j k (Some end) None e f =
-    let time = began (line_at lines k) in
-    let c = counts_at seen lines j in
-    ap (λ q. (nat_lt (end + margin) time || (one_client (line_at lines j).client q && (nat_lt end time || (nat_lt j k && end == time)))) && c) f
-    ∙ (ap (λ q. (nat_lt (end + margin) time || (q && (nat_lt end time || (nat_lt j k && end == time)))) && c) (no_client (line_at lines j).client)
-    ∙ (ap (λ q. q && c) (only_left (nat_lt (end + margin) time))
-    ∙ (swapped (nat_lt (end + margin) time) c
-    ∙ (ap (λ q. c && q) (margins end margin time j)
-    ∙ (ap (λ o. c && (true && had_ended o j (time - margin) 0)) (sym e)
-    ∙ sym (only_left _))))))
-by_two seen lines margin j k (Some end) (Some a) e f =
-    let time = began (line_at lines k) in
-    let c = counts_at seen lines j in
-    let own = (line_at lines j).client in
-    ap (λ q. (nat_lt (end + margin) time || (one_client own q && (nat_lt end time || (nat_lt j k && end == time)))) && c) f
-    ∙ (ap (λ q. (nat_lt (end + margin) time || (q && (nat_lt end time || (nat_lt j k && end == time)))) && c) (sym (grouped own a))
-    ∙ (spread (nat_lt (end + margin) time) (in_group true own a && (nat_lt end time || (nat_lt j k && end == time))) c
-    ∙ (ap (λ q. (c && q) || (c && (in_group true own a && (nat_lt end time || (nat_lt j k && end == time))))) (margins end margin time j)
-    ∙ (ap (λ q. (c && is_earlier end j (time - margin) 0) || (c && (in_group true own a && (nat_lt end time || q)))) (swapped (nat_lt j k) (end == time))
-    ∙ ap (λ o. (c && (true && had_ended o j (time - margin) 0)) || (c && (in_group true own a && had_ended o j time k))) (sym e)))))
+by_two : (margin j k time : ℕ) (counts : Bool) (own client end : Option ℕ)
+    → (ended_by margin (nat_lt j k) own end client time && counts)
+    ≡ ((counts && had_ended end j (time - margin) 0) || (counts && (in_own client own && had_ended end j time k)))
+by_two margin j k time counts own client None = grind arith
+by_two margin j k time counts None client (Some end) = grind (arith, nat_tests)
+by_two margin j k time counts (Some a) None (Some end) = grind (arith, nat_tests)
+by_two margin j k time counts (Some a) (Some b) (Some end) = grind (arith, nat_tests)
+
+of_client_is : (seen : Seen) (lines : List Line) (client : Option ℕ) (k j : ℕ)
+    → of_client seen lines client k j ≡ (counts_at seen lines j && (in_own client (line_at lines j).client && had_ended (ended (line_at lines j)) j (began (line_at lines k)) k))
+of_client_is seen lines None k j = grind arith
+of_client_is seen lines (Some a) k j = refl
+
+ended_by_is : (margin : ℕ) (lines : List Line) (j k : ℕ) (end : Option ℕ)
+    → ended_before margin (nat_lt j k) (line_at lines j) end (line_at lines k)
+    ≡ ended_by margin (nat_lt j k) (line_at lines j).client end (line_at lines k).client (began (line_at lines k))
+ended_by_is margin lines j k None = refl
+ended_by_is margin lines j k (Some end) = refl
 
 pub both_are : (margin : ℕ) (seen : Seen) (lines : List Line) (k : ℕ) (one other : Option Witness)
     → KnowsOf (of_all margin seen lines) margin lines k one → KnowsOf (of_own seen lines) margin lines k other
@@ -185,5 +182,11 @@ pub both_are : (margin : ℕ) (seen : Seen) (lines : List Line) (k : ℕ) (one o
 both_are margin seen lines k one other is too =
     let Is : Witness → Type 0 = λ (by : Witness). IsMeans margin lines by.line k by.means in
     as_well (λ j. of_all margin seen lines k j || of_own seen lines k j) (lets_know (by_time margin lines) seen lines k) Is Is lines (newer lines one other)
-    (λ j lt. sym (by_two seen lines margin j k (ended (line_at lines j)) (line_at lines k).client refl refl)) (λ by h. h)
+    (λ j lt.
+    let own = (line_at lines j).client in
+    let client = (line_at lines k).client in
+    let time = began (line_at lines k) in
+    ap (λ b. of_all margin seen lines k j || b) (of_client_is seen lines client k j)
+    ∙ (sym (by_two margin j k time (counts_at seen lines j) own client (ended (line_at lines j)))
+    ∙ ap (λ b. b && counts_at seen lines j) (sym (ended_by_is margin lines j k (ended (line_at lines j)))))) (λ by h. h)
     (newer_is (of_all margin seen lines k) (of_own seen lines k) Is lines one other is too)

@@ -1,5 +1,6 @@
 -- What the tables of a log say, and why a fault stands.
 use Rattle.std.proofs.Common.{◌≡◌, ◌⊎◌, ℕ, zero, suc, max, ◌<◌, ◌≤◌, ◌==◌, nat_lt, nat_le, not, Bool, true, false, cond, ◌&&◌, ◌||◌, List, length, Option, None, Some, is_none, is_some, unwrap_or, refl, ap, sym, ◌∙◌, inl, inr, arith}
+use Rattle.std.proofs.lemmas.Bool.Decides.{nat_tests}
 use Rattle.std.proofs.lemmas.Bool.{cases_Bool, cases_eq, cases_lt, both_ways, and_parts, and_from, or_cases, or_left, or_right, not-true, cond-true, cond-false, eq-eqb, ne_eqb, lt-ltb, ltb-true, leb-true, false_from_ne_true}
 use Rattle.fdb_lines.specs.declared.fault.Fault.TheVariants.{Order, Wrong, NotAbove, Twice, Stray}
 use Rattle.fdb_lines.specs.declared.opts.AuditOpts.{AuditOpts}
@@ -17,7 +18,7 @@ use Rattle.fdb_lines.specs.private.Entries.{IsFirstFrom}
 use Rattle.fdb_lines.specs.private.Known.{by_at, counts_at, newest_known, of_version, tells, version_by, version_in}
 use Rattle.fdb_lines.specs.private.Marks.{is_marked_at, knows_at, name}
 use Rattle.fdb_lines.specs.private.Tables.{drawn_by, AreKnownIn, IsFoundIn}
-use Rattle.fdb_lines.proofs.Entries.{first_is, first_same, some_same}
+use Rattle.fdb_lines.proofs.Entries.{first_is, first_same, other, some_same}
 use Rattle.fdb_lines.proofs.Knowing.{found_is, version_is}
 use Rattle.fdb_lines.proofs.Numbers.{some_at}
 use Rattle.fdb_lines.proofs.Tests.{with_false}
@@ -42,16 +43,7 @@ known_is log opts seen known k version are lt most =
 
 -- a test of a version, and that it is another one
 moved : (b : Bool) (known v w : ℕ) → ((b && nat_lt known w) && w == v) ≡ (b && (w == v && nat_lt known v))
-moved false known v w = refl
-moved true known v w =
-    elim (cases_eq w v) [
-      | inl same ↦ ap (λ e. nat_lt known w && e) (eq-eqb w v same) ∙ (ends (nat_lt known w) ∙ (ap (nat_lt known) same ∙ ap (λ e. e && nat_lt known v) (sym (eq-eqb w v same))))
-      | inr other ↦ ap (λ e. nat_lt known w && e) (ne_eqb w v other) ∙ (with_false (nat_lt known w) ∙ ap (λ e. e && nat_lt known v) (sym (ne_eqb w v other)))
-    ]
-  where
-    ends : (b : Bool) → (b && true) ≡ b
-    ends true = refl
-    ends false = refl
+moved b known v w = grind (arith, nat_tests)
 
 pub raised_is : (log : Lines) (opts : AuditOpts) (shown : List (Option Witness)) (v : ℕ) (first : Option ℕ) → AreKnownIn log opts Shown shown
     → IsFirstFrom (is_marked_at Raises (start_of opts.complete) log.lines shown (name v 0)) 0 (length log.lines) first → is_raised (case_of log opts) v ≡ is_some first
@@ -64,39 +56,13 @@ raised_is log opts shown v first are found =
     ∙ first_is test (length log.lines) first found
 
 -- who drew a version
-owned_by : (kind : Kind) (client : Option ℕ) (a : ℕ) (e : Bool) → (unwrap_or client 0 == a && ((draws kind && is_some client) && e)) ≡ (draws kind && (e && same_client client (Some a)))
-owned_by kind None a e = owned_none (draws kind) (0 == a) e
-  where
-    owned_none : (d g e : Bool) → (g && ((d && false) && e)) ≡ (d && (e && false))
-    owned_none true true true = refl
-    owned_none true true false = refl
-    owned_none true false true = refl
-    owned_none true false false = refl
-    owned_none false true e = refl
-    owned_none false false e = refl
-owned_by kind (Some b) a e = owned_some (draws kind) (b == a) e
-  where
-    owned_some : (d g e : Bool) → (g && ((d && true) && e)) ≡ (d && (e && g))
-    owned_some true true true = refl
-    owned_some true true false = refl
-    owned_some true false true = refl
-    owned_some true false false = refl
-    owned_some false true e = refl
-    owned_some false false e = refl
+owned_by : (d e : Bool) (client : Option ℕ) (a : ℕ) → (unwrap_or client 0 == a && ((d && is_some client) && e)) ≡ (d && (e && same_client client (Some a)))
+owned_by d e None a = grind arith
+owned_by d e (Some b) a = grind arith
 
-nameless_by : (kind : Kind) (client : Option ℕ) (e : Bool) → ((draws kind && is_none client) && e) ≡ (draws kind && (e && same_client client None))
-nameless_by kind None e = by (draws kind) e
-  where
-    by : (d e : Bool) → ((d && true) && e) ≡ (d && (e && true))
-    by true true = refl
-    by true false = refl
-    by false e = refl
-nameless_by kind (Some b) e = by (draws kind) e
-  where
-    by : (d e : Bool) → ((d && false) && e) ≡ (d && (e && false))
-    by true true = refl
-    by true false = refl
-    by false e = refl
+nameless_by : (d e : Bool) (client : Option ℕ) → ((d && is_none client) && e) ≡ (d && (e && same_client client None))
+nameless_by d e None = grind arith
+nameless_by d e (Some b) = grind arith
 
 pub owned_is : (log : Lines) (opts : AuditOpts) (shown : List (Option Witness)) (k a : ℕ) (first : Option ℕ) → client_at (case_of log opts) k ≡ Some a
     → IsFirstFrom (is_marked_at Owned (start_of opts.complete) log.lines shown (name (version_at (case_of log opts) k) a)) 0 (length log.lines) first
@@ -105,7 +71,7 @@ owned_is log opts shown k a first whose found =
     let c = case_of log opts in
     let test = is_marked_at Owned (start_of opts.complete) log.lines shown (name (version_at c k) a) in
     sym (some_same test (λ j. draws (kind_at c j) && (version_at c j == version_at c k && same_client (client_at c j) (client_at c k))) (length log.lines)
-    (λ j l. owned_by (kind_at c j) (client_at c j) a (version_at c j == version_at c k)
+    (λ j l. owned_by (draws (kind_at c j)) (version_at c j == version_at c k) (client_at c j) a
     ∙ ap (λ o. draws (kind_at c j) && (version_at c j == version_at c k && same_client (client_at c j) o)) (sym whose)))
     ∙ first_is test (length log.lines) first found
 
@@ -116,63 +82,35 @@ nameless_is log opts shown k first whose found =
     let c = case_of log opts in
     let test = is_marked_at Nameless (start_of opts.complete) log.lines shown (name (version_at c k) 0) in
     sym (some_same test (λ j. draws (kind_at c j) && (version_at c j == version_at c k && same_client (client_at c j) (client_at c k))) (length log.lines)
-    (λ j l. nameless_by (kind_at c j) (client_at c j) (version_at c j == version_at c k)
+    (λ j l. nameless_by (draws (kind_at c j)) (version_at c j == version_at c k) (client_at c j)
     ∙ ap (λ o. draws (kind_at c j) && (version_at c j == version_at c k && same_client (client_at c j) o)) (sym whose)))
     ∙ first_is test (length log.lines) first found
 
 -- ---- drawn twice
 
-no_ask : (kind : Kind) → is_commit kind ≡ true → is_ask kind ≡ false
-no_ask Read h = refl
-no_ask Commit h = refl
-no_ask Ask h = absurd (both_ways false refl h)
-no_ask Report h = refl
-no_ask Learn h = refl
-
-beside_commit : (kind : Kind) (e : Bool) → (draws kind && (e && not (is_commit kind && true))) ≡ (is_ask kind && e)
-beside_commit Read e = refl
-beside_commit Commit e = with_false e
-beside_commit Ask true = refl
-beside_commit Ask false = refl
-beside_commit Report e = refl
-beside_commit Learn e = refl
-
-beside_ask : (kind : Kind) (e : Bool) → (draws kind && (e && not (is_commit kind && false))) ≡ (draws kind && e)
-beside_ask Read e = refl
-beside_ask Commit true = refl
-beside_ask Commit false = refl
-beside_ask Ask true = refl
-beside_ask Ask false = refl
-beside_ask Report e = refl
-beside_ask Learn e = refl
+-- what draws is either a commit or an ask
+drawn_as : (kind : Kind) → (draws kind ≡ (is_commit kind || is_ask kind)) × ((is_commit kind && is_ask kind) ≡ false)
+drawn_as Read = (refl, refl)
+drawn_as Commit = (refl, refl)
+drawn_as Ask = (refl, refl)
+drawn_as Report = (refl, refl)
+drawn_as Learn = (refl, refl)
 
 -- beside a commit the asks of its version, and beside an ask what else draws it
 pub beside_a_commit : (c : Case) (k : ℕ) (first : Option ℕ) → is_commit (kind_at c k) ≡ true
     → IsFirstFrom (λ j. is_ask (kind_at c j) && version_at c j == version_at c k) 0 (length c.lines) first → IsFirstFrom (draws_again c k) 0 (length c.lines) first
 beside_a_commit c k first commit =
-    first_same (λ j. is_ask (kind_at c j) && version_at c j == version_at c k) (draws_again c k) (length c.lines) first (λ j. sym (same j))
-  where
-    same : (j : ℕ) → draws_again c k j ≡ (is_ask (kind_at c j) && version_at c j == version_at c k)
-    same j =
-        let e = version_at c j == version_at c k in
-        ap (λ b. not (j == k) && (draws (kind_at c j) && (e && not (is_commit (kind_at c j) && b)))) commit
-        ∙ elim (cases_eq j k) [
-          | inl at ↦
-              ap (λ b. not b && (draws (kind_at c j) && (e && not (is_commit (kind_at c j) && true)))) (eq-eqb j k at)
-              ∙ sym (ap (λ i. is_ask (kind_at c i) && e) at ∙ ap (λ b. b && e) (no_ask (kind_at c k) commit))
-          | inr other ↦
-              ap (λ b. not b && (draws (kind_at c j) && (e && not (is_commit (kind_at c j) && true)))) (ne_eqb j k other)
-              ∙ beside_commit (kind_at c j) e
-        ]
+    first_same (λ j. is_ask (kind_at c j) && version_at c j == version_at c k) (draws_again c k) (length c.lines) first
+    (λ j.
+    let kind = drawn_as (kind_at c j) in
+    let own = drawn_as (kind_at c k) in
+    let same = λ (e : j ≡ k). ap (λ i. is_ask (kind_at c i)) e in
+    grind (arith, nat_tests))
 
 pub beside_an_ask : (c : Case) (k : ℕ) (first : Option ℕ) → is_commit (kind_at c k) ≡ false
-    → IsFirstFrom (λ j. not (j == k) && draws_it c (version_at c k) j) 0 (length c.lines) first → IsFirstFrom (draws_again c k) 0 (length c.lines) first
+    → IsFirstFrom (other (draws_it c (version_at c k)) k) 0 (length c.lines) first → IsFirstFrom (draws_again c k) 0 (length c.lines) first
 beside_an_ask c k first not_commit =
-    first_same (λ j. not (j == k) && draws_it c (version_at c k) j) (draws_again c k) (length c.lines) first
-    (λ j.
-    let e = version_at c j == version_at c k in
-    sym (ap (λ b. not (j == k) && (draws (kind_at c j) && (e && not (is_commit (kind_at c j) && b)))) not_commit
-    ∙ ap (λ b. not (j == k) && b) (beside_ask (kind_at c j) e)))
+    first_same (other (draws_it c (version_at c k)) k) (draws_again c k) (length c.lines) first (λ j. grind (arith, nat_tests))
 
 -- ---- a version that was known
 
@@ -223,27 +161,14 @@ shown_is log opts k version None none is = (
 shown_is log opts k version (Some by) found is = record { there = found.0; knew = found.1; means = found.2 }
 
 -- what shows a version or draws it lets it be known
-shown_too : (b : Bool) (kind : Kind) (e : Bool) → (b && (shows kind && e)) ≡ true → (b && (shows_or_draws kind && e)) ≡ true
-shown_too b kind e h =
-    let p = and_parts b (shows kind && e) h in
-    let q = and_parts (shows kind) e p.1 in
-    and_from b _ p.0 (and_from (shows_or_draws kind) e (or_left (shows kind) (draws kind) q.0) q.1)
+shown_too : (b s d e : Bool) → (b && (s && e)) ≡ true → (b && ((s || d) && e)) ≡ true
+shown_too b s d e h = grind arith
 
-drawn_too : (b : Bool) (kind : Kind) (e : Bool) → (b && (draws kind && e)) ≡ true → (b && (shows_or_draws kind && e)) ≡ true
-drawn_too b kind e h =
-    let p = and_parts b (draws kind && e) h in
-    let q = and_parts (draws kind) e p.1 in
-    and_from b _ p.0 (and_from (shows_or_draws kind) e (or_right (shows kind) (draws kind) q.0) q.1)
+drawn_too : (b s d e : Bool) → (b && (d && e)) ≡ true → (b && ((s || d) && e)) ≡ true
+drawn_too b s d e h = grind arith
 
-neither : (b : Bool) (kind : Kind) (e : Bool) → (b && (shows kind && e)) ≡ false → (b && (draws kind && e)) ≡ false → (b && (shows_or_draws kind && e)) ≡ false
-neither b kind e no_show no_draw =
-    false_from_ne_true (b && (shows_or_draws kind && e)) (λ h.
-    let p = and_parts b (shows_or_draws kind && e) h in
-    let q = and_parts (shows_or_draws kind) e p.1 in
-    elim (or_cases (shows kind) (draws kind) q.0) [
-      | inl s ↦ both_ways (b && (shows kind && e)) no_show (and_from b _ p.0 (and_from (shows kind) e s q.1))
-      | inr d ↦ both_ways (b && (draws kind && e)) no_draw (and_from b _ p.0 (and_from (draws kind) e d q.1))
-    ])
+neither : (b s d e : Bool) → (b && (s && e)) ≡ false → (b && (d && e)) ≡ false → (b && ((s || d) && e)) ≡ false
+neither b s d e no_show no_draw = grind arith
 
 abbrev call_at : Lines → ℕ → Kind
 call_at log j = kind_of (line_at log.lines j).call
@@ -254,7 +179,7 @@ has_version log version j = version_of (line_at log.lines j).call == version
 pub by_shown : (log : Lines) (opts : AuditOpts) (k version : ℕ) (by : Witness) → Found log opts Shown k version (Some by) → IsKnown log opts shows_or_draws k version (Some by)
 by_shown log opts k version by found = record {
   there = found.0;
-  knew = shown_too (before log opts by.line k) (call_at log by.line) (has_version log version by.line) found.1;
+  knew = shown_too (before log opts by.line k) (shows (call_at log by.line)) (draws (call_at log by.line)) (has_version log version by.line) found.1;
   means = found.2;
 }
 
@@ -268,11 +193,11 @@ by_drawn log opts k version None no_show no_draw is = (
       | inr another ↦ omega arith
     ]
   ],
-  λ j lt. neither (before log opts j k) (call_at log j) (has_version log version j) (no_show j lt) (no_draw j lt),
+  λ j lt. neither (before log opts j k) (shows (call_at log j)) (draws (call_at log j)) (has_version log version j) (no_show j lt) (no_draw j lt),
 )
 by_drawn log opts k version (Some by) no_show found is = record {
   there = found.0;
-  knew = drawn_too (before log opts by.line k) (call_at log by.line) (has_version log version by.line) found.1;
+  knew = drawn_too (before log opts by.line k) (shows (call_at log by.line)) (draws (call_at log by.line)) (has_version log version by.line) found.1;
   means = found.2;
 }
 
