@@ -1,6 +1,7 @@
 -- What clients have heard of, line by line.
 use Rattle.std.proofs.Common.{◌≡◌, ℕ, suc, ◌<◌, ◌==◌, Bool, true, false, cond, ◌&&◌, ◌||◌, List, length, Option, None, Some, refl, ap, sym, subst, ◌∙◌, inl, inr, arith}
 use Rattle.std.proofs.lemmas.Bool.{cases_Bool, and_parts, and_from, both_ways, or_cases, or_left, or_right, cond-true, cond-false, eq-eqb, eqb-true, false_from_ne_true}
+use Rattle.fdb_lines.specs.declared.line.Call.{Call}
 use Rattle.fdb_lines.specs.declared.line.Line.{Line}
 use Rattle.fdb_lines.specs.declared.reason.Means.{Means}
 use Rattle.fdb_lines.specs.declared.reason.Means.TheVariants.{Ended, Own, Learnt}
@@ -40,64 +41,64 @@ of_one a (Some b) e = eq-eqb b a (sym (eqb-true a b e))
 abbrev IsOf : List Line → ℕ → ℕ → Witness → Type 0
 IsOf lines n a by = IsHeardAs lines n a by.line by.means
 
+silent : (same counts : Bool) → (same ≡ true → counts ≡ false) → (same && counts) ≡ false
+silent same counts h = grind arith
+
 abbrev new : Seen → List Line → ℕ → ℕ → Bool
 new seen lines k j =
     (k == j || (is_learn (kind_of (line_at lines k).call) && has_heard lines k (teller_of (line_at lines k).call) j)) && counts_at seen lines j
 
+-- a line that learns lets hear of what its teller has heard of, and another of itself, if it counts
+learnt_new : (learns counts_k counts_j same heard : Bool) → (learns ≡ true → counts_k ≡ false) → (same ≡ true → counts_k ≡ counts_j) → learns ≡ true
+    → (heard && counts_j) ≡ ((same || (learns && heard)) && counts_j)
+learnt_new learns counts_k counts_j same heard silent is does = grind arith
+
+own_new : (learns counts_j same heard : Bool) → learns ≡ false → (same && counts_j) ≡ ((same || (learns && heard)) && counts_j)
+own_new learns counts_j same heard does_not = grind arith
+
+learnt_is : (seen : Seen) (lines : List Line) (k a : ℕ) (o : Option Witness) → is_of a (line_at lines k).client ≡ true → is_learn (kind_of (line_at lines k).call) ≡ true
+    → IsHeard seen lines k (teller_of (line_at lines k).call) o → IsKnownBy (new seen lines k) (IsOf lines (suc k) a) lines (learnt_by k o)
+learnt_is seen lines k a o of does is = by o is
+  where
+    call : Call
+    call = (line_at lines k).call
+
+    same : (j : ℕ) → (has_heard lines k (teller_of call) j && counts_at seen lines j) ≡ new seen lines k j
+    same j =
+        learnt_new (is_learn (kind_of call)) (counts_at seen lines k) (counts_at seen lines j) (k == j) (has_heard lines k (teller_of call) j)
+        (learns_nothing seen (kind_of call)) (λ e. ap (counts_at seen lines) (eqb-true k j e)) does
+
+    by : (o : Option Witness) → IsHeard seen lines k (teller_of call) o → IsKnownBy (new seen lines k) (IsOf lines (suc k) a) lines (learnt_by k o)
+    by None none = λ j lt. sym (same j) ∙ none j lt
+    by (Some w) h = (
+      h.0,
+      sym (same w.line) ∙ h.1,
+      (omega arith, of_one a (line_at lines k).client of, does, (and_parts (has_heard lines k (teller_of call) w.line) _ h.1).0),
+      λ j lt passes. h.3 j lt (same j ∙ passes),
+    )
+
+-- what a line lets its client hear of
 gained_is : (seen : Seen) (lines : List Line) (newest : ℕ → Option Witness) (k a : ℕ) → k < length lines → is_of a (line_at lines k).client ≡ true
     → ((p : ℕ) → IsHeard seen lines k p (newest p)) → IsKnownBy (new seen lines k) (IsOf lines (suc k) a) lines (gained seen newest k (line_at lines k).call)
-gained_is seen lines newest k a lt of are =
-    let call = (line_at lines k).call in
-    let learns = is_learn (kind_of call) in
-    let teller = teller_of call in
-    let own : Option Witness = Some (record { line = k; means = Own }) in
-    let counted = counts seen (kind_of call) in
-    let rest = cond counted own None in
-    let learnt = learnt_by k (newest teller) in
-    let Is : Option Witness → Type 0 = IsKnownBy (new seen lines k) (IsOf lines (suc k) a) lines in
-    elim (cases_Bool learns) [
-      | inl does ↦ subst Is (sym (cond-true learns learnt rest does)) (told does (newest teller) (are teller))
-      | inr does_not ↦ subst Is (sym (cond-false learns learnt rest does_not)) (elim (cases_Bool counted) [
-        | inl is ↦
-            subst Is (sym (cond-true counted own None is))
-            (lt, and_from (k == k || _) counted (or_left (k == k) _ (eq-eqb k k refl)) is, of_one a (line_at lines k).client of, λ j l passes. let e = ap (version_in lines) (only j does_not passes) in omega arith)
-        | inr is_not ↦
-            subst Is (sym (cond-false counted own None is_not))
-            (λ j l. false_from_ne_true (new seen lines k j) (λ passes.
-            both_ways (counts_at seen lines j) (sym (ap (counts_at seen lines) (only j does_not passes)) ∙ is_not) (and_parts (k == j || _) (counts_at seen lines j) passes).1))
-      ])
-    ]
+gained_is seen lines newest k a lt of are = by (is_learn (kind_of call)) (counts seen (kind_of call)) refl refl
   where
-    -- a line that learns nothing is new by itself alone
-    only : (j : ℕ) → is_learn (kind_of (line_at lines k).call) ≡ false → new seen lines k j ≡ true → k ≡ j
-    only j does_not passes =
-        elim (or_cases (k == j) _ (and_parts (k == j || _) (counts_at seen lines j) passes).0) [
-          | inl same ↦ eqb-true k j same
-          | inr other ↦ absurd (both_ways (is_learn (kind_of (line_at lines k).call)) does_not (and_parts (is_learn (kind_of (line_at lines k).call)) _ other).0)
-        ]
+    call : Call
+    call = (line_at lines k).call
 
-    -- and one that learns is no news itself
-    told : is_learn (kind_of (line_at lines k).call) ≡ true → (o : Option Witness) → IsHeard seen lines k (teller_of (line_at lines k).call) o
-        → IsKnownBy (new seen lines k) (IsOf lines (suc k) a) lines (learnt_by k o)
-    told does o is = by o is
-      where
-        its : (j : ℕ) → new seen lines k j ≡ true → (has_heard lines k (teller_of (line_at lines k).call) j && counts_at seen lines j) ≡ true
-        its j passes =
-            let p = and_parts (k == j || (is_learn (kind_of (line_at lines k).call) && has_heard lines k (teller_of (line_at lines k).call) j)) (counts_at seen lines j) passes in
-            elim (or_cases (k == j) _ p.0) [
-              | inl same ↦ absurd (both_ways (counts_at seen lines k) (learns_nothing seen (kind_of (line_at lines k).call) does) (ap (counts_at seen lines) (eqb-true k j same) ∙ p.1))
-              | inr other ↦ and_from _ _ (and_parts (is_learn (kind_of (line_at lines k).call)) _ other).1 p.1
-            ]
+    same : is_learn (kind_of call) ≡ false → (j : ℕ) → ((k == j) && counts_at seen lines j) ≡ new seen lines k j
+    same does_not j = own_new (is_learn (kind_of call)) (counts_at seen lines j) (k == j) (has_heard lines k (teller_of call) j) does_not
 
-        by : (o : Option Witness) → IsHeard seen lines k (teller_of (line_at lines k).call) o → IsKnownBy (new seen lines k) (IsOf lines (suc k) a) lines (learnt_by k o)
-        by None none = λ j l. false_from_ne_true (new seen lines k j) (λ passes. both_ways _ (none j l) (its j passes))
-        by (Some w) h =
-            let p = and_parts (has_heard lines k (teller_of (line_at lines k).call) w.line) (counts_at seen lines w.line) h.1 in (
-              h.0,
-              and_from (k == w.line || _) _ (or_right (k == w.line) _ (and_from (is_learn (kind_of (line_at lines k).call)) _ does p.0)) p.1,
-              (omega arith, of_one a (line_at lines k).client of, does, p.0),
-              λ j l passes. h.3 j l (its j passes),
-            )
+    by : (learns counted : Bool) → is_learn (kind_of call) ≡ learns → counts seen (kind_of call) ≡ counted
+        → IsKnownBy (new seen lines k) (IsOf lines (suc k) a) lines
+        (cond learns (learnt_by k (newest (teller_of call))) (cond counted (Some (record { line = k; means = Own })) None))
+    by true counted does is = learnt_is seen lines k a (newest (teller_of call)) of does (are (teller_of call))
+    by false true does_not is = (
+      lt,
+      sym (same does_not k) ∙ and_from (k == k) _ (eq-eqb k k refl) is,
+      of_one a (line_at lines k).client of,
+      λ j l passes. let e = ap (version_in lines) (eqb-true k j (and_parts (k == j) _ (same does_not j ∙ passes)).0) in omega arith,
+    )
+    by false false does_not is = λ j l. sym (same does_not j) ∙ silent (k == j) (counts_at seen lines j) (λ e. sym (ap (counts_at seen lines) (eqb-true k j e)) ∙ is)
 
 -- what each client has heard of by one line more
 pub heard_more : (seen : Seen) (lines : List Line) (newest : ℕ → Option Witness) (k q : ℕ) → k < length lines → ((p : ℕ) → IsHeard seen lines k p (newest p))
