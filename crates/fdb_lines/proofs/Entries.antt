@@ -3,6 +3,7 @@ use Rattle.std.proofs.Common.{◌≡◌, ◌≢◌, ℕ, zero, suc, ◌+◌, ◌
 use Rattle.std.specs.List.{list_any, All}
 use Rattle.std.specs.List.Sorted.{IsPermutation}
 use Rattle.std.proofs.lemmas.Bool.{cases_eq, cases_lt, both_ways, and_from, and_right, or_left, or_right, eq-eqb, eqb-true, ne_eqb, false_from_ne_true}
+use Rattle.std.proofs.lemmas.Bool.Decides.{nat_tests}
 use Rattle.std.proofs.lemmas.List.{get_or_default}
 use Rattle.std.proofs.lemmas.List.Elements.{All-get_or, All-push}
 use Rattle.std.proofs.lemmas.List.Folds.{Any-from_list_any, list_any-append}
@@ -114,31 +115,19 @@ first_same one another n (Some q) same first =
 abbrev pub other : (ℕ → Bool) → ℕ → ℕ → Bool
 other test k j = not (j == k) && test j
 
-is_other : (test : ℕ → Bool) (k j : ℕ) → j ≢ k → test j ≡ true → other test k j ≡ true
-is_other test k j ne is = and_from (not (j == k)) _ (ap not (ne_eqb j k ne)) is
-
-not_this : (test : ℕ → Bool) (k j : ℕ) → (j ≢ k → test j ≡ false) → other test k j ≡ false
-not_this test k j fails =
-    elim (cases_eq j k) [
-      | inl same ↦ ap (λ b. not b && test j) (eq-eqb j k same)
-      | inr ne ↦ and_right (not (j == k)) (test j) (fails ne)
-    ]
-
 -- those behind the first, where that is the one
 pub other_behind : (test : ℕ → Bool) (k n : ℕ) (o : Option ℕ) → IsFirstFrom test 0 n (Some k) → IsFirstFrom test (k + 1) n o → IsFirstFrom (other test k) 0 n o
-other_behind test k n None first none =
-    λ j ge lt. not_this test k j (λ ne. elim (cases_lt j k) [ inl l ↦ first.3 j (omega arith) l | inr above ↦ none j (omega arith) lt ])
-other_behind test k n (Some q) first next =
-    let above = next.0 in (
-      omega arith,
-      next.1,
-      is_other test k q (λ same. omega arith) next.2,
-      λ i ge lt. not_this test k i (λ ne. elim (cases_lt i k) [ inl l ↦ first.3 i (omega arith) l | inr high ↦ next.3 i (omega arith) lt ]),
-    )
+other_behind test k n None first none = λ j ge lt. let before = first.3 j in let behind = none j in grind (arith, nat_tests)
+other_behind test k n (Some q) first next = (
+  omega arith,
+  next.1,
+  grind (arith, nat_tests, next.0, next.2),
+  λ i ge lt. let before = first.3 i in let behind = next.3 i in grind (arith, nat_tests),
+)
 
 pub other_first : (test : ℕ → Bool) (k n q : ℕ) → q ≢ k → IsFirstFrom test 0 n (Some q) → IsFirstFrom (other test k) 0 n (Some q)
 other_first test k n q ne first =
-    (first.0, first.1, is_other test k q ne first.2, λ i ge lt. not_this test k i (λ apart. first.3 i ge lt))
+    (first.0, first.1, grind (arith, nat_tests, first.2), λ i ge lt. let before = first.3 i ge lt in grind (arith, nat_tests))
 
 pub other_none : (test : ℕ → Bool) (k n : ℕ) → IsFirstFrom test 0 n None → IsFirstFrom (other test k) 0 n None
-other_none test k n none j ge lt = not_this test k j (λ apart. none j ge lt)
+other_none test k n none = λ j ge lt. let fails = none j ge lt in grind (arith, nat_tests)

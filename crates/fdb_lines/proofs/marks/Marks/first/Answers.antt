@@ -29,7 +29,7 @@ returns-else-front-len c = λ sort start lines known are.
     let front = c.front_of-front.result in
     let name_key = key_is c.new.result c.args.version c.args.group c.args.from c.new.ensures.version c.new.ensures.group c.new.ensures.place in
     let parts = subst (λ k. IsMarksFront marks k front) name_key (subst (λ l. IsMarksFront l (mark_key c.new.result) front) c.deref.ensures.value c.front_of-front.ensures.parts) in
-    not_found sort start lines known marks c.args.version c.args.group c.args.from front c.ranges.group.fits c.args.self.now.in_order parts are
+    not_found sort start lines known marks c.args.version c.args.group c.args.from front c.args.self.now.in_order parts are
     (elim c.else-front-len.branch [
       | else-front-len-via-then-front-len+else-is_of w ↦
           let lt : front < length marks = (let less = w.if-front-len.true in let len = c.len.ensures in omega arith) in
