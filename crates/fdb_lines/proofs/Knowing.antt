@@ -1,5 +1,5 @@
 -- What a call knows: the newest of lines that pass a test, or one of two.
-use Rattle.std.proofs.Common.{◌≡◌, ℕ, ◌+◌, ◌-◌, ◌<◌, ◌≤◌, ◌==◌, nat_lt, Bool, true, false, ◌&&◌, ◌||◌, List, [], ◌∷◌, ◌++◌, length, Option, None, Some, refl, ap, sym, subst, ◌∙◌, inl, inr, arith, length-append}
+use Rattle.std.proofs.Common.{◌≡◌, ℕ, ◌+◌, ◌-◌, ◌<◌, ◌≤◌, ◌==◌, nat_lt, Bool, true, false, cond, ◌&&◌, ◌||◌, List, [], ◌∷◌, ◌++◌, length, Option, None, Some, refl, ap, sym, subst, ◌∙◌, inl, inr, arith, length-append}
 use Rattle.std.proofs.lemmas.Bool.Decides.{nat_tests}
 use Rattle.std.proofs.lemmas.Bool.{cases_Bool, cases_eq, cases_lt, both_ways, and_parts, and_from, or_cases, or_left, or_right, cond-true, cond-false, eq-eqb, eqb-true, ne_eqb, le-ltb, ltb-true, ltb-false, false_from_ne_true}
 use Rattle.std.proofs.lemmas.List.{get_or_append_left, get_or_push}
@@ -14,7 +14,7 @@ use Rattle.fdb_lines.specs.Lines.{line_at}
 use Rattle.fdb_lines.specs.Reasons.{IsMeans}
 use Rattle.fdb_lines.specs.private.Ends.{is_earlier}
 use Rattle.fdb_lines.specs.private.Entries.{IsNewest}
-use Rattle.fdb_lines.specs.private.Known.{by_at, counts_at, had_ended, in_group, newer, newest_known, of_all, of_client, of_own, of_version, tells, version_by, version_in, witness, lets_know, AreKnownOf, IsFound, IsKnownBy, KnowsOf}
+use Rattle.fdb_lines.specs.private.Known.{by_at, counts_at, had_ended, in_group, newer, newest_known, of_all, of_own, of_version, tells, version_by, version_in, witness, lets_know, AreKnownOf, IsFound, IsKnownBy, KnowsOf}
 use Rattle.fdb_lines.proofs.Numbers.{greatest_bound, greatest_least}
 use Rattle.fdb_lines.proofs.Tests.{with_false, only_left, swapped, spread, same_tests}
 
@@ -30,28 +30,16 @@ as_well a b Is IsToo lines (Some by) same too is =
 -- the newer of two is that of both
 pub newer_is : (a b : ℕ → Bool) (Is : Witness → Type 0) (lines : List Line) (one other : Option Witness)
     → IsKnownBy a Is lines one → IsKnownBy b Is lines other → IsKnownBy (λ j. a j || b j) Is lines (newer lines one other)
-newer_is a b Is lines None None none no_other = λ j lt. ap (λ x. x || b j) (none j lt) ∙ no_other j lt
+newer_is a b Is lines None None none no_other = λ j lt. let x = none j lt in let y = no_other j lt in grind arith
 newer_is a b Is lines None (Some y) none is =
-    (is.0, or_right (a y.line) _ is.1, is.2, λ j lt passes. is.3 j lt (sym (ap (λ x. x || b j) (none j lt)) ∙ passes))
+    (is.0, grind (arith, is.1), is.2, λ j lt passes. let none_j = none j lt in let most = is.3 j lt in grind arith)
 newer_is a b Is lines (Some x) None is none =
-    (is.0, or_left (a x.line) _ is.1, is.2, λ j lt passes. is.3 j lt (sym (ap (λ y. a j || y) (none j lt) ∙ only_left (a j)) ∙ passes))
-newer_is a b Is lines (Some x) (Some y) is_x is_y =
-    let v = version_in lines x.line in
-    let w = version_in lines y.line in
-    let Newest : Witness → Type 0 = λ z. IsKnownBy (λ j. a j || b j) Is lines (Some z) in
-    let bound = λ (z : Witness) (up : v ≤ version_in lines z.line) (too : w ≤ version_in lines z.line) (j : ℕ) (lt : j < length lines) (passes : (a j || b j) ≡ true).
-    elim (or_cases (a j) (b j) passes) as (λ p. version_in lines j ≤ version_in lines z.line) [
-      | inl p ↦ let most = is_x.3 j lt p in omega arith
-      | inr p ↦ let most = is_y.3 j lt p in omega arith
-    ] in
-    elim (cases_Bool (nat_lt v w)) [
-      | inl less ↦
-          let l = ltb-true v w less in
-          subst Newest (sym (cond-true (nat_lt v w) y x less)) (is_y.0, or_right (a y.line) _ is_y.1, is_y.2, bound y (omega arith) (omega arith))
-      | inr not_less ↦
-          let ge = ltb-false v w not_less in
-          subst Newest (sym (cond-false (nat_lt v w) y x not_less)) (is_x.0, or_left (a x.line) _ is_x.1, is_x.2, bound x (omega arith) (omega arith))
-    ]
+    (is.0, grind (arith, is.1), is.2, λ j lt passes. let none_j = none j lt in let most = is.3 j lt in grind arith)
+newer_is a b Is lines (Some x) (Some y) is too = by (nat_lt (version_in lines x.line) (version_in lines y.line)) refl
+  where
+    by : (less : Bool) → nat_lt (version_in lines x.line) (version_in lines y.line) ≡ less → IsKnownBy (λ j. a j || b j) Is lines (Some (cond less y x))
+    by true less = (too.0, grind (arith, too.1), too.2, λ j lt passes. let m = is.3 j lt in let n = too.3 j lt in grind (arith, nat_tests))
+    by false not_less = (is.0, grind (arith, is.1), is.2, λ j lt passes. let m = is.3 j lt in let n = too.3 j lt in grind (arith, nat_tests))
 
 -- its version is the greatest
 pub version_is : (test : ℕ → Bool) (Is : Witness → Type 0) (lines : List Line) (o : Option Witness) → IsKnownBy test Is lines o
@@ -64,35 +52,19 @@ version_is test Is lines (Some by) is =
     let least = greatest_bound test (version_in lines) (length lines) by.line is.0 is.1 in
     omega arith
 
-told : (before : ℕ → ℕ → Bool) (seen : Seen) (lines : List Line) (k version j : ℕ) → tells before seen lines k version j ≡ true
-    → (lets_know before seen lines k j ≡ true) × (version_in lines j ≡ version)
-told before seen lines k version j does =
-    let p = and_parts (before j k) (counts_at seen lines j && version_in lines j == version) does in
-    let q = and_parts (counts_at seen lines j) (version_in lines j == version) p.1 in
-    (and_from (before j k) _ p.0 q.0, eqb-true (version_in lines j) version q.1)
-
 -- and where that is at most a version, it is the witness of that version
 pub found_is : (before : ℕ → ℕ → Bool) (margin : ℕ) (seen : Seen) (lines : List Line) (k version : ℕ) (o : Option Witness)
     → KnowsOf (lets_know before seen lines) margin lines k o → newest_known before seen lines k ≤ version
     → IsFound before margin seen lines k version (of_version lines version o)
-found_is before margin seen lines k version None none most =
-    λ j lt. false_from_ne_true (tells before seen lines k version j) (λ does. both_ways _ (none j lt) (told before seen lines k version j does).0)
-found_is before margin seen lines k version (Some w) is most =
-    let v = version_in lines w.line in
-    let p = and_parts (before w.line k) (counts_at seen lines w.line) is.1 in
-    let up = greatest_bound (lets_know before seen lines k) (version_in lines) (length lines) w.line is.0 is.1 in
-    elim (cases_eq v version) [
-      | inl same ↦
-          subst (IsFound before margin seen lines k version) (sym (cond-true (v == version) (Some w) None (eq-eqb v version same)))
-          (is.0, and_from (before w.line k) _ p.0 (and_from (counts_at seen lines w.line) _ p.1 (eq-eqb v version same)), is.2)
-      | inr other ↦
-          subst (IsFound before margin seen lines k version) (sym (cond-false (v == version) (Some w) None (ne_eqb v version other)))
-          (λ j lt. false_from_ne_true (tells before seen lines k version j) (λ does.
-          let t = told before seen lines k version j does in
-          let most_of = is.3 j lt t.0 in
-          let its = t.1 in
-          other (omega arith)))
-    ]
+found_is before margin seen lines k version None none most = λ j lt. let fails = none j lt in grind arith
+found_is before margin seen lines k version (Some w) is most = by (version_in lines w.line == version) refl
+  where
+    by : (same : Bool) → (version_in lines w.line == version) ≡ same → IsFound before margin seen lines k version (cond same (Some w) None)
+    by true same = (is.0, grind (arith, is.1), is.2)
+    by false other = λ j lt.
+        let newest = is.3 j lt in
+        let up = greatest_bound (lets_know before seen lines k) (version_in lines) (length lines) w.line is.0 is.1 in
+        grind (arith, nat_tests)
 
 -- one line more, and what it knows
 pub known_more : (test : ℕ → ℕ → Bool) (margin : ℕ) (lines : List Line) (n : ℕ) (known : List (Option Witness)) (by : Option Witness)
@@ -123,58 +95,36 @@ at_zero end time above = grind (arith, nat_tests)
 margins : (end margin time above : ℕ) → nat_lt (end + margin) time ≡ is_earlier end above (time - margin) 0
 margins end margin time above = grind (arith, nat_tests)
 
+pub no_client : (own client : Option ℕ) → client ≡ None → one_client own client ≡ false
+no_client None client none = refl
+no_client (Some b) client none = ap (one_client (Some b)) none
+
 pub ended_means : (margin : ℕ) (seen : Seen) (lines : List Line) (k j : ℕ) → of_all margin seen lines k j ≡ true → IsMeans margin lines j k Ended
 ended_means margin seen lines k j is = by (ended (line_at lines j)) refl (and_parts (counts_at seen lines j) _ is).1
   where
     by : (o : Option ℕ) → ended (line_at lines j) ≡ o → had_ended o j (began (line_at lines k) - margin) 0 ≡ true → IsMeans margin lines j k Ended
     by None e had = absurd (both_ways false refl had)
-    by (Some end) e had = (end, e, ltb-true (end + margin) (began (line_at lines k)) (margins end margin (began (line_at lines k)) j ∙ had))
-
-grouped : (o : Option ℕ) (a : ℕ) → in_group true o a ≡ one_client o (Some a)
-grouped None a = refl
-grouped (Some b) a = refl
+    by (Some end) e had = (end, e, grind (arith, nat_tests))
 
 pub own_means : (margin : ℕ) (seen : Seen) (lines : List Line) (k j : ℕ) → of_own seen lines k j ≡ true → IsMeans margin lines j k Own
-own_means margin seen lines k j is = by (line_at lines k).client refl is
-  where
-    by : (o : Option ℕ) → (line_at lines k).client ≡ o → of_client seen lines o k j ≡ true → IsMeans margin lines j k Own
-    by None e is = absurd (both_ways false refl is)
-    by (Some a) e is =
-        ap (one_client (line_at lines j).client) e
-        ∙ (sym (grouped (line_at lines j).client a) ∙ (and_parts (in_group true (line_at lines j).client a) _ (and_parts (counts_at seen lines j) _ is).1).0)
+own_means margin seen lines k j is = grind arith
 
-pub no_client : (o : Option ℕ) → one_client o None ≡ false
-no_client None = refl
-no_client (Some b) = refl
-
--- whether a line's client is that of a group, where it is known
-abbrev in_own : Option ℕ → Option ℕ → Bool
-in_own None own = false
-in_own (Some a) own = in_group true own a
-
-abbrev ended_by : ℕ → Bool → Option ℕ → Option ℕ → Option ℕ → ℕ → Bool
-ended_by margin above own None client time = false
-ended_by margin above own (Some end) client time = nat_lt (end + margin) time || (one_client own client && (nat_lt end time || (above && end == time)))
+pub none_own : (seen : Seen) (lines : List Line) (k j : ℕ) → (line_at lines k).client ≡ None → of_own seen lines k j ≡ false
+none_own seen lines k j none = let nobody = no_client (line_at lines j).client (line_at lines k).client none in grind arith
 
 -- what comes before by time stands in one of the tables
-by_two : (margin j k time : ℕ) (counts : Bool) (own client end : Option ℕ)
-    → (ended_by margin (nat_lt j k) own end client time && counts)
-    ≡ ((counts && had_ended end j (time - margin) 0) || (counts && (in_own client own && had_ended end j time k)))
-by_two margin j k time counts own client None = grind arith
-by_two margin j k time counts None client (Some end) = grind (arith, nat_tests)
-by_two margin j k time counts (Some a) None (Some end) = grind (arith, nat_tests)
-by_two margin j k time counts (Some a) (Some b) (Some end) = grind (arith, nat_tests)
+by_two : (margin j k time end : ℕ) (counts same : Bool)
+    → ((nat_lt (end + margin) time || (same && (nat_lt end time || (nat_lt j k && end == time)))) && counts)
+    ≡ ((counts && is_earlier end j (time - margin) 0) || (counts && (same && is_earlier end j time k)))
+by_two margin j k time end counts same = grind (arith, nat_tests)
 
-of_client_is : (seen : Seen) (lines : List Line) (client : Option ℕ) (k j : ℕ)
-    → of_client seen lines client k j ≡ (counts_at seen lines j && (in_own client (line_at lines j).client && had_ended (ended (line_at lines j)) j (began (line_at lines k)) k))
-of_client_is seen lines None k j = grind arith
-of_client_is seen lines (Some a) k j = refl
-
-ended_by_is : (margin : ℕ) (lines : List Line) (j k : ℕ) (end : Option ℕ)
-    → ended_before margin (nat_lt j k) (line_at lines j) end (line_at lines k)
-    ≡ ended_by margin (nat_lt j k) (line_at lines j).client end (line_at lines k).client (began (line_at lines k))
-ended_by_is margin lines j k None = refl
-ended_by_is margin lines j k (Some end) = refl
+before_is : (margin : ℕ) (seen : Seen) (lines : List Line) (j k : ℕ) (end : Option ℕ)
+    → (ended_before margin (nat_lt j k) (line_at lines j) end (line_at lines k) && counts_at seen lines j)
+    ≡ ((counts_at seen lines j && had_ended end j (began (line_at lines k) - margin) 0)
+    || (counts_at seen lines j && (one_client (line_at lines j).client (line_at lines k).client && had_ended end j (began (line_at lines k)) k)))
+before_is margin seen lines j k None = grind arith
+before_is margin seen lines j k (Some end) =
+    by_two margin j k (began (line_at lines k)) end (counts_at seen lines j) (one_client (line_at lines j).client (line_at lines k).client)
 
 pub both_are : (margin : ℕ) (seen : Seen) (lines : List Line) (k : ℕ) (one other : Option Witness)
     → KnowsOf (of_all margin seen lines) margin lines k one → KnowsOf (of_own seen lines) margin lines k other
@@ -182,11 +132,5 @@ pub both_are : (margin : ℕ) (seen : Seen) (lines : List Line) (k : ℕ) (one o
 both_are margin seen lines k one other is too =
     let Is : Witness → Type 0 = λ (by : Witness). IsMeans margin lines by.line k by.means in
     as_well (λ j. of_all margin seen lines k j || of_own seen lines k j) (lets_know (by_time margin lines) seen lines k) Is Is lines (newer lines one other)
-    (λ j lt.
-    let own = (line_at lines j).client in
-    let client = (line_at lines k).client in
-    let time = began (line_at lines k) in
-    ap (λ b. of_all margin seen lines k j || b) (of_client_is seen lines client k j)
-    ∙ (sym (by_two margin j k time (counts_at seen lines j) own client (ended (line_at lines j)))
-    ∙ ap (λ b. b && counts_at seen lines j) (sym (ended_by_is margin lines j k (ended (line_at lines j)))))) (λ by h. h)
+    (λ j lt. sym (before_is margin seen lines j k (ended (line_at lines j)))) (λ by h. h)
     (newer_is (of_all margin seen lines k) (of_own seen lines k) Is lines one other is too)

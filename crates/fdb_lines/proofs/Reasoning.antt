@@ -1,5 +1,5 @@
 -- What the tables of a log say, and why a fault stands.
-use Rattle.std.proofs.Common.{◌≡◌, ◌⊎◌, ℕ, zero, suc, max, ◌<◌, ◌≤◌, ◌==◌, nat_lt, nat_le, not, Bool, true, false, cond, ◌&&◌, ◌||◌, List, length, Option, None, Some, is_none, is_some, unwrap_or, refl, ap, sym, ◌∙◌, inl, inr, arith}
+use Rattle.std.proofs.Common.{◌≡◌, ◌⊎◌, ℕ, zero, suc, max, ◌-◌, ◌<◌, ◌≤◌, ◌==◌, nat_lt, nat_le, not, Bool, true, false, cond, ◌&&◌, ◌||◌, List, length, Option, None, Some, is_none, is_some, unwrap_or, refl, ap, sym, ◌∙◌, inl, inr, arith}
 use Rattle.std.proofs.lemmas.Bool.Decides.{nat_tests}
 use Rattle.std.proofs.lemmas.Bool.{cases_Bool, cases_eq, cases_lt, both_ways, and_parts, and_from, or_cases, or_left, or_right, not-true, cond-true, cond-false, eq-eqb, ne_eqb, lt-ltb, ltb-true, leb-true, false_from_ne_true}
 use Rattle.fdb_lines.specs.declared.fault.Fault.TheVariants.{Order, Wrong, NotAbove, Twice, Stray}
@@ -13,14 +13,14 @@ use Rattle.fdb_lines.specs.Audit.{case_of, start_of}
 use Rattle.fdb_lines.specs.Before.{comes_before}
 use Rattle.fdb_lines.specs.Faults.{greatest_of, is_drawn, is_own, is_raised, is_twice, knows, last, some_below, stands}
 use Rattle.fdb_lines.specs.Lines.{Case, Kind, Read, Commit, Ask, Report, Learn, Lines, client_at, draws, is_ask, is_commit, is_read, is_report, kind_at, kind_of, line_at, reports, same_client, shows, version_at, version_of}
-use Rattle.fdb_lines.specs.Reasons.{IsFirst, IsKnown, IsReason, draws_again, draws_it, reports_it, shows_or_draws}
+use Rattle.fdb_lines.specs.Reasons.{IsFirst, IsKnown, knew_by, IsReason, draws_again, draws_it, reports_it, shows_or_draws}
 use Rattle.fdb_lines.specs.private.Entries.{IsFirstFrom}
 use Rattle.fdb_lines.specs.private.Known.{by_at, counts_at, newest_known, of_version, tells, version_by, version_in}
 use Rattle.fdb_lines.specs.private.Marks.{is_marked_at, knows_at, name}
 use Rattle.fdb_lines.specs.private.Tables.{drawn_by, AreKnownIn, IsFoundIn}
 use Rattle.fdb_lines.proofs.Entries.{first_is, first_same, other, some_same}
 use Rattle.fdb_lines.proofs.Knowing.{found_is, version_is}
-use Rattle.fdb_lines.proofs.Numbers.{some_at}
+use Rattle.fdb_lines.proofs.Numbers.{greatest_bound, greatest_least, some_at}
 use Rattle.fdb_lines.proofs.Tests.{with_false}
 
 -- ---- the tables
@@ -114,152 +114,85 @@ beside_an_ask c k first not_commit =
 
 -- ---- a version that was known
 
--- a greatest of some is 0, or that of one
-attained : (test : ℕ → Bool) (f : ℕ → ℕ) (n : ℕ) → (greatest_of test f n ≡ 0) ⊎ ((i : ℕ) × (i < n) × (test i ≡ true) × (f i ≡ greatest_of test f n))
-attained test f zero = inl refl
-attained test f (suc n) =
-    let rest = greatest_of test f n in
-    let here = cond (test n) (f n) 0 in
-    elim (cases_lt rest here) [
-      | inl less ↦ elim (cases_Bool (test n)) [
-        | inl p ↦ let e = cond-true (test n) (f n) 0 p in inr (n, omega arith, p, omega arith)
-        | inr p ↦ let e = cond-false (test n) (f n) 0 p in absurd (omega arith)
-      ]
-      | inr ge ↦ elim (attained test f n) [
-        | inl none ↦ inl (omega arith)
-        | inr some ↦ let value = some.3 in inr (some.0, omega (arith, some.1), some.2, omega arith)
-      ]
-    ]
-
 abbrev before : Lines → AuditOpts → ℕ → ℕ → Bool
 before log opts = comes_before log.timed opts.margin log.lines
 
-abbrev Found : Lines → AuditOpts → Seen → ℕ → ℕ → Option Witness → Type 0
-Found = IsFoundIn
+-- a greatest that none has is 0
+unheld : (test : ℕ → Bool) (f : ℕ → ℕ) (n version : ℕ) → ((i : ℕ) → i < n → (test i && f i == version) ≡ false) → greatest_of test f n ≡ version → version ≡ 0
+unheld test f n version none is =
+    let most = greatest_least test f n (version - 1) (λ i l passes. let up = greatest_bound test f n i l passes in let other = none i l in grind (arith, nat_tests)) in
+    omega arith
 
--- what is known and that no line lets be known is 0
-untold : (log : Lines) (opts : AuditOpts) (seen : Seen) (k version : ℕ) → Found log opts seen k version None → newest log opts seen k ≡ version → version ≡ 0
-untold log opts seen k version none is =
-    elim (attained (λ j. before log opts j k && counts_at seen log.lines j) (version_in log.lines) (length log.lines)) [
-      | inl nothing ↦ sym is ∙ nothing
-      | inr some ↦
-          let j = some.0 in
-          let p = and_parts (before log opts j k) (counts_at seen log.lines j) some.2 in
-          absurd (both_ways (tells (before log opts) seen log.lines k version j) (none j some.1)
-          (and_from (before log opts j k) _ p.0 (and_from (counts_at seen log.lines j) _ p.1 (eq-eqb (version_in log.lines j) version (some.3 ∙ is)))))
-    ]
+grouped : (b d e : Bool) → (b && (d && e)) ≡ false → ((b && d) && e) ≡ false
+grouped b d e h = grind arith
 
-pub shown_is : (log : Lines) (opts : AuditOpts) (k version : ℕ) (by : Option Witness) → Found log opts Shown k version by → version ≡ knows (case_of log opts) k
+untold : (log : Lines) (opts : AuditOpts) (seen : Seen) (k version : ℕ) → IsFoundIn log opts seen k version None → newest log opts seen k ≡ version → version ≡ 0
+untold log opts seen k version none =
+    unheld (λ j. before log opts j k && counts_at seen log.lines j) (version_in log.lines) (length log.lines) version
+    (λ j lt. grouped (before log opts j k) (counts_at seen log.lines j) (version_in log.lines j == version) (none j lt))
+
+pub shown_is : (log : Lines) (opts : AuditOpts) (k version : ℕ) (by : Option Witness) → IsFoundIn log opts Shown k version by → version ≡ knows (case_of log opts) k
     → IsKnown log opts shows k version by
-shown_is log opts k version None none is = (
-  elim (cases_eq (newest log opts Shown k) version) [
-    | inl same ↦ let zero = untold log opts Shown k version none same in omega arith
-    | inr other ↦ omega arith
-  ],
-  none,
-)
+shown_is log opts k version None none is = ((let zero = untold log opts Shown k version none in grind arith), none)
 shown_is log opts k version (Some by) found is = record { there = found.0; knew = found.1; means = found.2 }
 
 -- what shows a version or draws it lets it be known
-shown_too : (b s d e : Bool) → (b && (s && e)) ≡ true → (b && ((s || d) && e)) ≡ true
-shown_too b s d e h = grind arith
+either : (b s d e : Bool) → ((b && (s && e)) || (b && (d && e))) ≡ (b && ((s || d) && e))
+either b s d e = grind arith
 
-drawn_too : (b s d e : Bool) → (b && (d && e)) ≡ true → (b && ((s || d) && e)) ≡ true
-drawn_too b s d e h = grind arith
+either_at : (log : Lines) (opts : AuditOpts) (k version j : ℕ) → (tells (before log opts) Shown log.lines k version j || tells (before log opts) Drawn log.lines k version j)
+    ≡ knew_by log opts shows_or_draws k version j
+either_at log opts k version j = either (before log opts j k) (counts_at Shown log.lines j) (counts_at Drawn log.lines j) (version_in log.lines j == version)
 
-neither : (b s d e : Bool) → (b && (s && e)) ≡ false → (b && (d && e)) ≡ false → (b && ((s || d) && e)) ≡ false
-neither b s d e no_show no_draw = grind arith
+pub by_shown : (log : Lines) (opts : AuditOpts) (k version : ℕ) (by : Witness) → IsFoundIn log opts Shown k version (Some by) → IsKnown log opts shows_or_draws k version (Some by)
+by_shown log opts k version by found =
+    record { there = found.0; knew = sym (either_at log opts k version by.line) ∙ or_left _ _ found.1; means = found.2 }
 
-abbrev call_at : Lines → ℕ → Kind
-call_at log j = kind_of (line_at log.lines j).call
-
-abbrev has_version : Lines → ℕ → ℕ → Bool
-has_version log version j = version_of (line_at log.lines j).call == version
-
-pub by_shown : (log : Lines) (opts : AuditOpts) (k version : ℕ) (by : Witness) → Found log opts Shown k version (Some by) → IsKnown log opts shows_or_draws k version (Some by)
-by_shown log opts k version by found = record {
-  there = found.0;
-  knew = shown_too (before log opts by.line k) (shows (call_at log by.line)) (draws (call_at log by.line)) (has_version log version by.line) found.1;
-  means = found.2;
-}
-
-pub by_drawn : (log : Lines) (opts : AuditOpts) (k version : ℕ) (by : Option Witness) → Found log opts Shown k version None → Found log opts Drawn k version by
+pub by_drawn : (log : Lines) (opts : AuditOpts) (k version : ℕ) (by : Option Witness) → IsFoundIn log opts Shown k version None → IsFoundIn log opts Drawn k version by
     → version ≡ max (knows (case_of log opts) k) (last (case_of log opts) k) → IsKnown log opts shows_or_draws k version by
 by_drawn log opts k version None no_show no_draw is = (
-  elim (cases_eq (newest log opts Shown k) version) [
-    | inl same ↦ let zero = untold log opts Shown k version no_show same in omega arith
-    | inr other ↦ elim (cases_eq (newest log opts Drawn k) version) [
-      | inl same ↦ let zero = untold log opts Drawn k version no_draw same in omega arith
-      | inr another ↦ omega arith
-    ]
-  ],
-  λ j lt. neither (before log opts j k) (shows (call_at log j)) (draws (call_at log j)) (has_version log version j) (no_show j lt) (no_draw j lt),
+  (let shown = untold log opts Shown k version no_show in let drawn = untold log opts Drawn k version no_draw in grind arith),
+  λ j lt. sym (either_at log opts k version j) ∙ (let a = no_show j lt in let b = no_draw j lt in grind arith),
 )
-by_drawn log opts k version (Some by) no_show found is = record {
-  there = found.0;
-  knew = drawn_too (before log opts by.line k) (shows (call_at log by.line)) (draws (call_at log by.line)) (has_version log version by.line) found.1;
-  means = found.2;
-}
+by_drawn log opts k version (Some by) no_show found is =
+    record { there = found.0; knew = sym (either_at log opts k version by.line) ∙ or_right _ _ found.1; means = found.2 }
 
 -- ---- the reasons
 
 pub order_is : (log : Lines) (opts : AuditOpts) (k version : ℕ) (by : Option Witness) → stands (case_of log opts) Order k ≡ true → version ≡ knows (case_of log opts) k
-    → Found log opts Shown k version by → IsReason log opts k Order (Known version by)
-order_is log opts k version by stand is found =
-    let c = case_of log opts in
-    let below = ltb-true (version_at c k) (knows c k) (and_parts (is_read (kind_at c k)) _ stand).1 in
-    (omega arith, is, shown_is log opts k version by found is)
-
-none_below : (test : ℕ → Bool) (n : ℕ) → IsFirstFrom test 0 n None → some_below test n ≡ false
-none_below test n none = first_is test n None none
+    → IsFoundIn log opts Shown k version by → IsReason log opts k Order (Known version by)
+order_is log opts k version by stand is found = (grind (arith, nat_tests), is, shown_is log opts k version by found is)
 
 is_first : (test : ℕ → Bool) (n j : ℕ) → IsFirstFrom test 0 n (Some j) → IsFirst test n j
 is_first test n j first = (first.1, first.2, λ i lt. first.3 i (omega arith) lt)
 
 pub wrong_none : (log : Lines) (opts : AuditOpts) (k : ℕ) → IsFirstFrom (reports_it (case_of log opts) (version_at (case_of log opts) k)) 0 (length log.lines) None
     → IsReason log opts k Wrong Unreported
-wrong_none log opts k none = none_below (reports_it (case_of log opts) (version_at (case_of log opts) k)) (length log.lines) none
+wrong_none log opts k none = first_is (reports_it (case_of log opts) (version_at (case_of log opts) k)) (length log.lines) None none
 
 pub wrong_is : (log : Lines) (opts : AuditOpts) (k j version : ℕ) (by : Option Witness) → stands (case_of log opts) Wrong k ≡ true
     → IsFirstFrom (reports_it (case_of log opts) (version_at (case_of log opts) k)) 0 (length log.lines) (Some j) → version ≡ knows (case_of log opts) j
-    → Found log opts Shown j version by → IsReason log opts k Wrong (Reported j version by)
+    → IsFoundIn log opts Shown j version by → IsReason log opts k Wrong (Reported j version by)
 wrong_is log opts k j version by stand first is found =
     let c = case_of log opts in
     let v = version_at c k in
-    let a = (and_parts (is_read (kind_at c k)) _ stand).1 in
-    let b = (and_parts (not (v == c.start)) _ a).1 in
-    let not_raised = not-true (is_raised c v) (and_parts (not (is_raised c v)) _ b).0 in
-    let reported = and_parts (reports (kind_at c j)) (version_at c j == v) first.2 in
-    let known : v ≤ knows c j = elim (cases_lt (knows c j) v) [
-      | inl less ↦
-          absurd (both_ways (is_raised c v) not_raised
-          (some_at (λ i. reports (kind_at c i) && (version_at c i == v && nat_lt (knows c i) v)) (length c.lines) j first.1
-          (and_from (reports (kind_at c j)) _ reported.0 (and_from (version_at c j == v) _ reported.1 (lt-ltb (knows c j) v less)))))
-      | inr ge ↦ ge
-    ] in
-    (is_first (reports_it c v) (length log.lines) j first, omega arith, is, shown_is log opts j version by found is)
+    let raised = some_at (λ i. reports (kind_at c i) && (version_at c i == v && nat_lt (knows c i) v)) (length c.lines) j first.1 in
+    (is_first (reports_it c v) (length log.lines) j first, grind (arith, nat_tests, first.2), is, shown_is log opts j version by found is)
 
 pub not_above_is : (log : Lines) (opts : AuditOpts) (k version : ℕ) (by : Option Witness) → stands (case_of log opts) NotAbove k ≡ true
     → version ≡ max (knows (case_of log opts) k) (last (case_of log opts) k) → IsKnown log opts shows_or_draws k version by
     → IsReason log opts k NotAbove (Known version by)
-not_above_is log opts k version by stand is known =
-    let c = case_of log opts in
-    let most = leb-true (version_at c k) (max (knows c k) (last c k)) (and_parts (draws (kind_at c k)) _ stand).1 in
-    (omega arith, is, known)
+not_above_is log opts k version by stand is known = (grind (arith, nat_tests), is, known)
 
 pub twice_is : (log : Lines) (opts : AuditOpts) (k : ℕ) (first : Option ℕ) → stands (case_of log opts) Twice k ≡ true
     → IsFirstFrom (draws_again (case_of log opts) k) 0 (length log.lines) first → IsReason log opts k Twice (drawn_by first)
-twice_is log opts k None stand none =
-    let c = case_of log opts in
-    both_ways (is_twice c k) (none_below (draws_again c k) (length log.lines) none) (and_parts (draws (kind_at c k)) _ stand).1
+twice_is log opts k None stand none = let fails = first_is (draws_again (case_of log opts) k) (length log.lines) None none in grind arith
 twice_is log opts k (Some j) stand first = is_first (draws_again (case_of log opts) k) (length log.lines) j first
 
 pub stray_is : (log : Lines) (opts : AuditOpts) (k : ℕ) (first : Option ℕ) → stands (case_of log opts) Stray k ≡ true
     → IsFirstFrom (draws_it (case_of log opts) (version_at (case_of log opts) k)) 0 (length log.lines) first → IsReason log opts k Stray (drawn_by first)
-stray_is log opts k None stand none = none_below (draws_it (case_of log opts) (version_at (case_of log opts) k)) (length log.lines) none
+stray_is log opts k None stand none = first_is (draws_it (case_of log opts) (version_at (case_of log opts) k)) (length log.lines) None none
 stray_is log opts k (Some j) stand first =
     let c = case_of log opts in
-    let v = version_at c k in
-    let drawn : is_drawn c v ≡ true = some_at (draws_it c v) (length log.lines) j first.1 first.2 in
-    let others = cond-true (is_drawn c v) (not (is_own c k)) (c.complete || nat_le v c.start) drawn in
-    (is_first (draws_it c v) (length log.lines) j first, not-true (is_own c k) (sym others ∙ (and_parts (is_report (kind_at c k)) _ stand).1))
+    let drawn : is_drawn c (version_at c k) ≡ true = first_is (draws_it c (version_at c k)) (length log.lines) (Some j) first in
+    (is_first (draws_it c (version_at c k)) (length log.lines) j first, grind (arith, nat_tests))

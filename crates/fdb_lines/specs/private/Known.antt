@@ -6,7 +6,7 @@ use Rattle.fdb_lines.specs.declared.reason.Means.{Means}
 use Rattle.fdb_lines.specs.declared.reason.Witness.{Witness}
 use Rattle.fdb_lines.specs.declared.seen.Seen.{Seen}
 use Rattle.fdb_lines.specs.Lines.{line_at, kind_of, version_of}
-use Rattle.fdb_lines.specs.Before.{began, ended}
+use Rattle.fdb_lines.specs.Before.{began, ended, one_client}
 use Rattle.fdb_lines.specs.Faults.{greatest_of}
 use Rattle.fdb_lines.specs.Reasons.{IsMeans}
 use Rattle.fdb_lines.specs.private.Ends.{Moment, comes_by, is_earlier}
@@ -83,8 +83,7 @@ of_version lines version (Some by) = cond (version_in lines by.line == version) 
 -- All lines stand in one group, or those of each client in its own.
 abbrev pub in_group : Bool → Option ℕ → ℕ → Bool
 in_group false client group = 0 == group
-in_group true None group = false
-in_group true (Some a) group = a == group
+in_group true client group = one_client client (Some group)
 
 abbrev pub had_ended : Option ℕ → ℕ → ℕ → ℕ → Bool
 had_ended None above time place = false
@@ -112,13 +111,10 @@ moment group time place = record { group = group; time = time; place = place }
 abbrev pub of_all : ℕ → Seen → List Line → ℕ → ℕ → Bool
 of_all margin seen lines k j = stands_in false seen (line_at lines j) j (moment 0 (began (line_at lines k) - margin) 0)
 
--- whether a line of its client's, where that is known, had ended before it began
-abbrev pub of_client : Seen → List Line → Option ℕ → ℕ → ℕ → Bool
-of_client seen lines None k j = false
-of_client seen lines (Some a) k j = stands_in true seen (line_at lines j) j (moment a (began (line_at lines k)) k)
-
+-- whether a line of its client's had ended before it began
 abbrev pub of_own : Seen → List Line → ℕ → ℕ → Bool
-of_own seen lines k = of_client seen lines (line_at lines k).client k
+of_own seen lines k j =
+    counts_at seen lines j && (one_client (line_at lines j).client (line_at lines k).client && had_ended (ended (line_at lines j)) j (began (line_at lines k)) k)
 
 -- the line at a place, as what was known so
 abbrev pub witness : Option ℕ → Means → Option Witness
