@@ -9,7 +9,7 @@ use Rattle.std.proofs.lemmas.List.Elements.{All-get_or, All-push}
 use Rattle.std.proofs.lemmas.List.Folds.{Any-from_list_any, list_any-append}
 use Rattle.std.proofs.lemmas.List.Sorted.{All-permutation, list_any-IsPermutation}
 use Rattle.fdb_lines.specs.Faults.{some_below}
-use Rattle.fdb_lines.specs.private.Entries.{AreEntries, IsEntry, IsFirstFrom, IsNewest}
+use Rattle.fdb_lines.specs.private.Entries.{other, AreEntries, IsEntry, IsFirstFrom, IsNewest}
 use Rattle.fdb_lines.proofs.Numbers.{some_at, some_find}
 
 abbrev Is : {X Q : Type 0} → (X → ℕ) → (X → ℕ) → (Q → X → Bool) → (ℕ → ℕ) → (Q → ℕ → Bool) → ℕ → X → Type 0
@@ -111,9 +111,6 @@ first_same one another n (Some q) same first =
     (first.0, first.1, sym (same q) ∙ first.2, λ i ge lt. sym (same i) ∙ first.3 i ge lt)
 
 -- the first but one
-
-abbrev pub other : (ℕ → Bool) → ℕ → ℕ → Bool
-other test k j = not (j == k) && test j
 
 -- those behind the first, where that is the one
 pub other_behind : (test : ℕ → Bool) (k n : ℕ) (o : Option ℕ) → IsFirstFrom test 0 n (Some k) → IsFirstFrom test (k + 1) n o → IsFirstFrom (other test k) 0 n o

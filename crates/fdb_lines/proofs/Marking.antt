@@ -52,9 +52,9 @@ found sort start lines known marks version group from front sorted parts are lt 
       is.0,
       sym (is.2 (name version group)) ∙ named,
       λ j ge less. false_from_ne_true (is_marked_at sort start lines known (name version group) j) (λ passes.
-      let inside = is.0 in
-      let no_later = (at_front sort start lines known marks version group from front j sorted parts are ge (omega arith) passes).2 in
-      omega arith),
+          let inside = is.0 in
+          let no_later = (at_front sort start lines known marks version group from front j sorted parts are ge (omega arith) passes).2 in
+          omega arith),
     )
 
 pub not_found : (sort : Sort) (start : ℕ) (lines : List Line) (known : List (Option Witness)) (marks : List Mark) (version group from front : ℕ)

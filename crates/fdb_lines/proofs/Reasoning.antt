@@ -3,6 +3,7 @@ use Rattle.std.proofs.Common.{◌≡◌, ◌⊎◌, ℕ, zero, suc, max, ◌-◌
 use Rattle.std.proofs.lemmas.Bool.Decides.{nat_tests}
 use Rattle.std.proofs.lemmas.Bool.{cases_Bool, cases_eq, cases_lt, both_ways, and_parts, and_from, or_cases, or_left, or_right, not-true, cond-true, cond-false, eq-eqb, ne_eqb, lt-ltb, ltb-true, leb-true, false_from_ne_true}
 use Rattle.fdb_lines.specs.declared.fault.Fault.TheVariants.{Order, Wrong, NotAbove, Twice, Stray}
+use Rattle.fdb_lines.specs.declared.line.Line.{Line}
 use Rattle.fdb_lines.specs.declared.opts.AuditOpts.{AuditOpts}
 use Rattle.fdb_lines.specs.declared.reason.Reason.TheVariants.{Known, Reported, Unreported}
 use Rattle.fdb_lines.specs.declared.reason.Witness.{Witness}
@@ -14,16 +15,20 @@ use Rattle.fdb_lines.specs.Before.{comes_before}
 use Rattle.fdb_lines.specs.Faults.{greatest_of, is_drawn, is_own, is_raised, is_twice, knows, last, some_below, stands}
 use Rattle.fdb_lines.specs.Lines.{Case, Kind, Read, Commit, Ask, Report, Learn, Lines, client_at, draws, is_ask, is_commit, is_read, is_report, kind_at, kind_of, line_at, reports, same_client, shows, version_at, version_of}
 use Rattle.fdb_lines.specs.Reasons.{IsFirst, IsKnown, knew_by, IsReason, draws_again, draws_it, reports_it, shows_or_draws}
-use Rattle.fdb_lines.specs.private.Entries.{IsFirstFrom}
+use Rattle.fdb_lines.specs.private.Entries.{other, IsFirstFrom}
 use Rattle.fdb_lines.specs.private.Known.{by_at, counts_at, newest_known, of_version, tells, version_by, version_in}
 use Rattle.fdb_lines.specs.private.Marks.{is_marked_at, knows_at, name}
 use Rattle.fdb_lines.specs.private.Tables.{drawn_by, AreKnownIn, IsFoundIn}
-use Rattle.fdb_lines.proofs.Entries.{first_is, first_same, other, some_same}
+use Rattle.fdb_lines.proofs.Entries.{first_is, first_same, some_same}
 use Rattle.fdb_lines.proofs.Knowing.{found_is, version_is}
 use Rattle.fdb_lines.proofs.Numbers.{greatest_bound, greatest_least, some_at}
 use Rattle.fdb_lines.proofs.Tests.{with_false}
 
 -- ---- the tables
+
+-- the version of a line that is read
+pub read : (lines now : List Line) (k version : ℕ) → now ≡ lines → version ≡ version_in now k → version ≡ version_in lines k
+read lines now k version same is = is ∙ ap (λ l. version_in l k) same
 
 abbrev pub newest : Lines → AuditOpts → Seen → ℕ → ℕ
 newest log opts seen k = newest_known (comes_before log.timed opts.margin log.lines) seen log.lines k

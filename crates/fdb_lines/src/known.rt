@@ -135,7 +135,8 @@ pub(crate) fn newer(lines: &[Line], one: Option<Witness>, other: Option<Witness>
 {
     match (one, other) {
         (Some(one), Some(other)) => {
-            let is_newer = version_in(lines, one.line) < version_in(lines, other.line);
+            let is_newer = version_in(lines, one.line as usize)
+                < version_in(lines, other.line as usize);
             Some(if is_newer { other } else { one })
         }
         (Some(one), None) => Some(one),
@@ -144,10 +145,10 @@ pub(crate) fn newer(lines: &[Line], one: Option<Witness>, other: Option<Witness>
 }
 
 /// The version of the line at a place; 0 where there is none.
-pub(crate) fn version_in(lines: &[Line], place: u32) -> u64
+pub(crate) fn version_in(lines: &[Line], place: usize) -> u64
     ensures { result ≡ version_in lines.now place }
 {
-    match lines.get(place as usize) {
+    match lines.get(place) {
         Some(line) => line.call.version(),
         None => 0,
     }
@@ -168,7 +169,7 @@ pub(crate) fn version_by(lines: &[Line], by: Option<Witness>) -> u64
     ensures { result ≡ version_by lines.now by }
 {
     match by {
-        Some(by) => version_in(lines, by.line),
+        Some(by) => version_in(lines, by.line as usize),
         None => 0,
     }
 }

@@ -96,7 +96,7 @@ fn add_spots(
     let line = &log.lines()[place];
     let start = opts.start();
     let known = tables.knows(log, opts, place);
-    let reported = tables.is_reported(log, opts, line.call.version());
+    let reported = tables.is_reported(log, opts, place);
     add_spot(spots, Spot::ask(line, place as u32, start))?;
     add_spot(spots, Spot::take(line, place as u32, known))?;
     add_spot(spots, Spot::report(line, start, reported))

@@ -11,6 +11,7 @@ ghost use Rattle.fdb_lines.specs.private.Tables.{drawn_by, is_stray, is_wrong, A
 ghost use Rattle.fdb_lines.specs.private.Tables.{IsAnswer};
 
 use crate::fault::Fault;
+use crate::known::version_in;
 use crate::log::Log;
 use crate::opts::AuditOpts;
 use crate::reason::Reason;
@@ -36,10 +37,7 @@ pub(crate) fn reason_of(
         Fault::Wrong => of_wrong(tables, log, opts, place),
         Fault::NotAbove => of_not_above(tables, log, opts, place),
         Fault::Twice => drawn_by(tables.drawn_again(log, opts, place)),
-        Fault::Stray => {
-            let version = log.lines()[place].call.version();
-            drawn_by(tables.first_draw(log, opts, version))
-        }
+        Fault::Stray => drawn_by(tables.first_draw(log, opts, place)),
     })
 }
 
@@ -54,36 +52,37 @@ fn stands(tables: &Tables, log: &Log, opts: &AuditOpts, place: usize, fault: Fau
     let knows = tables.knows(log, opts, place);
     match fault {
         Fault::Order => line.call.is_read() && version < knows,
-        Fault::Wrong => line.call.is_read() && is_wrong(tables, log, opts, version),
+        Fault::Wrong => line.call.is_read() && is_wrong(tables, log, opts, place),
         Fault::NotAbove => {
             line.call.draws() && version <= knows.max(tables.last(log, opts, place))
         }
-        Fault::Twice => line.call.draws() && tables.drawn_again(log, opts, place).is_some(),
-        Fault::Stray => line.call.is_report() && is_stray(tables, log, opts, place, version),
+        Fault::Twice => line.call.draws() && tables.is_twice(log, opts, place),
+        Fault::Stray => line.call.is_report() && is_stray(tables, log, opts, place),
     }
 }
 
-/// Whether a version is not there: nobody reported it without knowing as much before.
-fn is_wrong(tables: &Tables, log: &Log, opts: &AuditOpts, version: u64) -> bool
+/// Whether the version of the line at a place is not there: nobody reported it without knowing as
+/// much before.
+fn is_wrong(tables: &Tables, log: &Log, opts: &AuditOpts, place: usize) -> bool
     requires { AreTables (lines_of log.now) opts.now tables.now }
-    ensures { result ≡ is_wrong (case_of (lines_of log.now) opts.now) version }
+    ensures { let c = case_of (lines_of log.now) opts.now in
+        result ≡ is_wrong c (version_at c place) }
 {
-    version != opts.start()
-        && !tables.is_raised(log, opts, version)
-        && (opts.is_complete() || tables.is_reported(log, opts, version))
+    version_in(log.lines(), place) != opts.start()
+        && !tables.is_raised(log, opts, place)
+        && (opts.is_complete() || tables.is_reported(log, opts, place))
 }
 
-/// Whether others drew the version of the line at a place, or nobody can have drawn it.
-fn is_stray(tables: &Tables, log: &Log, opts: &AuditOpts, place: usize, version: u64) -> bool
+/// Whether others drew it, or nobody can have drawn it.
+fn is_stray(tables: &Tables, log: &Log, opts: &AuditOpts, place: usize) -> bool
     requires tables { AreTables (lines_of log.now) opts.now tables.now }
     requires place { place < length (lines_of log.now).lines }
-    requires version { version ≡ version_at (case_of (lines_of log.now) opts.now) place }
     ensures { result ≡ is_stray (case_of (lines_of log.now) opts.now) place }
 {
-    if tables.is_drawn(log, opts, version) {
+    if tables.is_drawn(log, opts, place) {
         !tables.is_own(log, opts, place)
     } else {
-        opts.is_complete() || version <= opts.start()
+        opts.is_complete() || version_in(log.lines(), place) <= opts.start()
     }
 }
 
@@ -106,8 +105,7 @@ fn of_wrong(tables: &Tables, log: &Log, opts: &AuditOpts, place: usize) -> Reaso
     requires stands { stands (case_of (lines_of log.now) opts.now) Wrong place ≡ true }
     ensures { IsReason (lines_of log.now) opts.now place Wrong result }
 {
-    let version = log.lines()[place].call.version();
-    match tables.first_report(log, opts, version) {
+    match tables.first_report(log, opts, place) {
         Some(line) => {
             let version = tables.knows(log, opts, line as usize);
             let by = tables.shown(log, opts, line as usize, version);

@@ -1,12 +1,13 @@
 //! The tables of a log, in which each question of the rule is answered by a search.
 
-ghost use Rattle.std.specs.Prelude.{◌≡◌, ◌<◌, ◌≤◌, ◌==◌, ◌&&◌, not, IfOk, length};
+ghost use Rattle.std.specs.Prelude.{◌≡◌, ◌<◌, ◌≤◌, IfOk, length};
 ghost use Rattle.fdb_lines.specs.Audit.{case_of};
-ghost use Rattle.fdb_lines.specs.Faults.{is_drawn, is_own, is_raised, is_reported, knows, last};
+ghost use Rattle.fdb_lines.specs.Faults.{is_drawn, is_own, is_raised, is_reported, is_twice, knows, last};
+ghost use Rattle.fdb_lines.specs.Lines.{version_at};
 ghost use Rattle.fdb_lines.specs.Log.{lines_of};
 ghost use Rattle.fdb_lines.specs.Reasons.{draws_again, draws_it, reports_it};
 ghost use Rattle.fdb_lines.specs.declared.seen.Seen.TheVariants.{Drawn, Shown};
-ghost use Rattle.fdb_lines.specs.private.Entries.{IsFirstFrom};
+ghost use Rattle.fdb_lines.specs.private.Entries.{other, IsFirstFrom};
 ghost use Rattle.fdb_lines.specs.private.Known.{of_version};
 ghost use Rattle.fdb_lines.specs.private.Tables.{AreKnownIn, AreTables, IsFoundIn};
 
@@ -128,82 +129,92 @@ impl Tables {
         of_version(log.lines(), version, by_at(&self.drawn, place))
     }
 
-    /// The first line that reports a version. Logarithmic, as all below.
-    pub(crate) fn first_report(&self, log: &Log, opts: &AuditOpts, version: u64) -> Option<u32>
+    /// The first line that reports the version of the one at a place. Logarithmic, as all below.
+    pub(crate) fn first_report(&self, log: &Log, opts: &AuditOpts, place: usize) -> Option<u32>
         requires { AreTables (lines_of log.now) opts.now self.now }
-        ensures { IsFirstFrom (reports_it (case_of (lines_of log.now) opts.now) version) 0
-            (length (lines_of log.now).lines) result }
+        ensures { let c = case_of (lines_of log.now) opts.now in
+            IsFirstFrom (reports_it c (version_at c place)) 0 (length c.lines) result }
     {
-        self.reports.first(version, 0, 0)
+        self.reports.first(version_in(log.lines(), place), 0, 0)
     }
 
-    /// Whether a line reports a version.
-    pub(crate) fn is_reported(&self, log: &Log, opts: &AuditOpts, version: u64) -> bool
+    /// Whether a line reports its version.
+    pub(crate) fn is_reported(&self, log: &Log, opts: &AuditOpts, place: usize) -> bool
         requires { AreTables (lines_of log.now) opts.now self.now }
-        ensures { result ≡ is_reported (case_of (lines_of log.now) opts.now) version }
+        ensures { let c = case_of (lines_of log.now) opts.now in
+            result ≡ is_reported c (version_at c place) }
     {
-        self.first_report(log, opts, version).is_some()
+        self.first_report(log, opts, place).is_some()
     }
 
-    /// Whether a line reports a version that knew of none as new.
-    pub(crate) fn is_raised(&self, log: &Log, opts: &AuditOpts, version: u64) -> bool
+    /// Whether a line reports its version that knew of none as new.
+    pub(crate) fn is_raised(&self, log: &Log, opts: &AuditOpts, place: usize) -> bool
         requires { AreTables (lines_of log.now) opts.now self.now }
-        ensures { result ≡ is_raised (case_of (lines_of log.now) opts.now) version }
+        ensures { let c = case_of (lines_of log.now) opts.now in
+            result ≡ is_raised c (version_at c place) }
     {
+        let version = version_in(log.lines(), place);
         self.raises.first(version, 0, 0).is_some()
     }
 
-    /// The first line that draws a version.
-    pub(crate) fn first_draw(&self, log: &Log, opts: &AuditOpts, version: u64) -> Option<u32>
+    /// The first line that draws its version.
+    pub(crate) fn first_draw(&self, log: &Log, opts: &AuditOpts, place: usize) -> Option<u32>
         requires { AreTables (lines_of log.now) opts.now self.now }
-        ensures { IsFirstFrom (draws_it (case_of (lines_of log.now) opts.now) version) 0
-            (length (lines_of log.now).lines) result }
+        ensures { let c = case_of (lines_of log.now) opts.now in
+            IsFirstFrom (draws_it c (version_at c place)) 0 (length c.lines) result }
     {
-        self.draws.first(version, 0, 0)
+        self.draws.first(version_in(log.lines(), place), 0, 0)
     }
 
-    /// Whether a line draws a version.
-    pub(crate) fn is_drawn(&self, log: &Log, opts: &AuditOpts, version: u64) -> bool
+    /// Whether a line draws its version.
+    pub(crate) fn is_drawn(&self, log: &Log, opts: &AuditOpts, place: usize) -> bool
         requires { AreTables (lines_of log.now) opts.now self.now }
-        ensures { result ≡ is_drawn (case_of (lines_of log.now) opts.now) version }
+        ensures { let c = case_of (lines_of log.now) opts.now in
+            result ≡ is_drawn c (version_at c place) }
     {
-        self.first_draw(log, opts, version).is_some()
+        self.first_draw(log, opts, place).is_some()
     }
 
-    /// The first other line that draws the version of the one at a place, where not both are
-    /// commits.
+    /// The first other line that draws its version, where not both are commits.
     pub(crate) fn drawn_again(&self, log: &Log, opts: &AuditOpts, place: usize) -> Option<u32>
         requires tables { AreTables (lines_of log.now) opts.now self.now }
         requires place { place < length (lines_of log.now).lines }
-        ensures { IsFirstFrom (draws_again (case_of (lines_of log.now) opts.now) place) 0
-            (length (lines_of log.now).lines) result }
+        ensures { let c = case_of (lines_of log.now) opts.now in
+            IsFirstFrom (draws_again c place) 0 (length c.lines) result }
     {
-        let call = log.lines()[place].call;
-        if call.is_commit() {
-            self.asks.first(call.version(), 0, 0)
+        if log.lines()[place].call.is_commit() {
+            self.asks.first(version_in(log.lines(), place), 0, 0)
         } else {
-            self.other_draw(log, opts, call.version(), place as u32)
+            self.other_draw(log, opts, place)
         }
     }
 
-    /// The first line but the one at a place that draws a version.
-    fn other_draw(&self, log: &Log, opts: &AuditOpts, version: u64, place: u32) -> Option<u32>
+    /// Whether another line draws its version, and not both are commits.
+    pub(crate) fn is_twice(&self, log: &Log, opts: &AuditOpts, place: usize) -> bool
         requires tables { AreTables (lines_of log.now) opts.now self.now }
         requires place { place < length (lines_of log.now).lines }
-        ensures { IsFirstFrom (λ j. not (j == place)
-            && draws_it (case_of (lines_of log.now) opts.now) version j) 0
-            (length (lines_of log.now).lines) result }
+        ensures { result ≡ is_twice (case_of (lines_of log.now) opts.now) place }
     {
-        let first = self.draws.first(version, 0, 0)?;
-        if first == place {
-            self.draws.first(version, 0, place + 1)
+        self.drawn_again(log, opts, place).is_some()
+    }
+
+    /// The first other line that draws its version.
+    fn other_draw(&self, log: &Log, opts: &AuditOpts, place: usize) -> Option<u32>
+        requires tables { AreTables (lines_of log.now) opts.now self.now }
+        requires place { place < length (lines_of log.now).lines }
+        ensures { let c = case_of (lines_of log.now) opts.now in
+            IsFirstFrom (other (draws_it c (version_at c place)) place) 0 (length c.lines) result }
+    {
+        let first = self.first_draw(log, opts, place)?;
+        if first as usize == place {
+            let version = version_in(log.lines(), place);
+            self.draws.first(version, 0, first + 1)
         } else {
             Some(first)
         }
     }
 
-    /// Whether the client of the line at a place drew its version; or, where it is not known, one
-    /// that is not known.
+    /// Whether its client drew its version; or, where it is not known, one that is not known.
     pub(crate) fn is_own(&self, log: &Log, opts: &AuditOpts, place: usize) -> bool
         requires tables { AreTables (lines_of log.now) opts.now self.now }
         requires place { place < length (lines_of log.now).lines }
@@ -224,7 +235,7 @@ fn of_version(lines: &[Line], version: u64, by: Option<Witness>) -> Option<Witne
     ensures { result ≡ of_version lines.now version by }
 {
     let by = by?;
-    if version_in(lines, by.line) == version {
+    if version_in(lines, by.line as usize) == version {
         Some(by)
     } else {
         None

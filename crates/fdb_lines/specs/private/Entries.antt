@@ -1,5 +1,5 @@
 -- Tables of lines: an entry for each line that answers some question.
-use Rattle.std.specs.Prelude.{◌≡◌, ℕ, ◌<◌, ◌≤◌, ◌==◌, Bool, true, false, List, Option, None, Some, length, slice_index_or}
+use Rattle.std.specs.Prelude.{◌≡◌, ℕ, ◌<◌, ◌≤◌, ◌==◌, ◌&&◌, not, Bool, true, false, List, Option, None, Some, length, slice_index_or}
 use Rattle.std.specs.List.{list_any, All}
 
 -- These are the entries of those of the first n lines that answer any question: an entry has its line's place and number,
@@ -30,3 +30,7 @@ IsNewest test f n (Some k) = (k < n) × (test k ≡ true) × ((j : ℕ) → j < 
 abbrev pub IsFirstFrom : (ℕ → Bool) → ℕ → ℕ → Option ℕ → Type 0
 IsFirstFrom test from n None = (j : ℕ) → from ≤ j → j < n → test j ≡ false
 IsFirstFrom test from n (Some j) = (from ≤ j) × (j < n) × (test j ≡ true) × ((i : ℕ) → from ≤ i → i < j → test i ≡ false)
+
+-- a test that one place does not pass
+abbrev pub other : (ℕ → Bool) → ℕ → ℕ → Bool
+other test k j = not (j == k) && test j

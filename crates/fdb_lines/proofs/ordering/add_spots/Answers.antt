@@ -1,6 +1,7 @@
-use Rattle.std.proofs.Common.{◌≡◌, ◌++◌, ◌∙◌, ap, map, get_or}
+use Rattle.std.proofs.Common.{◌≡◌, ◌++◌, ◌∙◌, ap, sym, map, get_or}
 use Rattle.std.proofs.lemmas.List.{get_or_default}
 use Rattle.std.proofs.lemmas.Result.{IfOk-weaker}
+use Rattle.fdb_lines.specs.declared.line.Line.{Line}
 use Rattle.fdb_lines.specs.Audit.{case_of}
 use Rattle.fdb_lines.specs.Faults.{is_reported, knows}
 use Rattle.fdb_lines.specs.Lines.{nobody, line_at, version_of}
@@ -19,7 +20,7 @@ returns-clause-items c =
     let line : item ≡ line_at lines k = c.index-lines-place.is ∙ (ap (λ l. get_or l k item) c.lines.ensures ∙ get_or_default lines k item nobody c.requires.place) in
     let start : c.start-start.result ≡ it.start = c.start-start.ensures in
     let known : c.knows-known.result ≡ knows it k = c.knows-known.ensures in
-    let reported : c.is_reported-reported.result ≡ is_reported it (version_of item.call) = c.is_reported-reported.ensures ∙ ap (is_reported it) c.version.ensures in
+    let reported : c.is_reported-reported.result ≡ is_reported it (version_of item.call) = c.is_reported-reported.ensures ∙ ap (λ (l : Line). is_reported it (version_of l.call)) (sym line) in
     IfOk-weaker c.add_spot-3.result _ (λ _. map item_of c.add_spot-3.new.spots.items ≡ map item_of c.args.spots.now.items ++ items_at it k)
     (λ _ last. items_added it k item line c.start-start.result c.knows-known.result c.is_reported-reported.result start known reported _ _ _
     c.ask.ensures.item c.take.ensures.item c.report.ensures.item (map item_of c.args.spots.now.items) _ _ _ c.in_ok-add_spot.ensures.items c.in_ok-add_spot-2.ensures.items last)

@@ -1,29 +1,23 @@
-use Rattle.std.proofs.Common.{length, Some, sym, subst}
+use Rattle.std.proofs.Common.{◌+◌, length, Some, subst}
 use Rattle.fdb_lines.specs.declared.sort.Sort.TheVariants.{Draws}
 use Rattle.fdb_lines.specs.Audit.{case_of, start_of}
+use Rattle.fdb_lines.specs.Lines.{version_at}
 use Rattle.fdb_lines.specs.Log.{lines_of}
 use Rattle.fdb_lines.specs.Reasons.{draws_it}
 use Rattle.fdb_lines.specs.private.Entries.{IsFirstFrom}
-use Rattle.fdb_lines.proofs.Entries.{other, other_behind, other_first, other_none}
+use Rattle.fdb_lines.proofs.Entries.{other_behind}
+use Rattle.fdb_lines.proofs.Reasoning.{read}
 use Rattle.fdb_lines.proofs.tables.Tables.other_draw.Goals as goal
-
-pub returns-in_err-first : goal.returns-in_err-first
-returns-in_err-first c =
-    let log = lines_of c.args.log.now in
-    let test = draws_it (case_of log c.args.opts.now) c.args.version in
-    subst (IsFirstFrom (other test c.args.place) 0 (length log.lines)) (sym c.from_residual.ensures)
-    (other_none test c.args.place (length log.lines) (c.in_err-first.ensures Draws (start_of c.args.opts.now.complete) (lines_of c.args.log.now).lines c.args.self.now.shown.items c.requires.tables.draws))
 
 pub returns-then-first-place : goal.returns-then-first-place
 returns-then-first-place c =
     let log = lines_of c.args.log.now in
-    let test = draws_it (case_of log c.args.opts.now) c.args.version in
-    other_behind test c.args.place (length log.lines) c.first-then-first-place.result
-    (subst (λ k. IsFirstFrom test 0 (length log.lines) (Some k)) c.if-first-place.true (c.in_ok-first.ensures Draws (start_of c.args.opts.now.complete) (lines_of c.args.log.now).lines c.args.self.now.shown.items c.requires.tables.draws))
-    (c.first-then-first-place.ensures Draws (start_of c.args.opts.now.complete) (lines_of c.args.log.now).lines c.args.self.now.shown.items c.requires.tables.draws)
-
-pub returns-else-first-place : goal.returns-else-first-place
-returns-else-first-place c =
-    let log = lines_of c.args.log.now in
-    other_first (draws_it (case_of log c.args.opts.now) c.args.version) c.args.place (length log.lines) c.in_ok-first.first c.if-first-place.false
-    (c.in_ok-first.ensures Draws (start_of c.args.opts.now.complete) (lines_of c.args.log.now).lines c.args.self.now.shown.items c.requires.tables.draws)
+    let opts = c.args.opts.now in
+    let it = case_of log opts in
+    let k = c.args.place in
+    let n = length log.lines in
+    let same = c.if-first-place.true in
+    other_behind (draws_it it (version_at it k)) k n c.first.result (subst (λ j. IsFirstFrom (draws_it it (version_at it k)) 0 n (Some j)) same c.in_ok-first.ensures)
+    (subst (λ j. IsFirstFrom (draws_it it (version_at it k)) (j + 1) n c.first.result) same
+    (subst (λ v. IsFirstFrom (draws_it it v) (c.in_ok-first.first + 1) n c.first.result) (read log.lines c.lines.result.now k c.version_in-version.result c.lines.ensures c.version_in-version.ensures)
+    (c.first.ensures Draws (start_of opts.complete) log.lines c.args.self.now.shown.items c.requires.tables.draws)))

@@ -1,0 +1,11 @@
+use Rattle.std.proofs.Common.{length, sym, ◌∙◌}
+use Rattle.fdb_lines.specs.Audit.{case_of}
+use Rattle.fdb_lines.specs.Log.{lines_of}
+use Rattle.fdb_lines.specs.Reasons.{draws_again}
+use Rattle.fdb_lines.proofs.Entries.{first_is}
+use Rattle.fdb_lines.proofs.tables.Tables.is_twice.Goals as goal
+
+pub returns : goal.returns
+returns c =
+    let it = case_of (lines_of c.args.log.now) c.args.opts.now in
+    c.is_some.ensures ∙ sym (first_is (draws_again it c.args.place) (length it.lines) c.drawn_again.result c.drawn_again.ensures)
