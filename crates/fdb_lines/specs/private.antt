@@ -14,4 +14,5 @@ pub mod Heard
 pub mod Witnesses
 pub mod Grounds
 pub mod Ended
+pub mod Counts
 pub mod HeardCounts
