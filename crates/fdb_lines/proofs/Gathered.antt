@@ -11,19 +11,7 @@ use Rattle.fdb_lines.specs.Lines.{line_at, teller_of}
 use Rattle.fdb_lines.specs.Summary.{tally}
 use Rattle.fdb_lines.specs.private.Counts.{lines_by, is_within, is_counted, AddUp}
 use Rattle.fdb_lines.specs.private.HeardCounts.{count_in, total_in, total_by, count_after, heard_count}
-use Rattle.fdb_lines.proofs.Paired.{tally_most}
-
--- what a test adds to a count
-abbrev adds : Bool → ℕ
-adds b = cond b 1 0
-
-none_pass : (n : ℕ) → 0 ≡ tally (λ j. false) n
-none_pass zero = refl
-none_pass (suc n) = omega (arith, none_pass n)
-
-tally_same : (one other : ℕ → Bool) (n : ℕ) → ((i : ℕ) → i < n → one i ≡ other i) → tally one n ≡ tally other n
-tally_same one other zero h = refl
-tally_same one other (suc n) h = grind (arith, tally_same one other n (λ i l. h i (omega arith)), h n)
+use Rattle.fdb_lines.proofs.Tallies.{adds, none_pass, tally_most, tally_same, tally_up}
 
 one_of : (a b : ℕ) (o : Option ℕ) → is_of a o ≡ true → is_of b o ≡ (a == b)
 one_of a b None h = grind arith
@@ -37,17 +25,6 @@ few lines (suc n) a b =
 own : (lines : List Line) (n a : ℕ) → heard_count lines n a a ≡ lines_by lines a n
 own lines zero a = refl
 own lines (suc n) a = grind (arith, nat_tests, own lines n a, few lines n (teller_of (line_at lines n).call) a)
-
-tally-mono : (test : ℕ → Bool) (m n : ℕ) → m ≤ n → tally test m ≤ tally test n
-tally-mono test zero n le = zero-le
-tally-mono test (suc m) zero le = grind arith
-tally-mono test (suc m) (suc n) le = elim (cases_eq m n) [
-  | inl same ↦ grind arith
-  | inr other ↦ grind (arith, tally-mono test (suc m) n)
-]
-
-lower : (lines : List Line) (b j n : ℕ) → j < n → is_of b (line_at lines j).client ≡ true → lines_by lines b j < lines_by lines b n
-lower lines b j n lt is = grind (arith, tally-mono (λ i. is_of b (line_at lines i).client) (suc j) n)
 
 -- one client's count is raised
 raised : (lines : List Line) (f g : ℕ → ℕ) (b : ℕ) → ((q : ℕ) → (q ≡ b → ⊥) → g q ≡ f q) → (n : ℕ)
@@ -66,7 +43,7 @@ apart : (lines : List Line) (b j n : ℕ) → is_of b (line_at lines j).client �
     → (n == j || nat_lt (lines_by lines b j) (lines_by lines b n)) ≡ nat_lt (lines_by lines b j) (suc (lines_by lines b n))
 apart lines b j n of_j of_n =
     let test : ℕ → Bool = λ i. is_of b (line_at lines i).client in
-    grind (arith, nat_tests, tally-mono test (suc j) n, tally-mono test (suc n) j)
+    grind (arith, nat_tests, tally_up test (suc j) n, tally_up test (suc n) j)
 
 heard_of : (lines : List Line) (n a j : ℕ) (o : Option ℕ) → (line_at lines j).client ≡ o → has_heard lines n a j ≡ is_within lines (heard_count lines n a) o j
 heard_of lines zero a j None e = refl
@@ -86,16 +63,12 @@ raised_adds_up old new b count known total more up is known_is above sum lines n
     let before = up lines n fits (λ q. grind (arith, nat_tests, at q, few q)) in
     grind (arith, nat_tests, at b, few b, tally_most (is_counted lines (λ q. unwrap_or (new q) 0)) n)
 
-nothing : (lines : List Line) (count : ℕ → ℕ) → ((b : ℕ) → count b ≡ 0) → (n : ℕ) → 0 ≡ tally (is_counted lines count) n
-nothing lines count none zero = refl
-nothing lines count none (suc n) = more (line_at lines n).client (nothing lines count none n)
-  where
-    more : (o : Option ℕ) → 0 ≡ tally (is_counted lines count) n → 0 ≡ adds (is_within lines count o n) + tally (is_counted lines count) n
-    more None rest = omega arith
-    more (Some b) rest = grind (arith, nat_tests, none b)
-
 pub nothing_adds_up : (count : ℕ → ℕ) → ((b : ℕ) → count b ≡ 0) → AddUp count 0
-nothing_adds_up count none lines n fits few = nothing lines count none n
+nothing_adds_up count none lines n fits few = none_pass (is_counted lines count) n (λ j. uncounted (line_at lines j).client j)
+  where
+    uncounted : (o : Option ℕ) (j : ℕ) → is_within lines count o j ≡ false
+    uncounted None j = refl
+    uncounted (Some b) j = grind (arith, nat_tests, none b)
 
 add_up : (o : Option HeardCounts) → AddUp (count_in o) (total_in o)
 add_up None = nothing_adds_up (λ b. 0) (λ b. refl)
@@ -110,10 +83,10 @@ heard_in_all lines k n heard line le fits at is = rw at (by (line_at lines k).cl
     same a j (Some b) = ap (nat_lt (lines_by lines b j)) (is a b)
 
     by : (o : Option ℕ) → total_by heard o ≡ tally (λ j. heard_by lines k o j) n
-    by None = none_pass n
+    by None = none_pass _ n (λ j. refl)
     by (Some a) =
-        add_up (heard a) lines n (omega arith) (λ b. omega (arith, is a b, few lines k a b, tally-mono (λ i. is_of b (line_at lines i).client) k n))
-        ∙ tally_same _ _ n (λ j l. same a j (line_at lines j).client ∙ sym (heard_of lines k a j (line_at lines j).client refl))
+        add_up (heard a) lines n (omega arith) (λ b. omega (arith, is a b, few lines k a b, tally_up (λ i. is_of b (line_at lines i).client) k n))
+        ∙ tally_same _ _ n (λ j. same a j (line_at lines j).client ∙ sym (heard_of lines k a j (line_at lines j).client refl))
 
 pub heard_more : (lines : List Line) (k : ℕ) (count : ℕ → ℕ → ℕ) (line : Line) → line ≡ line_at lines k → ((a b : ℕ) → count a b ≡ heard_count lines k a b)
     → (a b : ℕ) → count_after count line a b ≡ heard_count lines (k + 1) a b

@@ -1,5 +1,5 @@
 -- Pairs of lines in order by time, counted by two tables of calls that ended.
-use Rattle.std.proofs.Common.{◌≡◌, ℕ, zero, suc, ◌+◌, ◌-◌, ◌<◌, ◌≤◌, ◌==◌, nat_lt, Bool, true, false, cond, ◌&&◌, ◌||◌, List, [], ◌∷◌, ◌++◌, length, get_or, count_by, option_to_list, Option, None, Some, refl, ap, sym, ◌∙◌, arith, add-one, zero-le}
+use Rattle.std.proofs.Common.{◌≡◌, ℕ, zero, suc, ◌+◌, ◌-◌, ◌<◌, ◌≤◌, ◌==◌, nat_lt, Bool, true, false, ◌&&◌, ◌||◌, List, [], ◌∷◌, ◌++◌, length, get_or, count_by, option_to_list, Option, None, Some, refl, ap, sym, ◌∙◌, arith, add-one, zero-le}
 use Rattle.std.proofs.lemmas.Bool.Decides.{nat_tests}
 use Rattle.std.proofs.lemmas.Bool.{lt-ltb, le-ltb}
 use Rattle.std.proofs.lemmas.List.{get_or_default}
@@ -11,10 +11,7 @@ use Rattle.fdb_lines.specs.Lines.{nobody, line_at}
 use Rattle.fdb_lines.specs.Summary.{tally}
 use Rattle.fdb_lines.specs.private.Ends.{is_earlier, end_key, end_at, IsFront}
 use Rattle.fdb_lines.specs.private.Ended.{group_in, by_group, stands_before, count_before, HasEnds}
-
--- what a test adds to a count
-abbrev adds : Bool → ℕ
-adds b = cond b 1 0
+use Rattle.fdb_lines.proofs.Tallies.{adds, tally_sums}
 
 -- ---- the table
 
@@ -74,18 +71,9 @@ pair margin j k one other (Some end) = by one.client other.client (began other)
     by (Some a) None time = grind (arith, nat_tests)
     by (Some a) (Some b) time = grind (arith, nat_tests)
 
--- tests that add up alike have tallies that do
-sums : (a b c d : ℕ → Bool) (n : ℕ) → ((j : ℕ) → adds (a j) + adds (b j) ≡ adds (c j) + adds (d j)) → tally a n + tally b n ≡ tally c n + tally d n
-sums a b c d zero h = refl
-sums a b c d (suc n) h = omega (arith, sums a b c d n h, h n)
-
 pub by_two : (margin : ℕ) (lines : List Line) (k n : ℕ) (all own : List End) (line : Line) (time bound : ℕ) → HasEnds false lines n all → HasEnds true lines n own
     → line ≡ line_at lines k → time ≡ began line → bound ≡ time - margin
     → tally (λ j. by_time margin lines j k) n + count_before own line.client bound 0 ≡ count_before all (Some 0) bound 0 + count_before own line.client time k
 by_two margin lines k n all own line time bound of_all of_own at time_is bound_is =
     rw (of_all (Some 0) bound 0, of_own line.client bound 0, of_own line.client time k, bound_is, time_is, at)
-    (sums _ _ _ _ n (λ j. pair margin j k (line_at lines j) (line_at lines k) (ended (line_at lines j))))
-
-pub tally_most : (test : ℕ → Bool) (n : ℕ) → tally test n ≤ n
-tally_most test zero = zero-le
-tally_most test (suc n) = grind (arith, tally_most test n)
+    (tally_sums _ _ _ _ n (λ j. pair margin j k (line_at lines j) (line_at lines k) (ended (line_at lines j))))

@@ -1,25 +1,19 @@
 //! Counts what a verdict stands on: lines by kind, versions that others must have reported, and pairs
 //! in order.
 
-ghost use Rattle.std.specs.Prelude.{◌≡◌, ◌==◌, ◌&&◌, ◌||◌, ℕ, IfOk, OnOk, length};
+ghost use Rattle.std.specs.Prelude.{◌≡◌, ◌+◌, ◌==◌, ◌&&◌, ◌||◌, ℕ, IfOk, OnOk, length};
 ghost use Rattle.std.specs.Prelude.{cond, nat_eq, not};
-ghost use Rattle.std.specs.HashSet.{contains};
-ghost use Rattle.fdb_lines.specs.Audit.{case_of, start_of};
-ghost use Rattle.fdb_lines.specs.Faults.{is_reported};
+ghost use Rattle.std.specs.HashSet.{contains, hash_set_len};
+ghost use Rattle.fdb_lines.specs.Audit.{case_of};
 ghost use Rattle.fdb_lines.specs.Lines.{is_ask, is_commit, is_learn, is_read, is_report};
-ghost use Rattle.fdb_lines.specs.Lines.{Lines, kind_of, version_of};
+ghost use Rattle.fdb_lines.specs.Lines.{kind_of, version_of};
 ghost use Rattle.fdb_lines.specs.Log.{lines_of};
 ghost use Rattle.fdb_lines.specs.Summary.{how_many, ordered, unreported};
-ghost use Rattle.fdb_lines.specs.declared.opts.AuditOpts.{AuditOpts};
-ghost use Rattle.fdb_lines.specs.declared.sort.Sort.TheVariants.{Reports};
-ghost use Rattle.fdb_lines.specs.private.Marks.{AreMarks};
 
 use crate::line::Call;
 use crate::log::Log;
-use crate::marks::Marks;
 use crate::opts::AuditOpts;
 use crate::pairs::ordered;
-use crate::sort::Sort;
 use crate::summed::Summary;
 use std::alloc::{AllocError, Global};
 use std::collections::HashSet;
@@ -75,37 +69,28 @@ fn timed(log: &Log) -> u64
 fn unreported(alloc: Global, log: &Log, opts: &AuditOpts) -> Result<u64, AllocError>
     ensures { IfOk result (λ n. n ≡ unreported (case_of (lines_of log.now) opts.now)) }
 {
-    let reports = Marks::new(alloc, log.lines(), Sort::Reports)?;
-    let mut read = HashSet::new(alloc);
-    let mut unreported: u64 = 0;
-    for line in log.lines() {
-        let new = is_first_read(&mut read, line.call)?;
-        if new && is_of_others(&reports, line.call.version(), opts.start()) {
-            unreported += 1;
-        }
+    let lines = log.lines();
+    let mut known = HashSet::new(alloc);
+    known.insert(opts.start())?;
+    for line in lines {
+        add(&mut known, line.call, line.call.reports())?;
     }
-    Ok(unreported)
+    let reported = known.len();
+    for line in lines {
+        add(&mut known, line.call, line.call.is_read())?;
+    }
+    Ok((known.len() - reported) as u64)
 }
 
-/// Whether a call is the first to read its version; from here on that has been read.
-fn is_first_read(read: &mut HashSet<u64>, call: Call) -> Result<bool, AllocError>
-    ensures first { IfOk result (λ new. new
-        ≡ (is_read (kind_of call) && not (contains nat_eq read.old (version_of call)))) }
-    ensures read { OnOk result ((v : ℕ) → contains nat_eq read.new v
-        ≡ ((is_read (kind_of call) && version_of call == v) || contains nat_eq read.old v)) }
+/// Adds the version of a call, if it is one of those that are looked for.
+fn add(versions: &mut HashSet<u64>, call: Call, does: bool) -> Result<(), AllocError>
+    ensures versions { OnOk result ((v : ℕ) → contains nat_eq versions.new v
+        ≡ ((does && version_of call == v) || contains nat_eq versions.old v)) }
+    ensures more { OnOk result (hash_set_len versions.new ≡ hash_set_len versions.old
+        + cond (does && not (contains nat_eq versions.old (version_of call))) 1 0) }
 {
-    if !call.is_read() {
-        return Ok(false);
+    if does {
+        versions.insert(call.version())?;
     }
-    let new = read.insert(call.version())?;
-    Ok(new)
-}
-
-/// Whether a version is not the start, and no line reports it.
-fn is_of_others(reports: &Marks, version: u64, start: u64) -> bool
-    ensures { (log : Lines) (opts : AuditOpts) → start ≡ start_of opts.complete
-        → AreMarks Reports log.lines (length log.lines) reports.now.marks.items
-        → result ≡ (not (version == start) && not (is_reported (case_of log opts) version)) }
-{
-    version != start && reports.first_line(version, 0).is_none()
+    Ok(())
 }

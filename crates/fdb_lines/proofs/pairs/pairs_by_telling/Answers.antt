@@ -5,7 +5,7 @@ use Rattle.fdb_lines.specs.Before.{is_of, by_telling}
 use Rattle.fdb_lines.specs.Lines.{line_at, nobody}
 use Rattle.fdb_lines.specs.private.HeardCounts.{count_in}
 use Rattle.fdb_lines.proofs.Gathered.{few, heard_in_all, heard_more}
-use Rattle.fdb_lines.proofs.Paired.{tally_most}
+use Rattle.fdb_lines.proofs.Tallies.{tally_most}
 use Rattle.fdb_lines.proofs.pairs.pairs_by_telling.Goals as goal
 
 pub hear-requires : goal.hear-requires
