@@ -1,31 +1,18 @@
 -- Pairs of lines in order by time, counted by two tables of calls that ended.
-use Rattle.std.proofs.Common.{◌≡◌, ℕ, zero, suc, ◌+◌, ◌-◌, ◌<◌, ◌≤◌, ◌==◌, nat_lt, Bool, true, false, ◌&&◌, ◌||◌, List, [], ◌∷◌, ◌++◌, length, get_or, count_by, option_to_list, Option, None, Some, refl, ap, sym, ◌∙◌, arith, add-one, zero-le}
+use Rattle.std.proofs.Common.{◌≡◌, ℕ, zero, suc, ◌+◌, ◌-◌, ◌<◌, ◌≤◌, ◌==◌, nat_lt, Bool, true, false, ◌&&◌, ◌||◌, List, [], ◌∷◌, length, count_by, Option, None, Some, refl, sym, ◌∙◌, arith, zero-le}
 use Rattle.std.proofs.lemmas.Bool.Decides.{nat_tests}
 use Rattle.std.proofs.lemmas.Bool.{lt-ltb, le-ltb}
-use Rattle.std.proofs.lemmas.List.{get_or_default}
-use Rattle.std.proofs.lemmas.List.Sums.{sum_by-cons, sum_by-append}
+use Rattle.std.proofs.lemmas.List.Sums.{sum_by-cons}
 use Rattle.fdb_lines.specs.declared.end.End.{End}
 use Rattle.fdb_lines.specs.declared.line.Line.{Line}
 use Rattle.fdb_lines.specs.Before.{began, ended, one_client, ended_before, by_time}
-use Rattle.fdb_lines.specs.Lines.{nobody, line_at}
+use Rattle.fdb_lines.specs.Lines.{line_at}
 use Rattle.fdb_lines.specs.Summary.{tally}
 use Rattle.fdb_lines.specs.private.Ends.{is_earlier, end_key, end_at, IsFront}
-use Rattle.fdb_lines.specs.private.Ended.{group_in, by_group, stands_before, count_before, HasEnds}
+use Rattle.fdb_lines.specs.private.Ended.{by_group, stands_before, count_before, HasEnds}
 use Rattle.fdb_lines.proofs.Tallies.{adds, tally_sums}
 
 -- ---- the table
-
-pub ends_more : (by_client : Bool) (lines : List Line) (k : ℕ) (ends : List End) (line : Line) (o : Option End)
-    → HasEnds by_client lines k ends → k < length lines → line ≡ get_or lines k line
-    → ((group : Option ℕ) (time place : ℕ) → count_before (option_to_list o) group time place ≡ adds (stands_before group time place (group_in by_client line.client) (ended line) k))
-    → HasEnds by_client lines (k + 1) (ends ++ option_to_list o)
-ends_more by_client lines k ends line o has lt is adds_it group time place =
-    let test : Line → ℕ → Bool = λ l j. stands_before group time place (group_in by_client l.client) (ended l) j in
-    let more = sum_by-append (λ (end : End). adds (stands_before group time place (Some end.group) (Some end.time) end.place)) ends (option_to_list o) in
-    let here = ap (λ l. adds (test l k)) (is ∙ get_or_default lines k line nobody lt) in
-    let next : tally (λ j. test (line_at lines j) j) (k + 1) ≡ adds (test (line_at lines k) k) + tally (λ j. test (line_at lines j) j) k =
-    ap (tally (λ j. test (line_at lines j) j)) (add-one k) in
-    omega (arith, has group time place, adds_it group time place)
 
 -- as many pass a test as come before the first that does not, where none passes from there on
 counted : (test : End → Bool) (ends : List End) (front : ℕ) → front ≤ length ends → ((i : ℕ) → i < front → test (end_at ends i) ≡ true)

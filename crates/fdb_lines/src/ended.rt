@@ -1,9 +1,8 @@
 //! Calls that ended, of which those before a moment are counted by a search.
 
-ghost use Rattle.std.specs.Prelude.{◌≡◌, ℕ, ◌≤◌, IfOk, Option, cond, length, option_to_list};
+ghost use Rattle.std.specs.Prelude.{◌≡◌, ◌+◌, ℕ, ◌≤◌, IfOk, OnOk, Option, cond, length};
 ghost use Rattle.std.specs.List.Sorted.{IsNonDecreasingBy};
-ghost use Rattle.fdb_lines.specs.Before.{ended};
-ghost use Rattle.fdb_lines.specs.private.Ended.{count_before, group_in, stands_before, HasEnds};
+ghost use Rattle.fdb_lines.specs.private.Ended.{count_before, line_before, HasEnds};
 ghost use Rattle.fdb_lines.specs.private.Ends.{end_key};
 
 use crate::end::End;
@@ -28,9 +27,7 @@ impl Ended {
     {
         let mut ends = Vec::new(alloc);
         for (place, line) in lines.iter().enumerate() {
-            if let Some(end) = end_of(line, place as u32, by_client) {
-                ends.push(end)?;
-            }
+            add(&mut ends, line, place as u32, by_client)?;
         }
         ends.sort_unstable_by(|a, b| order(a, b));
         Ok(Ended { ends })
@@ -55,14 +52,16 @@ impl Ended {
     }
 }
 
-/// The end of the line at a place, if it has one and its group is known.
-fn end_of(line: &Line, above: u32, by_client: bool) -> Option<End>
-    ensures { (group : Option ℕ) (time place : ℕ)
-        → count_before (option_to_list result) group time place
-        ≡ cond (stands_before group time place (group_in by_client line.now.client)
-        (ended line.now) above) 1 0 }
+/// Adds the end of the line at a place, if it has one and its group is known.
+fn add(ends: &mut Vec<End>, line: &Line, above: u32, by_client: bool) -> Result<(), AllocError>
+    ensures { OnOk result ((group : Option ℕ) (time place : ℕ)
+        → count_before ends.new.items group time place
+        ≡ cond (line_before by_client line.now above group time place) 1 0
+        + count_before ends.old.items group time place) }
 {
-    let group = if by_client { line.client? } else { 0 };
-    let time = line.ended()?;
-    Some(End::new(group, time, above, line.call.version()))
+    let group = if by_client { line.client } else { Some(0) };
+    if let (Some(group), Some(time)) = (group, line.ended()) {
+        ends.push(End::new(group, time, above, line.call.version()))?;
+    }
+    Ok(())
 }

@@ -27,9 +27,11 @@ abbrev pub count_before : List End → Option ℕ → ℕ → ℕ → ℕ
 count_before ends group time place =
     count_by (λ (end : End). stands_before group time place (Some end.group) (Some end.time) end.place) ends
 
+-- the same of the end of a line at a place
+abbrev pub line_before : Bool → Line → ℕ → Option ℕ → ℕ → ℕ → Bool
+line_before by_client line above group time place = stands_before group time place (group_in by_client line.client) (ended line) above
+
 -- the ends of the first n lines, by client or as of one group
 abbrev pub HasEnds : Bool → List Line → ℕ → List End → Type 0
 HasEnds by_client lines n ends =
-    (group : Option ℕ) (time place : ℕ)
-    → count_before ends group time place
-    ≡ tally (λ j. stands_before group time place (group_in by_client (line_at lines j).client) (ended (line_at lines j)) j) n
+    (group : Option ℕ) (time place : ℕ) → count_before ends group time place ≡ tally (λ j. line_before by_client (line_at lines j) j group time place) n

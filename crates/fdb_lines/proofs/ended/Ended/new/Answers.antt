@@ -1,25 +1,16 @@
-use Rattle.std.proofs.Common.{◌≡◌, length, arith, Some, None, cond, rules, ◌∙◌, append-nil}
+use Rattle.std.proofs.Common.{◌≡◌, Some, length, cond, rules, arith, add-one, refl, ◌∙◌}
 use Rattle.std.proofs.lemmas.List.Sorted.{sum_by-IsPermutation, IsNonDecreasingBy-from_sort_by}
 use Rattle.fdb_lines.specs.declared.end.End.{End}
 use Rattle.fdb_lines.specs.private.Ended.{stands_before}
 use Rattle.fdb_lines.specs.private.Ends.{end_key}
-use Rattle.fdb_lines.proofs.Paired.{ends_more}
+use Rattle.fdb_lines.proofs.Tallies.{item_at}
 use Rattle.fdb_lines.proofs.ended.Ended.new.Goals as goal
-use Rattle.fdb_lines.proofs.ended.Ended.new.Goals.{in-Some+in_ok-push, in_default}
 
 pub loop-place-preserved : goal.loop-place-preserved
-loop-place-preserved c =
-    let place = c.loop-place.place in
-    let before = c.loop-place.ends.items in
-    let line = c.index-lines-place.result in
-    elim c.match-end_of.branch [
-      | in-Some+in_ok-push w ↦
-          rw (w.ends-is, w.in_ok-push.ensures.items)
-          (ends_more c.args.by_client c.args.lines.now place before line (Some w.in-Some.end) c.loop-place.invariant c.loop-place-test.true c.index-lines-place.is w.in-Some.ensures)
-      | in_default w ↦
-          rw (w.ends-is, ← append-nil before)
-          (ends_more c.args.by_client c.args.lines.now place before line None c.loop-place.invariant c.loop-place-test.true c.index-lines-place.is w.in_default.ensures)
-    ]
+loop-place-preserved c = λ group time place.
+    let lines = c.args.lines.now in
+    let at = item_at lines lines c.loop-place.place c.index-lines-place.result refl c.loop-place-test.true c.index-lines-place.is in
+    rw add-one (omega (arith, rw at at (c.in_ok-add.ensures group time place), c.loop-place.invariant group time place))
 
 pub invariant_of-result : goal.invariant_of-result
 invariant_of-result c = record { in_order = IsNonDecreasingBy-from_sort_by end_key _ c.sort_unstable_by.ensures.sorted (λ a r f k. search rules) }
