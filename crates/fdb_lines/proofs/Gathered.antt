@@ -17,10 +17,13 @@ one_of : (a b : ℕ) (o : Option ℕ) → is_of a o ≡ true → is_of b o ≡ (
 one_of a b None h = grind arith
 one_of a b (Some c) h = grind (arith, nat_tests)
 
-pub few : (lines : List Line) (n a b : ℕ) → heard_count lines n a b ≤ lines_by lines b n
+few : (lines : List Line) (n a b : ℕ) → heard_count lines n a b ≤ lines_by lines b n
 few lines zero a b = zero-le
 few lines (suc n) a b =
     grind (arith, nat_tests, few lines n a b, few lines n (teller_of (line_at lines n).call) b, one_of a b (line_at lines n).client)
+
+pub heard_most : (lines : List Line) (n a b : ℕ) → heard_count lines n a b ≤ n
+heard_most lines n a b = omega (arith, few lines n a b, tally_most (λ i. is_of b (line_at lines i).client) n)
 
 own : (lines : List Line) (n a : ℕ) → heard_count lines n a a ≡ lines_by lines a n
 own lines zero a = refl

@@ -76,7 +76,7 @@ fn before(
     (earlier + known - twice) as u64
 }
 
-#[tactic(auto, using(crate::proofs::Tallies::tally_most))]
+#[tactic(auto, using(crate::proofs::Gathered::heard_most))]
 fn pairs_by_telling(alloc: Global, lines: &[Line]) -> Result<u64, AllocError>
     requires { length lines.now ≤ 4294967295 }
     ensures { IfOk result (λ n. n ≡ pairs (by_telling lines.now) (length lines.now)) }

@@ -43,7 +43,11 @@ pub fn summary(alloc: Global, log: &Log, opts: &AuditOpts) -> Result<Summary, Al
     let lines = log.lines();
     Ok(Summary {
         lines: lines.len() as u64,
-        timed: timed(log),
+        timed: if log.is_timed() {
+            lines.len() as u64
+        } else {
+            0
+        },
         reads: lines.iter().filter(|line| line.call.is_read()).count() as u64,
         commits: lines.iter().filter(|line| line.call.is_commit()).count() as u64,
         asks: lines.iter().filter(|line| line.call.is_ask()).count() as u64,
@@ -52,17 +56,6 @@ pub fn summary(alloc: Global, log: &Log, opts: &AuditOpts) -> Result<Summary, Al
         unreported,
         ordered,
     })
-}
-
-/// How many lines have times.
-fn timed(log: &Log) -> u64
-    ensures { result ≡ cond (lines_of log.now).timed (length (lines_of log.now).lines) 0 }
-{
-    if log.is_timed() {
-        log.lines().len() as u64
-    } else {
-        0
-    }
 }
 
 /// How many versions were read, other than the start, that no line reports.

@@ -1,17 +1,12 @@
 use Rattle.std.proofs.Common.{◌∙◌, length, nat_eq, arith}
 use Rattle.std.specs.HashMap.{get}
 use Rattle.std.proofs.lemmas.List.{get_or_default}
-use Rattle.fdb_lines.specs.Before.{is_of, by_telling}
-use Rattle.fdb_lines.specs.Lines.{line_at, nobody}
+use Rattle.fdb_lines.specs.Before.{by_telling}
+use Rattle.fdb_lines.specs.Lines.{nobody}
 use Rattle.fdb_lines.specs.private.HeardCounts.{count_in}
-use Rattle.fdb_lines.proofs.Gathered.{few, heard_in_all, heard_more}
+use Rattle.fdb_lines.proofs.Gathered.{heard_in_all, heard_more}
 use Rattle.fdb_lines.proofs.Tallies.{tally_most}
 use Rattle.fdb_lines.proofs.pairs.pairs_by_telling.Goals as goal
-
-pub hear-requires : goal.hear-requires
-hear-requires c = record {
-  few = λ a b. omega (arith, c.loop-place.invariant.heard a b, few c.args.lines.now c.loop-place.place a b, tally_most (λ i. is_of b (line_at c.args.lines.now i).client) c.loop-place.place);
-}
 
 pub overflow_add-pairs : goal.overflow_add-pairs
 overflow_add-pairs c =
