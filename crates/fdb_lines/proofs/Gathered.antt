@@ -1,5 +1,6 @@
 -- Of how many lines clients have heard, line by line.
 use Rattle.std.proofs.Common.{◌≡◌, ℕ, zero, suc, min, max, ◌+◌, ◌-◌, ◌<◌, ◌≤◌, ◌==◌, nat_lt, nat_eq, Bool, true, false, cond, ◌||◌, List, [], ◌∷◌, Option, None, Some, unwrap_or, refl, ap, sym, subst, ◌∙◌, inl, inr, arith, zero-le, add-one}
+use Rattle.std.proofs.Math.Path.{fun_ext}
 use Rattle.std.specs.Map.{keys_of, lookup}
 use Rattle.std.specs.List.{AllByRecursion, IsDistinct}
 use Rattle.std.proofs.lemmas.Bool.{cases_eq}
@@ -11,7 +12,7 @@ use Rattle.fdb_lines.specs.Lines.{line_at, teller_of}
 use Rattle.fdb_lines.specs.Summary.{tally}
 use Rattle.fdb_lines.specs.private.Counts.{lines_by, is_within, is_counted, AddUp}
 use Rattle.fdb_lines.specs.private.HeardCounts.{count_in, total_in, total_by, count_after, heard_count}
-use Rattle.fdb_lines.proofs.Tallies.{adds, none_pass, tally_most, tally_same, tally_up}
+use Rattle.fdb_lines.proofs.Tallies.{adds, none_pass, tally_most, tally_up}
 
 one_of : (a b : ℕ) (o : Option ℕ) → is_of a o ≡ true → is_of b o ≡ (a == b)
 one_of a b None h = grind arith
@@ -81,15 +82,12 @@ pub heard_in_all : (lines : List Line) (k n : ℕ) (heard : ℕ → Option Heard
     → ((a b : ℕ) → count_in (heard a) b ≡ heard_count lines k a b) → total_by heard line.client ≡ tally (λ j. by_telling lines j k) n
 heard_in_all lines k n heard line le fits at is = rw at (by (line_at lines k).client)
   where
-    same : (a j : ℕ) (o : Option ℕ) → is_within lines (count_in (heard a)) o j ≡ is_within lines (heard_count lines k a) o j
-    same a j None = refl
-    same a j (Some b) = ap (nat_lt (lines_by lines b j)) (is a b)
-
     by : (o : Option ℕ) → total_by heard o ≡ tally (λ j. heard_by lines k o j) n
     by None = none_pass _ n (λ j. refl)
     by (Some a) =
-        add_up (heard a) lines n (omega arith) (λ b. omega (arith, is a b, few lines k a b, tally_up (λ i. is_of b (line_at lines i).client) k n))
-        ∙ tally_same _ _ n (λ j. same a j (line_at lines j).client ∙ sym (heard_of lines k a j (line_at lines j).client refl))
+        subst (λ count. AddUp count (total_in (heard a))) (fun_ext (is a)) (add_up (heard a)) lines n (omega arith)
+        (λ b. omega (arith, few lines k a b, tally_up (λ i. is_of b (line_at lines i).client) k n))
+        ∙ ap (λ test. tally test n) (fun_ext (λ j. sym (heard_of lines k a j (line_at lines j).client refl)))
 
 pub heard_more : (lines : List Line) (k : ℕ) (count : ℕ → ℕ → ℕ) (line : Line) → line ≡ line_at lines k → ((a b : ℕ) → count a b ≡ heard_count lines k a b)
     → (a b : ℕ) → count_after count line a b ≡ heard_count lines (k + 1) a b

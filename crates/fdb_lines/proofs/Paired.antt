@@ -1,5 +1,5 @@
 -- Pairs of lines in order by time, counted by two tables of calls that ended.
-use Rattle.std.proofs.Common.{◌≡◌, ℕ, zero, suc, ◌+◌, ◌-◌, ◌<◌, ◌≤◌, ◌==◌, nat_lt, Bool, true, false, ◌&&◌, ◌||◌, List, [], ◌∷◌, length, count_by, Option, None, Some, refl, sym, ◌∙◌, arith, zero-le}
+use Rattle.std.proofs.Common.{◌≡◌, ℕ, zero, suc, ◌+◌, ◌-◌, ◌<◌, ◌≤◌, ◌==◌, nat_lt, Bool, true, false, ◌&&◌, ◌||◌, List, [], ◌∷◌, length, get_or, count_by, Option, None, Some, refl, sym, ◌∙◌, arith, zero-le}
 use Rattle.std.proofs.lemmas.Bool.Decides.{nat_tests}
 use Rattle.std.proofs.lemmas.Bool.{lt-ltb, le-ltb}
 use Rattle.std.proofs.lemmas.List.Sums.{sum_by-cons}
@@ -10,7 +10,7 @@ use Rattle.fdb_lines.specs.Lines.{line_at}
 use Rattle.fdb_lines.specs.Summary.{tally}
 use Rattle.fdb_lines.specs.private.Ends.{is_earlier, end_key, end_at, IsFront}
 use Rattle.fdb_lines.specs.private.Ended.{by_group, stands_before, count_before, HasEnds}
-use Rattle.fdb_lines.proofs.Tallies.{adds, tally_sums}
+use Rattle.fdb_lines.proofs.Tallies.{adds, item_at, tally_sums}
 
 -- ---- the table
 
@@ -59,8 +59,8 @@ pair margin j k one other (Some end) = by one.client other.client (began other)
     by (Some a) (Some b) time = grind (arith, nat_tests)
 
 pub by_two : (margin : ℕ) (lines : List Line) (k n : ℕ) (all own : List End) (line : Line) (time bound : ℕ) → HasEnds false lines n all → HasEnds true lines n own
-    → line ≡ line_at lines k → time ≡ began line → bound ≡ time - margin
+    → k < length lines → line ≡ get_or lines k line → time ≡ began line → bound ≡ time - margin
     → tally (λ j. by_time margin lines j k) n + count_before own line.client bound 0 ≡ count_before all (Some 0) bound 0 + count_before own line.client time k
-by_two margin lines k n all own line time bound of_all of_own at time_is bound_is =
-    rw (of_all (Some 0) bound 0, of_own line.client bound 0, of_own line.client time k, bound_is, time_is, at)
+by_two margin lines k n all own line time bound of_all of_own lt is time_is bound_is =
+    rw (of_all (Some 0) bound 0, of_own line.client bound 0, of_own line.client time k, bound_is, time_is, item_at lines lines k line refl lt is)
     (tally_sums _ _ _ _ n (λ j. pair margin j k (line_at lines j) (line_at lines k) (ended (line_at lines j))))

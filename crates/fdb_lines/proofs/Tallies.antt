@@ -23,10 +23,6 @@ tally_up test zero n le = zero-le
 tally_up test (suc m) zero le = grind arith
 tally_up test (suc m) (suc n) le = elim (cases_eq m n) [ inl same ↦ grind arith | inr other ↦ grind (arith, tally_up test (suc m) n) ]
 
-pub tally_same : (one other : ℕ → Bool) (n : ℕ) → ((j : ℕ) → one j ≡ other j) → tally one n ≡ tally other n
-tally_same one other zero same = refl
-tally_same one other (suc n) same = grind (arith, same n, tally_same one other n same)
-
 -- tests that add up alike have tallies that do
 pub tally_sums : (a b c d : ℕ → Bool) (n : ℕ) → ((j : ℕ) → adds (a j) + adds (b j) ≡ adds (c j) + adds (d j)) → tally a n + tally b n ≡ tally c n + tally d n
 tally_sums a b c d zero same = refl

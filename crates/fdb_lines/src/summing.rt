@@ -75,14 +75,14 @@ fn unreported(alloc: Global, log: &Log, opts: &AuditOpts) -> Result<u64, AllocEr
     Ok((known.len() - reported) as u64)
 }
 
-/// Adds the version of a call, if it is one of those that are looked for.
-fn add(versions: &mut HashSet<u64>, call: Call, does: bool) -> Result<(), AllocError>
+/// Adds the version of a call, if it is wanted.
+fn add(versions: &mut HashSet<u64>, call: Call, wanted: bool) -> Result<(), AllocError>
     ensures versions { OnOk result ((v : ℕ) → contains nat_eq versions.new v
-        ≡ ((does && version_of call == v) || contains nat_eq versions.old v)) }
+        ≡ ((wanted && version_of call == v) || contains nat_eq versions.old v)) }
     ensures more { OnOk result (hash_set_len versions.new ≡ hash_set_len versions.old
-        + cond (does && not (contains nat_eq versions.old (version_of call))) 1 0) }
+        + cond (wanted && not (contains nat_eq versions.old (version_of call))) 1 0) }
 {
-    if does {
+    if wanted {
         versions.insert(call.version())?;
     }
     Ok(())

@@ -1,6 +1,4 @@
-use Rattle.std.proofs.Common.{◌∙◌, length, arith}
-use Rattle.std.proofs.lemmas.List.{get_or_default}
-use Rattle.fdb_lines.specs.Lines.{nobody}
+use Rattle.std.proofs.Common.{length, arith}
 use Rattle.fdb_lines.proofs.Paired.{by_two}
 use Rattle.fdb_lines.proofs.pairs.before.Goals as goal
 
@@ -9,7 +7,7 @@ overflow_sub-result c =
     let lines = c.args.lines.now in
     let line = c.index-lines-place.result in
     let two = by_two c.args.margin lines c.args.place (length lines) c.args.all.now.ends.items c.args.own.now.ends.items line c.began-began.result c.saturating_sub-bound.result
-    c.requires.all c.requires.own (c.index-lines-place.is ∙ get_or_default lines c.args.place line nobody c.requires.place) c.began-began.ensures c.saturating_sub-bound.ensures in
+    c.requires.all c.requires.own c.requires.place c.index-lines-place.is c.began-began.ensures c.saturating_sub-bound.ensures in
     omega arith
 
 pub returns : goal.returns
@@ -17,5 +15,5 @@ returns c =
     let lines = c.args.lines.now in
     let line = c.index-lines-place.result in
     let two = by_two c.args.margin lines c.args.place (length lines) c.args.all.now.ends.items c.args.own.now.ends.items line c.began-began.result c.saturating_sub-bound.result
-    c.requires.all c.requires.own (c.index-lines-place.is ∙ get_or_default lines c.args.place line nobody c.requires.place) c.began-began.ensures c.saturating_sub-bound.ensures in
+    c.requires.all c.requires.own c.requires.place c.index-lines-place.is c.began-began.ensures c.saturating_sub-bound.ensures in
     omega arith

@@ -1,11 +1,9 @@
-use Rattle.std.proofs.Common.{◌∙◌, length, nat_eq, arith}
+use Rattle.std.proofs.Common.{◌∙◌, length, nat_eq, refl, arith}
 use Rattle.std.specs.HashMap.{get}
-use Rattle.std.proofs.lemmas.List.{get_or_default}
 use Rattle.fdb_lines.specs.Before.{by_telling}
-use Rattle.fdb_lines.specs.Lines.{nobody}
 use Rattle.fdb_lines.specs.private.HeardCounts.{count_in}
 use Rattle.fdb_lines.proofs.Gathered.{heard_in_all, heard_more}
-use Rattle.fdb_lines.proofs.Tallies.{tally_most}
+use Rattle.fdb_lines.proofs.Tallies.{item_at, tally_most}
 use Rattle.fdb_lines.proofs.pairs.pairs_by_telling.Goals as goal
 
 pub overflow_add-pairs : goal.overflow_add-pairs
@@ -13,7 +11,7 @@ overflow_add-pairs c =
     let lines = c.args.lines.now in
     let k = c.loop-place.place in
     let line = c.index-lines-place.result in
-    let at = c.index-lines-place.is ∙ get_or_default lines k line nobody c.loop-place-test.true in
+    let at = item_at lines lines k line refl c.loop-place-test.true c.index-lines-place.is in
     let all = heard_in_all lines k (length lines) (λ a. get nat_eq c.loop-place.heard a) line (omega arith) c.requires at c.loop-place.invariant.heard in
     omega (arith, c.in_ok-pairs.ensures.total, tally_most (λ j. by_telling lines j k) (length lines))
 
@@ -22,7 +20,7 @@ loop-place-preserved c =
     let lines = c.args.lines.now in
     let k = c.loop-place.place in
     let line = c.index-lines-place.result in
-    let at = c.index-lines-place.is ∙ get_or_default lines k line nobody c.loop-place-test.true in
+    let at = item_at lines lines k line refl c.loop-place-test.true c.index-lines-place.is in
     let all = heard_in_all lines k (length lines) (λ a. get nat_eq c.loop-place.heard a) line (omega arith) c.requires at c.loop-place.invariant.heard in
     record {
       heard = λ a b. c.in_ok-pairs.ensures.counts a b ∙ heard_more lines k (λ p q. count_in (get nat_eq c.loop-place.heard p) q) line at c.loop-place.invariant.heard a b;
