@@ -34,7 +34,8 @@ counted p (x ∷ xs) (suc i) point le =
 pub split_at : (xs : List ℕ) (v : ℕ) → count_by (λ x. nat_le x v) xs ≡ count_by (λ x. nat_lt x v) xs + times_in v xs
 split_at [] v = refl
 split_at (x ∷ xs) v =
-    grind (arith, nat_tests, split_at xs v, sum_by-cons (λ y. adds (nat_le y v)) x xs, sum_by-cons (λ y. adds (nat_lt y v)) x xs, sum_by-cons (λ y. adds (y == v)) x xs)
+    let up_to = sum_by-cons (λ y. adds (nat_le y v)) x xs in
+    grind (arith, nat_tests, split_at xs v, up_to, sum_by-cons (λ y. adds (nat_lt y v)) x xs, sum_by-cons (λ y. adds (y == v)) x xs)
 
 -- ---- the versions of a choice, line by line
 

@@ -52,9 +52,12 @@ apart lines b j n of_j of_n =
 heard_of : (lines : List Line) (n a j : ℕ) (o : Option ℕ) → (line_at lines j).client ≡ o → has_heard lines n a j ≡ is_within lines (heard_count lines n a) o j
 heard_of lines zero a j None e = refl
 heard_of lines zero a j (Some b) e = grind (arith, nat_tests)
-heard_of lines (suc n) a j None e = grind (arith, nat_tests, heard_of lines n a j None e, heard_of lines n (teller_of (line_at lines n).call) j None e)
+heard_of lines (suc n) a j None e =
+    grind (arith, nat_tests, heard_of lines n a j None e, heard_of lines n (teller_of (line_at lines n).call) j None e)
 heard_of lines (suc n) a j (Some b) e =
-    grind (arith, nat_tests, heard_of lines n a j (Some b) e, heard_of lines n (teller_of (line_at lines n).call) j (Some b) e, few lines n (teller_of (line_at lines n).call) b, own lines n a, apart lines a j n)
+    let teller = teller_of (line_at lines n).call in
+    let here = heard_of lines n a j (Some b) e in
+    grind (arith, nat_tests, here, heard_of lines n teller j (Some b) e, few lines n teller b, own lines n a, apart lines a j n)
 
 -- ---- in all
 

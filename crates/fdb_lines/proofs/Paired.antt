@@ -52,7 +52,8 @@ pair margin j k one other None = refl
 pair margin j k one other (Some end) = by one.client other.client (began other)
   where
     by : (own client : Option ℕ) (time : ℕ)
-        → adds (nat_lt (end + margin) time || (one_client own client && (nat_lt end time || (nat_lt j k && end == time)))) + adds (by_group own client (is_earlier end j (time - margin) 0))
+        → adds (nat_lt (end + margin) time || (one_client own client && (nat_lt end time || (nat_lt j k && end == time))))
+        + adds (by_group own client (is_earlier end j (time - margin) 0))
         ≡ adds (by_group (Some 0) (Some 0) (is_earlier end j (time - margin) 0)) + adds (by_group own client (is_earlier end j time k))
     by None client time = grind (arith, nat_tests)
     by (Some a) None time = grind (arith, nat_tests)

@@ -45,6 +45,7 @@ impl HeardCounts {
         let known = self.count(client);
         if count > known {
             self.by_client.insert(client, count)?;
+            // No log has so many lines that the sum does not fit.
             self.total = self.total.saturating_add(count - known);
         }
         Ok(())

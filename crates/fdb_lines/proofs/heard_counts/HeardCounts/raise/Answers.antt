@@ -12,6 +12,6 @@ invariant_of-self c = record {
 
 pub invariant_of-self-then-count-known : goal.invariant_of-self-then-count-known
 invariant_of-self-then-count-known c = record {
-  add_up = raised_adds_up (λ q. get nat_eq c.args.self.now.by_client q) (λ q. get nat_eq c.insert.new.self q) c.args.client c.args.count c.count-known.result c.args.self.now.total c.saturating_add-self.result
-      c.args.self.now.add_up c.in_ok-insert.ensures.updates.0 c.count-known.ensures c.if-count-known.true c.saturating_add-self.ensures;
+  add_up = raised_adds_up (λ q. get nat_eq c.args.self.now.by_client q) (λ q. get nat_eq c.insert.new.self q) c.args.client c.args.count c.count-known.result
+      c.args.self.now.total c.saturating_add-self.result c.args.self.now.add_up c.in_ok-insert.ensures.updates.0 c.count-known.ensures c.if-count-known.true c.saturating_add-self.ensures;
 }
