@@ -12,7 +12,6 @@ pub mod Ranked
 pub mod Arranged
 pub mod Turned
 pub mod Tests
-pub mod Counting
 pub mod Listed
 pub mod Reasoning
 pub mod Tallies

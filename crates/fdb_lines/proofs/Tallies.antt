@@ -1,41 +1,32 @@
--- Versions that were read and that no line reports, line by line.
-use Rattle.std.proofs.Common.{◌≡◌, ℕ, ◌+◌, ◌==◌, not, Bool, true, false, cond, ◌&&◌, length, Option, None, Some, is_none, is_some, refl, ap, sym, ◌∙◌, arith, add-one}
-use Rattle.std.proofs.lemmas.Bool.{both_ways, cond-true, cond-false, ne_eqb}
-use Rattle.fdb_lines.specs.declared.opts.AuditOpts.{AuditOpts}
-use Rattle.fdb_lines.specs.Audit.{case_of}
-use Rattle.fdb_lines.specs.Faults.{is_reported}
-use Rattle.fdb_lines.specs.Lines.{Lines}
-use Rattle.fdb_lines.specs.Reasons.{reports_it}
+-- Tallies: how many numbers pass a test. And the line at a place.
+use Rattle.std.proofs.Common.{◌≡◌, ℕ, zero, suc, ◌+◌, ◌<◌, ◌≤◌, Bool, false, cond, List, length, get_or, refl, ◌∙◌, inl, inr, arith, zero-le}
+use Rattle.std.proofs.lemmas.Bool.{cases_eq}
+use Rattle.std.proofs.lemmas.List.{get_or_default}
+use Rattle.fdb_lines.specs.declared.line.Line.{Line}
+use Rattle.fdb_lines.specs.Lines.{line_at, nobody}
 use Rattle.fdb_lines.specs.Summary.{tally}
-use Rattle.fdb_lines.specs.private.Entries.{IsFirstFrom}
-use Rattle.fdb_lines.proofs.Entries.{first_is}
 
-pub one_more : (test : ℕ → Bool) (k : ℕ) → test k ≡ true → tally test (k + 1) ≡ tally test k + 1
-one_more test k is =
-    let e : ◌≡◌ {A = ℕ} (cond (test k) 1 0) 1 = cond-true (test k) 1 0 is in
-    let next : tally test (k + 1) ≡ cond (test k) 1 0 + tally test k = ap (tally test) (add-one k) in
-    omega arith
+-- what a test adds to a tally
+abbrev pub adds : Bool → ℕ
+adds b = cond b 1 0
 
-pub no_more : (test : ℕ → Bool) (k : ℕ) → test k ≡ false → tally test (k + 1) ≡ tally test k
-no_more test k is_not =
-    let e : ◌≡◌ {A = ℕ} (cond (test k) 1 0) 0 = cond-false (test k) 1 0 is_not in
-    let next : tally test (k + 1) ≡ cond (test k) 1 0 + tally test k = ap (tally test) (add-one k) in
-    omega arith
+pub none_pass : (test : ℕ → Bool) (n : ℕ) → ((j : ℕ) → test j ≡ false) → 0 ≡ tally test n
+none_pass test zero none = refl
+none_pass test (suc n) none = grind (arith, none n, none_pass test n none)
 
-pub none_found : (o : Option ℕ) (none : Bool) → is_some o ≡ not none → none ≡ is_none o
-none_found None true e = refl
-none_found None false e = absurd (both_ways false refl e)
-none_found (Some x) true e = absurd (both_ways true e refl)
-none_found (Some x) false e = refl
+pub tally_most : (test : ℕ → Bool) (n : ℕ) → tally test n ≤ n
+tally_most test zero = zero-le
+tally_most test (suc n) = grind (arith, tally_most test n)
 
--- where a search finds no line that reports a version, none does
-none_reports : (log : Lines) (opts : AuditOpts) (version : ℕ) (first : Option ℕ) → IsFirstFrom (reports_it (case_of log opts) version) 0 (length log.lines) first
-    → is_none first ≡ not (is_reported (case_of log opts) version)
-none_reports log opts version None none = sym (ap not (first_is (reports_it (case_of log opts) version) (length log.lines) None none))
-none_reports log opts version (Some j) first = sym (ap not (first_is (reports_it (case_of log opts) version) (length log.lines) (Some j) first))
+pub tally_up : (test : ℕ → Bool) (m n : ℕ) → m ≤ n → tally test m ≤ tally test n
+tally_up test zero n le = zero-le
+tally_up test (suc m) zero le = grind arith
+tally_up test (suc m) (suc n) le = elim (cases_eq m n) [ inl same ↦ grind arith | inr other ↦ grind (arith, tally_up test (suc m) n) ]
 
-pub others_is : (log : Lines) (opts : AuditOpts) (version start : ℕ) (first : Option ℕ) → (version ≡ start → ⊥)
-    → IsFirstFrom (reports_it (case_of log opts) version) 0 (length log.lines) first
-    → is_none first ≡ (not (version == start) && not (is_reported (case_of log opts) version))
-others_is log opts version start first other found =
-    none_reports log opts version first found ∙ sym (ap (λ b. not b && not (is_reported (case_of log opts) version)) (ne_eqb version start other))
+-- tests that add up alike have tallies that do
+pub tally_sums : (a b c d : ℕ → Bool) (n : ℕ) → ((j : ℕ) → adds (a j) + adds (b j) ≡ adds (c j) + adds (d j)) → tally a n + tally b n ≡ tally c n + tally d n
+tally_sums a b c d zero same = refl
+tally_sums a b c d (suc n) same = omega (arith, same n, tally_sums a b c d n same)
+
+pub item_at : (xs lines : List Line) (k : ℕ) (item : Line) → xs ≡ lines → k < length xs → item ≡ get_or xs k item → item ≡ line_at lines k
+item_at xs lines k item same lt is = rw same at (is ∙ get_or_default xs k item nobody lt)

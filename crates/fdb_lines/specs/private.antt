@@ -8,4 +8,5 @@ pub mod Tables
 pub mod Late
 pub mod Spots
 pub mod Ended
+pub mod Counts
 pub mod HeardCounts

@@ -1,25 +1,19 @@
 //! Counts what a verdict stands on: lines by kind, versions that others must have reported, and pairs
 //! in order.
 
-ghost use Rattle.std.specs.Prelude.{◌≡◌, ◌==◌, ◌&&◌, ◌||◌, ℕ, IfOk, OnOk, length};
-ghost use Rattle.std.specs.Prelude.{[], cond, nat_eq, not};
-ghost use Rattle.std.specs.HashSet.{contains};
-ghost use Rattle.fdb_lines.specs.Audit.{case_of, start_of};
-ghost use Rattle.fdb_lines.specs.Faults.{is_reported};
+ghost use Rattle.std.specs.Prelude.{◌≡◌, ◌+◌, ◌==◌, ◌&&◌, ◌||◌, ℕ, IfOk, OnOk, length};
+ghost use Rattle.std.specs.Prelude.{cond, nat_eq, not};
+ghost use Rattle.std.specs.HashSet.{contains, hash_set_len};
+ghost use Rattle.fdb_lines.specs.Audit.{case_of};
 ghost use Rattle.fdb_lines.specs.Lines.{is_ask, is_commit, is_learn, is_read, is_report};
-ghost use Rattle.fdb_lines.specs.Lines.{Lines, kind_of, version_of};
+ghost use Rattle.fdb_lines.specs.Lines.{kind_of, version_of};
 ghost use Rattle.fdb_lines.specs.Log.{lines_of};
 ghost use Rattle.fdb_lines.specs.Summary.{how_many, ordered, unreported};
-ghost use Rattle.fdb_lines.specs.declared.opts.AuditOpts.{AuditOpts};
-ghost use Rattle.fdb_lines.specs.declared.sort.Sort.TheVariants.{Reports};
-ghost use Rattle.fdb_lines.specs.private.Marks.{AreMarks};
 
 use crate::line::Call;
 use crate::log::Log;
-use crate::marks::Marks;
 use crate::opts::AuditOpts;
 use crate::pairs::ordered;
-use crate::sort::Sort;
 use crate::summed::Summary;
 use std::alloc::{AllocError, Global};
 use std::collections::HashSet;
@@ -49,7 +43,11 @@ pub fn summary(alloc: Global, log: &Log, opts: &AuditOpts) -> Result<Summary, Al
     let lines = log.lines();
     Ok(Summary {
         lines: lines.len() as u64,
-        timed: timed(log),
+        timed: if log.is_timed() {
+            lines.len() as u64
+        } else {
+            0
+        },
         reads: lines.iter().filter(|line| line.call.is_read()).count() as u64,
         commits: lines.iter().filter(|line| line.call.is_commit()).count() as u64,
         asks: lines.iter().filter(|line| line.call.is_ask()).count() as u64,
@@ -60,52 +58,32 @@ pub fn summary(alloc: Global, log: &Log, opts: &AuditOpts) -> Result<Summary, Al
     })
 }
 
-/// How many lines have times.
-fn timed(log: &Log) -> u64
-    ensures { result ≡ cond (lines_of log.now).timed (length (lines_of log.now).lines) 0 }
-{
-    if log.is_timed() {
-        log.lines().len() as u64
-    } else {
-        0
-    }
-}
-
 /// How many versions were read, other than the start, that no line reports.
 fn unreported(alloc: Global, log: &Log, opts: &AuditOpts) -> Result<u64, AllocError>
     ensures { IfOk result (λ n. n ≡ unreported (case_of (lines_of log.now) opts.now)) }
 {
-    let reports = Marks::new(alloc, 0, log.lines(), &[], Sort::Reports)?;
-    let mut read = HashSet::new(alloc);
-    let mut unreported: u64 = 0;
-    for line in log.lines() {
-        let new = is_first_read(&mut read, line.call)?;
-        if new && is_of_others(&reports, line.call.version(), opts.start()) {
-            unreported += 1;
-        }
+    let lines = log.lines();
+    let mut known = HashSet::new(alloc);
+    known.insert(opts.start())?;
+    for line in lines {
+        add(&mut known, line.call, line.call.reports())?;
     }
-    Ok(unreported)
+    let reported = known.len();
+    for line in lines {
+        add(&mut known, line.call, line.call.is_read())?;
+    }
+    Ok((known.len() - reported) as u64)
 }
 
-/// Whether a call is the first to read its version; from here on that has been read.
-fn is_first_read(read: &mut HashSet<u64>, call: Call) -> Result<bool, AllocError>
-    ensures first { IfOk result (λ new. new
-        ≡ (is_read (kind_of call) && not (contains nat_eq read.old (version_of call)))) }
-    ensures read { OnOk result ((v : ℕ) → contains nat_eq read.new v
-        ≡ ((is_read (kind_of call) && version_of call == v) || contains nat_eq read.old v)) }
+/// Adds the version of a call, if it is wanted.
+fn add(versions: &mut HashSet<u64>, call: Call, wanted: bool) -> Result<(), AllocError>
+    ensures versions { OnOk result ((v : ℕ) → contains nat_eq versions.new v
+        ≡ ((wanted && version_of call == v) || contains nat_eq versions.old v)) }
+    ensures more { OnOk result (hash_set_len versions.new ≡ hash_set_len versions.old
+        + cond (wanted && not (contains nat_eq versions.old (version_of call))) 1 0) }
 {
-    if !call.is_read() {
-        return Ok(false);
+    if wanted {
+        versions.insert(call.version())?;
     }
-    let new = read.insert(call.version())?;
-    Ok(new)
-}
-
-/// Whether a version is not the start, and no line reports it.
-fn is_of_others(reports: &Marks, version: u64, start: u64) -> bool
-    ensures { (log : Lines) (opts : AuditOpts) → start ≡ start_of opts.complete
-        → AreMarks Reports 0 log.lines [] (length log.lines) reports.now.marks.items
-        → result ≡ (not (version == start) && not (is_reported (case_of log opts) version)) }
-{
-    version != start && reports.first(version, 0, 0).is_none()
+    Ok(())
 }

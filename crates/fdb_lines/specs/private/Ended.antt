@@ -1,5 +1,5 @@
 -- Calls that ended, of which those before a moment are counted.
-use Rattle.std.specs.Prelude.{◌≡◌, ℕ, ◌==◌, ◌&&◌, ◌||◌, nat_lt, Bool, false, List, Option, None, Some, count_by}
+use Rattle.std.specs.Prelude.{◌≡◌, ℕ, ◌==◌, ◌&&◌, ◌||◌, nat_lt, Bool, true, false, List, Option, None, Some, count_by}
 use Rattle.fdb_lines.specs.declared.end.End.{End}
 use Rattle.fdb_lines.specs.declared.line.Line.{Line}
 use Rattle.fdb_lines.specs.Before.{ended}
@@ -7,43 +7,31 @@ use Rattle.fdb_lines.specs.Lines.{line_at}
 use Rattle.fdb_lines.specs.Summary.{tally}
 use Rattle.fdb_lines.specs.private.Ends.{is_earlier}
 
--- ---- of all clients
+-- in which group of the table a line's end stands, if in any: in its client's, or in that of all
+abbrev pub group_in : Bool → Option ℕ → Option ℕ
+group_in true client = client
+group_in false client = Some 0
 
-abbrev pub had_ended : Option ℕ → ℕ → Bool
-had_ended None time = false
-had_ended (Some end) time = nat_lt end time
+-- an order by groups, where both are known, and in a group by a test
+abbrev pub by_group : Option ℕ → Option ℕ → Bool → Bool
+by_group None group earlier = false
+by_group (Some a) None earlier = false
+by_group (Some a) (Some b) earlier = nat_lt a b || (a == b && earlier)
 
-abbrev pub count_before : List ℕ → ℕ → ℕ
-count_before times time = count_by (λ end. nat_lt end time) times
+-- whether what ended stands before a moment of a group in the table: by group, and then by time and place
+abbrev pub stands_before : Option ℕ → ℕ → ℕ → Option ℕ → Option ℕ → ℕ → Bool
+stands_before group time place of_group None above = false
+stands_before group time place of_group (Some end) above = by_group of_group group (is_earlier end above time place)
 
--- when those of the first n lines ended
-abbrev pub HasTimes : List Line → ℕ → List ℕ → Type 0
-HasTimes lines n times = (time : ℕ) → count_before times time ≡ tally (λ j. had_ended (ended (line_at lines j)) time) n
+abbrev pub count_before : List End → Option ℕ → ℕ → ℕ → ℕ
+count_before ends group time place =
+    count_by (λ (end : End). stands_before group time place (Some end.group) (Some end.time) end.place) ends
 
--- ---- by client
+-- the same of the end of a line at a place
+abbrev pub line_before : Bool → Line → ℕ → Option ℕ → ℕ → ℕ → Bool
+line_before by_client line above group time place = stands_before group time place (group_in by_client line.client) (ended line) above
 
--- whether an end stands above a client's moment in the table: by client, and then by time and place
-abbrev pub stands_above : ℕ → ℕ → ℕ → ℕ → ℕ → ℕ → Bool
-stands_above client time place of_client end above = nat_lt of_client client || (of_client == client && is_earlier end above time place)
-
-abbrev pub count_above : List End → ℕ → ℕ → ℕ → ℕ
-count_above ends client time place = count_by (λ (end : End). stands_above client time place end.group end.time end.place) ends
-
-abbrev pub has_above : Option ℕ → Option ℕ → ℕ → ℕ → ℕ → ℕ → Bool
-has_above None end above client time place = false
-has_above (Some of_client) None above client time place = false
-has_above (Some of_client) (Some end) above client time place = stands_above client time place of_client end above
-
--- whether the line at a place is of a known client and ended, and its end stands above a moment
-abbrev pub ended_above : Line → ℕ → ℕ → ℕ → ℕ → Bool
-ended_above line above client time place = has_above line.client (ended line) above client time place
-
--- the same of what is or is not an end
-abbrev pub end_above : Option End → ℕ → ℕ → ℕ → Bool
-end_above None client time place = false
-end_above (Some end) client time place = stands_above client time place end.group end.time end.place
-
--- the ends of the first n lines that are of known clients
-abbrev pub HasEnds : List Line → ℕ → List End → Type 0
-HasEnds lines n ends =
-    (client time place : ℕ) → count_above ends client time place ≡ tally (λ j. ended_above (line_at lines j) j client time place) n
+-- the ends of the first n lines, by client or as of one group
+abbrev pub HasEnds : Bool → List Line → ℕ → List End → Type 0
+HasEnds by_client lines n ends =
+    (group : Option ℕ) (time place : ℕ) → count_before ends group time place ≡ tally (λ j. line_before by_client (line_at lines j) j group time place) n

@@ -1,22 +1,22 @@
-use Rattle.std.proofs.Common.{cond, nat_lt, rules, ◌∙◌}
-use Rattle.std.proofs.lemmas.List.Sorted.{sum_by-IsPermutation, IsNonDecreasingBy-from_sort, IsNonDecreasingBy-from_sort_by}
+use Rattle.std.proofs.Common.{◌≡◌, Some, length, cond, rules, arith, add-one, refl, ◌∙◌}
+use Rattle.std.proofs.lemmas.List.Sorted.{sum_by-IsPermutation, IsNonDecreasingBy-from_sort_by}
 use Rattle.fdb_lines.specs.declared.end.End.{End}
-use Rattle.fdb_lines.specs.private.Ended.{stands_above}
+use Rattle.fdb_lines.specs.private.Ended.{stands_before}
 use Rattle.fdb_lines.specs.private.Ends.{end_key}
+use Rattle.fdb_lines.proofs.Tallies.{item_at}
 use Rattle.fdb_lines.proofs.ended.Ended.new.Goals as goal
 
+pub loop-place-preserved : goal.loop-place-preserved
+loop-place-preserved c = λ group time place.
+    let lines = c.args.lines.now in
+    let at = item_at lines lines c.loop-place.place c.index-lines-place.result refl c.loop-place-test.true c.index-lines-place.is in
+    rw add-one (omega (arith, rw at at (c.in_ok-add.ensures group time place), c.loop-place.invariant group time place))
+
 pub invariant_of-result : goal.invariant_of-result
-invariant_of-result c = record {
-  in_order = IsNonDecreasingBy-from_sort (λ x. x) _ c.sort_unstable.ensures.sorted;
-  own_in_order = IsNonDecreasingBy-from_sort_by end_key _ c.sort_unstable_by.ensures.sorted (λ a r f k. search rules);
-}
+invariant_of-result c = record { in_order = IsNonDecreasingBy-from_sort_by end_key _ c.sort_unstable_by.ensures.sorted (λ a r f k. search rules) }
 
-pub returns-clause-times : goal.returns-clause-times
-returns-clause-times c = λ time.
-    sum_by-IsPermutation (λ end. cond (nat_lt end time) 1 0) c.in_ok-times.times.items c.sort_unstable.new.self.items c.sort_unstable.ensures.permutation
-    ∙ c.in_ok-times.ensures time
-
-pub returns-clause-own : goal.returns-clause-own
-returns-clause-own c = λ client time place.
-    sum_by-IsPermutation (λ (end : End). cond (stands_above client time place end.group end.time end.place) 1 0) c.in_ok-own.own.items c.sort_unstable_by.new.self.items c.sort_unstable_by.ensures.permutation
-    ∙ c.in_ok-own.ensures client time place
+pub returns : goal.returns
+returns c = λ group time place.
+    let all : c.loop-place.place ≡ length c.args.lines.now = omega arith in
+    sum_by-IsPermutation (λ (end : End). cond (stands_before group time place (Some end.group) (Some end.time) end.place) 1 0) _ _ c.sort_unstable_by.ensures.permutation
+    ∙ rw all at (c.loop-place.invariant group time place)
