@@ -6,7 +6,6 @@ pub mod Versions
 pub mod Code
 pub mod Owners
 pub mod Tables
-pub mod Late
 pub mod Spots
 pub mod Marks
 pub mod Lookup

@@ -1,14 +1,16 @@
-use Rattle.std.proofs.Common.{◌∙◌, ◌<◌, ◌+◌, ◌++◌, sym, ap, drop, length, arith}
-use Rattle.fdb_lines.specs.private.Spots.{above_at, turns_from}
-use Rattle.fdb_lines.proofs.Arranged.{turn_more}
+use Rattle.std.proofs.Common.{◌∷◌, ◌++◌, ◌+◌, ◌∙◌, Some, ap, append_assoc, drop, sym}
+use Rattle.std.proofs.lemmas.List.{at_drop_more}
+use Rattle.fdb_lines.specs.private.Spots.{turn_by, turns_from}
 use Rattle.fdb_lines.proofs.ordering.turns_in.Goals as goal
 
-pub loop-i-preserved : goal.loop-i-preserved
-loop-i-preserved c =
-    let spots = c.args.spots.now in
-    let i = c.loop-i.i in
-    let spot = c.index-spots-i in
-    let test = c.loop-i-test.true in
-    let lt : i < length spots = omega arith in
-    ap (λ l. l ++ turns_from (above_at spots (i + 1)) (drop (i + 1) spots)) c.in_ok-add_turn.ensures
-    ∙ (sym (turn_more spots i spot.result lt spot.is c.loop-i.turns.items c.shares.result (c.shares.ensures spot.result spot.is)) ∙ c.loop-i.invariant)
+pub loop-spot-preserved : goal.loop-spot-preserved
+loop-spot-preserved c =
+    let turns = c.loop-spot.turns.items in
+    let spot = c.spot-item.result in
+    let left = drop (c.loop-spot.spot-index + 1) c.args.spots.now in
+    let rest = turns_from (Some spot.key) left in
+    let here = at_drop_more (turns_from c.loop-spot.above) c.args.spots.now c.loop-spot.spot-index spot c.loop-spot-test.true
+    ∙ ap (λ s. turns_from c.loop-spot.above (s ∷ left)) (sym c.spot-item.is)
+    ∙ ap (λ b. turn_by b spot ++ rest) (sym c.eq-shared.ensures) in
+    ap (λ l. l ++ rest) c.in_ok-add_turn.ensures ∙ append_assoc turns (turn_by c.eq-shared.result spot) rest
+    ∙ ap (λ l. turns ++ l) (sym here) ∙ c.loop-spot.invariant
