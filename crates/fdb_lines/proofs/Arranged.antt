@@ -39,20 +39,17 @@ stages x y = grind arith
 stage_small : (stage : Stage) → stage_number stage < 4
 stage_small stage = grind arith
 
-compared : (x y : Spot) → cmp-value.it x.key y.key ≡ ordering_then (nat_cmp (item_of x).stage (item_of y).stage) (nat_cmp (item_of x).rank (item_of y).rank)
-compared x y =
+less : (x y : Spot) → cmp-value.it x.key y.key ≡ Less → KeyLess (item_of x) (item_of y)
+less x y e =
     let fx = x.key.fits in
     let fy = y.key.fits in
     let sx = stage_small x.key.stage in
     let sy = stage_small y.key.stage in
-    let e = stages x.key.stage y.key.stage in
+    let s = stages x.key.stage y.key.stage in
     grind (arith, nat_tests)
 
-less : (x y : Spot) → cmp-value.it x.key y.key ≡ Less → KeyLess (item_of x) (item_of y)
-less x y e = let h = compared x y in grind (arith, nat_tests)
-
 one_same : (x y : Spot) → is_one x y ≡ true → SameKey (item_of x) (item_of y)
-one_same x y e = let h = compared x y in let m = matches_eq-law x.key y.key in (grind (arith, nat_tests), grind (arith, nat_tests))
+one_same x y e = (grind (arith, nat_tests), grind (arith, nat_tests))
 
 in_all : (P : Item → Type 0) (ss : List Spot) → All (λ s. P (item_of s)) ss → (x : Item) → In x (map item_of ss) → P x
 in_all P [] all x i = absurd i

@@ -1,6 +1,7 @@
 -- The turns of spots: their acts, whose they are, and that the spot of a line has one.
 use Rattle.std.proofs.Common.{◌≡◌, ℕ, suc, zero, Bool, true, false, cond, List, [], ◌∷◌, ◌++◌, map, Option, Some, None, is_some, not, ◌||◌, refl, ap, sym, subst, ◌∙◌, inl, inr, arith, All, Contains}
 use Rattle.std.proofs.lemmas.Bool.{cond_both}
+use Rattle.std.proofs.lemmas.Bool.Decides.{nat_tests}
 use Rattle.std.proofs.lemmas.List.Elements.{All-append, All-cons, All-nil, All-tail}
 use Rattle.std.specs.List.{dedup, dedup_from}
 use Rattle.std.specs.Option.{option_eq}
@@ -50,12 +51,10 @@ turned_all P above (s ∷ ss) all =
 pub turned_one : (above : Option Key) (ss : List Spot) (s : Spot) (k : ℕ) → Contains ss s → s.line ≡ Some k → HasTurn (turns_from above ss) k s.act
 turned_one above [] s k h e = absurd (omega (arith, h.1))
 turned_one above (x ∷ ss) s k (zero, lt, is) e =
-    let turn : Bool → Option ℕ → Turn = λ b line. record { act = x.act; line = line; shared = b } in
-    subst (λ z. HasTurn (turns_from above (x ∷ ss)) k z.act) is
-    (elim (option_eq eq-value.it (Some x.key) above) as (λ b. HasTurn (cond (not b || is_some x.line) (turn b x.line ∷ []) [] ++ turns_from (Some x.key) ss) k x.act) [
-      | true ↦ subst (λ o. HasTurn (cond (is_some o) (turn true o ∷ []) [] ++ turns_from (Some x.key) ss) k x.act) (sym (ap (λ z. z.line) is ∙ e)) (inl (refl, refl))
-      | false ↦ inl (ap (λ z. z.line) is ∙ e, refl)
-    ])
+    let own : x.line ≡ Some k = ap (λ z. z.line) is ∙ e in
+    let shared = option_eq eq-value.it (Some x.key) above in
+    cond_both (not shared || is_some x.line) _ [] (λ ts. HasTurn (ts ++ turns_from (Some x.key) ss) k s.act) (λ _. inl (own, ap (λ z. z.act) is))
+    (λ dropped. absurd (let some = ap is_some own in grind (arith, nat_tests)))
 turned_one above (x ∷ ss) s k (suc j, lt, is) e =
     let rest = turned_one (Some x.key) ss s k (j, omega arith, is) e in
     cond_both (not (option_eq eq-value.it (Some x.key) above) || is_some x.line) _ [] (λ ts. HasTurn (ts ++ turns_from (Some x.key) ss) k s.act) (λ _. inr rest) (λ _. rest)
