@@ -41,12 +41,8 @@ stage_small stage = grind arith
 
 less : (x y : Spot) → cmp-value.it x.key y.key ≡ Less → KeyLess (item_of x) (item_of y)
 less x y e =
-    let fx = x.key.fits in
-    let fy = y.key.fits in
-    let sx = stage_small x.key.stage in
-    let sy = stage_small y.key.stage in
     let s = stages x.key.stage y.key.stage in
-    grind (arith, nat_tests)
+    grind (arith, nat_tests, stage_small)
 
 one_same : (x y : Spot) → is_one x y ≡ true → SameKey (item_of x) (item_of y)
 one_same x y e = (grind (arith, nat_tests), grind (arith, nat_tests))

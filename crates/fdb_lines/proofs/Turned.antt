@@ -26,13 +26,10 @@ from_one x y (s ∷ ss) e =
 acts_after : (x : Spot) (ss : List Spot) → x.act ∷ acts_of (turns_from (Some x.key) ss) ≡ map (λ z. z.act) (map item_of (dedup_from is_one x ss))
 acts_after x [] = refl
 acts_after x (s ∷ ss) =
-    elim (is_one s x) as (λ b. is_one s x ≡ b → x.act ∷ acts_of (turn_by b s ++ turns_from (Some s.key) ss)
-    ≡ map (λ z. z.act) (map item_of (cond b (dedup_from is_one x ss) (x ∷ dedup_from is_one s ss)))) [
-      | true ↦ λ e.
-          cond_both (is_some s.line) _ [] (λ ts. x.act ∷ acts_of (ts ++ turns_from (Some s.key) ss) ≡ x.act ∷ acts_of (turns_from (Some s.key) ss)) (λ _. refl) (λ _. refl)
-          ∙ ap (λ ts. x.act ∷ acts_of ts) (from_one s.key x.key ss e) ∙ acts_after x ss
-      | false ↦ λ e. ap (λ l. x.act ∷ l) (acts_after s ss)
-    ] refl
+    let same = from_one s.key x.key ss in
+    let one = acts_after x ss in
+    let two = acts_after s ss in
+    grind arith
 
 pub turned_acts : (ss : List Spot) → acts_of (turns_from None ss) ≡ map (λ z. z.act) (map item_of (dedup is_one ss))
 turned_acts [] = refl

@@ -6,7 +6,7 @@ ghost use Rattle.fdb_lines.specs.Audit.{AreExplained, case_of};
 ghost use Rattle.fdb_lines.specs.Explained.{Explains};
 ghost use Rattle.fdb_lines.specs.Log.{lines_of};
 ghost use Rattle.fdb_lines.specs.Turns.{acts_of, AreTurnsOf, HaveTurns};
-ghost use Rattle.fdb_lines.specs.private.Spots.{entries_below, entry_of, turn_by, turns_from};
+ghost use Rattle.fdb_lines.specs.private.Spots.{entries_below, entry_of, turns_from};
 
 use crate::judging::first_fault;
 use crate::log::Log;
@@ -74,23 +74,15 @@ fn turns_in(alloc: Global, spots: &[Spot]) -> Result<Vec<Turn>, AllocError>
     let mut above = None;
     for spot in spots {
         let shared = Some(spot.key) == above;
-        add_turn(&mut turns, shared, spot)?;
         above = Some(spot.key);
+        if shared && spot.line.is_none() {
+            continue;
+        }
+        turns.push(Turn {
+            act: spot.act,
+            line: spot.line,
+            shared,
+        })?;
     }
     Ok(turns)
-}
-
-/// Adds the turn of a spot. Others have none beside a line.
-fn add_turn(turns: &mut Vec<Turn>, shared: bool, spot: &Spot) -> Result<(), AllocError>
-    ensures { OnOk result (turns.new.items ≡ turns.old.items ++ turn_by shared spot.now) }
-{
-    if shared && spot.line.is_none() {
-        return Ok(());
-    }
-    turns.push(Turn {
-        act: spot.act,
-        line: spot.line,
-        shared,
-    })?;
-    Ok(())
 }
