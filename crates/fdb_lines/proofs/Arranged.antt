@@ -1,5 +1,5 @@
 -- Spots in order are an order of the acts.
-use Rattle.std.proofs.Common.{◌≡◌, ℕ, zero, suc, ◌<◌, ◌≤◌, Bool, true, false, cond, List, [], ◌∷◌, ◌++◌, map, length, Option, Some, None, refl, ap, sym, subst, ◌∙◌, inl, inr, arith, All, Contains, IsPermutation, option_to_list}
+use Rattle.std.proofs.Common.{◌≡◌, ℕ, zero, suc, ◌<◌, ◌≤◌, Bool, true, false, cond, List, [], ◌∷◌, map, length, Option, Some, None, refl, ap, sym, subst, ◌∙◌, inl, inr, arith, All, Contains, IsPermutation, option_to_list}
 use Rattle.std.proofs.lemmas.Bool.Decides.{nat_tests}
 use Rattle.std.specs.Ordering.{nat_cmp, ordering_then, on, is_lt}
 use Rattle.std.specs.declared.cmp.Ordering.{Ordering}
@@ -19,6 +19,7 @@ use Rattle.fdb_lines.specs.contracts.spot.KeyOrd.TheImpl.{cmp-value}
 use Rattle.fdb_lines.specs.contracts.spot.KeyOrd.TheImpl.Laws.{total-law, matches_eq-law}
 use Rattle.fdb_lines.specs.declared.spot.Spot.{Spot}
 use Rattle.fdb_lines.specs.declared.spot.Stage.{Stage}
+use Rattle.fdb_lines.specs.declared.turn.Turn.{Turn}
 use Rattle.fdb_lines.specs.declared.act.Act.TheVariants.{Asks}
 use Rattle.fdb_lines.specs.Explained.{Explains}
 use Rattle.fdb_lines.specs.Lines.{Case, draws, kind_at, shows, version_at}
@@ -79,13 +80,15 @@ all_if P b e h = cond_both b (Some e) None (λ o. All P (option_to_list o)) (λ 
 needed : (c : Case) → HasNone c → (i : ℕ) → i ≤ length c.lines → All (IsNeeded c) (entries_below c i)
 needed c none zero le = All-nil (IsNeeded c)
 needed c none (suc k) le =
-    let ask = all_if (IsNeeded c) (needs_ask c k) _ (λ need. (
-      AskedBy k (omega arith) need refl,
-      cond_both (draws (kind_at c k)) (Some k) None (IsActOf c (Asks (version_at c k))) (λ d. (omega arith, inl (d, refl))) (λ _. tt),
-    )) in
-    let take = all_if (IsNeeded c) (shows (kind_at c k)) _ (λ s. (origin_take c (spot_rank c.lines) k (omega arith) s, (omega arith, inr (s, take_act (kind_at c k) _ _ _)))) in
-    let report = all_if (IsNeeded c) (needs_report c k) _ (λ need. (origin_report c (spot_rank c.lines) none k (omega arith) need, tt)) in
-    All-append (IsNeeded c) _ _ (All-append (IsNeeded c) _ _ (All-append (IsNeeded c) _ _ (needed c none k (omega arith)) ask) take) report
+    let lt : k < length c.lines = omega arith in
+    All-append (IsNeeded c) _ _ (All-append (IsNeeded c) _ _ (All-append (IsNeeded c) _ _
+    (needed c none k (omega arith))
+    (all_if (IsNeeded c) (needs_ask c k) _ (λ need. (
+      AskedBy k lt need refl,
+      cond_both (draws (kind_at c k)) (Some k) None (IsActOf c (Asks (version_at c k))) (λ d. (lt, inl (d, refl))) (λ _. tt),
+    ))))
+    (all_if (IsNeeded c) (shows (kind_at c k)) _ (λ s. (origin_take c (spot_rank c.lines) k lt s, (lt, inr (s, take_act (kind_at c k) _ _ _))))))
+    (all_if (IsNeeded c) (needs_report c k) _ (λ need. (origin_report c (spot_rank c.lines) none k lt need, tt)))
 
 has_if : (b : Bool) (e : Item × Option ℕ) → b ≡ true → Contains (option_to_list (cond b (Some e) None)) e
 has_if b e t = subst (λ b. Contains (option_to_list (cond b (Some e) None)) e) (sym t) (0, omega arith, refl)
@@ -99,13 +102,13 @@ has_below c k (suc n) e lt h =
     ]
 
 has_ask : (c : Case) (k : ℕ) → needs_ask c k ≡ true → Contains (entries_below c (suc k)) (ask_item (version_at c k), cond (draws (kind_at c k)) (Some k) None)
-has_ask c k need = Contains-append_left _ _ _ (Contains-append_left _ _ _ (Contains-append_right (entries_below c k) _ _ (has_if (needs_ask c k) _ need)))
+has_ask c k need = search (Contains-append_left, Contains-append_right, has_if)
 
 has_take : (c : Case) (k : ℕ) → shows (kind_at c k) ≡ true → Contains (entries_below c (suc k)) (take_item c (spot_rank c.lines) k, Some k)
-has_take c k s = Contains-append_left _ _ _ (Contains-append_right (entries_below c k ++ _) _ _ (has_if (shows (kind_at c k)) _ s))
+has_take c k s = search (Contains-append_left, Contains-append_right, has_if)
 
 has_report : (c : Case) (k : ℕ) → needs_report c k ≡ true → Contains (entries_below c (suc k)) (shared_item (version_at c k), None)
-has_report c k need = Contains-append_right (entries_below c k ++ _ ++ _) _ _ (has_if (needs_report c k) _ need)
+has_report c k need = search (Contains-append_left, Contains-append_right, has_if)
 
 unmapped : (ss : List Spot) (e : Item × Option ℕ) → Contains (map entry_of ss) e → (s : Spot) × Contains ss s × (entry_of s ≡ e)
 unmapped [] e h = absurd (omega (arith, h.1))
@@ -147,7 +150,7 @@ module _ (c : Case) (ranked : IsRanked c (spot_rank c.lines)) (none : HasNone c)
         λ own. subst (λ x. HasTurn (turns_from None spots) k x.0.act) s.2 (turned_one None spots s.0 k s.1 (ap (λ x. x.1) s.2 ∙ own)),
       )
 
-  pub explain : Explains c (acts_of (turns_from None spots))
+  explain : Explains c (acts_of (turns_from None spots))
   explain =
       subst (Explains c) (sym (turned_acts spots)) (explained_by c (spot_rank c.lines) ranked none items record {
         rises = rises spots sorted;
@@ -157,11 +160,13 @@ module _ (c : Case) (ranked : IsRanked c (spot_rank c.lines)) (none : HasNone c)
         reports = λ k lt need. (found k _ lt (has_report c k need)).0;
       })
 
-  pub are_turns : AreTurnsOf c (turns_from None spots)
-  are_turns = turned_all (IsActOf c) None spots (λ k d lt. (all k d lt).1)
-
-  pub have_turns : HaveTurns c (turns_from None spots)
+  have_turns : HaveTurns c (turns_from None spots)
   have_turns k lt = (
     λ d. (found k _ lt (has_ask c k (asks_drawn c k d))).1 (ap (λ b. cond b (Some k) None) d),
     λ s. subst (HasTurn (turns_from None spots) k) (take_act (kind_at c k) _ _ _) ((found k _ lt (has_take c k s)).1 refl),
   )
+
+  pub arranged : (turns : List Turn) → turns ≡ turns_from None spots → Explains c (acts_of turns) × AreTurnsOf c turns × HaveTurns c turns
+  arranged turns e =
+      subst (λ ts. Explains c (acts_of ts) × AreTurnsOf c ts × HaveTurns c ts) (sym e)
+      (explain, turned_all (IsActOf c) None spots (λ k d lt. (all k d lt).1), have_turns)

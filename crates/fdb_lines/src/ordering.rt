@@ -33,6 +33,7 @@ pub fn order(alloc: Global, log: &Log, opts: &AuditOpts) -> Result<Option<Vec<Tu
         return Ok(None);
     }
     let mut spots = spots_of(alloc, log, opts)?;
+    // Others come after the lines that share their act.
     spots.sort_unstable_by_key(|spot| (spot.key, spot.line.is_none(), spot.line));
     let turns = turns_in(alloc, &spots)?;
     Ok(Some(turns))
@@ -66,7 +67,7 @@ fn add_spot(spots: &mut Vec<Spot>, spot: Option<Spot>) -> Result<(), AllocError>
     Ok(())
 }
 
-/// The turns of spots, in their order. Others have none beside a line.
+/// The turns of spots, in their order. Others have none beside a line that did the same.
 fn turns_in(alloc: Global, spots: &[Spot]) -> Result<Vec<Turn>, AllocError>
     ensures { IfOk result (λ turns. turns.items ≡ turns_from None spots.now) }
 {

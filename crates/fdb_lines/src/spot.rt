@@ -1,7 +1,6 @@
 //! Where an act stands in an order.
 
 ghost use Rattle.std.specs.Prelude.{◌≡◌, ◌<◌, ◌^◌, Some, option_map};
-ghost use Rattle.fdb_lines.specs.Before.{began};
 
 use crate::act::Act;
 use crate::line::{Call, Line};
@@ -46,13 +45,10 @@ impl Spot {
     fn sharing(level: u64, stage: Stage, act: Act, line: Option<u32>) -> Self
         ensures { entry_of result ≡ (item_by level stage 0 0 act, line) }
     {
-        let key = Key {
-            level,
-            stage,
-            began: 0,
-            place: 0,
-        };
-        Spot { key, act, line }
+        Spot {
+            line,
+            ..Spot::single(level, stage, 0, 0, act)
+        }
     }
 
     /// An act of one line alone, which stands by when that began.
