@@ -1,31 +1,29 @@
 -- Spots in order are an order of the acts.
 use Rattle.std.proofs.Common.{◌≡◌, ℕ, zero, suc, ◌<◌, ◌≤◌, Bool, true, false, cond, List, [], ◌∷◌, map, length, Option, Some, None, refl, ap, sym, subst, ◌∙◌, inl, inr, arith, All, Contains, IsPermutation, option_to_list}
 use Rattle.std.proofs.lemmas.Bool.Decides.{nat_tests}
-use Rattle.std.specs.Ordering.{nat_cmp, ordering_then, on, is_lt}
+use Rattle.std.specs.Ordering.{ordering_then, on, is_lt}
 use Rattle.std.specs.declared.cmp.Ordering.{Ordering}
 use Rattle.std.specs.declared.cmp.Ordering.TheVariants.{Less}
-use Rattle.std.specs.List.{dedup}
+use Rattle.std.specs.List.{AllByRecursion, dedup}
 use Rattle.std.specs.List.Sorted.{IsSorted, IsStrictlySortedBy}
 use Rattle.std.proofs.lemmas.Bool.{cases_lt, cond_both}
 use Rattle.std.proofs.lemmas.Cmp.{on_total, on_equiv}
 use Rattle.std.proofs.lemmas.List.{get_or-map, length-map}
-use Rattle.std.proofs.lemmas.List.Elements.{All-append, All-cons, All-contains, All-from_recursion, All-nil, All-tail, All-weaker, Contains-append_left, Contains-append_right}
+use Rattle.std.proofs.lemmas.List.Elements.{All-append, All-cons, All-contains, All-nil, Contains-append_left, Contains-append_right, recursion_from_All}
 use Rattle.std.proofs.lemmas.List.Filters.{All-dedup}
 use Rattle.std.proofs.lemmas.List.Sorted.{All-permutation, Contains-permutation}
 use Rattle.std.proofs.lemmas.List.Kept.{Any-dedup, IsStrictlySortedBy-dedup}
-use Rattle.fdb_lines.specs.contracts.spot.StageOrd.TheImpl.{cmp-value as stage_cmp}
 use Rattle.fdb_lines.specs.contracts.spot.KeyEq.TheImpl.Laws.{laws-law}
 use Rattle.fdb_lines.specs.contracts.spot.KeyOrd.TheImpl.{cmp-value}
 use Rattle.fdb_lines.specs.contracts.spot.KeyOrd.TheImpl.Laws.{total-law, matches_eq-law}
 use Rattle.fdb_lines.specs.declared.spot.Spot.{Spot}
-use Rattle.fdb_lines.specs.declared.spot.Stage.{Stage}
 use Rattle.fdb_lines.specs.declared.turn.Turn.{Turn}
 use Rattle.fdb_lines.specs.declared.act.Act.TheVariants.{Asks}
 use Rattle.fdb_lines.specs.Explained.{Explains}
 use Rattle.fdb_lines.specs.Lines.{Case, draws, kind_at, shows, version_at}
 use Rattle.fdb_lines.specs.Order.{Item, IsRanked, ask_item, needs_ask, needs_report, shared_item, take_item}
 use Rattle.fdb_lines.specs.Turns.{acts_of, AreTurnsOf, HasTurn, HaveTurns, IsActOf}
-use Rattle.fdb_lines.specs.private.Spots.{entries_below, entry_of, item_of, spot_rank, stage_number, turns_from}
+use Rattle.fdb_lines.specs.private.Spots.{entries_below, entry_of, item_of, spot_rank, turns_from}
 use Rattle.fdb_lines.proofs.Complete.{explained_by}
 use Rattle.fdb_lines.proofs.Facts.{HasNone, take_act}
 use Rattle.fdb_lines.proofs.Legal.{Origin, Asked as AskedBy, asks_drawn, origin_take, origin_report, same_items}
@@ -34,35 +32,21 @@ use Rattle.fdb_lines.proofs.Turned.{is_one, turned_acts, turned_all, turned_one}
 
 -- ---- keys
 
-stages : (x y : Stage) → stage_cmp.it x y ≡ nat_cmp (stage_number x) (stage_number y)
-stages x y = grind arith
-
-stage_small : (stage : Stage) → stage_number stage < 4
-stage_small stage = grind arith
-
 less : (x y : Spot) → cmp-value.it x.key y.key ≡ Less → KeyLess (item_of x) (item_of y)
-less x y e =
-    let s = stages x.key.stage y.key.stage in
-    grind (arith, nat_tests, stage_small)
+less x y e = grind (arith, nat_tests)
 
 one_same : (x y : Spot) → is_one x y ≡ true → SameKey (item_of x) (item_of y)
 one_same x y e = (grind (arith, nat_tests), grind (arith, nat_tests))
 
-in_all : (P : Item → Type 0) (ss : List Spot) → All (λ s. P (item_of s)) ss → (x : Item) → In x (map item_of ss) → P x
-in_all P [] all x i = absurd i
-in_all P (s ∷ ss) all x (inl e) = subst P (sym e) (all 0 s (omega arith))
-in_all P (s ∷ ss) all x (inr i) = in_all P ss (All-tail (λ (z : Spot). P (item_of z)) s ss all) x i
+in_all : (P : Spot → Type 0) (Q : Item → Type 0) → ((s : Spot) → P s → Q (item_of s)) → (ss : List Spot) → AllByRecursion P ss → (x : Item) → In x (map item_of ss) → Q x
+in_all P Q f [] all x i = absurd i
+in_all P Q f (s ∷ ss) all x (inl e) = subst Q (sym e) (f s all.0)
+in_all P Q f (s ∷ ss) all x (inr i) = in_all P Q f ss all.1 x i
 
 rising : (ss : List Spot) → IsStrictlySortedBy (on (λ s. s.key) cmp-value.it) ss → Rises (map item_of ss)
 unfolding IsStrictlySortedBy
 rising [] h = tt
-rising (s ∷ ss) h =
-    let later : All (λ t. KeyLess (item_of s) (item_of t)) ss =
-    All-weaker (λ (t : Spot). cmp-value.it s.key t.key ≡ Less) (λ (t : Spot). KeyLess (item_of s) (item_of t)) (less s) ss (All-from_recursion (λ (t : Spot). cmp-value.it s.key t.key ≡ Less) ss h.0) in
-    (in_all (KeyLess (item_of s)) ss later, rising ss h.1)
-
-rises : (ss : List Spot) → IsSorted (on (λ s. s.key) cmp-value.it) ss → Rises (map item_of (dedup is_one ss))
-rises ss sorted = rising (dedup is_one ss) (IsStrictlySortedBy-dedup (on_total (λ s. s.key) total-law) (λ x y. matches_eq-law x.key y.key) ss sorted)
+rising (s ∷ ss) h = (in_all (λ t. cmp-value.it s.key t.key ≡ Less) (KeyLess (item_of s)) (less s) ss h.0, rising ss h.1)
 
 -- what is in order by the key and then by something else is in order by the key
 pub by_key : (o rest : Ordering) → is_lt (ordering_then o rest) ≡ false → is_lt o ≡ false
@@ -134,8 +118,8 @@ module _ (c : Case) (ranked : IsRanked c (spot_rank c.lines)) (none : HasNone c)
 
   origins : (x : Item) → In x items → Origin c (spot_rank c.lines) x
   origins =
-      let from : Item → Type 0 = Origin c (spot_rank c.lines) in
-      in_all from (dedup is_one spots) (All-dedup is_one (λ s. from (item_of s)) spots (λ k d lt. (all k d lt).0))
+      in_all (λ s. IsNeeded c (entry_of s)) (Origin c (spot_rank c.lines)) (λ s need. need.0) (dedup is_one spots)
+      (recursion_from_All (λ s. IsNeeded c (entry_of s)) (dedup is_one spots) (All-dedup is_one (λ s. IsNeeded c (entry_of s)) spots all))
 
   -- an act that a line needs is there, and its turn, if it is of a line
   found : (k : ℕ) (e : Item × Option ℕ) → k < length c.lines → Contains (entries_below c (suc k)) e
@@ -153,7 +137,7 @@ module _ (c : Case) (ranked : IsRanked c (spot_rank c.lines)) (none : HasNone c)
   explain : Explains c (acts_of (turns_from None spots))
   explain =
       subst (Explains c) (sym (turned_acts spots)) (explained_by c (spot_rank c.lines) ranked none items record {
-        rises = rises spots sorted;
+        rises = rising (dedup is_one spots) (IsStrictlySortedBy-dedup (on_total (λ s. s.key) total-law) (λ x y. matches_eq-law x.key y.key) spots sorted);
         origins = origins;
         asks = λ k lt need. (found k _ lt (has_ask c k need)).0;
         takes = λ k lt s. (found k _ lt (has_take c k s)).0;
