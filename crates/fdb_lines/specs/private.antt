@@ -5,7 +5,6 @@ pub mod Known
 pub mod Telling
 pub mod Marks
 pub mod Tables
-pub mod Late
 pub mod Spots
 pub mod Ended
 pub mod Counts

@@ -1,31 +1,22 @@
-use Rattle.std.proofs.Common.{◌≡◌, length, ap, sym, ◌++◌, ◌∙◌, arith, add-one}
+use Rattle.std.proofs.Common.{◌≡◌, ◌<◌, ◌++◌, ◌∙◌, ap, sym, get_or, length, add-one, option_to_list, arith}
+use Rattle.std.proofs.lemmas.List.{get_or_default}
 use Rattle.fdb_lines.specs.Audit.{case_of}
+use Rattle.fdb_lines.specs.Faults.{is_reported, knows}
+use Rattle.fdb_lines.specs.Lines.{nobody, line_at, version_at}
 use Rattle.fdb_lines.specs.Log.{lines_of}
-use Rattle.fdb_lines.specs.private.Spots.{items_at, items_below}
-use Rattle.fdb_lines.proofs.Turned.{all_more}
+use Rattle.fdb_lines.specs.private.Spots.{entries_below, ask_entry, take_entry, report_entry}
 use Rattle.fdb_lines.proofs.ordering.spots_of.Goals as goal
-
-pub returns-clause-items : goal.returns-clause-items
-returns-clause-items c =
-    let log = lines_of c.args.log.now in
-    let lines = ap length c.lines-place-end.ensures in
-    let most = c.loop-place.auto.place-end in
-    let least = c.loop-place-test.false in
-    let all : c.loop-place.place ≡ length log.lines = omega arith in
-    c.loop-place.invariant.items ∙ ap (items_below (case_of log c.args.opts.now)) all
-
-pub returns-clause-all : goal.returns-clause-all
-returns-clause-all c = λ k lt.
-    let lines = ap length c.lines-place-end.ensures in
-    let most = c.loop-place.auto.place-end in
-    let least = c.loop-place-test.false in
-    c.loop-place.invariant.all k (omega arith)
 
 pub loop-place-preserved : goal.loop-place-preserved
 loop-place-preserved c =
     let it = case_of (lines_of c.args.log.now) c.args.opts.now in
-    record {
-      lines = c.in_ok-add_spots.ensures.lines c.loop-place.invariant.lines;
-      all = all_more it c.loop-place.spots.items c.add_spots.new.spots.items c.loop-place.place c.loop-place.invariant.all c.in_ok-add_spots.ensures.kept c.in_ok-add_spots.ensures.own;
-      items = c.in_ok-add_spots.ensures.items ∙ (ap (λ l. l ++ items_at it c.loop-place.place) c.loop-place.invariant.items ∙ ap (items_below it) (sym (add-one c.loop-place.place)));
-    }
+    let k = c.loop-place.place in
+    let item = c.line-item.result in
+    let below : k < length it.lines = omega (arith, ap length c.lines-line-items.ensures) in
+    let line : item ≡ line_at it.lines k = c.line-item.is ∙ (ap (λ l. get_or l k item) c.lines-line-items.ensures ∙ get_or_default it.lines k item nobody below) in
+    let start : c.start-start.result ≡ it.start = c.start-start.ensures in
+    let known : c.knows-known.result ≡ knows it k = c.knows-known.ensures in
+    let reported : c.is_reported-reported.result ≡ is_reported it (version_at it k) = c.is_reported-reported.ensures in
+    let asked = c.in_ok-add_spot.ensures ∙ (λ i. c.loop-place.invariant i ++ option_to_list ((c.ask.ensures ∙ (λ j. ask_entry (line j) k (start j))) i)) in
+    let took = c.in_ok-add_spot-2.ensures ∙ (λ i. asked i ++ option_to_list ((c.take.ensures ∙ (λ j. take_entry (line j) k (known j))) i)) in
+    c.in_ok-add_spot-3.ensures ∙ (λ i. took i ++ option_to_list ((c.report.ensures ∙ (λ j. report_entry (line j) (start j) (reported j))) i)) ∙ ap (entries_below it) (sym (add-one k))

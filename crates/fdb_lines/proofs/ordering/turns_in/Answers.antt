@@ -1,14 +1,13 @@
-use Rattle.std.proofs.Common.{◌∙◌, ◌<◌, ◌+◌, ◌++◌, sym, ap, drop, length, arith}
-use Rattle.fdb_lines.specs.private.Spots.{above_at, turns_from}
-use Rattle.fdb_lines.proofs.Arranged.{turn_more}
+use Rattle.std.proofs.Common.{◌∷◌, ◌+◌, ◌∙◌, ap, arith, drop, sym}
+use Rattle.std.proofs.lemmas.Grind.{common_steps}
+use Rattle.std.proofs.lemmas.List.{at_drop_more}
+use Rattle.fdb_lines.specs.private.Spots.{turns_from}
 use Rattle.fdb_lines.proofs.ordering.turns_in.Goals as goal
 
-pub loop-i-preserved : goal.loop-i-preserved
-loop-i-preserved c =
+pub loop-spot-preserved : goal.loop-spot-preserved
+loop-spot-preserved c =
+    let from = turns_from c.loop-spot.above in
+    let i = c.loop-spot.spot-index in
     let spots = c.args.spots.now in
-    let i = c.loop-i.i in
-    let spot = c.index-spots-i in
-    let test = c.loop-i-test.true in
-    let lt : i < length spots = omega arith in
-    ap (λ l. l ++ turns_from (above_at spots (i + 1)) (drop (i + 1) spots)) c.in_ok-add_turn.ensures
-    ∙ (sym (turn_more spots i spot.result lt spot.is c.loop-i.turns.items c.shares.result (c.shares.ensures spot.result spot.is)) ∙ c.loop-i.invariant)
+    let here = at_drop_more from spots i c.spot-item.result c.loop-spot-test.true ∙ ap (λ s. from (s ∷ drop (i + 1) spots)) (sym c.spot-item.is) in
+    grind (arith, common_steps, c.eq-shared.ensures, c.in_ok-push.ensures.items)
