@@ -1,5 +1,4 @@
 pub mod Numbers
-pub mod Standing
 pub mod Sound
 pub mod Sorted
 pub mod Facts
