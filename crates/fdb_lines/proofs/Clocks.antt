@@ -1,7 +1,8 @@
 -- By time: what comes before is transitive, and rises by when calls began.
-use Rattle.std.proofs.Common.{◌≡◌, ◌⊎◌, ℕ, ◌+◌, ◌*◌, ◌<◌, ◌≤◌, ◌==◌, nat_lt, Bool, true, false, ◌&&◌, ◌||◌, List, length, Option, Some, None, refl, ap, sym, subst, ◌∙◌, inl, inr, arith, IfSome}
+use Rattle.std.proofs.Common.{◌≡◌, ◌⊎◌, ℕ, ◌+◌, ◌*◌, ◌<◌, ◌≤◌, ◌==◌, nat_lt, Bool, true, false, ◌&&◌, ◌||◌, List, length, Option, Some, None, refl, subst, inl, inr, arith, IfSome}
 use Rattle.std.proofs.Math.Nat.{mul-le-mul_left}
-use Rattle.std.proofs.lemmas.Bool.{cases_lt, cases_order, and_parts, and_from, or_cases, or_left, or_right, both_ways, eqb-true, eq-eqb, ltb-true, lt-ltb}
+use Rattle.std.proofs.lemmas.Bool.{both_ways}
+use Rattle.std.proofs.lemmas.Bool.Decides.{nat_tests}
 use Rattle.fdb_lines.specs.declared.line.Line.{Line}
 use Rattle.fdb_lines.specs.declared.line.Times.{Times}
 use Rattle.fdb_lines.specs.Lines.{line_at}
@@ -13,115 +14,51 @@ spans : (o : Option Times) (end : ℕ) → ended_of o ≡ Some end → began_of 
 spans None end e = absurd cc
 spans (Some times) end e = subst (λ o. IfSome o (λ x. times.began ≤ x)) e times.in_order
 
--- an end before a line, by time or by its client
-abbrev IsBefore : ℕ → Bool → Line → ℕ → Line → Type 0
-IsBefore margin above one end other =
-    (end + margin < began other)
-    ⊎ ((one_client one.client other.client ≡ true) × ((end < began other) ⊎ ((above ≡ true) × (end ≡ began other))))
-
-opened : (margin : ℕ) (above : Bool) (one other : Line) (o : Option ℕ) → ended_before margin above one o other ≡ true
-    → (end : ℕ) × (o ≡ Some end) × IsBefore margin above one end other
-opened margin above one other None h = absurd (both_ways false refl h)
-opened margin above one other (Some end) h = (
-  end,
-  refl,
-  elim (or_cases (nat_lt (end + margin) (began other)) (one_client one.client other.client && (nat_lt end (began other) || (above && end == began other))) h) [
-    | inl t ↦ inl (ltb-true (end + margin) (began other) t)
-    | inr t ↦
-        let a = and_parts (one_client one.client other.client) (nat_lt end (began other) || (above && end == began other)) t in
-        inr (
-          a.0,
-          elim (or_cases (nat_lt end (began other)) (above && end == began other) a.1) [
-            | inl l ↦ inl (ltb-true end (began other) l)
-            | inr e ↦ let d = and_parts above (end == began other) e in inr (d.0, eqb-true end (began other) d.1)
-          ],
-        )
-  ],
-)
-
-closed : (margin : ℕ) (above : Bool) (one other : Line) (o : Option ℕ) (end : ℕ) → o ≡ Some end → IsBefore margin above one end other
-    → ended_before margin above one o other ≡ true
-closed margin above one other o end e b = subst (λ p. ended_before margin above one p other ≡ true) (sym e) (by b)
-  where
-    ends : (end < began other) ⊎ ((above ≡ true) × (end ≡ began other)) → (nat_lt end (began other) || (above && end == began other)) ≡ true
-    ends (inl l) = or_left (nat_lt end (began other)) (above && end == began other) (lt-ltb end (began other) l)
-    ends (inr t) = or_right (nat_lt end (began other)) (above && end == began other) (and_from above (end == began other) t.0 (eq-eqb end (began other) t.1))
-
-    by : IsBefore margin above one end other → ended_before margin above one (Some end) other ≡ true
-    by (inl t) = or_left (nat_lt (end + margin) (began other)) _ (lt-ltb (end + margin) (began other) t)
-    by (inr t) = or_right (nat_lt (end + margin) (began other)) (one_client one.client other.client && (nat_lt end (began other) || (above && end == began other)))
-        (and_from _ _ t.0 (ends t.1))
-
 client_trans : (a b d : Option ℕ) → one_client a b ≡ true → one_client b d ≡ true → one_client a d ≡ true
-client_trans None b d h g = h
-client_trans (Some a) None d h g = absurd (both_ways false refl h)
-client_trans (Some a) (Some b) None h g = g
-client_trans (Some a) (Some b) (Some d) h g = eq-eqb a d (eqb-true a b h ∙ eqb-true b d g)
+client_trans a b d h g = grind (arith, nat_tests)
+
+-- an end before a beginning, by time or by its client
+abbrev IsBefore : ℕ → Bool → ℕ → ℕ → ℕ → ℕ → Type 0
+IsBefore margin own j k end begin = (end + margin < begin) ⊎ ((own ≡ true) × ((end < begin) ⊎ ((j < k) × (end ≡ begin))))
+
+opened : (margin : ℕ) (own : Bool) (j k end begin : ℕ) → (nat_lt (end + margin) begin || (own && (nat_lt end begin || (nat_lt j k && end == begin)))) ≡ true
+    → IsBefore margin own j k end begin
+opened margin own j k end begin h = grind (arith, nat_tests)
+
+chained : (margin i j k x b y d : ℕ) (m n o : Bool) → (m ≡ true → n ≡ true → o ≡ true) → b ≤ y → IsBefore margin m i j x b → IsBefore margin n j k y d
+    → (nat_lt (x + margin) d || (o && (nat_lt x d || (nat_lt i k && x == d)))) ≡ true
+chained margin i j k x b y d m n o same span h g = grind (arith, nat_tests)
+
+before_trans : (margin i j k : ℕ) (a b d : Line) (o p : Option ℕ) → ((end : ℕ) → p ≡ Some end → began b ≤ end)
+    → ended_before margin (nat_lt i j) a o b ≡ true → ended_before margin (nat_lt j k) b p d ≡ true → ended_before margin (nat_lt i k) a o d ≡ true
+before_trans margin i j k a b d None p span h g = h
+before_trans margin i j k a b d (Some x) None span h g = absurd (both_ways false refl g)
+before_trans margin i j k a b d (Some x) (Some y) span h g =
+    chained margin i j k x (began b) y (began d) (one_client a.client b.client) (one_client b.client d.client) (one_client a.client d.client)
+    (client_trans a.client b.client d.client) (span y refl)
+    (opened margin (one_client a.client b.client) i j x (began b) h) (opened margin (one_client b.client d.client) j k y (began d) g)
+
+begins : (margin j k : ℕ) (a b : Line) → ended_before margin (nat_lt j k) a (ended a) b ≡ true → (began a < began b) ⊎ ((began a ≤ began b) × (j < k))
+begins margin j k a b p =
+    let span = spans a.times in
+    grind (arith, nat_tests)
+
+pub ranks : (n a b j k : ℕ) → j < n → (a < b) ⊎ ((a ≤ b) × (j < k)) → n * a + j < n * b + k
+ranks n a b j k lt (inl less) = let m = mul-le-mul_left n (let h : a + 1 ≤ b = omega arith in h) in omega arith
+ranks n a b j k lt (inr same) = let m = mul-le-mul_left n same.0 in omega arith
 
 pub transitive : (margin : ℕ) (lines : List Line) → (i j k : ℕ) → i < length lines → j < length lines → k < length lines
     → by_time margin lines i j ≡ true → by_time margin lines j k ≡ true → by_time margin lines i k ≡ true
 transitive margin lines i j k li lj lk p q =
-    let a = opened margin (nat_lt i j) (line_at lines i) (line_at lines j) (ended (line_at lines i)) p in
-    let b = opened margin (nat_lt j k) (line_at lines j) (line_at lines k) (ended (line_at lines j)) q in
-    let span = spans (line_at lines j).times b.0 b.1 in
-    closed margin (nat_lt i k) (line_at lines i) (line_at lines k) (ended (line_at lines i)) a.0 a.1
-    (elim a.2 [
-      | inl x ↦ elim b.2 [
-        | inl y ↦ inl (omega arith)
-        | inr y ↦ elim y.1 [ inl h ↦ inl (omega arith) | inr h ↦ let e = h.1 in inl (omega arith) ]
-      ]
-      | inr x ↦ elim b.2 [
-        | inl y ↦ elim x.1 [ inl h ↦ inl (omega arith) | inr h ↦ let e = h.1 in inl (omega arith) ]
-        | inr y ↦
-            inr (
-              client_trans (line_at lines i).client (line_at lines j).client (line_at lines k).client x.0 y.0,
-              elim x.1 [
-                | inl h ↦ elim y.1 [ inl g ↦ inl (omega arith) | inr g ↦ let e = g.1 in inl (omega arith) ]
-                | inr h ↦ let d = h.1 in elim y.1 [
-                  | inl g ↦ inl (omega arith)
-                  | inr g ↦ let e = g.1 in elim (cases_lt a.0 (began (line_at lines k))) [
-                    | inl less ↦ inl less
-                    | inr ge ↦
-                        let m = ltb-true i j h.0 in
-                        let n = ltb-true j k g.0 in
-                        inr (lt-ltb i k (omega arith), omega arith)
-                  ]
-                ]
-              ],
-            )
-      ]
-    ])
+    before_trans margin i j k (line_at lines i) (line_at lines j) (line_at lines k) (ended (line_at lines i)) (ended (line_at lines j)) (spans (line_at lines j).times) p q
 
 pub climbs : (margin : ℕ) (lines : List Line) → (j k : ℕ) → j < length lines → k < length lines
     → by_time margin lines j k ≡ true → began_rank lines j < began_rank lines k
 climbs margin lines j k lj lk p =
-    let a = opened margin (nat_lt j k) (line_at lines j) (line_at lines k) (ended (line_at lines j)) p in
-    let span = spans (line_at lines j).times a.0 a.1 in
-    elim a.2 [
-      | inl x ↦
-          let less : began (line_at lines j) + 1 ≤ began (line_at lines k) = omega arith in
-          let m = mul-le-mul_left (length lines) less in
-          omega arith
-      | inr x ↦ elim x.1 [
-        | inl h ↦
-            let less : began (line_at lines j) + 1 ≤ began (line_at lines k) = omega arith in
-            let m = mul-le-mul_left (length lines) less in
-            omega arith
-        | inr h ↦
-            let e = h.1 in
-            let less : began (line_at lines j) ≤ began (line_at lines k) = omega arith in
-            let m = mul-le-mul_left (length lines) less in
-            let n = ltb-true j k h.0 in
-            omega arith
-      ]
-    ]
+    ranks (length lines) (began (line_at lines j)) (began (line_at lines k)) j k lj (begins margin j k (line_at lines j) (line_at lines k) p)
 
 pub apart : (lines : List Line) (j k : ℕ) → j < length lines → k < length lines → began_rank lines j ≡ began_rank lines k → j ≡ k
 apart lines j k lj lk e =
-    elim (cases_order (began (line_at lines j)) (began (line_at lines k))) [
-      | inl same ↦ let m = ap (λ b. length lines * b) same in omega arith
-      | inr other ↦ elim other [
-        | inl less ↦ let m = mul-le-mul_left (length lines) (let h : began (line_at lines j) + 1 ≤ began (line_at lines k) = omega arith in h) in absurd (omega arith)
-        | inr more ↦ let m = mul-le-mul_left (length lines) (let h : began (line_at lines k) + 1 ≤ began (line_at lines j) = omega arith in h) in absurd (omega arith)
-      ]
-    ]
+    let less = ranks (length lines) (began (line_at lines j)) (began (line_at lines k)) j k lj in
+    let more = ranks (length lines) (began (line_at lines k)) (began (line_at lines j)) k j lk in
+    grind arith

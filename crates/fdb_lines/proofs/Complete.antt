@@ -1,19 +1,18 @@
 -- No fault is hidden: where none stands, the order by version explains the lines.
-use Rattle.std.proofs.Common.{◌≡◌, ◌≢◌, ◌⊎◌, ℕ, zero, suc, ◌<◌, ◌≤◌, ◌==◌, Bool, true, false, ◌&&◌, ◌||◌, List, map, length, Option, Some, None, slice_get, refl, ap, sym, subst, ◌∙◌, inl, inr, arith}
-use Rattle.std.proofs.lemmas.Bool.{cases_eq, and_parts, eqb-true}
+use Rattle.std.proofs.Common.{◌≡◌, ◌≢◌, ◌⊎◌, ℕ, zero, suc, ◌<◌, true, false, List, map, length, Option, Some, slice_get, refl, ap, sym, subst, ◌∙◌, inl, inr, arith}
+use Rattle.std.proofs.lemmas.Bool.{cases_eq, and_parts}
 use Rattle.std.proofs.lemmas.Bool.Decides.{nat_tests}
 use Rattle.std.proofs.lemmas.Option.{same_Some}
-use Rattle.fdb_lines.specs.Lines.{Report, Case, kind_at, version_at, client_at, draws, shows, is_commit, same_client}
-use Rattle.fdb_lines.specs.declared.act.Act.{Act}
+use Rattle.fdb_lines.specs.Lines.{Case, kind_at, version_at, client_at, draws, shows, is_commit, same_client}
 use Rattle.fdb_lines.specs.declared.act.Act.TheVariants.{Reports}
 use Rattle.fdb_lines.specs.Explained.{OthersMay, precedes, taken, IsMoment, Explains}
 use Rattle.fdb_lines.specs.Faults.{IsFaultless, is_own}
-use Rattle.fdb_lines.specs.Order.{Item, ask_item, shared_item, take_item, needs_ask, needs_report, put_if, sorted, history, IsRanked}
+use Rattle.fdb_lines.specs.Order.{Item, ask_item, shared_item, take_item, needs_ask, needs_report, sorted, history, IsRanked}
 use Rattle.fdb_lines.specs.Reasons.{draws_it, reports_it}
 use Rattle.fdb_lines.proofs.Numbers.{some_find, none_at}
-use Rattle.fdb_lines.proofs.Sorted.{In, KeyLess, IsSortedOf, put_if_sorted, index_of, less_places, one_place, act_at, item_at}
-use Rattle.fdb_lines.proofs.Facts.{HasNone, none_stands, shown_known, drawn_known, known_known, no_order, no_not_above, no_twice, no_stray, no_wrong, asked_above, draws_own, raises_it}
-use Rattle.fdb_lines.proofs.Legal.{IsItemBelow, IsItemOf, Origin, Asked, origin_take, origin_report, same_items, IsOrder, place, item_of, legal}
+use Rattle.fdb_lines.proofs.Sorted.{In, KeyLess, IsSortedOf, put_if_sorted, index_of, less_places, one_place, act_at}
+use Rattle.fdb_lines.proofs.Facts.{HasNone, shown_known, drawn_known, known_known, no_order, no_not_above, no_twice, no_stray, no_wrong, asked_above, draws_own, raises_it}
+use Rattle.fdb_lines.proofs.Legal.{IsItemBelow, IsItemOf, Origin, Asked, origin_take, same_items, IsOrder, place, item_of, legal}
 
 -- ---- the sorted list has an item of each key that is needed, and no others
 

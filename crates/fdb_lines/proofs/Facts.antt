@@ -1,14 +1,12 @@
 -- What holds of lines without a fault, and the keys of their acts.
-use Rattle.std.proofs.Common.{◌≡◌, ◌≢◌, ◌⊎◌, ℕ, max, ◌+◌, ◌*◌, ◌<◌, ◌≤◌, ◌==◌, nat_lt, not, Bool, true, false, ◌&&◌, ◌||◌, length, refl, ap, sym, subst, inl, inr, arith}
-use Rattle.std.proofs.lemmas.Bool.{cases_Bool, and_parts, and_from}
+use Rattle.std.proofs.Common.{◌≡◌, ◌≢◌, ◌⊎◌, ℕ, ◌<◌, ◌≤◌, ◌==◌, nat_lt, Bool, true, false, ◌&&◌, length, arith}
+use Rattle.std.proofs.lemmas.Bool.{and_parts, and_from}
 use Rattle.std.proofs.lemmas.Bool.Decides.{nat_tests}
-use Rattle.fdb_lines.specs.Lines.{Kind, Read, Commit, Ask, Report, Learn, Case, kind_at, version_at, client_at, same_client, draws, reports, shows, is_read, is_commit, is_learn}
-use Rattle.fdb_lines.specs.declared.act.Act.TheVariants.{Asks, Reports, Reads}
-use Rattle.fdb_lines.specs.Explained.{taken_by}
+use Rattle.fdb_lines.specs.Lines.{Read, Report, Case, kind_at, version_at, client_at, same_client, draws, reports, shows, is_commit}
 use Rattle.fdb_lines.specs.declared.fault.Fault.TheVariants.{Order, Wrong, NotAbove, Twice, Stray}
 use Rattle.fdb_lines.specs.Faults.{IsFaultless, knows, last, is_reported, is_drawn, is_raised, is_own}
-use Rattle.fdb_lines.specs.Order.{Item, ask_item, report_item, take_by, needs_ask, IsRanked}
-use Rattle.fdb_lines.specs.Reasons.{draws_it, reports_it, draws_again}
+use Rattle.fdb_lines.specs.Order.{needs_ask, IsRanked}
+use Rattle.fdb_lines.specs.Reasons.{draws_it, draws_again}
 use Rattle.fdb_lines.proofs.Numbers.{greatest_bound, greatest_least, some_at, some_find, none_at}
 
 abbrev pub HasNone : Case → Type 0

@@ -1,5 +1,5 @@
 -- Where the acts of the order by version come from, and that it is legal.
-use Rattle.std.proofs.Common.{◌≡◌, ◌≢◌, ◌⊎◌, ℕ, ◌+◌, ◌*◌, ◌<◌, ◌≤◌, ◌==◌, nat_lt, not, Bool, true, false, ◌&&◌, List, map, length, Some, slice_get, refl, ap, sym, ◌∙◌, inl, inr, arith}
+use Rattle.std.proofs.Common.{◌≡◌, ◌⊎◌, ℕ, ◌+◌, ◌*◌, ◌<◌, ◌≤◌, true, List, map, length, Some, slice_get, refl, ap, sym, ◌∙◌, inl, inr, arith}
 use Rattle.std.proofs.lemmas.Bool.{cases_eq}
 use Rattle.std.proofs.lemmas.Bool.Decides.{nat_tests}
 use Rattle.fdb_lines.specs.Lines.{Case, Read, kind_at, version_at, shows}
@@ -9,7 +9,7 @@ use Rattle.fdb_lines.specs.Explained.{Happens, ReportedBefore, AskedBefore, IsLe
 use Rattle.fdb_lines.specs.Order.{Item, ask_item, shared_item, take_item, needs_ask, needs_report, IsRanked}
 use Rattle.fdb_lines.proofs.Numbers.{some_find}
 use Rattle.fdb_lines.proofs.Sorted.{In, KeyLess, SameKey, Rises, index_of, in_at, rises_at, less_places, index_at, act_at, item_at}
-use Rattle.fdb_lines.proofs.Facts.{HasNone, start_known, no_order, no_wrong, asked_above, raises_it}
+use Rattle.fdb_lines.proofs.Facts.{HasNone, no_order, no_wrong, asked_above, raises_it}
 
 -- an item of a line: its ask, its read or report, or the report of others that it needs
 abbrev pub IsItemOf : Case → (ℕ → ℕ) → ℕ → Item → Type 0

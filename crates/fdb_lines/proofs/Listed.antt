@@ -1,8 +1,9 @@
 -- The list of faults is empty exactly where none stands.
-use Rattle.std.proofs.Common.{◌≡◌, ◌↔◌, ℕ, zero, suc, ◌<◌, ◌≤◌, false, List, [], ◌∷◌, ◌++◌, length, slice_get, Option, None, Some, refl, ap, sym, subst, ◌∙◌, inl, inr, arith, append_assoc, append-nil}
-use Rattle.std.proofs.lemmas.Bool.{cases_Bool, cases_eq, cond-true, cond-false}
+use Rattle.std.proofs.Common.{◌≡◌, ◌↔◌, ℕ, zero, suc, ◌<◌, ◌≤◌, false, List, [], ◌∷◌, ◌++◌, length, slice_get, Option, None, Some, refl, ap, sym, subst, ◌∙◌, inl, inr, arith, length-append}
+use Rattle.std.proofs.lemmas.Bool.{cases_eq, both_ways, cond_both}
+use Rattle.std.proofs.lemmas.Grind.{common_steps}
 use Rattle.std.specs.List.{All}
-use Rattle.std.proofs.lemmas.List.Elements.{All-append, All-cons, All-get_or, All-nil, All-same}
+use Rattle.std.proofs.lemmas.List.Elements.{All-append, All-cons, All-get_or, All-nil}
 use Rattle.std.proofs.lemmas.Option.{get_or_from_slice_get, slice_get_within}
 use Rattle.fdb_lines.specs.declared.fault.Fault.{Fault}
 use Rattle.fdb_lines.specs.declared.fault.Fault.TheVariants.{Order, Wrong, NotAbove, Twice, Stray}
@@ -24,60 +25,63 @@ law log opts = (
   λ some. invented (case_of log opts) some.0 some.1,
 )
 
--- two lists that are nothing together
-both_empty : (xs ys : List Found) → xs ++ ys ≡ [] → (xs ≡ []) × (ys ≡ [])
-both_empty [] ys e = (refl, e)
-both_empty (x ∷ xs) ys e = absurd cc
+-- ---- each fault in the list stands
 
-not_found : (c : Case) (fault : Fault) (k : ℕ) → found_if c fault k ≡ [] → stands c fault k ≡ false
-not_found c fault k e =
-    elim (cases_Bool (stands c fault k)) [
-      | inl is ↦ let one = sym (cond-true (stands c fault k) (record { line = k; fault = fault } ∷ []) [] is) ∙ e in absurd cc
-      | inr is_not ↦ is_not
-    ]
+standing_if : (c : Case) (k : ℕ) → k < length c.lines → (fault : Fault) → All (IsStanding c) (found_if c fault k)
+standing_if c k lt fault =
+    cond_both (stands c fault k) _ _ (All (IsStanding c)) (λ is. All-cons (IsStanding c) _ [] (lt, is) (All-nil (IsStanding c))) (λ is_not. All-nil (IsStanding c))
 
-none_at : (c : Case) (k : ℕ) → faults_at c k ≡ [] → (fault : Fault) → stands c fault k ≡ false
-none_at c k e fault =
-    let four = both_empty (found_if c Order k ++ found_if c Wrong k ++ found_if c NotAbove k ++ found_if c Twice k) (found_if c Stray k) e in
-    let three = both_empty (found_if c Order k ++ found_if c Wrong k ++ found_if c NotAbove k) (found_if c Twice k) four.0 in
-    let two = both_empty (found_if c Order k ++ found_if c Wrong k) (found_if c NotAbove k) three.0 in
-    let one = both_empty (found_if c Order k) (found_if c Wrong k) two.0 in
-    elim fault as (λ f. stands c f k ≡ false) [
-      | Order ↦ not_found c Order k one.0
-      | Wrong ↦ not_found c Wrong k one.1
-      | NotAbove ↦ not_found c NotAbove k two.1
-      | Twice ↦ not_found c Twice k three.1
-      | Stray ↦ not_found c Stray k four.1
-    ]
+standing_below : (c : Case) (n : ℕ) → n ≤ length c.lines → All (IsStanding c) (faults_below c n)
+standing_below c zero le = All-nil (IsStanding c)
+standing_below c (suc n) le =
+    let P = IsStanding c in
+    let here = standing_if c n (omega arith) in
+    All-append P (faults_below c n) (faults_at c n) (standing_below c n (omega arith))
+    (All-append P _ _ (All-append P _ _ (All-append P _ _ (All-append P _ _ (here Order) (here Wrong)) (here NotAbove)) (here Twice)) (here Stray))
 
-none_below : (c : Case) (n : ℕ) → faults_below c n ≡ [] → (fault : Fault) (k : ℕ) → k < n → stands c fault k ≡ false
+pub all_stand : (c : Case) → All (IsStanding c) (faults_of c)
+all_stand c = standing_below c (length c.lines) (omega arith)
+
+-- and so does the first
+pub first_stands : (c : Case) (found : Found) → Some found ≡ slice_get (faults_of c) 0 → IsStanding c found
+first_stands c found is =
+    let at = get_or_from_slice_get (faults_of c) 0 found found (sym is) in
+    let some = slice_get_within (faults_of c) 0 found (sym is) in
+    subst (IsStanding c) at (All-get_or (IsStanding c) (faults_of c) 0 found some (all_stand c))
+
+-- ---- the list is empty exactly where none stands
+
+none_if : (c : Case) (fault : Fault) (k : ℕ) → length (found_if c fault k) ≡ 0 → stands c fault k ≡ false
+none_if c fault k e = grind arith
+
+none_at : (c : Case) (fault : Fault) (k : ℕ) → length (faults_at c k) ≡ 0 → stands c fault k ≡ false
+none_at c fault k e =
+    none_if c fault k (elim fault as (λ f. length (found_if c f k) ≡ 0) [
+      | Order ↦ omega (arith, length-append {A = Found})
+      | Wrong ↦ omega (arith, length-append {A = Found})
+      | NotAbove ↦ omega (arith, length-append {A = Found})
+      | Twice ↦ omega (arith, length-append {A = Found})
+      | Stray ↦ omega (arith, length-append {A = Found})
+    ])
+
+none_below : (c : Case) (n : ℕ) → length (faults_below c n) ≡ 0 → (fault : Fault) (k : ℕ) → k < n → stands c fault k ≡ false
 none_below c zero e fault k lt = absurd (omega arith)
 none_below c (suc n) e fault k lt =
-    let parts = both_empty (faults_below c n) (faults_at c n) e in
+    let sum = length-append (faults_below c n) (faults_at c n) in
     elim (cases_eq k n) [
-      | inl same ↦ ap (stands c fault) same ∙ none_at c n parts.1 fault
-      | inr other ↦ none_below c n parts.0 fault k (omega arith)
+      | inl same ↦ ap (stands c fault) same ∙ none_at c fault n (omega arith)
+      | inr other ↦ none_below c n (omega arith) fault k (omega arith)
     ]
 
-nothing_if : (c : Case) (fault : Fault) (k : ℕ) → stands c fault k ≡ false → found_if c fault k ≡ []
-nothing_if c fault k e = cond-false (stands c fault k) (record { line = k; fault = fault } ∷ []) [] e
-
-nothing_below : (c : Case) → IsFaultless c → (n : ℕ) → n ≤ length c.lines → faults_below c n ≡ []
-nothing_below c none zero le = refl
-nothing_below c none (suc n) le =
-    let clear : (fault : Fault) → found_if c fault n ≡ [] = λ fault. nothing_if c fault n (none fault n (omega arith)) in
-    ap (λ l. l ++ faults_at c n) (nothing_below c none n (omega arith))
-    ∙ (ap (λ l. l ++ found_if c Wrong n ++ found_if c NotAbove n ++ found_if c Twice n ++ found_if c Stray n) (clear Order)
-    ∙ (ap (λ l. l ++ found_if c NotAbove n ++ found_if c Twice n ++ found_if c Stray n) (clear Wrong)
-    ∙ (ap (λ l. l ++ found_if c Twice n ++ found_if c Stray n) (clear NotAbove)
-    ∙ (ap (λ l. l ++ found_if c Stray n) (clear Twice) ∙ clear Stray))))
-
 pub none_listed : (c : Case) → faults_of c ≡ [] ↔ IsFaultless c
-none_listed c = (λ e. none_below c (length c.lines) e, λ none. nothing_below c none (length c.lines) (omega arith))
+none_listed c = (λ e. none_below c (length c.lines) (ap length e), λ none. by none (faults_of c) (all_stand c))
+  where
+    by : IsFaultless c → (found : List Found) → All (IsStanding c) found → found ≡ []
+    by none [] all = refl
+    by none (x ∷ xs) all = let f = all 0 x (omega arith) in absurd (both_ways _ (none x.fault x.line f.0) f.1)
 
 empty : (found : List Found) → length found ≡ 0 → found ≡ []
-empty [] e = refl
-empty (x ∷ xs) e = absurd (omega arith)
+empty found e = grind (arith, common_steps)
 
 no_first : (found : List Found) → slice_get found 0 ≡ None → found ≡ []
 no_first [] e = refl
@@ -97,58 +101,18 @@ explained_by_first log opts first e = (
 
 -- ---- the first
 
-goes_on : (c : Case) (k n : ℕ) → k ≤ n → (rest : List Found) × (faults_below c n ≡ faults_below c k ++ rest)
-goes_on c k zero le = ([], ap (faults_below c) (let same : 0 ≡ k = omega arith in same) ∙ sym (append-nil (faults_below c k)))
-goes_on c k (suc n) le =
-    elim (cases_eq k (suc n)) [
-      | inl same ↦ ([], ap (faults_below c) (sym same) ∙ sym (append-nil (faults_below c k)))
-      | inr other ↦
-          let before = goes_on c k n (omega arith) in
-          (before.0 ++ faults_at c n, ap (λ l. l ++ faults_at c n) before.1 ∙ append_assoc (faults_below c k) before.0 (faults_at c n))
-    ]
-
 first_of_two : (xs ys : List Found) (first : Found) → slice_get xs 0 ≡ Some first → slice_get (xs ++ ys) 0 ≡ Some first
 first_of_two [] ys first e = absurd cc
 first_of_two (x ∷ xs) ys first e = e
 
--- what stands first below some line is first of all
-pub first_of_all : (c : Case) (k : ℕ) (first : Found) → k ≤ length c.lines → slice_get (faults_below c k) 0 ≡ Some first → Some first ≡ slice_get (faults_of c) 0
-first_of_all c k first le e =
-    let all = goes_on c k (length c.lines) le in
-    sym (ap (λ l. slice_get l 0) all.1 ∙ first_of_two (faults_below c k) all.0 first e)
-
--- ---- each stands
-
-standing_if : (c : Case) (fault : Fault) (k : ℕ) → k < length c.lines → All (IsStanding c) (found_if c fault k)
-standing_if c fault k lt =
-    let here : Found = record { line = k; fault = fault } in
-    elim (cases_Bool (stands c fault k)) [
-      | inl is ↦
-          All-same (IsStanding c) (found_if c fault k) (here ∷ []) (cond-true (stands c fault k) (here ∷ []) [] is)
-          (All-cons (IsStanding c) here [] (lt, is) (All-nil (IsStanding c)))
-      | inr is_not ↦ All-same (IsStanding c) (found_if c fault k) [] (nothing_if c fault k is_not) (All-nil (IsStanding c))
+first_below : (c : Case) (k n : ℕ) (first : Found) → k ≤ n → slice_get (faults_below c k) 0 ≡ Some first → slice_get (faults_below c n) 0 ≡ Some first
+first_below c k zero first le e = subst (λ j. slice_get (faults_below c j) 0 ≡ Some first) (let same : k ≡ 0 = omega arith in same) e
+first_below c k (suc n) first le e =
+    elim (cases_eq k (suc n)) [
+      | inl same ↦ subst (λ j. slice_get (faults_below c j) 0 ≡ Some first) same e
+      | inr other ↦ first_of_two (faults_below c n) (faults_at c n) first (first_below c k n first (omega arith) e)
     ]
 
-standing_at : (c : Case) (k : ℕ) → k < length c.lines → All (IsStanding c) (faults_at c k)
-standing_at c k lt =
-    let P = IsStanding c in
-    let here : (fault : Fault) → All P (found_if c fault k) = λ fault. standing_if c fault k lt in
-    let two = All-append P (found_if c Order k) (found_if c Wrong k) (here Order) (here Wrong) in
-    let three = All-append P (found_if c Order k ++ found_if c Wrong k) (found_if c NotAbove k) two (here NotAbove) in
-    let four = All-append P (found_if c Order k ++ found_if c Wrong k ++ found_if c NotAbove k) (found_if c Twice k) three (here Twice) in
-    All-append P (found_if c Order k ++ found_if c Wrong k ++ found_if c NotAbove k ++ found_if c Twice k) (found_if c Stray k) four (here Stray)
-
-standing_below : (c : Case) (n : ℕ) → n ≤ length c.lines → All (IsStanding c) (faults_below c n)
-standing_below c zero le = All-nil (IsStanding c)
-standing_below c (suc n) le =
-    All-append (IsStanding c) (faults_below c n) (faults_at c n) (standing_below c n (omega arith)) (standing_at c n (omega arith))
-
-pub all_stand : (c : Case) → All (IsStanding c) (faults_of c)
-all_stand c = standing_below c (length c.lines) (omega arith)
-
--- and so does the first
-pub first_stands : (c : Case) (found : Found) → Some found ≡ slice_get (faults_of c) 0 → IsStanding c found
-first_stands c found is =
-    let at = get_or_from_slice_get (faults_of c) 0 found found (sym is) in
-    let some = slice_get_within (faults_of c) 0 found (sym is) in
-    subst (IsStanding c) at (All-get_or (IsStanding c) (faults_of c) 0 found some (all_stand c))
+-- what stands first below some line is first of all
+pub first_of_all : (c : Case) (k : ℕ) (first : Found) → k ≤ length c.lines → slice_get (faults_below c k) 0 ≡ Some first → Some first ≡ slice_get (faults_of c) 0
+first_of_all c k first le e = sym (first_below c k (length c.lines) first le e)

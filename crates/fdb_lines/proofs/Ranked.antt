@@ -1,17 +1,14 @@
 -- The lines of a log are ranked: with times by when calls began, without by place.
-use Rattle.std.proofs.Common.{◌≡◌, ℕ, ◌+◌, ◌*◌, ◌<◌, ◌≤◌, Bool, true, false, List, length, Option, Some, None, true≢false, refl, ap, inl, inr, arith}
-use Rattle.std.proofs.lemmas.Bool.{cases_order}
-use Rattle.std.proofs.Math.Nat.{mul-le-mul_left}
+use Rattle.std.proofs.Common.{◌≡◌, ℕ, ◌<◌, ◌≤◌, Bool, true, false, List, length, ap, arith}
 use Rattle.fdb_lines.specs.declared.line.Line.{Line}
-use Rattle.fdb_lines.specs.declared.line.Times.{Times}
 use Rattle.fdb_lines.specs.declared.log.Log.{Log}
-use Rattle.fdb_lines.specs.Before.{began, began_of}
+use Rattle.fdb_lines.specs.Before.{began}
 use Rattle.fdb_lines.specs.Log.{lines_of}
 use Rattle.fdb_lines.specs.private.Spots.{spot_rank}
-use Rattle.fdb_lines.specs.Lines.{Lines, are_known, has_times, line_at}
+use Rattle.fdb_lines.specs.Lines.{Lines, has_times, line_at}
 use Rattle.fdb_lines.specs.declared.opts.AuditOpts.{AuditOpts}
 use Rattle.fdb_lines.specs.Audit.{case_of}
-use Rattle.fdb_lines.specs.Order.{IsRanked, rank_of}
+use Rattle.fdb_lines.specs.Order.{IsRanked, began_rank, rank_of}
 use Rattle.fdb_lines.proofs.Clocks as clocks
 use Rattle.fdb_lines.proofs.Told as telling
 
@@ -32,31 +29,16 @@ ranked log opts = by log.timed
 
 -- ---- the same of the numbers by which spots are sorted
 
-no_time : (o : Option Times) → are_known o ≡ false → began_of o ≡ 0
-no_time None e = refl
-no_time (Some times) e = absurd (true≢false e)
-
 spot_climbs : (timed : Bool) (lines : List Line) → length lines ≤ 4294967295 → ((k : ℕ) → k < length lines → has_times (line_at lines k) ≡ timed)
     → (j k : ℕ) → j < length lines → k < length lines → rank_of timed lines j < rank_of timed lines k → spot_rank lines j < spot_rank lines k
 spot_climbs true lines few alike j k lj lk less =
-    elim (cases_order (began (line_at lines j)) (began (line_at lines k))) [
-      | inl same ↦ let m = ap (λ b. length lines * b) same in omega arith
-      | inr other ↦ elim other [
-        | inl a ↦ omega arith
-        | inr b ↦ let m = mul-le-mul_left (length lines) (let h : began (line_at lines k) + 1 ≤ began (line_at lines j) = omega arith in h) in absurd (omega arith)
-      ]
-    ]
-spot_climbs false lines few alike j k lj lk less =
-    let a = no_time (line_at lines j).times (alike j lj) in
-    let b = no_time (line_at lines k).times (alike k lk) in
-    omega arith
+    let back = clocks.ranks (length lines) (began (line_at lines k)) (began (line_at lines j)) k j lk in
+    let same : j ≡ k → began_rank lines j ≡ began_rank lines k = ap (began_rank lines) in
+    grind arith
+spot_climbs false lines few alike j k lj lk less = let one = alike j lj in let other = alike k lk in grind arith
 
 spot_apart : (lines : List Line) → length lines ≤ 4294967295 → (j k : ℕ) → j < length lines → k < length lines → spot_rank lines j ≡ spot_rank lines k → j ≡ k
-spot_apart lines few j k lj lk same =
-    elim (cases_order (began (line_at lines j)) (began (line_at lines k))) [
-      | inl e ↦ omega arith
-      | inr other ↦ elim other [ inl a ↦ absurd (omega arith) | inr b ↦ absurd (omega arith) ]
-    ]
+spot_apart lines few j k lj lk same = grind arith
 
 pub spot_ranked : (log : Log) (opts : AuditOpts) → IsRanked (case_of (lines_of log) opts) (spot_rank log.lines.items)
 spot_ranked log opts =

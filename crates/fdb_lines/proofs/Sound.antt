@@ -1,16 +1,15 @@
 -- No fault is invented: where some history explains the lines, none stands.
-use Rattle.std.proofs.Common.{◌≡◌, ◌≢◌, ◌⊎◌, ℕ, zero, suc, ◌<◌, ◌≤◌, ◌==◌, true, false, ◌&&◌, ◌||◌, List, length, Option, Some, None, refl, ap, sym, subst, ◌∙◌, inl, inr, arith, slice_get}
+use Rattle.std.proofs.Common.{◌≡◌, ◌≢◌, ◌⊎◌, ℕ, zero, suc, ◌<◌, true, false, ◌&&◌, List, length, Option, refl, ap, sym, subst, inl, inr, arith}
 use Rattle.std.proofs.lemmas.Bool.{cases_eq, cases_lt, cases_order, and_parts, false_from_ne_true}
 use Rattle.std.proofs.lemmas.Bool.Decides.{nat_tests}
-use Rattle.std.proofs.lemmas.Option.{same_Some}
-use Rattle.fdb_lines.specs.Lines.{Read, Report, Case, kind_at, version_at, client_at, draws, reports, shows, is_commit, same_client}
+use Rattle.fdb_lines.specs.Lines.{Read, Report, Case, kind_at, version_at, client_at, draws, shows, is_commit, same_client}
 use Rattle.fdb_lines.specs.declared.act.Act.{Act}
 use Rattle.fdb_lines.specs.declared.act.Act.TheVariants.{Asks, Reports, Reads}
-use Rattle.fdb_lines.specs.Explained.{Happens, OthersMay, ReportedBefore, taken, IsMoment, Explains}
+use Rattle.fdb_lines.specs.Explained.{Happens, OthersMay, ReportedBefore, IsMoment, Explains}
 use Rattle.fdb_lines.specs.declared.fault.Fault.TheVariants.{Order, Wrong, NotAbove, Twice, Stray}
 use Rattle.fdb_lines.specs.Faults.{stands, IsFaultless, knows, last, is_drawn, is_own, is_raised, is_reported}
 use Rattle.fdb_lines.specs.Reasons.{draws_it, reports_it, draws_again}
-use Rattle.fdb_lines.proofs.Numbers.{greatest_among, some_at, some_find, none_at}
+use Rattle.fdb_lines.proofs.Numbers.{greatest_among, some_at, some_find}
 use Rattle.fdb_lines.proofs.Facts.{raises_it, draws_own}
 
 same_client_from : (a b : Option ℕ) → a ≡ b → same_client a b ≡ true
