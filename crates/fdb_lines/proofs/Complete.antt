@@ -5,38 +5,39 @@ use Rattle.std.proofs.lemmas.Bool.Decides.{nat_tests}
 use Rattle.std.proofs.lemmas.Option.{same_Some}
 use Rattle.fdb_lines.specs.Lines.{Case, kind_at, version_at, client_at, draws, shows, is_commit, same_client}
 use Rattle.fdb_lines.specs.declared.act.Act.TheVariants.{Reports}
+use Rattle.fdb_lines.specs.declared.fault.Fault.TheVariants.{Order, NotAbove, Twice}
 use Rattle.fdb_lines.specs.Explained.{OthersMay, precedes, taken, IsMoment, Explains}
 use Rattle.fdb_lines.specs.Faults.{IsFaultless, is_own}
-use Rattle.fdb_lines.specs.Order.{Item, ask_item, shared_item, take_item, needs_ask, needs_report, sorted, history, IsRanked}
-use Rattle.fdb_lines.specs.Reasons.{draws_it, reports_it}
+use Rattle.fdb_lines.specs.Order.{Item, ask_item, shared_item, take_item, needs_ask, needs_report, put_if, sorted, history, IsRanked}
+use Rattle.fdb_lines.specs.Reasons.{draws_again, draws_it, reports_it}
 use Rattle.fdb_lines.proofs.Numbers.{some_find, none_at}
 use Rattle.fdb_lines.proofs.Sorted.{In, KeyLess, IsSortedOf, put_if_sorted, index_of, less_places, one_place, act_at}
-use Rattle.fdb_lines.proofs.Facts.{HasNone, shown_known, drawn_known, known_known, no_order, no_not_above, no_twice, no_stray, no_wrong, asked_above, draws_own, raises_it}
+use Rattle.fdb_lines.proofs.Facts.{HasNone, shown_known, drawn_known, known_known, no_stray, no_wrong, asked_above, draws_own, raises_it}
 use Rattle.fdb_lines.proofs.Legal.{IsItemBelow, IsItemOf, Origin, Asked, origin_take, same_items, IsOrder, place, item_of, legal}
 
 -- ---- the sorted list has an item of each key that is needed, and no others
 
 module _ (c : Case) (rank : ℕ → ℕ) where
+  -- with the items of one more line
+  line_sorted : (Q : Item → Type 0) (k : ℕ) (ys : List Item) → IsSortedOf Q ys → IsSortedOf (λ z. IsItemOf c rank k z ⊎ Q z)
+      (put_if (needs_ask c k) (ask_item (version_at c k)) (put_if (shows (kind_at c k)) (take_item c rank k) (put_if (needs_report c k) (shared_item (version_at c k)) ys)))
+  line_sorted Q k ys s =
+      let all = put_if_sorted _ (needs_ask c k) _ _ (put_if_sorted _ (shows (kind_at c k)) _ _ (put_if_sorted Q (needs_report c k) _ ys s)) in
+      record { rises = all.rises; from = λ z i. let is = all.from z i in grind arith; keyed = λ z is. all.keyed z (grind arith) }
+
   sorted_below : (n : ℕ) → IsSortedOf (IsItemBelow c rank n) (sorted c rank n)
-  sorted_below zero = record { rises = tt; from = λ z i. absurd i; keyed = λ z q. let lt = q.there in absurd (omega arith) }
+  sorted_below zero = record { rises = tt; from = λ z i. absurd i; keyed = λ z is. absurd (omega (arith, is.there)) }
   sorted_below (suc k) =
-      let s = put_if_sorted _ (needs_ask c k) (ask_item (version_at c k)) _ (put_if_sorted _ (shows (kind_at c k)) (take_item c rank k) _
-      (put_if_sorted _ (needs_report c k) (shared_item (version_at c k)) _ (sorted_below k))) in
+      let all = line_sorted (IsItemBelow c rank k) k (sorted c rank k) (sorted_below k) in
       record {
-        rises = s.rises;
-        from = λ z i. let q = s.from z i in elim q [
-          | inl ask ↦ record { line = k; there = omega arith; item = inl ask }
-          | inr q ↦ elim q [
-            | inl take ↦ record { line = k; there = omega arith; item = inr (inl take) }
-            | inr q ↦ elim q [
-              | inl report ↦ record { line = k; there = omega arith; item = inr (inr report) }
-              | inr below ↦ record { line = below.line; there = let lt = below.there in omega arith; item = below.item }
-            ]
-          ]
+        rises = all.rises;
+        from = λ z i. elim (all.from z i) [
+          | inl here ↦ record { line = k; there = omega arith; item = here }
+          | inr below ↦ record { line = below.line; there = omega (arith, below.there); item = below.item }
         ];
-        keyed = λ z q. s.keyed z (elim (cases_eq q.line k) [
-          | inl same ↦ let is = subst (λ j. IsItemOf c rank j z) same q.item in grind arith
-          | inr other ↦ let lt = q.there in inr (inr (inr (record { line = q.line; there = omega arith; item = q.item })))
+        keyed = λ z is. all.keyed z (elim (cases_eq is.line k) [
+          | inl same ↦ inl (subst (λ j. IsItemOf c rank j z) same is.item)
+          | inr other ↦ inr (record { line = is.line; there = omega (arith, is.there); item = is.item })
         ]);
       }
 
@@ -68,18 +69,16 @@ module _ (c : Case) (rank : ℕ → ℕ) (ranked : IsRanked c rank) (none : HasN
       let drawn = drawn_known c j k lj b in
       let known = known_known c rank ranked j k lj lk b in
       let climbs = ranked.climbs j k lj lk b in
-      let order = no_order c none k lk in
-      let above = no_not_above c none k lk in
+      let order = none Order k lk in
+      let above = none NotAbove k lk in
       grind (arith, nat_tests)
 
   apart_by : j ≢ k → (x : Item) → IsActOf c rank j x → IsActOf c rank k x → (is_commit (kind_at c j) ≡ true) × (is_commit (kind_at c k) ≡ true)
   apart_by ne x p q =
-      let twice = no_twice c none j k lj lk ne in
+      let twice = none Twice k lk in
+      let others = none_at (draws_again c k) (length c.lines) j in
       let ranks = ranked.apart j k lj lk in
       grind (arith, nat_tests)
-
-take_act : (c : Case) (rank : ℕ → ℕ) (k : ℕ) → (take_item c rank k).act ≡ taken c k
-take_act c rank k = grind (arith, nat_tests)
 
 client_same : (a b : Option ℕ) → same_client a b ≡ true → a ≡ b
 client_same a b h = grind (arith, nat_tests)
@@ -104,32 +103,30 @@ unreported c none k lk need = (
 -- whose act it is
 whose : (c : Case) (rank : ℕ → ℕ) → HasNone c → (x : Item) (p : Origin c rank x)
     → ((k : ℕ) × (k < length c.lines) × IsActOf c rank k x) ⊎ ((c.complete ≡ false) × OthersMay c x.act)
-whose c rank none x p = by p.item
-  where
-    by : IsItemOf c rank p.line x → ((k : ℕ) × (k < length c.lines) × IsActOf c rank k x) ⊎ ((c.complete ≡ false) × OthersMay c x.act)
-    by (inl ask) =
-        elim (asked_above c none p.line p.there ask.0).1 [
-          | inl drawn ↦ let some = some_find (draws_it c (version_at c p.line)) (length c.lines) drawn in inl (some.0, some.1, inl (grind (arith, nat_tests)))
-          | inr part ↦ inr (part, subst (λ z. OthersMay c z.act) (sym ask.1) tt)
-        ]
-    by (inr (inl take)) = inl (p.line, p.there, inr take)
-    by (inr (inr report)) = inr (subst (λ z. (c.complete ≡ false) × OthersMay c z.act) (sym report.1) (unreported c none p.line p.there report.0))
+whose c rank none x p = elim p.item [
+  | inl ask ↦ elim (asked_above c none p.line p.there ask.0).1 [
+    | inl drawn ↦ let some = some_find (draws_it c (version_at c p.line)) (length c.lines) drawn in inl (some.0, some.1, inl (grind (arith, nat_tests)))
+    | inr part ↦ inr (part, subst (λ z. OthersMay c z.act) (sym ask.1) tt)
+  ]
+  | inr own ↦ elim own [
+    | inl take ↦ inl (p.line, p.there, inr take)
+    | inr report ↦ inr (subst (λ z. (c.complete ≡ false) × OthersMay c z.act) (sym report.1) (unreported c none p.line p.there report.0))
+  ]
+]
 
 -- ---- all of it
 
 module _ (c : Case) (rank : ℕ → ℕ) (ranked : IsRanked c rank) (none : HasNone c) (items : List Item) (o : IsOrder c rank items) where
-  asked_of : ℕ → ℕ
+  abbrev asked_of : ℕ → ℕ
   asked_of k = index_of (ask_item (version_at c k)) items
 
-  took_of : ℕ → ℕ
+  abbrev took_of : ℕ → ℕ
   took_of k = index_of (take_item c rank k) items
 
   asked_at : (k : ℕ) → k < length c.lines → draws (kind_at c k) ≡ true → slice_get items (asked_of k) ≡ Some (ask_item (version_at c k))
-  unfolding asked_of
   asked_at k lk d = place c rank ranked none items o _ (o.asks k lk (grind (arith, nat_tests)))
 
   took_at : (k : ℕ) → k < length c.lines → shows (kind_at c k) ≡ true → slice_get items (took_of k) ≡ Some (take_item c rank k)
-  unfolding took_of
   took_at k lk s = place c rank ranked none items o _ (o.takes k lk s)
 
   -- the item at a moment of a line
@@ -148,7 +145,7 @@ module _ (c : Case) (rank : ℕ → ℕ) (ranked : IsRanked c rank) (none : HasN
     asked = asked_of;
     took = took_of;
     asks = λ k lk d. act_at items (asked_of k) _ (asked_at k lk d);
-    takes = λ k lk s. act_at items (took_of k) _ (took_at k lk s) ∙ ap Some (take_act c rank k);
+    takes = λ k lk s. act_at items (took_of k) _ (took_at k lk s) ∙ ap Some (let same : (take_item c rank k).act ≡ taken c k = grind (arith, nat_tests) in same);
     apart = λ j k m lj lk ne p q.
         let x = moment_item j m lj p in
         let y = moment_item k m lk q in
@@ -159,10 +156,9 @@ module _ (c : Case) (rank : ℕ → ℕ) (ranked : IsRanked c rank) (none : HasN
         let y = moment_item k n lk q in
         less_places items m n x.0 y.0 o.rises x.1 y.1 (before_key c rank ranked none j k lj lk pre x.0 y.0 x.2 y.2);
     owned = λ j k lj lk is d same.
-        elim (no_stray c none k lk is) [
-          | inl own ↦ owner c k own.1
-          | inr nobody ↦ let t = none_at (draws_it c (version_at c k)) (length c.lines) j nobody.1 lj in absurd (grind (arith, nat_tests))
-        ];
+        let stray = no_stray c none k lk is in
+        let undrawn = none_at (draws_it c (version_at c k)) (length c.lines) j in
+        owner c k (grind (arith, nat_tests));
     others = λ m act h.
         let x = item_of c rank ranked none items o m act h in
         elim (whose c rank none x.0 x.3) [

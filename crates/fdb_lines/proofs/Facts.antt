@@ -2,12 +2,12 @@
 use Rattle.std.proofs.Common.{◌≡◌, ◌≢◌, ◌⊎◌, ℕ, ◌<◌, ◌≤◌, ◌==◌, nat_lt, Bool, true, false, ◌&&◌, length, arith}
 use Rattle.std.proofs.lemmas.Bool.{and_parts, and_from}
 use Rattle.std.proofs.lemmas.Bool.Decides.{nat_tests}
-use Rattle.fdb_lines.specs.Lines.{Read, Report, Case, kind_at, version_at, client_at, same_client, draws, reports, shows, is_commit}
-use Rattle.fdb_lines.specs.declared.fault.Fault.TheVariants.{Order, Wrong, NotAbove, Twice, Stray}
+use Rattle.fdb_lines.specs.Lines.{Read, Report, Case, kind_at, version_at, client_at, same_client, draws, reports, shows}
+use Rattle.fdb_lines.specs.declared.fault.Fault.TheVariants.{Order, Wrong, NotAbove, Stray}
 use Rattle.fdb_lines.specs.Faults.{IsFaultless, knows, last, is_reported, is_drawn, is_raised, is_own}
 use Rattle.fdb_lines.specs.Order.{needs_ask, IsRanked}
-use Rattle.fdb_lines.specs.Reasons.{draws_it, draws_again}
-use Rattle.fdb_lines.proofs.Numbers.{greatest_bound, greatest_least, some_at, some_find, none_at}
+use Rattle.fdb_lines.specs.Reasons.{draws_it}
+use Rattle.fdb_lines.proofs.Numbers.{greatest_bound, greatest_least, some_at, some_find}
 
 abbrev pub HasNone : Case → Type 0
 HasNone c = IsFaultless c
@@ -24,9 +24,6 @@ abbrev pub draws_own : Case → ℕ → ℕ → Bool
 draws_own c k j = draws (kind_at c j) && (version_at c j == version_at c k && same_client (client_at c j) (client_at c k))
 
 -- ---- what is known
-
-pub start_known : (c : Case) (k : ℕ) → c.start ≤ knows c k
-start_known c k = omega arith
 
 pub shown_known : (c : Case) (j k : ℕ) → j < length c.lines → c.before j k ≡ true → shows (kind_at c j) ≡ true → version_at c j ≤ knows c k
 shown_known c j k lj b s =
@@ -47,21 +44,9 @@ known_known c rank ranked j k lj lk b =
 pub no_order : (c : Case) → HasNone c → (k : ℕ) → k < length c.lines → kind_at c k ≡ Read → knows c k ≤ version_at c k
 no_order c none k lk is = let f = none Order k lk in grind (arith, nat_tests)
 
-pub no_not_above : (c : Case) → HasNone c → (k : ℕ) → k < length c.lines → draws (kind_at c k) ≡ true
-    → (knows c k < version_at c k) × (last c k < version_at c k)
-no_not_above c none k lk d = let f = none NotAbove k lk in grind (arith, nat_tests)
-
 pub no_wrong : (c : Case) → HasNone c → (k : ℕ) → k < length c.lines → kind_at c k ≡ Read → version_at c k ≢ c.start
     → (is_raised c (version_at c k) ≡ true) ⊎ ((c.complete ≡ false) × (is_reported c (version_at c k) ≡ false))
 no_wrong c none k lk is ne = let f = none Wrong k lk in grind (arith, nat_tests)
-
-pub no_twice : (c : Case) → HasNone c → (j k : ℕ) → j < length c.lines → k < length c.lines → j ≢ k
-    → draws (kind_at c j) ≡ true → draws (kind_at c k) ≡ true → version_at c j ≡ version_at c k
-    → (is_commit (kind_at c j) ≡ true) × (is_commit (kind_at c k) ≡ true)
-no_twice c none j k lj lk ne dj dk same =
-    let f = none Twice k lk in
-    let t = none_at (draws_again c k) (length c.lines) j in
-    grind (arith, nat_tests)
 
 pub no_stray : (c : Case) → HasNone c → (k : ℕ) → k < length c.lines → kind_at c k ≡ Report
     → ((is_drawn c (version_at c k) ≡ true) × (is_own c k ≡ true)) ⊎ ((c.complete ≡ false) × (is_drawn c (version_at c k) ≡ false) × (c.start < version_at c k))

@@ -5,10 +5,11 @@ use Rattle.std.proofs.lemmas.Bool.Decides.{nat_tests}
 use Rattle.fdb_lines.specs.Lines.{Case, Read, kind_at, version_at, shows}
 use Rattle.fdb_lines.specs.declared.act.Act.{Act}
 use Rattle.fdb_lines.specs.declared.act.Act.TheVariants.{Asks, Reports, Reads}
-use Rattle.fdb_lines.specs.Explained.{Happens, ReportedBefore, AskedBefore, IsLegal}
+use Rattle.fdb_lines.specs.Explained.{Happens, ReportedBefore, IsLegal}
 use Rattle.fdb_lines.specs.Order.{Item, ask_item, shared_item, take_item, needs_ask, needs_report, IsRanked}
 use Rattle.fdb_lines.proofs.Numbers.{some_find}
 use Rattle.fdb_lines.proofs.Sorted.{In, KeyLess, SameKey, Rises, index_of, in_at, rises_at, less_places, index_at, act_at, item_at}
+use Rattle.fdb_lines.proofs.Steps.{IsAllowed, legal_allowed}
 use Rattle.fdb_lines.proofs.Facts.{HasNone, no_order, no_wrong, asked_above, raises_it}
 
 -- an item of a line: its ask, its read or report, or the report of others that it needs
@@ -81,66 +82,51 @@ module _ (c : Case) (rank : ℕ → ℕ) (ranked : IsRanked c rank) (none : HasN
   pub item_of : (m : ℕ) (act : Act) → Happens (map (λ z. z.act) items) m act → (x : Item) × (slice_get items m ≡ Some x) × (x.act ≡ act) × Origin c rank x
   item_of m act h = let it = item_at items m act h in (it.0, it.1, it.2, o.origins it.0 (in_at items m it.0 it.1))
 
+  -- what was reported before an act is the start, or stands no higher
+  low : (m w : ℕ) (x : Item) → slice_get items m ≡ Some x → ReportedBefore c.start (map (λ z. z.act) items) m w → (w ≡ c.start) ⊎ (4 * w + 1 ≤ x.stage)
+  low m w x at (inl first) = inl first
+  low m w x at (inr q) =
+      let y = item_of q.0 (Reports w) q.2 in
+      let is = report_of c rank y.0 y.3 w y.2 in
+      let less = rises_at items q.0 m y.0 x o.rises y.1 at q.1 in
+      inr (omega arith)
+
+  -- a version that is read, and not the start, was reported before
+  had : (m v : ℕ) (x : Item) (p : Origin c rank x) → slice_get items m ≡ Some x → x.act ≡ Reads v → ReportedBefore c.start (map (λ z. z.act) items) m v
+  had m v x p at e =
+      let k = p.line in
+      let is = read_of c rank x p v e in
+      elim (cases_eq (version_at c k) c.start) [
+        | inl first ↦ inl (sym is.1 ∙ first)
+        | inr ne ↦ elim (no_wrong c none k p.there is.0 ne) [
+          | inl raised ↦
+              let some = some_find (raises_it c (version_at c k)) (length c.lines) raised in
+              let up = raising c rank (version_at c k) some.0 some.2 in
+              inr (earlier (take_item c rank some.0) x m (Reports v) (o.takes some.0 some.1 up.0) (up.1 ∙ ap Reports is.1) at (inl (omega arith)))
+          | inr others ↦
+              let need : needs_report c k ≡ true = grind (arith, nat_tests) in
+              inr (earlier (shared_item (version_at c k)) x m (Reports v) (o.reports k p.there need) (ap Reports is.1) at (inl (omega arith)))
+        ]
+      ]
+
+  allowed : (m : ℕ) (act : Act) (x : Item) (p : Origin c rank x) → slice_get items m ≡ Some x → x.act ≡ act → IsAllowed c.start (map (λ z. z.act) items) m act
+  allowed m (Asks v) x p at e =
+      let is = ask_of c rank x p v e in
+      let above = asked_above c none p.line p.there is.0 in (
+        λ w q.
+            let y = item_of q.0 (Asks w) q.2 in
+            let asked = ask_of c rank y.0 y.3 w y.2 in
+            let less = rises_at items q.0 m y.0 x o.rises y.1 at q.1 in
+            omega arith,
+        λ w r. let under = low m w x at r in omega arith,
+      )
+  allowed m (Reports v) x p at e =
+      let is = report_of c rank x p v e in
+      earlier (ask_item (version_at c p.line)) x m (Asks v) (o.asks p.line p.there is.0) (ap Asks is.1) at (inl (omega arith))
+  allowed m (Reads v) x p at e =
+      let is = read_of c rank x p v e in
+      let order = no_order c none p.line p.there is.0 in
+      (had m v x p at e, λ w r. let under = low m w x at r in omega arith)
+
   pub legal : IsLegal c.start (map (λ z. z.act) items)
-  legal = record { had = had; greatest = greatest; drawn = drawn; rising = rising; above = above }
-    where
-      had : (m v : ℕ) → Happens (map (λ z. z.act) items) m (Reads v) → ReportedBefore c.start (map (λ z. z.act) items) m v
-      had m v h =
-          let x = item_of m (Reads v) h in
-          let k = x.3.line in
-          let is = read_of c rank x.0 x.3 v x.2 in
-          elim (cases_eq (version_at c k) c.start) [
-            | inl first ↦ inl (sym is.1 ∙ first)
-            | inr ne ↦ elim (no_wrong c none k x.3.there is.0 ne) [
-              | inl raised ↦
-                  let some = some_find (raises_it c (version_at c k)) (length c.lines) raised in
-                  let up = raising c rank (version_at c k) some.0 some.2 in
-                  inr (earlier (take_item c rank some.0) x.0 m (Reports v) (o.takes some.0 some.1 up.0) (up.1 ∙ ap Reports is.1) x.1 (inl (omega arith)))
-              | inr others ↦
-                  let need : needs_report c k ≡ true = grind (arith, nat_tests) in
-                  inr (earlier (shared_item (version_at c k)) x.0 m (Reports v) (o.reports k x.3.there need) (ap Reports is.1) x.1 (inl (omega arith)))
-            ]
-          ]
-
-      greatest : (m v w : ℕ) → Happens (map (λ z. z.act) items) m (Reads v) → ReportedBefore c.start (map (λ z. z.act) items) m w → w ≤ v
-      greatest m v w h (inl first) =
-          let x = item_of m (Reads v) h in
-          let is = read_of c rank x.0 x.3 v x.2 in
-          let order = no_order c none x.3.line x.3.there is.0 in
-          omega arith
-      greatest m v w h (inr q) =
-          let x = item_of m (Reads v) h in
-          let y = item_of q.0 (Reports w) q.2 in
-          let read = read_of c rank x.0 x.3 v x.2 in
-          let report = report_of c rank y.0 y.3 w y.2 in
-          let less = rises_at items q.0 m y.0 x.0 o.rises y.1 x.1 q.1 in
-          omega arith
-
-      drawn : (m v : ℕ) → Happens (map (λ z. z.act) items) m (Reports v) → AskedBefore (map (λ z. z.act) items) m v
-      drawn m v h =
-          let x = item_of m (Reports v) h in
-          let is = report_of c rank x.0 x.3 v x.2 in
-          earlier (ask_item (version_at c x.3.line)) x.0 m (Asks v) (o.asks x.3.line x.3.there is.0) (ap Asks is.1) x.1 (inl (omega arith))
-
-      rising : (m v w : ℕ) → Happens (map (λ z. z.act) items) m (Asks v) → AskedBefore (map (λ z. z.act) items) m w → w < v
-      rising m v w h q =
-          let x = item_of m (Asks v) h in
-          let y = item_of q.0 (Asks w) q.2 in
-          let ask = ask_of c rank x.0 x.3 v x.2 in
-          let asked = ask_of c rank y.0 y.3 w y.2 in
-          let less = rises_at items q.0 m y.0 x.0 o.rises y.1 x.1 q.1 in
-          omega arith
-
-      above : (m v w : ℕ) → Happens (map (λ z. z.act) items) m (Asks v) → ReportedBefore c.start (map (λ z. z.act) items) m w → w < v
-      above m v w h (inl first) =
-          let x = item_of m (Asks v) h in
-          let ask = ask_of c rank x.0 x.3 v x.2 in
-          let low = asked_above c none x.3.line x.3.there ask.0 in
-          omega arith
-      above m v w h (inr q) =
-          let x = item_of m (Asks v) h in
-          let y = item_of q.0 (Reports w) q.2 in
-          let ask = ask_of c rank x.0 x.3 v x.2 in
-          let report = report_of c rank y.0 y.3 w y.2 in
-          let less = rises_at items q.0 m y.0 x.0 o.rises y.1 x.1 q.1 in
-          omega arith
+  legal = (legal_allowed c.start (map (λ z. z.act) items)).0 (λ m act h. let x = item_of m act h in allowed m act x.0 x.3 x.1 x.2)

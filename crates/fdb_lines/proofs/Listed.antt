@@ -1,10 +1,9 @@
 -- The list of faults is empty exactly where none stands.
 use Rattle.std.proofs.Common.{◌≡◌, ◌↔◌, ℕ, zero, suc, ◌<◌, ◌≤◌, false, List, [], ◌∷◌, ◌++◌, length, slice_get, Option, None, Some, refl, ap, sym, subst, ◌∙◌, inl, inr, arith, length-append}
 use Rattle.std.proofs.lemmas.Bool.{cases_eq, both_ways, cond_both}
-use Rattle.std.proofs.lemmas.Grind.{common_steps}
 use Rattle.std.specs.List.{All}
 use Rattle.std.proofs.lemmas.List.Elements.{All-append, All-cons, All-get_or, All-nil}
-use Rattle.std.proofs.lemmas.Option.{get_or_from_slice_get, slice_get_within}
+use Rattle.std.proofs.lemmas.Option.{get_or_from_slice_get, slice_get_past, slice_get_within}
 use Rattle.fdb_lines.specs.declared.fault.Fault.{Fault}
 use Rattle.fdb_lines.specs.declared.fault.Fault.TheVariants.{Order, Wrong, NotAbove, Twice, Stray}
 use Rattle.fdb_lines.specs.declared.fault.Found.{Found}
@@ -54,50 +53,41 @@ first_stands c found is =
 none_if : (c : Case) (fault : Fault) (k : ℕ) → length (found_if c fault k) ≡ 0 → stands c fault k ≡ false
 none_if c fault k e = grind arith
 
-none_at : (c : Case) (fault : Fault) (k : ℕ) → length (faults_at c k) ≡ 0 → stands c fault k ≡ false
-none_at c fault k e =
-    none_if c fault k (elim fault as (λ f. length (found_if c f k) ≡ 0) [
-      | Order ↦ omega (arith, length-append {A = Found})
-      | Wrong ↦ omega (arith, length-append {A = Found})
-      | NotAbove ↦ omega (arith, length-append {A = Found})
-      | Twice ↦ omega (arith, length-append {A = Found})
-      | Stray ↦ omega (arith, length-append {A = Found})
-    ])
+none_at : (c : Case) (k : ℕ) → length (faults_at c k) ≡ 0 → (fault : Fault) → stands c fault k ≡ false
+none_at c k e Order = none_if c Order k (omega (arith, length-append {A = Found}))
+none_at c k e Wrong = none_if c Wrong k (omega (arith, length-append {A = Found}))
+none_at c k e NotAbove = none_if c NotAbove k (omega (arith, length-append {A = Found}))
+none_at c k e Twice = none_if c Twice k (omega (arith, length-append {A = Found}))
+none_at c k e Stray = none_if c Stray k (omega (arith, length-append {A = Found}))
 
 none_below : (c : Case) (n : ℕ) → length (faults_below c n) ≡ 0 → (fault : Fault) (k : ℕ) → k < n → stands c fault k ≡ false
 none_below c zero e fault k lt = absurd (omega arith)
 none_below c (suc n) e fault k lt =
     let sum = length-append (faults_below c n) (faults_at c n) in
     elim (cases_eq k n) [
-      | inl same ↦ ap (stands c fault) same ∙ none_at c fault n (omega arith)
+      | inl same ↦ ap (stands c fault) same ∙ none_at c n (omega arith) fault
       | inr other ↦ none_below c n (omega arith) fault k (omega arith)
     ]
 
-pub none_listed : (c : Case) → faults_of c ≡ [] ↔ IsFaultless c
-none_listed c = (λ e. none_below c (length c.lines) (ap length e), λ none. by none (faults_of c) (all_stand c))
-  where
-    by : IsFaultless c → (found : List Found) → All (IsStanding c) found → found ≡ []
-    by none [] all = refl
-    by none (x ∷ xs) all = let f = all 0 x (omega arith) in absurd (both_ways _ (none x.fault x.line f.0) f.1)
-
-empty : (found : List Found) → length found ≡ 0 → found ≡ []
-empty found e = grind (arith, common_steps)
-
-no_first : (found : List Found) → slice_get found 0 ≡ None → found ≡ []
-no_first [] e = refl
-no_first (x ∷ xs) e = absurd cc
+no_more : (c : Case) → IsFaultless c → (found : List Found) → All (IsStanding c) found → length found ≡ 0
+no_more c none [] all = refl
+no_more c none (x ∷ xs) all = let f = all 0 x (omega arith) in absurd (both_ways _ (none x.fault x.line f.0) f.1)
 
 pub explained_by_length : (log : Lines) (opts : AuditOpts) (found : List Found) → found ≡ faults_of (case_of log opts) → (length found ≡ 0) ↔ AreExplained (case_of log opts)
-explained_by_length log opts found e = (
-  λ none. (law log opts).0 ((none_listed (case_of log opts)).0 (sym e ∙ empty found none)),
-  λ some. ap length (e ∙ (none_listed (case_of log opts)).1 ((law log opts).1 some)),
-)
+explained_by_length log opts found e =
+    let c = case_of log opts in (
+      λ none. (law log opts).0 (none_below c (length c.lines) (sym (ap length e) ∙ none)),
+      λ some. ap length e ∙ no_more c ((law log opts).1 some) (faults_of c) (all_stand c),
+    )
 
 pub explained_by_first : (log : Lines) (opts : AuditOpts) (first : Option Found) → first ≡ slice_get (faults_of (case_of log opts)) 0 → (first ≡ None) ↔ AreExplained (case_of log opts)
-explained_by_first log opts first e = (
-  λ none. (law log opts).0 ((none_listed (case_of log opts)).0 (no_first (faults_of (case_of log opts)) (sym e ∙ none))),
-  λ some. e ∙ ap (λ l. slice_get l 0) ((none_listed (case_of log opts)).1 ((law log opts).1 some)),
-)
+explained_by_first log opts first e =
+    let listed = explained_by_length log opts (faults_of (case_of log opts)) refl in
+    (λ none. listed.0 (no_first (faults_of (case_of log opts)) (sym e ∙ none)), λ some. e ∙ slice_get_past (faults_of (case_of log opts)) 0 (omega (arith, listed.1 some)))
+  where
+    no_first : (found : List Found) → slice_get found 0 ≡ None → length found ≡ 0
+    no_first [] e = refl
+    no_first (x ∷ xs) e = absurd cc
 
 -- ---- the first
 

@@ -1,8 +1,8 @@
 -- No fault is invented: where some history explains the lines, none stands.
-use Rattle.std.proofs.Common.{◌≡◌, ◌≢◌, ◌⊎◌, ℕ, zero, suc, ◌<◌, true, false, ◌&&◌, List, length, Option, refl, ap, sym, subst, inl, inr, arith}
-use Rattle.std.proofs.lemmas.Bool.{cases_eq, cases_lt, cases_order, and_parts, false_from_ne_true}
+use Rattle.std.proofs.Common.{◌≡◌, ◌≢◌, ◌⊎◌, ℕ, zero, suc, ◌<◌, true, false, ◌&&◌, List, length, Option, refl, ap, inl, inr, arith}
+use Rattle.std.proofs.lemmas.Bool.{and_parts, false_from_ne_true}
 use Rattle.std.proofs.lemmas.Bool.Decides.{nat_tests}
-use Rattle.fdb_lines.specs.Lines.{Read, Report, Case, kind_at, version_at, client_at, draws, shows, is_commit, same_client}
+use Rattle.fdb_lines.specs.Lines.{Read, Report, Case, kind_at, version_at, client_at, draws, shows, same_client}
 use Rattle.fdb_lines.specs.declared.act.Act.{Act}
 use Rattle.fdb_lines.specs.declared.act.Act.TheVariants.{Asks, Reports, Reads}
 use Rattle.fdb_lines.specs.Explained.{Happens, OthersMay, ReportedBefore, IsMoment, Explains}
@@ -16,26 +16,19 @@ same_client_from : (a b : Option ℕ) → a ≡ b → same_client a b ≡ true
 same_client_from a b e = grind (arith, nat_tests)
 
 module _ (c : Case) (history : List Act) (e : Explains c history) where
-  -- what a line showed was reported before what comes after
-  showed : (j p : ℕ) → j < length c.lines → shows (kind_at c j) ≡ true → e.took j < p → ReportedBefore c.start history p (version_at c j)
-  showed j p lj s first =
-      let h = e.takes j lj s in
-      let read = e.legal.had (e.took j) (version_at c j) in
-      grind (arith, nat_tests)
-
   -- what a call knows was reported before it
   known_before : (k p : ℕ) → k < length c.lines → IsMoment c e.asked e.took k p → ReportedBefore c.start history p (knows c k)
   known_before k p lk moment =
       elim (greatest_among (λ j. c.before j k && shows (kind_at c j)) (version_at c) (length c.lines)) [
         | inl none ↦ inl (omega arith)
-        | inr some ↦ elim (cases_lt c.start (version_at c some.0)) [
-          | inl more ↦
-              let parts = and_parts (c.before some.0 k) (shows (kind_at c some.0)) some.2 in
-              let first = e.ordered some.0 k (e.took some.0) p some.1 lk (grind (arith, nat_tests)) (inr (parts.1, refl)) moment in
-              let greatest = some.3 in
-              subst (ReportedBefore c.start history p) (let same : version_at c some.0 ≡ knows c k = omega arith in same) (showed some.0 p some.1 parts.1 first)
-          | inr less ↦ let greatest = some.3 in inl (omega arith)
-        ]
+        | inr some ↦
+            let j = some.0 in
+            let parts = and_parts (c.before j k) (shows (kind_at c j)) some.2 in
+            let first = e.ordered j k (e.took j) p some.1 lk (grind (arith, nat_tests)) (inr (parts.1, refl)) moment in
+            let takes = e.takes j some.1 parts.1 in
+            let read = e.legal.had (e.took j) (version_at c j) in
+            let greatest = some.3 in
+            grind (arith, nat_tests)
       ]
 
   -- the last that was drawn before an ask is below it
@@ -63,41 +56,6 @@ module _ (c : Case) (history : List Act) (e : Explains c history) where
         | inr others ↦ inr others.0
       ]
 
-  no_order : (k : ℕ) → k < length c.lines → stands c Order k ≡ false
-  no_order k lk =
-      let takes = e.takes k lk in
-      let most = e.legal.greatest (e.took k) (version_at c k) (knows c k) in
-      let known = known_before k (e.took k) lk in
-      grind (arith, nat_tests)
-
-  no_not_above : (k : ℕ) → k < length c.lines → stands c NotAbove k ≡ false
-  no_not_above k lk =
-      let asks = e.asks k lk in
-      let above = e.legal.above (e.asked k) (version_at c k) (knows c k) in
-      let known = known_before k (e.asked k) lk in
-      let last = last_below k lk in
-      grind (arith, nat_tests)
-
-  -- two lines that ask for one version are commits
-  both_commits : (j k : ℕ) → j < length c.lines → k < length c.lines → j ≢ k → draws (kind_at c j) ≡ true → draws (kind_at c k) ≡ true → version_at c j ≡ version_at c k
-      → (is_commit (kind_at c j) ≡ true) × (is_commit (kind_at c k) ≡ true)
-  both_commits j k lj lk ne dj dk same =
-      let here = e.asks k lk dk in
-      let there : Happens history (e.asked j) (Asks (version_at c k)) = cc (e.asks j lj dj) in
-      elim (cases_order (e.asked j) (e.asked k)) [
-        | inl one ↦ e.apart j k (e.asked k) lj lk ne (inl (dj, sym one)) (inl (dk, refl))
-        | inr apart ↦ elim apart [
-          | inl first ↦ absurd (omega (arith, e.legal.rising (e.asked k) (version_at c k) (version_at c k) here (e.asked j, first, there)))
-          | inr later ↦ absurd (omega (arith, e.legal.rising (e.asked j) (version_at c k) (version_at c k) there (e.asked k, later, here)))
-        ]
-      ]
-
-  no_twice : (k : ℕ) → k < length c.lines → stands c Twice k ≡ false
-  no_twice k lk = false_from_ne_true (stands c Twice k) (λ f.
-      let some = some_find (draws_again c k) (length c.lines) (and_parts (draws (kind_at c k)) _ f).1 in
-      let both = both_commits some.0 k some.1 lk in
-      grind (arith, nat_tests))
-
   -- a version is reported by who drew it, where a line did
   own : (k : ℕ) → k < length c.lines → kind_at c k ≡ Report → is_drawn c (version_at c k) ≡ true → is_own c k ≡ true
   own k lk is drawn =
@@ -105,15 +63,6 @@ module _ (c : Case) (history : List Act) (e : Explains c history) where
       let by = e.owned some.0 k some.1 lk is (grind (arith, nat_tests)) (grind (arith, nat_tests)) in
       let same = same_client_from (client_at c by.0) (client_at c k) by.4 in
       some_at (draws_own c k) (length c.lines) by.0 by.1 (grind (arith, nat_tests))
-
-  no_stray : (k : ℕ) → k < length c.lines → stands c Stray k ≡ false
-  no_stray k lk = false_from_ne_true (stands c Stray k) (λ f.
-      let is : kind_at c k ≡ Report = grind (arith, nat_tests) in
-      let asked = e.legal.drawn (e.took k) (version_at c k) (cc (e.takes k lk (ap shows is))) in
-      let above = e.legal.above asked.0 (version_at c k) c.start asked.2 (inl refl) in
-      let by = asked_by asked.0 (version_at c k) asked.2 in
-      let owned = own k lk is in
-      grind (arith, nat_tests))
 
   -- a line that reports a version without knowing it raises the register
   raises : (i m v : ℕ) → i < length c.lines → IsMoment c e.asked e.took i m → Happens history m (Reports v) → knows c i < v → is_raised c v ≡ true
@@ -138,22 +87,49 @@ module _ (c : Case) (history : List Act) (e : Explains c history) where
   raised k read ne (suc n) m lt before h =
       let v = version_at c k in
       elim (e.others m (Reports v) h) [
-        | inl line ↦ elim (known_before line.0 m line.1 line.2) [
-          | inl first ↦
-              let most = e.legal.greatest (e.took k) v c.start read (inl refl) in
-              inl (raises line.0 m v line.1 line.2 h (omega arith))
-          | inr q ↦
-              let most = e.legal.greatest (e.took k) v (knows c line.0) read (inr (q.0, omega (arith, q.1), q.2)) in
-              elim (cases_eq (knows c line.0) v) [
-                | inl same ↦ raised k read ne n q.0 (omega (arith, q.1)) (omega (arith, q.1)) (subst (λ w. Happens history q.0 (Reports w)) same q.2)
-                | inr other ↦ inl (raises line.0 m v line.1 line.2 h (omega arith))
-              ]
-        ]
+        | inl line ↦
+            let up = raises line.0 m v line.1 line.2 h in
+            elim (known_before line.0 m line.1 line.2) [
+              | inl first ↦ let most = e.legal.greatest (e.took k) v c.start read (inl refl) in inl (up (omega arith))
+              | inr q ↦
+                  let most = e.legal.greatest (e.took k) v (knows c line.0) read (inr (q.0, omega (arith, q.1), q.2)) in
+                  let again = raised k read ne n q.0 in
+                  grind arith
+            ]
         | inr others ↦ inr (others.0, unreported v others.1)
       ]
 
-  no_wrong : (k : ℕ) → k < length c.lines → stands c Wrong k ≡ false
-  no_wrong k lk = false_from_ne_true (stands c Wrong k) (λ f.
+  pub invented : IsFaultless c
+  invented Order k lk =
+      let takes = e.takes k lk in
+      let most = e.legal.greatest (e.took k) (version_at c k) (knows c k) in
+      let known = known_before k (e.took k) lk in
+      grind (arith, nat_tests)
+  invented NotAbove k lk =
+      let asks = e.asks k lk in
+      let above = e.legal.above (e.asked k) (version_at c k) (knows c k) in
+      let known = known_before k (e.asked k) lk in
+      let last = last_below k lk in
+      grind (arith, nat_tests)
+  invented Twice k lk = false_from_ne_true (stands c Twice k) (λ f.
+      let some = some_find (draws_again c k) (length c.lines) (and_parts (draws (kind_at c k)) _ f).1 in
+      let j = some.0 in
+      let asks = e.asks j some.1 in
+      let v = version_at c k in
+      let here : Happens history (e.asked k) (Asks v) = e.asks k lk (and_parts (draws (kind_at c k)) _ f).0 in
+      let there : Happens history (e.asked j) (Asks v) = grind (arith, nat_tests) in
+      let first = λ (l : e.asked j < e.asked k). e.legal.rising (e.asked k) v v here (e.asked j, l, there) in
+      let later = λ (l : e.asked k < e.asked j). e.legal.rising (e.asked j) v v there (e.asked k, l, here) in
+      let both = e.apart j k (e.asked k) some.1 lk in
+      grind (arith, nat_tests))
+  invented Stray k lk = false_from_ne_true (stands c Stray k) (λ f.
+      let is : kind_at c k ≡ Report = grind (arith, nat_tests) in
+      let asked = e.legal.drawn (e.took k) (version_at c k) (cc (e.takes k lk (ap shows is))) in
+      let above = e.legal.above asked.0 (version_at c k) c.start asked.2 (inl refl) in
+      let by = asked_by asked.0 (version_at c k) asked.2 in
+      let owned = own k lk is in
+      grind (arith, nat_tests))
+  invented Wrong k lk = false_from_ne_true (stands c Wrong k) (λ f.
       let is : kind_at c k ≡ Read = grind (arith, nat_tests) in
       let ne : version_at c k ≢ c.start = grind (arith, nat_tests) in
       let read : Happens history (e.took k) (Reads (version_at c k)) = cc (e.takes k lk (ap shows is)) in
@@ -161,10 +137,3 @@ module _ (c : Case) (history : List Act) (e : Explains c history) where
         | inl first ↦ ne first
         | inr q ↦ let up = raised k read ne (e.took k) q.0 q.1 q.1 q.2 in grind (arith, nat_tests)
       ])
-
-pub invented : (c : Case) (history : List Act) → Explains c history → IsFaultless c
-invented c history e Order k lk = no_order c history e k lk
-invented c history e Wrong k lk = no_wrong c history e k lk
-invented c history e NotAbove k lk = no_not_above c history e k lk
-invented c history e Twice k lk = no_twice c history e k lk
-invented c history e Stray k lk = no_stray c history e k lk

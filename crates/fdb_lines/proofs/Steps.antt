@@ -9,7 +9,7 @@ use Rattle.fdb_lines.specs.Explained.{Happens, ReportedBefore, AskedBefore, IsLe
 use Rattle.fdb_lines.specs.Steps.{State, is_in, may, after, runs, fresh}
 
 -- whether an act is legal at a moment
-abbrev IsAllowed : ℕ → List Act → ℕ → Act → Type 0
+abbrev pub IsAllowed : ℕ → List Act → ℕ → Act → Type 0
 IsAllowed start history m (Asks v) = ((w : ℕ) → AskedBefore history m w → w < v) × ((w : ℕ) → ReportedBefore start history m w → w < v)
 IsAllowed start history m (Reports v) = AskedBefore history m v
 IsAllowed start history m (Reads v) = ReportedBefore start history m v × ((w : ℕ) → ReportedBefore start history m w → w ≤ v)
@@ -62,25 +62,22 @@ module _ (start : ℕ) (history : List Act) where
   abbrev IsRest : ℕ → List Act → Type 0
   IsRest m rest = (i n : ℕ) → n ≡ i + m → slice_get rest i ≡ slice_get history n
 
-  allowed : (rest : List Act) (m : ℕ) (s : State) → IsRest m rest → IsStateAt start history m s → runs s rest ≡ true
-      → (n : ℕ) (act : Act) → m ≤ n → Happens history n act → IsAllowed start history n act
-  allowed [] m s left at h n act le is = absurd (none-some act (left (n - m) n (omega arith) ∙ is))
-  allowed (a ∷ rest) m s left at h n act le is =
-      let p = and_parts (may s a) (runs (after s a) rest) h in
+  -- the rest runs from a state exactly where each of its acts is allowed
+  walk : (rest : List Act) (m : ℕ) (s : State) → IsRest m rest → IsStateAt start history m s
+      → (runs s rest ≡ true) ↔ ((n : ℕ) (act : Act) → m ≤ n → Happens history n act → IsAllowed start history n act)
+  walk [] m s left at = (λ h n act le is. absurd (none-some act (left (n - m) n (omega arith) ∙ is)), λ all. refl)
+  walk (a ∷ rest) m s left at =
       let here = sym (left 0 m (omega arith)) in
-      elim (cases_eq m n) [
-        | inl same ↦ subst (λ k. IsAllowed start history k act) same
-            (allowed_from m s act at (subst (λ b. may s b ≡ true) (same_Some a act (sym here ∙ (ap (slice_get history) same ∙ is))) p.0))
-        | inr other ↦ allowed rest (suc m) (after s a) (λ i k e. left (suc i) k (omega arith)) (next m s a at here p.0) p.1 n act (omega arith) is
-      ]
-
-  run : (rest : List Act) (m : ℕ) (s : State) → IsRest m rest → IsStateAt start history m s → ((n : ℕ) (act : Act) → Happens history n act → IsAllowed start history n act)
-      → runs s rest ≡ true
-  run [] m s left at all = refl
-  run (a ∷ rest) m s left at all =
-      let here = sym (left 0 m (omega arith)) in
-      let may = may_from m s a at (all m a here) in
-      and_from _ _ may (run rest (suc m) (after s a) (λ i k e. left (suc i) k (omega arith)) (next m s a at here may) all)
+      let on = λ (may_here : may s a ≡ true). walk rest (suc m) (after s a) (λ i k e. left (suc i) k (omega arith)) (next m s a at here may_here) in (
+        λ h n act le is.
+            let p = and_parts (may s a) (runs (after s a) rest) h in
+            elim (cases_eq m n) [
+              | inl same ↦ let is : a ≡ act = same_Some a act (sym here ∙ (ap (slice_get history) same ∙ is)) in
+                  subst (IsAllowed start history n) is (subst (λ k. IsAllowed start history k a) same (allowed_from m s a at p.0))
+              | inr other ↦ (on p.0).0 p.1 n act (omega arith) is
+            ],
+        λ all. let may_here = may_from m s a at (all m a (omega arith) here) in and_from _ _ may_here ((on may_here).1 (λ n act le. all n act (omega arith))),
+      )
 
   begun : IsStateAt start history 0 (fresh start)
   begun = record {
@@ -91,19 +88,23 @@ module _ (start : ℕ) (history : List Act) where
     last = inr (inl refl);
   }
 
+  pub legal_allowed : ((m : ℕ) (act : Act) → Happens history m act → IsAllowed start history m act) ↔ IsLegal start history
+  legal_allowed = (
+    λ all. record {
+      had = λ m v is. (all m (Reads v) is).0;
+      greatest = λ m v w is. (all m (Reads v) is).1 w;
+      drawn = λ m v. all m (Reports v);
+      rising = λ m v w is. (all m (Asks v) is).0 w;
+      above = λ m v w is. (all m (Asks v) is).1 w;
+    },
+    λ l m act. elim act as (λ a. Happens history m a → IsAllowed start history m a) [
+      | Asks v ↦ λ is. (λ w. l.rising m v w is, λ w. l.above m v w is)
+      | Reports v ↦ l.drawn m v
+      | Reads v ↦ λ is. (l.had m v is, λ w. l.greatest m v w is)
+    ],
+  )
+
   pub legal_runs : (runs (fresh start) history ≡ true) ↔ IsLegal start history
   legal_runs =
-      let whole : IsRest 0 history = λ i n e. ap (slice_get history) (let same : i ≡ n = omega arith in same) in (
-        λ h. let all = allowed history 0 (fresh start) whole begun h in record {
-          had = λ m v is. (all m (Reads v) (omega arith) is).0;
-          greatest = λ m v w is. (all m (Reads v) (omega arith) is).1 w;
-          drawn = λ m v. all m (Reports v) (omega arith);
-          rising = λ m v w is. (all m (Asks v) (omega arith) is).0 w;
-          above = λ m v w is. (all m (Asks v) (omega arith) is).1 w;
-        },
-        λ l. run history 0 (fresh start) whole begun (λ m act is. elim act as (λ a. Happens history m a → IsAllowed start history m a) [
-          | Asks v ↦ λ is. (λ w. l.rising m v w is, λ w. l.above m v w is)
-          | Reports v ↦ l.drawn m v
-          | Reads v ↦ λ is. (l.had m v is, λ w. l.greatest m v w is)
-        ] is),
-      )
+      let all = walk history 0 (fresh start) (λ i n e. ap (slice_get history) (let same : i ≡ n = omega arith in same)) begun in
+      (λ h. legal_allowed.0 (λ m act. all.0 h m act (omega arith)), λ l. all.1 (λ n act le. legal_allowed.1 l n act))

@@ -1,5 +1,5 @@
 use Rattle.std.proofs.Common.{arith}
-use Rattle.fdb_lines.proofs.Facts.{none_stands, start_known, shown_known, no_order}
+use Rattle.fdb_lines.proofs.Facts.{none_stands, shown_known, no_order}
 use Rattle.fdb_lines.proofs.laws.no_read_goes_back.Goals as goal
 
 pub returns : goal.returns
@@ -9,7 +9,6 @@ returns c = record {
       let above = no_order d (none_stands d none) k lk read in
       omega arith;
   after_the_start = λ d k none lk read.
-      let known = start_known d k in
       let above = no_order d (none_stands d none) k lk read in
       omega arith;
 }
