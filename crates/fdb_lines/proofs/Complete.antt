@@ -1,9 +1,9 @@
 -- No fault is hidden: where none stands, the order by version explains the lines.
-use Rattle.std.proofs.Common.{◌≡◌, ◌≢◌, ◌⊎◌, ℕ, zero, suc, ◌<◌, true, false, List, map, length, Option, Some, slice_get, refl, ap, sym, subst, ◌∙◌, inl, inr, arith}
+use Rattle.std.proofs.Common.{◌≡◌, ◌≢◌, ◌⊎◌, ℕ, zero, suc, ◌<◌, true, false, List, map, length, Some, slice_get, refl, ap, sym, subst, ◌∙◌, inl, inr, arith}
 use Rattle.std.proofs.lemmas.Bool.{cases_eq, and_parts}
 use Rattle.std.proofs.lemmas.Bool.Decides.{nat_tests}
 use Rattle.std.proofs.lemmas.Option.{same_Some}
-use Rattle.fdb_lines.specs.Lines.{Case, kind_at, version_at, client_at, draws, shows, is_commit, same_client}
+use Rattle.fdb_lines.specs.Lines.{Case, kind_at, version_at, client_at, draws, shows, is_commit}
 use Rattle.fdb_lines.specs.declared.act.Act.TheVariants.{Reports}
 use Rattle.fdb_lines.specs.declared.fault.Fault.TheVariants.{Order, NotAbove, Twice}
 use Rattle.fdb_lines.specs.Explained.{OthersMay, precedes, taken, IsMoment, Explains}
@@ -11,7 +11,7 @@ use Rattle.fdb_lines.specs.Faults.{IsFaultless, is_own}
 use Rattle.fdb_lines.specs.Order.{Item, ask_item, shared_item, take_item, needs_ask, needs_report, put_if, sorted, history, IsRanked}
 use Rattle.fdb_lines.specs.Reasons.{draws_again, draws_it, reports_it}
 use Rattle.fdb_lines.proofs.Numbers.{some_find, none_at}
-use Rattle.fdb_lines.proofs.Sorted.{In, KeyLess, IsSortedOf, put_if_sorted, index_of, less_places, one_place, act_at}
+use Rattle.fdb_lines.proofs.Sorted.{In, KeyLess, IsSortedOf, put_if_sorted, index_of, places, act_at}
 use Rattle.fdb_lines.proofs.Facts.{HasNone, shown_known, drawn_known, known_known, no_stray, no_wrong, asked_above, draws_own, raises_it}
 use Rattle.fdb_lines.proofs.Legal.{IsItemBelow, IsItemOf, Origin, Asked, origin_take, same_items, IsOrder, place, item_of, legal}
 
@@ -80,15 +80,9 @@ module _ (c : Case) (rank : ℕ → ℕ) (ranked : IsRanked c rank) (none : HasN
       let ranks = ranked.apart j k lj lk in
       grind (arith, nat_tests)
 
-client_same : (a b : Option ℕ) → same_client a b ≡ true → a ≡ b
-client_same a b h = grind (arith, nat_tests)
-
 owner : (c : Case) (k : ℕ) → is_own c k ≡ true
     → (i : ℕ) × (i < length c.lines) × (draws (kind_at c i) ≡ true) × (version_at c i ≡ version_at c k) × (client_at c i ≡ client_at c k)
-owner c k own =
-    let some = some_find (draws_own c k) (length c.lines) own in
-    let client = client_same (client_at c some.0) (client_at c k) in
-    grind (arith, nat_tests)
+owner c k own = let some = some_find (draws_own c k) (length c.lines) own in grind (arith, nat_tests)
 
 -- a read of what nobody reports, where no fault stands
 unreported : (c : Case) → HasNone c → (k : ℕ) → k < length c.lines → needs_report c k ≡ true → (c.complete ≡ false) × OthersMay c (Reports (version_at c k))
@@ -136,8 +130,8 @@ module _ (c : Case) (rank : ℕ → ℕ) (ranked : IsRanked c rank) (none : HasN
 
   -- and the moment of a line's item
   item_moment : (k m : ℕ) (x : Item) → k < length c.lines → slice_get items m ≡ Some x → IsActOf c rank k x → IsMoment c asked_of took_of k m
-  item_moment k m x lk h (inl d) = inl (d.0, one_place items m (asked_of k) x o.rises h (asked_at k lk d.0 ∙ ap Some (sym d.1)))
-  item_moment k m x lk h (inr s) = inr (s.0, one_place items m (took_of k) x o.rises h (took_at k lk s.0 ∙ ap Some (sym s.1)))
+  item_moment k m x lk h (inl d) = inl (d.0, (places items m (asked_of k) x _ o.rises h (asked_at k lk d.0)).1 d.1)
+  item_moment k m x lk h (inr s) = inr (s.0, (places items m (took_of k) x _ o.rises h (took_at k lk s.0)).1 s.1)
 
   pub explained_by : Explains c (map (λ z. z.act) items)
   explained_by = record {
@@ -154,7 +148,7 @@ module _ (c : Case) (rank : ℕ → ℕ) (ranked : IsRanked c rank) (none : HasN
     ordered = λ j k m n lj lk pre p q.
         let x = moment_item j m lj p in
         let y = moment_item k n lk q in
-        less_places items m n x.0 y.0 o.rises x.1 y.1 (before_key c rank ranked none j k lj lk pre x.0 y.0 x.2 y.2);
+        (places items m n x.0 y.0 o.rises x.1 y.1).0 (before_key c rank ranked none j k lj lk pre x.0 y.0 x.2 y.2);
     owned = λ j k lj lk is d same.
         let stray = no_stray c none k lk is in
         let undrawn = none_at (draws_it c (version_at c k)) (length c.lines) j in

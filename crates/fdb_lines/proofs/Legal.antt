@@ -8,7 +8,7 @@ use Rattle.fdb_lines.specs.declared.act.Act.TheVariants.{Asks, Reports, Reads}
 use Rattle.fdb_lines.specs.Explained.{Happens, ReportedBefore, IsLegal}
 use Rattle.fdb_lines.specs.Order.{Item, ask_item, shared_item, take_item, needs_ask, needs_report, IsRanked}
 use Rattle.fdb_lines.proofs.Numbers.{some_find}
-use Rattle.fdb_lines.proofs.Sorted.{In, KeyLess, SameKey, Rises, index_of, in_at, rises_at, less_places, index_at, act_at, item_at}
+use Rattle.fdb_lines.proofs.Sorted.{In, KeyLess, SameKey, Rises, index_of, in_at, rises_at, places, index_at, act_at, item_at}
 use Rattle.fdb_lines.proofs.Steps.{IsAllowed, legal_allowed}
 use Rattle.fdb_lines.proofs.Facts.{HasNone, no_order, no_wrong, asked_above, raises_it}
 
@@ -45,15 +45,15 @@ same_items c rank ranked x y p q s =
     grind (arith, nat_tests)
 
 -- what the item of an act is
-module _ (c : Case) (rank : ℕ → ℕ) (x : Item) (p : Origin c rank x) (v : ℕ) where
-  read_of : x.act ≡ Reads v → (kind_at c p.line ≡ Read) × (version_at c p.line ≡ v) × (x.stage ≡ 4 * v + 3)
-  read_of e = grind (arith, nat_tests)
+abbrev pub IsFor : Case → Act → ℕ → Item → Type 0
+IsFor c (Asks v) k x = (needs_ask c k ≡ true) × (version_at c k ≡ v) × (x.stage ≡ 4 * v) × (x.rank ≡ 0)
+IsFor c (Reports v) k x = (needs_ask c k ≡ true) × (version_at c k ≡ v) × (4 * v + 1 ≤ x.stage)
+IsFor c (Reads v) k x = (kind_at c k ≡ Read) × (version_at c k ≡ v) × (x.stage ≡ 4 * v + 3)
 
-  report_of : x.act ≡ Reports v → (needs_ask c p.line ≡ true) × (version_at c p.line ≡ v) × (4 * v + 1 ≤ x.stage)
-  report_of e = grind (arith, nat_tests)
-
-  ask_of : x.act ≡ Asks v → (needs_ask c p.line ≡ true) × (version_at c p.line ≡ v) × (x.stage ≡ 4 * v) × (x.rank ≡ 0)
-  ask_of e = grind (arith, nat_tests)
+is_for : (c : Case) (rank : ℕ → ℕ) (x : Item) (p : Origin c rank x) (act : Act) → x.act ≡ act → IsFor c act p.line x
+is_for c rank x p (Asks v) e = grind (arith, nat_tests)
+is_for c rank x p (Reports v) e = grind (arith, nat_tests)
+is_for c rank x p (Reads v) e = grind (arith, nat_tests)
 
 raising : (c : Case) (rank : ℕ → ℕ) (v k : ℕ) → raises_it c v k ≡ true
     → (shows (kind_at c k) ≡ true) × ((take_item c rank k).act ≡ Reports v) × ((take_item c rank k).stage < 4 * v + 3)
@@ -76,57 +76,57 @@ module _ (c : Case) (rank : ℕ → ℕ) (ranked : IsRanked c rank) (none : HasN
   earlier : (x y : Item) (m : ℕ) (act : Act) → In x items → x.act ≡ act → slice_get items m ≡ Some y → KeyLess x y
       → (i : ℕ) × (i < m) × Happens (map (λ z. z.act) items) i act
   earlier x y m act i e h less =
-      (index_of x items, less_places items (index_of x items) m x y o.rises (place x i) h less, act_at items (index_of x items) x (place x i) ∙ ap Some e)
+      (index_of x items, (places items (index_of x items) m x y o.rises (place x i) h).0 less, act_at items (index_of x items) x (place x i) ∙ ap Some e)
 
   -- the item of an act
-  pub item_of : (m : ℕ) (act : Act) → Happens (map (λ z. z.act) items) m act → (x : Item) × (slice_get items m ≡ Some x) × (x.act ≡ act) × Origin c rank x
-  item_of m act h = let it = item_at items m act h in (it.0, it.1, it.2, o.origins it.0 (in_at items m it.0 it.1))
+  pub item_of : (m : ℕ) (act : Act) → Happens (map (λ z. z.act) items) m act
+      → (x : Item) × (slice_get items m ≡ Some x) × (x.act ≡ act) × (p : Origin c rank x) × IsFor c act p.line x
+  item_of m act h =
+      let it = item_at items m act h in
+      let from = o.origins it.0 (in_at items m it.0 it.1) in
+      (it.0, it.1, it.2, from, is_for c rank it.0 from act it.2)
 
   -- what was reported before an act is the start, or stands no higher
   low : (m w : ℕ) (x : Item) → slice_get items m ≡ Some x → ReportedBefore c.start (map (λ z. z.act) items) m w → (w ≡ c.start) ⊎ (4 * w + 1 ≤ x.stage)
   low m w x at (inl first) = inl first
   low m w x at (inr q) =
       let y = item_of q.0 (Reports w) q.2 in
-      let is = report_of c rank y.0 y.3 w y.2 in
       let less = rises_at items q.0 m y.0 x o.rises y.1 at q.1 in
       inr (omega arith)
 
   -- a version that is read, and not the start, was reported before
-  had : (m v : ℕ) (x : Item) (p : Origin c rank x) → slice_get items m ≡ Some x → x.act ≡ Reads v → ReportedBefore c.start (map (λ z. z.act) items) m v
-  had m v x p at e =
-      let k = p.line in
-      let is = read_of c rank x p v e in
+  had : (m v : ℕ) → Happens (map (λ z. z.act) items) m (Reads v) → ReportedBefore c.start (map (λ z. z.act) items) m v
+  had m v h =
+      let x = item_of m (Reads v) h in
+      let k = x.3.line in
       elim (cases_eq (version_at c k) c.start) [
-        | inl first ↦ inl (sym is.1 ∙ first)
-        | inr ne ↦ elim (no_wrong c none k p.there is.0 ne) [
+        | inl first ↦ inl (sym x.4.1 ∙ first)
+        | inr ne ↦ elim (no_wrong c none k x.3.there x.4.0 ne) [
           | inl raised ↦
               let some = some_find (raises_it c (version_at c k)) (length c.lines) raised in
               let up = raising c rank (version_at c k) some.0 some.2 in
-              inr (earlier (take_item c rank some.0) x m (Reports v) (o.takes some.0 some.1 up.0) (up.1 ∙ ap Reports is.1) at (inl (omega arith)))
+              inr (earlier (take_item c rank some.0) x.0 m (Reports v) (o.takes some.0 some.1 up.0) (up.1 ∙ ap Reports x.4.1) x.1 (inl (omega arith)))
           | inr others ↦
+              let read = x.4.0 in
               let need : needs_report c k ≡ true = grind (arith, nat_tests) in
-              inr (earlier (shared_item (version_at c k)) x m (Reports v) (o.reports k p.there need) (ap Reports is.1) at (inl (omega arith)))
+              inr (earlier (shared_item (version_at c k)) x.0 m (Reports v) (o.reports k x.3.there need) (ap Reports x.4.1) x.1 (inl (omega arith)))
         ]
       ]
 
-  allowed : (m : ℕ) (act : Act) (x : Item) (p : Origin c rank x) → slice_get items m ≡ Some x → x.act ≡ act → IsAllowed c.start (map (λ z. z.act) items) m act
-  allowed m (Asks v) x p at e =
-      let is = ask_of c rank x p v e in
-      let above = asked_above c none p.line p.there is.0 in (
-        λ w q.
-            let y = item_of q.0 (Asks w) q.2 in
-            let asked = ask_of c rank y.0 y.3 w y.2 in
-            let less = rises_at items q.0 m y.0 x o.rises y.1 at q.1 in
-            omega arith,
-        λ w r. let under = low m w x at r in omega arith,
+  allowed : (m : ℕ) (act : Act) → Happens (map (λ z. z.act) items) m act → IsAllowed c.start (map (λ z. z.act) items) m act
+  allowed m (Asks v) h =
+      let x = item_of m (Asks v) h in
+      let above = asked_above c none x.3.line x.3.there x.4.0 in (
+        λ w q. let y = item_of q.0 (Asks w) q.2 in let less = rises_at items q.0 m y.0 x.0 o.rises y.1 x.1 q.1 in omega arith,
+        λ w r. let under = low m w x.0 x.1 r in omega arith,
       )
-  allowed m (Reports v) x p at e =
-      let is = report_of c rank x p v e in
-      earlier (ask_item (version_at c p.line)) x m (Asks v) (o.asks p.line p.there is.0) (ap Asks is.1) at (inl (omega arith))
-  allowed m (Reads v) x p at e =
-      let is = read_of c rank x p v e in
-      let order = no_order c none p.line p.there is.0 in
-      (had m v x p at e, λ w r. let under = low m w x at r in omega arith)
+  allowed m (Reports v) h =
+      let x = item_of m (Reports v) h in
+      earlier (ask_item (version_at c x.3.line)) x.0 m (Asks v) (o.asks x.3.line x.3.there x.4.0) (ap Asks x.4.1) x.1 (inl (omega arith))
+  allowed m (Reads v) h =
+      let x = item_of m (Reads v) h in
+      let order = no_order c none x.3.line x.3.there x.4.0 in
+      (had m v h, λ w r. let under = low m w x.0 x.1 r in omega arith)
 
   pub legal : IsLegal c.start (map (λ z. z.act) items)
-  legal = (legal_allowed c.start (map (λ z. z.act) items)).0 (λ m act h. let x = item_of m act h in allowed m act x.0 x.3 x.1 x.2)
+  legal = (legal_allowed c.start (map (λ z. z.act) items)).0 allowed

@@ -1,8 +1,8 @@
 -- A list of items that rises by its keys.
-use Rattle.std.proofs.Common.{◌≡◌, ◌⊎◌, ℕ, zero, suc, ◌<◌, ◌==◌, Bool, true, false, cond, ◌&&◌, List, [], ◌∷◌, map, Some, slice_get, refl, ap, sym, subst, ◌∙◌, inl, inr, arith}
+use Rattle.std.proofs.Common.{◌≡◌, ◌⊎◌, ℕ, zero, suc, ◌<◌, ◌==◌, Bool, true, false, cond, ◌&&◌, List, [], ◌∷◌, map, option_map, Some, slice_get, refl, ap, sym, subst, ◌∙◌, inl, inr, arith}
 use Rattle.std.proofs.lemmas.Bool.{both_ways, cond_both}
 use Rattle.std.proofs.lemmas.Bool.Decides.{nat_tests}
-use Rattle.std.proofs.lemmas.Option.{same_Some, none-some}
+use Rattle.std.proofs.lemmas.Option.{same_Some, none-some, slice_get-map}
 use Rattle.fdb_lines.specs.declared.act.Act.{Act}
 use Rattle.fdb_lines.specs.Order.{Item, key_lt, put, put_if}
 
@@ -29,12 +29,6 @@ Keyed x xs = (y : Item) × In y xs × SameKey y x
 
 -- ---- an item put in its place
 
-key_less : (x y : Item) → key_lt x y ≡ true → KeyLess x y
-key_less x y h = grind (arith, nat_tests)
-
-same_key : (x y : Item) → key_lt x y ≡ false → key_lt y x ≡ false → SameKey y x
-same_key x y p q = grind (arith, nat_tests)
-
 put_old : (x z : Item) (ys : List Item) → In z ys → In z (put x ys)
 put_old x z [] h = absurd h
 put_old x z (y ∷ ys) h = let rest = put_old x z ys in grind arith
@@ -48,16 +42,14 @@ put_new x [] = (x, inl refl, (refl, refl))
 put_new x (y ∷ ys) =
     let rest = put_new x ys in
     cond_both (key_lt x y) _ _ (Keyed x) (λ l. (x, inl refl, (refl, refl)))
-    (λ p. cond_both (key_lt y x) _ _ (Keyed x) (λ l. (rest.0, inr rest.1, rest.2)) (λ q. (y, inl refl, same_key x y p q)))
+    (λ p. cond_both (key_lt y x) _ _ (Keyed x) (λ l. (rest.0, inr rest.1, rest.2)) (λ q. (y, inl refl, grind (arith, nat_tests))))
 
 put_rises : (x : Item) (ys : List Item) → Rises ys → Rises (put x ys)
 put_rises x [] h = (λ y i. absurd i, tt)
 put_rises x (y ∷ ys) h =
     let rest = put_rises x ys h.1 in
-    cond_both (key_lt x y) _ _ Rises
-    (λ l. (λ z i. elim i [ inl e ↦ subst (KeyLess x) (sym e) (key_less x y l) | inr r ↦ less_trans x y z (key_less x y l) (h.0 z r) ], h))
-    (λ p. cond_both (key_lt y x) _ _ Rises
-    (λ l. (λ z i. elim (put_from x z ys i) [ inl e ↦ subst (KeyLess y) (sym e) (key_less y x l) | inr r ↦ h.0 z r ], rest)) (λ q. h))
+    cond_both (key_lt x y) _ _ Rises (λ l. (λ z i. let more = h.0 z in grind (arith, nat_tests), h))
+    (λ p. cond_both (key_lt y x) _ _ Rises (λ l. (λ z i. let from = put_from x z ys i in let more = h.0 z in grind (arith, nat_tests), rest)) (λ q. h))
 
 -- a list that rises, with items of these alone, and with one of each of their keys
 pub record IsSortedOf (Q : Item → Type 0) (xs : List Item) : Type 0 where
@@ -93,23 +85,17 @@ in_at (y ∷ ys) (suc i) x h = inr (in_at ys i x h)
 
 pub rises_at : (xs : List Item) (i j : ℕ) (x y : Item) → Rises xs → slice_get xs i ≡ Some x → slice_get xs j ≡ Some y → i < j → KeyLess x y
 rises_at [] i j x y r h g l = absurd (none-some x h)
-rises_at (z ∷ zs) zero zero x y r h g l = absurd (omega arith)
+rises_at (z ∷ zs) i zero x y r h g l = absurd (omega arith)
 rises_at (z ∷ zs) zero (suc j) x y r h g l = subst (λ w. KeyLess w y) (same_Some z x h) (r.0 y (in_at zs j y g))
-rises_at (z ∷ zs) (suc i) zero x y r h g l = absurd (omega arith)
 rises_at (z ∷ zs) (suc i) (suc j) x y r h g l = rises_at zs i j x y r.1 h g (omega arith)
 
-pub less_places : (xs : List Item) (i j : ℕ) (x y : Item) → Rises xs → slice_get xs i ≡ Some x → slice_get xs j ≡ Some y → KeyLess x y → i < j
-less_places xs i j x y r h g less =
+-- an item with a lower key stands before, and one item at one place
+pub places : (xs : List Item) (i j : ℕ) (x y : Item) → Rises xs → slice_get xs i ≡ Some x → slice_get xs j ≡ Some y → (KeyLess x y → i < j) × (x ≡ y → i ≡ j)
+places xs i j x y r h g =
+    let on = rises_at xs i j x y r h g in
     let back = rises_at xs j i y x r g h in
     let same : i ≡ j → x ≡ y = λ e. same_Some x y (sym h ∙ (ap (slice_get xs) e ∙ g)) in
-    grind arith
-
--- an item stands at one place
-pub one_place : (xs : List Item) (i j : ℕ) (x : Item) → Rises xs → slice_get xs i ≡ Some x → slice_get xs j ≡ Some x → i ≡ j
-one_place xs i j x r h g =
-    let on = rises_at xs i j x x r h g in
-    let back = rises_at xs j i x x r g h in
-    grind arith
+    (λ less. grind arith, λ one. grind arith)
 
 pub index_at : (xs : List Item) (x : Item) → ((y : Item) → In y xs → SameKey x y → x ≡ y) → In x xs → slice_get xs (index_of x xs) ≡ Some x
 index_at [] x f i = absurd i
@@ -120,9 +106,7 @@ index_at (y ∷ ys) x f i =
 
 -- the acts of the items
 pub act_at : (xs : List Item) (i : ℕ) (x : Item) → slice_get xs i ≡ Some x → slice_get (map (λ z. z.act) xs) i ≡ Some x.act
-act_at [] i x h = absurd (none-some x h)
-act_at (y ∷ ys) zero x h = ap (λ z. Some z.act) (same_Some y x h)
-act_at (y ∷ ys) (suc i) x h = act_at ys i x h
+act_at xs i x h = slice_get-map (λ z. z.act) xs i ∙ ap (option_map (λ z. z.act)) h
 
 pub item_at : (xs : List Item) (i : ℕ) (a : Act) → slice_get (map (λ z. z.act) xs) i ≡ Some a → (x : Item) × (slice_get xs i ≡ Some x) × (x.act ≡ a)
 item_at [] i a h = absurd (none-some a h)

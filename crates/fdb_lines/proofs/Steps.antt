@@ -22,20 +22,13 @@ record IsStateAt (start : ℕ) (history : List Act) (m : ℕ) (s : State) : Type
   asked : (v : ℕ) → AskedBefore history m v → (is_in v s.drawn ≡ true) × (v ≤ s.last)
   last : AskedBefore history m s.last ⊎ ReportedBefore start history m s.last
 
-module _ (start : ℕ) (history : List Act) (m v : ℕ) where
-  reported_more : ReportedBefore start history m v ⊎ Happens history m (Reports v) → ReportedBefore start history (suc m) v
-  reported_more r = grind arith
-
-  reported_less : ReportedBefore start history (suc m) v → ReportedBefore start history m v ⊎ Happens history m (Reports v)
-  reported_less r = grind arith
-
-  asked_more : AskedBefore history m v ⊎ Happens history m (Asks v) → AskedBefore history (suc m) v
-  asked_more r = grind arith
-
-  asked_less : AskedBefore history (suc m) v → AskedBefore history m v ⊎ Happens history m (Asks v)
-  asked_less r = grind arith
-
 module _ (start : ℕ) (history : List Act) where
+  reported_next : (m v : ℕ) → ReportedBefore start history (suc m) v ↔ (ReportedBefore start history m v ⊎ Happens history m (Reports v))
+  reported_next m v = (λ r. grind arith, λ r. grind arith)
+
+  asked_next : (m v : ℕ) → AskedBefore history (suc m) v ↔ (AskedBefore history m v ⊎ Happens history m (Asks v))
+  asked_next m v = (λ r. grind arith, λ r. grind arith)
+
   allowed_from : (m : ℕ) (s : State) (act : Act) → IsStateAt start history m s → may s act ≡ true → IsAllowed start history m act
   allowed_from m s (Asks v) at h = (
     λ w b. let old = (at.asked w b).1 in grind (arith, nat_tests),
@@ -51,11 +44,11 @@ module _ (start : ℕ) (history : List Act) where
 
   next : (m : ℕ) (s : State) (act : Act) → IsStateAt start history m s → Happens history m act → may s act ≡ true → IsStateAt start history (suc m) (after s act)
   next m s act at h may = record {
-    register = reported_more start history m (after s act).register (let old = at.register in grind (arith, nat_tests));
-    most = λ v r. let less = reported_less start history m v r in let old = at.most v in grind (arith, nat_tests);
-    drawn = λ v i. let old = at.drawn v in asked_more start history m v (grind (arith, nat_tests));
-    asked = λ v a. let less = asked_less start history m v a in let old = at.asked v in grind (arith, nat_tests);
-    last = let asked = asked_more start history m (after s act).last in let reported = reported_more start history m s.last in let old = at.last in grind (arith, nat_tests);
+    register = let old = at.register in (reported_next m (after s act).register).1 (grind (arith, nat_tests));
+    most = λ v r. let old = at.most v in let new = (reported_next m v).0 r in grind (arith, nat_tests);
+    drawn = λ v i. let old = at.drawn v in (asked_next m v).1 (grind (arith, nat_tests));
+    asked = λ v a. let old = at.asked v in let new = (asked_next m v).0 a in grind (arith, nat_tests);
+    last = let old = at.last in let asked = (asked_next m (after s act).last).1 in let reported = (reported_next m s.last).1 in grind (arith, nat_tests);
   }
 
   -- what is left of the history after the first acts
