@@ -73,8 +73,8 @@ module _ (c : Case) (rank : ℕ → ℕ) (ranked : IsRanked c rank) (none : HasN
       let above = none NotAbove k lk in
       grind (arith, nat_tests)
 
-  apart_by : j ≢ k → (x : Item) → IsActOf c rank j x → IsActOf c rank k x → (is_commit (kind_at c j) ≡ true) × (is_commit (kind_at c k) ≡ true)
-  apart_by ne x p q =
+  apart_by : j ≢ k → (x y : Item) → x ≡ y → IsActOf c rank j x → IsActOf c rank k y → (is_commit (kind_at c j) ≡ true) × (is_commit (kind_at c k) ≡ true)
+  apart_by ne x y one p q =
       let twice = none Twice k lk in
       let others = none_at (draws_again c k) (length c.lines) j in
       let ranks = ranked.apart j k lj lk in
@@ -88,9 +88,9 @@ owner c k own = let some = some_find (draws_own c k) (length c.lines) own in gri
 unreported : (c : Case) → HasNone c → (k : ℕ) → k < length c.lines → needs_report c k ≡ true → (c.complete ≡ false) × OthersMay c (Reports (version_at c k))
 unreported c none k lk need = (
   let some = some_find (raises_it c (version_at c k)) (length c.lines) in
-  let wrong = no_wrong c none k lk in
-  let t = none_at (reports_it c (version_at c k)) (length c.lines) in
-  grind (arith, nat_tests),
+      let wrong = no_wrong c none k lk in
+      let t = none_at (reports_it c (version_at c k)) (length c.lines) in
+      grind (arith, nat_tests),
   λ j lj r same. let t = none_at (reports_it c (version_at c k)) (length c.lines) j in grind (arith, nat_tests),
 )
 
@@ -117,34 +117,31 @@ module _ (c : Case) (rank : ℕ → ℕ) (ranked : IsRanked c rank) (none : HasN
   abbrev took_of : ℕ → ℕ
   took_of k = index_of (take_item c rank k) items
 
-  asked_at : (k : ℕ) → k < length c.lines → draws (kind_at c k) ≡ true → slice_get items (asked_of k) ≡ Some (ask_item (version_at c k))
-  asked_at k lk d = place c rank ranked none items o _ (o.asks k lk (grind (arith, nat_tests)))
-
-  took_at : (k : ℕ) → k < length c.lines → shows (kind_at c k) ≡ true → slice_get items (took_of k) ≡ Some (take_item c rank k)
-  took_at k lk s = place c rank ranked none items o _ (o.takes k lk s)
+  own_at : (k : ℕ) → k < length c.lines
+      → (draws (kind_at c k) ≡ true → slice_get items (asked_of k) ≡ Some (ask_item (version_at c k))) × (shows (kind_at c k) ≡ true → slice_get items (took_of k) ≡ Some (take_item c rank k))
+  own_at k lk = (λ d. place c rank ranked none items o _ (o.asks k lk (grind (arith, nat_tests))), λ s. place c rank ranked none items o _ (o.takes k lk s))
 
   -- the item at a moment of a line
   moment_item : (k m : ℕ) → k < length c.lines → IsMoment c asked_of took_of k m → (x : Item) × (slice_get items m ≡ Some x) × IsActOf c rank k x
-  moment_item k m lk (inl d) = (ask_item (version_at c k), ap (slice_get items) d.1 ∙ asked_at k lk d.0, inl (d.0, refl))
-  moment_item k m lk (inr s) = (take_item c rank k, ap (slice_get items) s.1 ∙ took_at k lk s.0, inr (s.0, refl))
+  moment_item k m lk (inl d) = (ask_item (version_at c k), ap (slice_get items) d.1 ∙ (own_at k lk).0 d.0, inl (d.0, refl))
+  moment_item k m lk (inr s) = (take_item c rank k, ap (slice_get items) s.1 ∙ (own_at k lk).1 s.0, inr (s.0, refl))
 
   -- and the moment of a line's item
   item_moment : (k m : ℕ) (x : Item) → k < length c.lines → slice_get items m ≡ Some x → IsActOf c rank k x → IsMoment c asked_of took_of k m
-  item_moment k m x lk h (inl d) = inl (d.0, (places items m (asked_of k) x _ o.rises h (asked_at k lk d.0)).1 d.1)
-  item_moment k m x lk h (inr s) = inr (s.0, (places items m (took_of k) x _ o.rises h (took_at k lk s.0)).1 s.1)
+  item_moment k m x lk h (inl d) = inl (d.0, (places items m (asked_of k) x _ o.rises h ((own_at k lk).0 d.0)).1 d.1)
+  item_moment k m x lk h (inr s) = inr (s.0, (places items m (took_of k) x _ o.rises h ((own_at k lk).1 s.0)).1 s.1)
 
   pub explained_by : Explains c (map (λ z. z.act) items)
   explained_by = record {
     legal = legal c rank ranked none items o;
     asked = asked_of;
     took = took_of;
-    asks = λ k lk d. act_at items (asked_of k) _ (asked_at k lk d);
-    takes = λ k lk s. act_at items (took_of k) _ (took_at k lk s) ∙ ap Some (let same : (take_item c rank k).act ≡ taken c k = grind (arith, nat_tests) in same);
+    asks = λ k lk d. act_at items (asked_of k) _ ((own_at k lk).0 d);
+    takes = λ k lk s. act_at items (took_of k) _ ((own_at k lk).1 s) ∙ ap Some (let same : (take_item c rank k).act ≡ taken c k = grind (arith, nat_tests) in same);
     apart = λ j k m lj lk ne p q.
         let x = moment_item j m lj p in
         let y = moment_item k m lk q in
-        let same : y.0 ≡ x.0 = same_Some y.0 x.0 (sym y.1 ∙ x.1) in
-        apart_by c rank ranked none j k lj lk ne x.0 x.2 (subst (IsActOf c rank k) same y.2);
+        apart_by c rank ranked none j k lj lk ne x.0 y.0 (same_Some x.0 y.0 (sym x.1 ∙ y.1)) x.2 y.2;
     ordered = λ j k m n lj lk pre p q.
         let x = moment_item j m lj p in
         let y = moment_item k n lk q in

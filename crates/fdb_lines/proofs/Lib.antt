@@ -5,7 +5,6 @@ pub mod Facts
 pub mod Legal
 pub mod Complete
 pub mod Steps
-pub mod Clocks
 pub mod Told
 pub mod Ranked
 pub mod Arranged
