@@ -1,6 +1,6 @@
 -- No fault is hidden: where none stands, the order by version explains the lines.
 use Rattle.std.proofs.Common.{◌≡◌, ◌≢◌, ◌⊎◌, ℕ, zero, suc, ◌<◌, true, false, List, map, length, Some, slice_get, refl, ap, sym, subst, ◌∙◌, inl, inr, arith}
-use Rattle.std.proofs.lemmas.Bool.{cases_eq, and_parts}
+use Rattle.std.proofs.lemmas.Bool.{and_parts}
 use Rattle.std.proofs.lemmas.Bool.Decides.{nat_tests}
 use Rattle.std.proofs.lemmas.Option.{same_Some}
 use Rattle.fdb_lines.specs.Lines.{Case, kind_at, version_at, client_at, draws, shows, is_commit}
@@ -8,7 +8,7 @@ use Rattle.fdb_lines.specs.declared.act.Act.TheVariants.{Reports}
 use Rattle.fdb_lines.specs.declared.fault.Fault.TheVariants.{Order, NotAbove, Twice}
 use Rattle.fdb_lines.specs.Explained.{OthersMay, precedes, taken, IsMoment, Explains}
 use Rattle.fdb_lines.specs.Faults.{IsFaultless, is_own}
-use Rattle.fdb_lines.specs.Order.{Item, ask_item, shared_item, take_item, needs_ask, needs_report, put_if, sorted, history, IsRanked}
+use Rattle.fdb_lines.specs.Order.{Item, ask_item, shared_item, take_item, needs_ask, needs_report, sorted, history, IsRanked}
 use Rattle.fdb_lines.specs.Reasons.{draws_again, draws_it, reports_it}
 use Rattle.fdb_lines.proofs.Numbers.{some_find, none_at}
 use Rattle.fdb_lines.proofs.Sorted.{In, KeyLess, IsSortedOf, put_if_sorted, index_of, places, act_at}
@@ -17,28 +17,27 @@ use Rattle.fdb_lines.proofs.Legal.{IsItemBelow, IsItemOf, Origin, Asked, origin_
 
 -- ---- the sorted list has an item of each key that is needed, and no others
 
-module _ (c : Case) (rank : ℕ → ℕ) where
-  -- with the items of one more line
-  line_sorted : (Q : Item → Type 0) (k : ℕ) (ys : List Item) → IsSortedOf Q ys → IsSortedOf (λ z. IsItemOf c rank k z ⊎ Q z)
-      (put_if (needs_ask c k) (ask_item (version_at c k)) (put_if (shows (kind_at c k)) (take_item c rank k) (put_if (needs_report c k) (shared_item (version_at c k)) ys)))
-  line_sorted Q k ys s =
-      let all = put_if_sorted _ (needs_ask c k) _ _ (put_if_sorted _ (shows (kind_at c k)) _ _ (put_if_sorted Q (needs_report c k) _ ys s)) in
-      record { rises = all.rises; from = λ z i. let is = all.from z i in grind arith; keyed = λ z is. all.keyed z (grind arith) }
+item_below : (c : Case) (rank : ℕ → ℕ) (k n : ℕ) (x : Item) → k < n → IsItemOf c rank k x → IsItemBelow c rank n x
+item_below c rank k n x lt is = record { line = k; there = lt; item = is }
 
+module _ (c : Case) (rank : ℕ → ℕ) where
   sorted_below : (n : ℕ) → IsSortedOf (IsItemBelow c rank n) (sorted c rank n)
   sorted_below zero = record { rises = tt; from = λ z i. absurd i; keyed = λ z is. absurd (omega (arith, is.there)) }
   sorted_below (suc k) =
-      let all = line_sorted (IsItemBelow c rank k) k (sorted c rank k) (sorted_below k) in
+      let all = put_if_sorted _ (needs_ask c k) (ask_item (version_at c k)) _ (put_if_sorted _ (shows (kind_at c k)) (take_item c rank k) _
+      (put_if_sorted _ (needs_report c k) (shared_item (version_at c k)) _ (sorted_below k))) in
       record {
         rises = all.rises;
-        from = λ z i. elim (all.from z i) [
-          | inl here ↦ record { line = k; there = omega arith; item = here }
-          | inr below ↦ record { line = below.line; there = omega (arith, below.there); item = below.item }
-        ];
-        keyed = λ z is. all.keyed z (elim (cases_eq is.line k) [
-          | inl same ↦ inl (subst (λ j. IsItemOf c rank j z) same is.item)
-          | inr other ↦ inr (record { line = is.line; there = omega (arith, is.there); item = is.item })
-        ]);
+        from = λ z i.
+            let is = all.from z i in
+            let here = λ (is : IsItemOf c rank k z). item_below c rank k (suc k) z (omega arith) is in
+            let before = λ (is : IsItemBelow c rank k z). item_below c rank is.line (suc k) z (omega (arith, is.there)) is.item in
+            grind arith;
+        keyed = λ z is.
+            let find = all.keyed z in
+            let here = λ (same : is.line ≡ k). subst (λ j. IsItemOf c rank j z) same is.item in
+            let before = λ (lt : is.line < k). item_below c rank is.line k z lt is.item in
+            grind arith;
       }
 
   sorted_order : IsRanked c rank → IsOrder c rank (sorted c rank (length c.lines))

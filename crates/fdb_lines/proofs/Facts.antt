@@ -1,4 +1,4 @@
--- What holds of lines without a fault, and the keys of their acts.
+-- What holds of lines without a fault.
 use Rattle.std.proofs.Common.{◌≡◌, ◌≢◌, ◌⊎◌, ℕ, ◌<◌, ◌≤◌, ◌==◌, nat_lt, Bool, true, false, ◌&&◌, length, arith}
 use Rattle.std.proofs.lemmas.Bool.{and_parts, and_from}
 use Rattle.std.proofs.lemmas.Bool.Decides.{nat_tests}
@@ -10,7 +10,7 @@ use Rattle.fdb_lines.specs.Reasons.{draws_it}
 use Rattle.fdb_lines.proofs.Numbers.{greatest_bound, greatest_least, some_at, some_find}
 
 abbrev pub HasNone : Case → Type 0
-HasNone c = IsFaultless c
+HasNone = IsFaultless
 
 pub none_stands : (c : Case) → IsFaultless c → HasNone c
 none_stands c none = none

@@ -1,6 +1,6 @@
 -- The list of faults is empty exactly where none stands.
-use Rattle.std.proofs.Common.{◌≡◌, ◌↔◌, ℕ, zero, suc, ◌<◌, ◌≤◌, false, List, [], ◌∷◌, ◌++◌, length, slice_get, Option, None, Some, refl, ap, sym, subst, ◌∙◌, inl, inr, arith, length-append}
-use Rattle.std.proofs.lemmas.Bool.{cases_eq, both_ways, cond_both}
+use Rattle.std.proofs.Common.{◌≡◌, ◌↔◌, ℕ, zero, suc, ◌<◌, ◌≤◌, false, List, [], ◌∷◌, ◌++◌, length, slice_get, Option, None, Some, refl, ap, sym, subst, ◌∙◌, arith, length-append}
+use Rattle.std.proofs.lemmas.Bool.{both_ways, cond_both}
 use Rattle.std.specs.List.{All}
 use Rattle.std.proofs.lemmas.List.Elements.{All-append, All-cons, All-get_or, All-nil}
 use Rattle.std.proofs.lemmas.Option.{get_or_from_slice_get, slice_get_past, slice_get_within}
@@ -64,10 +64,10 @@ none_below : (c : Case) (n : ℕ) → length (faults_below c n) ≡ 0 → (fault
 none_below c zero e fault k lt = absurd (omega arith)
 none_below c (suc n) e fault k lt =
     let sum = length-append (faults_below c n) (faults_at c n) in
-    elim (cases_eq k n) [
-      | inl same ↦ ap (stands c fault) same ∙ none_at c n (omega arith) fault
-      | inr other ↦ none_below c n (omega arith) fault k (omega arith)
-    ]
+    let here = none_at c n (omega arith) fault in
+    let below = none_below c n (omega arith) fault k in
+    let same : k ≡ n → stands c fault k ≡ stands c fault n = ap (stands c fault) in
+    grind arith
 
 no_more : (c : Case) → IsFaultless c → (found : List Found) → All (IsStanding c) found → length found ≡ 0
 no_more c none [] all = refl
@@ -98,10 +98,10 @@ first_of_two (x ∷ xs) ys first e = e
 first_below : (c : Case) (k n : ℕ) (first : Found) → k ≤ n → slice_get (faults_below c k) 0 ≡ Some first → slice_get (faults_below c n) 0 ≡ Some first
 first_below c k zero first le e = subst (λ j. slice_get (faults_below c j) 0 ≡ Some first) (let same : k ≡ 0 = omega arith in same) e
 first_below c k (suc n) first le e =
-    elim (cases_eq k (suc n)) [
-      | inl same ↦ subst (λ j. slice_get (faults_below c j) 0 ≡ Some first) same e
-      | inr other ↦ first_of_two (faults_below c n) (faults_at c n) first (first_below c k n first (omega arith) e)
-    ]
+    let below = first_below c k n first in
+    let more = first_of_two (faults_below c n) (faults_at c n) first in
+    let same : k ≡ suc n → faults_below c k ≡ faults_below c (suc n) = ap (faults_below c) in
+    grind arith
 
 -- what stands first below some line is first of all
 pub first_of_all : (c : Case) (k : ℕ) (first : Found) → k ≤ length c.lines → slice_get (faults_below c k) 0 ≡ Some first → Some first ≡ slice_get (faults_of c) 0

@@ -1,6 +1,6 @@
 -- A list of items that rises by its keys.
-use Rattle.std.proofs.Common.{◌≡◌, ◌⊎◌, ℕ, zero, suc, ◌<◌, ◌==◌, Bool, true, false, cond, ◌&&◌, List, [], ◌∷◌, map, option_map, Some, slice_get, refl, ap, sym, subst, ◌∙◌, inl, inr, arith}
-use Rattle.std.proofs.lemmas.Bool.{both_ways, cond_both}
+use Rattle.std.proofs.Common.{◌≡◌, ◌⊎◌, ℕ, zero, suc, ◌<◌, ◌==◌, Bool, true, cond, ◌&&◌, List, [], ◌∷◌, map, option_map, Some, slice_get, refl, ap, sym, subst, ◌∙◌, inl, inr, arith}
+use Rattle.std.proofs.lemmas.Bool.{cond_both}
 use Rattle.std.proofs.lemmas.Bool.Decides.{nat_tests}
 use Rattle.std.proofs.lemmas.Option.{same_Some, none-some, slice_get-map}
 use Rattle.fdb_lines.specs.declared.act.Act.{Act}
@@ -58,18 +58,10 @@ pub record IsSortedOf (Q : Item → Type 0) (xs : List Item) : Type 0 where
   pub keyed : (z : Item) → Q z → Keyed z xs
 
 pub put_if_sorted : (Q : Item → Type 0) (b : Bool) (x : Item) (ys : List Item) → IsSortedOf Q ys → IsSortedOf (λ z. ((b ≡ true) × (z ≡ x)) ⊎ Q z) (put_if b x ys)
-put_if_sorted Q false x ys s = record {
-  rises = s.rises;
-  from = λ z i. inr (s.from z i);
-  keyed = λ z q. elim q [ inl new ↦ absurd (both_ways false refl new.0) | inr old ↦ s.keyed z old ];
-}
-put_if_sorted Q true x ys s = record {
-  rises = put_rises x ys s.rises;
-  from = λ z i. elim (put_from x z ys i) [ inl new ↦ inl (refl, new) | inr old ↦ inr (s.from z old) ];
-  keyed = λ z q. elim q [
-    | inl new ↦ subst (λ y. Keyed y (put x ys)) (sym new.1) (put_new x ys)
-    | inr old ↦ let y = s.keyed z old in (y.0, put_old x y.0 ys y.1, y.2)
-  ];
+put_if_sorted Q b x ys s = record {
+  rises = cond_both b _ _ Rises (λ e. put_rises x ys s.rises) (λ e. s.rises);
+  from = λ z i. let new = put_from x z ys in let old = s.from z in grind arith;
+  keyed = λ z q. let new = put_new x ys in let old = s.keyed z in let kept = λ (y : Item). put_old x y ys in grind arith;
 }
 
 -- ---- places

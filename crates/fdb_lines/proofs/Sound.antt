@@ -5,7 +5,7 @@ use Rattle.std.proofs.lemmas.Bool.Decides.{nat_tests}
 use Rattle.fdb_lines.specs.Lines.{Read, Report, Case, kind_at, version_at, client_at, draws, shows, same_client}
 use Rattle.fdb_lines.specs.declared.act.Act.{Act}
 use Rattle.fdb_lines.specs.declared.act.Act.TheVariants.{Asks, Reports, Reads}
-use Rattle.fdb_lines.specs.Explained.{Happens, OthersMay, ReportedBefore, IsMoment, Explains}
+use Rattle.fdb_lines.specs.Explained.{Happens, ReportedBefore, IsMoment, Explains}
 use Rattle.fdb_lines.specs.declared.fault.Fault.TheVariants.{Order, Wrong, NotAbove, Twice, Stray}
 use Rattle.fdb_lines.specs.Faults.{stands, IsFaultless, knows, last, is_drawn, is_own, is_raised, is_reported}
 use Rattle.fdb_lines.specs.Reasons.{draws_it, reports_it, draws_again}
@@ -56,29 +56,6 @@ module _ (c : Case) (history : List Act) (e : Explains c history) where
         | inr others ↦ inr others.0
       ]
 
-  -- a version is reported by who drew it, where a line did
-  own : (k : ℕ) → k < length c.lines → kind_at c k ≡ Report → is_drawn c (version_at c k) ≡ true → is_own c k ≡ true
-  own k lk is drawn =
-      let some = some_find (draws_it c (version_at c k)) (length c.lines) drawn in
-      let by = e.owned some.0 k some.1 lk is (grind (arith, nat_tests)) (grind (arith, nat_tests)) in
-      let same = same_client_from (client_at c by.0) (client_at c k) by.4 in
-      some_at (draws_own c k) (length c.lines) by.0 by.1 (grind (arith, nat_tests))
-
-  -- a line that reports a version without knowing it raises the register
-  raises : (i m v : ℕ) → i < length c.lines → IsMoment c e.asked e.took i m → Happens history m (Reports v) → knows c i < v → is_raised c v ≡ true
-  raises i m v li moment h less =
-      let asks = e.asks i li in
-      let takes = e.takes i li in
-      let some = some_at (raises_it c v) (length c.lines) i li in
-      grind (arith, nat_tests)
-
-  -- what others report no line does
-  unreported : (v : ℕ) → OthersMay c (Reports v) → is_reported c v ≡ false
-  unreported v others = false_from_ne_true (is_reported c v) (λ r.
-      let some = some_find (reports_it c v) (length c.lines) r in
-      let other = others some.0 some.1 in
-      grind (arith, nat_tests))
-
   -- a version that is read, and not the start, was raised by a line, or others reported it
   raised : (k : ℕ) → Happens history (e.took k) (Reads (version_at c k)) → version_at c k ≢ c.start
       → (n m : ℕ) → m < n → m < e.took k → Happens history m (Reports (version_at c k))
@@ -88,7 +65,10 @@ module _ (c : Case) (history : List Act) (e : Explains c history) where
       let v = version_at c k in
       elim (e.others m (Reports v) h) [
         | inl line ↦
-            let up = raises line.0 m v line.1 line.2 h in
+            let asks = e.asks line.0 line.1 in
+            let takes = e.takes line.0 line.1 in
+            let some = some_at (raises_it c v) (length c.lines) line.0 line.1 in
+            let up : knows c line.0 < v → is_raised c v ≡ true = λ less. grind (arith, nat_tests) in
             elim (known_before line.0 m line.1 line.2) [
               | inl first ↦ let most = e.legal.greatest (e.took k) v c.start read (inl refl) in inl (up (omega arith))
               | inr q ↦
@@ -96,7 +76,12 @@ module _ (c : Case) (history : List Act) (e : Explains c history) where
                   let again = raised k read ne n q.0 in
                   grind arith
             ]
-        | inr others ↦ inr (others.0, unreported v others.1)
+        | inr others ↦
+            let unreported : is_reported c v ≡ false = false_from_ne_true (is_reported c v) (λ r.
+            let some = some_find (reports_it c v) (length c.lines) r in
+            let other = others.1 some.0 some.1 in
+            grind (arith, nat_tests)) in
+            inr (others.0, unreported)
       ]
 
   pub invented : IsFaultless c
@@ -127,7 +112,11 @@ module _ (c : Case) (history : List Act) (e : Explains c history) where
       let asked = e.legal.drawn (e.took k) (version_at c k) (cc (e.takes k lk (ap shows is))) in
       let above = e.legal.above asked.0 (version_at c k) c.start asked.2 (inl refl) in
       let by = asked_by asked.0 (version_at c k) asked.2 in
-      let owned = own k lk is in
+      let own : is_drawn c (version_at c k) ≡ true → is_own c k ≡ true = λ drawn.
+      let some = some_find (draws_it c (version_at c k)) (length c.lines) drawn in
+      let by = e.owned some.0 k some.1 lk is (grind (arith, nat_tests)) (grind (arith, nat_tests)) in
+      let same = same_client_from (client_at c by.0) (client_at c k) by.4 in
+      some_at (draws_own c k) (length c.lines) by.0 by.1 (grind (arith, nat_tests)) in
       grind (arith, nat_tests))
   invented Wrong k lk = false_from_ne_true (stands c Wrong k) (λ f.
       let is : kind_at c k ≡ Read = grind (arith, nat_tests) in

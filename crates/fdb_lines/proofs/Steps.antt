@@ -29,18 +29,16 @@ module _ (start : ℕ) (history : List Act) where
   asked_next : (m v : ℕ) → AskedBefore history (suc m) v ↔ (AskedBefore history m v ⊎ Happens history m (Asks v))
   asked_next m v = (λ r. grind arith, λ r. grind arith)
 
-  allowed_from : (m : ℕ) (s : State) (act : Act) → IsStateAt start history m s → may s act ≡ true → IsAllowed start history m act
-  allowed_from m s (Asks v) at h = (
-    λ w b. let old = (at.asked w b).1 in grind (arith, nat_tests),
-    λ w b. let old = at.most w b in grind (arith, nat_tests),
+  may_allowed : (m : ℕ) (s : State) (act : Act) → IsStateAt start history m s → (may s act ≡ true) ↔ IsAllowed start history m act
+  may_allowed m s (Asks v) at = (
+    λ h. (λ w b. let old = (at.asked w b).1 in grind (arith, nat_tests), λ w b. let old = at.most w b in grind (arith, nat_tests)),
+    λ h. let register = h.1 s.register at.register in let asked = h.0 s.last in let reported = h.1 s.last in let last = at.last in grind (arith, nat_tests),
   )
-  allowed_from m s (Reports v) at h = at.drawn v h
-  allowed_from m s (Reads v) at h = (let r = at.register in grind (arith, nat_tests), λ w b. let old = at.most w b in grind (arith, nat_tests))
-
-  may_from : (m : ℕ) (s : State) (act : Act) → IsStateAt start history m s → IsAllowed start history m act → may s act ≡ true
-  may_from m s (Asks v) at h = let register = h.1 s.register at.register in let asked = h.0 s.last in let reported = h.1 s.last in let last = at.last in grind (arith, nat_tests)
-  may_from m s (Reports v) at h = (at.asked v h).0
-  may_from m s (Reads v) at h = let most = at.most v h.0 in let least = h.1 s.register at.register in grind (arith, nat_tests)
+  may_allowed m s (Reports v) at = (at.drawn v, λ h. (at.asked v h).0)
+  may_allowed m s (Reads v) at = (
+    λ h. (let register = at.register in grind (arith, nat_tests), λ w b. let old = at.most w b in grind (arith, nat_tests)),
+    λ h. let most = at.most v h.0 in let least = h.1 s.register at.register in grind (arith, nat_tests),
+  )
 
   next : (m : ℕ) (s : State) (act : Act) → IsStateAt start history m s → Happens history m act → may s act ≡ true → IsStateAt start history (suc m) (after s act)
   next m s act at h may = record {
@@ -66,10 +64,10 @@ module _ (start : ℕ) (history : List Act) where
             let p = and_parts (may s a) (runs (after s a) rest) h in
             elim (cases_eq m n) [
               | inl same ↦ let is : a ≡ act = same_Some a act (sym here ∙ (ap (slice_get history) same ∙ is)) in
-                  subst (IsAllowed start history n) is (subst (λ k. IsAllowed start history k a) same (allowed_from m s a at p.0))
+                  subst (IsAllowed start history n) is (subst (λ k. IsAllowed start history k a) same ((may_allowed m s a at).0 p.0))
               | inr other ↦ (on p.0).0 p.1 n act (omega arith) is
             ],
-        λ all. let may_here = may_from m s a at (all m a (omega arith) here) in and_from _ _ may_here ((on may_here).1 (λ n act le. all n act (omega arith))),
+        λ all. let may_here = (may_allowed m s a at).1 (all m a (omega arith) here) in and_from _ _ may_here ((on may_here).1 (λ n act le. all n act (omega arith))),
       )
 
   begun : IsStateAt start history 0 (fresh start)
