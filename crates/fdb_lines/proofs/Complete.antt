@@ -17,9 +17,6 @@ use Rattle.fdb_lines.proofs.Legal.{IsItemBelow, IsItemOf, Origin, Asked, origin_
 
 -- ---- the sorted list has an item of each key that is needed, and no others
 
-item_below : (c : Case) (rank : ℕ → ℕ) (k n : ℕ) (x : Item) → k < n → IsItemOf c rank k x → IsItemBelow c rank n x
-item_below c rank k n x lt is = record { line = k; there = lt; item = is }
-
 module _ (c : Case) (rank : ℕ → ℕ) where
   sorted_below : (n : ℕ) → IsSortedOf (IsItemBelow c rank n) (sorted c rank n)
   sorted_below zero = record { rises = tt; from = λ z i. absurd i; keyed = λ z is. absurd (omega (arith, is.there)) }
@@ -30,13 +27,13 @@ module _ (c : Case) (rank : ℕ → ℕ) where
         rises = all.rises;
         from = λ z i.
             let is = all.from z i in
-            let here = λ (is : IsItemOf c rank k z). item_below c rank k (suc k) z (omega arith) is in
-            let before = λ (is : IsItemBelow c rank k z). item_below c rank is.line (suc k) z (omega (arith, is.there)) is.item in
+            let here : IsItemOf c rank k z → IsItemBelow c rank (suc k) z = λ is. record { line = k; there = omega arith; item = is } in
+            let before : IsItemBelow c rank k z → IsItemBelow c rank (suc k) z = λ is. record { line = is.line; there = omega (arith, is.there); item = is.item } in
             grind arith;
         keyed = λ z is.
             let find = all.keyed z in
             let here = λ (same : is.line ≡ k). subst (λ j. IsItemOf c rank j z) same is.item in
-            let before = λ (lt : is.line < k). item_below c rank is.line k z lt is.item in
+            let before : is.line < k → IsItemBelow c rank k z = λ lt. record { line = is.line; there = lt; item = is.item } in
             grind arith;
       }
 
@@ -85,13 +82,11 @@ owner c k own = let some = some_find (draws_own c k) (length c.lines) own in gri
 
 -- a read of what nobody reports, where no fault stands
 unreported : (c : Case) → HasNone c → (k : ℕ) → k < length c.lines → needs_report c k ≡ true → (c.complete ≡ false) × OthersMay c (Reports (version_at c k))
-unreported c none k lk need = (
-  let some = some_find (raises_it c (version_at c k)) (length c.lines) in
-      let wrong = no_wrong c none k lk in
-      let t = none_at (reports_it c (version_at c k)) (length c.lines) in
-      grind (arith, nat_tests),
-  λ j lj r same. let t = none_at (reports_it c (version_at c k)) (length c.lines) j in grind (arith, nat_tests),
-)
+unreported c none k lk need =
+    let raised = some_find (raises_it c (version_at c k)) (length c.lines) in
+    let wrong = no_wrong c none k lk in
+    let unsaid = none_at (reports_it c (version_at c k)) (length c.lines) in
+    (grind (arith, nat_tests), λ j lj r same. let here = unsaid j in grind (arith, nat_tests))
 
 -- whose act it is
 whose : (c : Case) (rank : ℕ → ℕ) → HasNone c → (x : Item) (p : Origin c rank x)

@@ -54,31 +54,25 @@ no_stray c none k lk is = let f = none Stray k lk in grind (arith, nat_tests)
 
 -- ---- what is asked for is above the start, and a line drew it or others may have
 
-drawn_above : (c : Case) → HasNone c → (v : ℕ) → is_drawn c v ≡ true → c.start < v
-drawn_above c none v h =
-    let some = some_find (draws_it c v) (length c.lines) h in
-    let f = none NotAbove some.0 some.1 in
-    grind (arith, nat_tests)
-
 said_above : (c : Case) → HasNone c → (k : ℕ) → k < length c.lines → (draws (kind_at c k) ≡ true) ⊎ (kind_at c k ≡ Report)
     → (c.start < version_at c k) × ((is_drawn c (version_at c k) ≡ true) ⊎ (c.complete ≡ false))
 said_above c none k lk said =
     let f = no_stray c none k lk in
-    let above = drawn_above c none (version_at c k) in
+    let above : is_drawn c (version_at c k) ≡ true → c.start < version_at c k = λ h.
+    let some = some_find (draws_it c (version_at c k)) (length c.lines) h in
+    let low = none NotAbove some.0 some.1 in
+    grind (arith, nat_tests) in
     let drawn = some_at (draws_it c (version_at c k)) (length c.lines) k lk in
-    grind (arith, nat_tests)
-
-raised_above : (c : Case) → HasNone c → (v : ℕ) → is_raised c v ≡ true → (c.start < v) × ((is_drawn c v ≡ true) ⊎ (c.complete ≡ false))
-raised_above c none v h =
-    let some = some_find (raises_it c v) (length c.lines) h in
-    let said = said_above c none some.0 some.1 in
     grind (arith, nat_tests)
 
 pub asked_above : (c : Case) → HasNone c → (k : ℕ) → k < length c.lines → needs_ask c k ≡ true
     → (c.start < version_at c k) × ((is_drawn c (version_at c k) ≡ true) ⊎ (c.complete ≡ false))
 asked_above c none k lk need =
     let said = said_above c none k lk in
-    let raised = raised_above c none (version_at c k) in
+    let raised : is_raised c (version_at c k) ≡ true → (c.start < version_at c k) × ((is_drawn c (version_at c k) ≡ true) ⊎ (c.complete ≡ false)) = λ h.
+    let some = some_find (raises_it c (version_at c k)) (length c.lines) h in
+    let by = said_above c none some.0 some.1 in
+    grind (arith, nat_tests) in
     let read = no_wrong c none k lk in
     let order = no_order c none k lk in
     grind (arith, nat_tests)

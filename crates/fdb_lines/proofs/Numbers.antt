@@ -1,15 +1,11 @@
 -- The greatest of some numbers, and tests on numbers below one.
 use Rattle.std.proofs.Common.{◌≡◌, ◌⊎◌, ℕ, zero, suc, ◌<◌, ◌≤◌, Bool, true, false, cond, refl, ap, inl, inr, arith}
-use Rattle.std.proofs.lemmas.Bool.{cases_eq, cases_lt, false_from_ne_true, both_ways}
+use Rattle.std.proofs.lemmas.Bool.{cases_lt, false_from_ne_true, both_ways}
 use Rattle.fdb_lines.specs.Faults.{greatest_of, some_below}
 
 pub greatest_bound : (test : ℕ → Bool) (f : ℕ → ℕ) (n i : ℕ) → i < n → test i ≡ true → f i ≤ greatest_of test f n
 greatest_bound test f zero i h p = absurd (omega arith)
-greatest_bound test f (suc n) i h p =
-    elim (cases_eq i n) [
-      | inl same ↦ grind arith
-      | inr other ↦ let rest = greatest_bound test f n i (omega arith) p in omega arith
-    ]
+greatest_bound test f (suc n) i h p = let rest = greatest_bound test f n i in grind arith
 
 -- the greatest is of one that passes, or is 0
 pub greatest_among : (test : ℕ → Bool) (f : ℕ → ℕ) (n : ℕ) → (greatest_of test f n ≡ 0) ⊎ ((i : ℕ) × (i < n) × (test i ≡ true) × (f i ≡ greatest_of test f n))

@@ -44,18 +44,6 @@ module _ (c : Case) (history : List Act) (e : Explains c history) where
             inr (omega (arith, some.3))
       ]
 
-  -- who asked for a version
-  asked_by : (m v : ℕ) → Happens history m (Asks v) → (is_drawn c v ≡ true) ⊎ (c.complete ≡ false)
-  asked_by m v h =
-      elim (e.others m (Asks v) h) [
-        | inl line ↦
-            let asks = e.asks line.0 line.1 in
-            let takes = e.takes line.0 line.1 in
-            let drawn = some_at (draws_it c v) (length c.lines) line.0 line.1 in
-            grind (arith, nat_tests)
-        | inr others ↦ inr others.0
-      ]
-
   -- a version that is read, and not the start, was raised by a line, or others reported it
   raised : (k : ℕ) → Happens history (e.took k) (Reads (version_at c k)) → version_at c k ≢ c.start
       → (n m : ℕ) → m < n → m < e.took k → Happens history m (Reports (version_at c k))
@@ -111,7 +99,14 @@ module _ (c : Case) (history : List Act) (e : Explains c history) where
       let is : kind_at c k ≡ Report = grind (arith, nat_tests) in
       let asked = e.legal.drawn (e.took k) (version_at c k) (cc (e.takes k lk (ap shows is))) in
       let above = e.legal.above asked.0 (version_at c k) c.start asked.2 (inl refl) in
-      let by = asked_by asked.0 (version_at c k) asked.2 in
+      let by : (is_drawn c (version_at c k) ≡ true) ⊎ (c.complete ≡ false) = elim (e.others asked.0 (Asks (version_at c k)) asked.2) [
+        | inl line ↦
+            let asks = e.asks line.0 line.1 in
+            let takes = e.takes line.0 line.1 in
+            let drawn = some_at (draws_it c (version_at c k)) (length c.lines) line.0 line.1 in
+            grind (arith, nat_tests)
+        | inr others ↦ inr others.0
+      ] in
       let own : is_drawn c (version_at c k) ≡ true → is_own c k ≡ true = λ drawn.
       let some = some_find (draws_it c (version_at c k)) (length c.lines) drawn in
       let by = e.owned some.0 k some.1 lk is (grind (arith, nat_tests)) (grind (arith, nat_tests)) in

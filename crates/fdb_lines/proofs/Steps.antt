@@ -70,15 +70,6 @@ module _ (start : ℕ) (history : List Act) where
         λ all. let may_here = (may_allowed m s a at).1 (all m a (omega arith) here) in and_from _ _ may_here ((on may_here).1 (λ n act le. all n act (omega arith))),
       )
 
-  begun : IsStateAt start history 0 (fresh start)
-  begun = record {
-    register = inl refl;
-    most = λ v r. grind arith;
-    drawn = λ v i. absurd (both_ways false refl i);
-    asked = λ v a. absurd (omega (arith, a.1));
-    last = inr (inl refl);
-  }
-
   pub legal_allowed : ((m : ℕ) (act : Act) → Happens history m act → IsAllowed start history m act) ↔ IsLegal start history
   legal_allowed = (
     λ all. record {
@@ -97,5 +88,12 @@ module _ (start : ℕ) (history : List Act) where
 
   pub legal_runs : (runs (fresh start) history ≡ true) ↔ IsLegal start history
   legal_runs =
+      let begun : IsStateAt start history 0 (fresh start) = record {
+        register = inl refl;
+        most = λ v r. grind arith;
+        drawn = λ v i. absurd (both_ways false refl i);
+        asked = λ v a. absurd (omega (arith, a.1));
+        last = inr (inl refl);
+      } in
       let all = walk history 0 (fresh start) (λ i n e. ap (slice_get history) (let same : i ≡ n = omega arith in same)) begun in
       (λ h. legal_allowed.0 (λ m act. all.0 h m act (omega arith)), λ l. all.1 (λ n act le. legal_allowed.1 l n act))
