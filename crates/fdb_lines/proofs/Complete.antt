@@ -105,40 +105,36 @@ whose c rank none x p = elim p.item [
 -- ---- all of it
 
 module _ (c : Case) (rank : ℕ → ℕ) (ranked : IsRanked c rank) (none : HasNone c) (items : List Item) (o : IsOrder c rank items) where
-  abbrev asked_of : ℕ → ℕ
-  asked_of k = index_of (ask_item (version_at c k)) items
+  -- the moments of a line are the places of its items
+  abbrev IsPlace : ℕ → ℕ → Type 0
+  IsPlace = IsMoment c (λ k. index_of (ask_item (version_at c k)) items) (λ k. index_of (take_item c rank k) items)
 
-  abbrev took_of : ℕ → ℕ
-  took_of k = index_of (take_item c rank k) items
+  stands : (k : ℕ) (x : Item) → k < length c.lines → IsActOf c rank k x → slice_get items (index_of x items) ≡ Some x
+  stands k x lk (inl d) = place c rank ranked none items o x (subst (λ z. In z items) (sym d.1) (o.asks k lk (grind (arith, nat_tests))))
+  stands k x lk (inr s) = place c rank ranked none items o x (subst (λ z. In z items) (sym s.1) (o.takes k lk s.0))
 
-  own_at : (k : ℕ) → k < length c.lines
-      → (draws (kind_at c k) ≡ true → slice_get items (asked_of k) ≡ Some (ask_item (version_at c k))) × (shows (kind_at c k) ≡ true → slice_get items (took_of k) ≡ Some (take_item c rank k))
-  own_at k lk = (λ d. place c rank ranked none items o _ (o.asks k lk (grind (arith, nat_tests))), λ s. place c rank ranked none items o _ (o.takes k lk s))
+  placed_item : (k m : ℕ) → k < length c.lines → IsPlace k m → (x : Item) × (slice_get items m ≡ Some x) × IsActOf c rank k x
+  placed_item k m lk (inl d) = (_, ap (slice_get items) d.1 ∙ stands k _ lk (inl (d.0, refl)), inl (d.0, refl))
+  placed_item k m lk (inr s) = (_, ap (slice_get items) s.1 ∙ stands k _ lk (inr (s.0, refl)), inr (s.0, refl))
 
-  -- the item at a moment of a line
-  moment_item : (k m : ℕ) → k < length c.lines → IsMoment c asked_of took_of k m → (x : Item) × (slice_get items m ≡ Some x) × IsActOf c rank k x
-  moment_item k m lk (inl d) = (ask_item (version_at c k), ap (slice_get items) d.1 ∙ (own_at k lk).0 d.0, inl (d.0, refl))
-  moment_item k m lk (inr s) = (take_item c rank k, ap (slice_get items) s.1 ∙ (own_at k lk).1 s.0, inr (s.0, refl))
-
-  -- and the moment of a line's item
-  item_moment : (k m : ℕ) (x : Item) → k < length c.lines → slice_get items m ≡ Some x → IsActOf c rank k x → IsMoment c asked_of took_of k m
-  item_moment k m x lk h (inl d) = inl (d.0, (places items m (asked_of k) x _ o.rises h ((own_at k lk).0 d.0)).1 d.1)
-  item_moment k m x lk h (inr s) = inr (s.0, (places items m (took_of k) x _ o.rises h ((own_at k lk).1 s.0)).1 s.1)
+  place_of : (k m : ℕ) (x : Item) → k < length c.lines → slice_get items m ≡ Some x → IsActOf c rank k x → IsPlace k m
+  place_of k m x lk h (inl d) = inl (d.0, (places items m _ x _ o.rises h (stands k _ lk (inl (d.0, refl)))).1 d.1)
+  place_of k m x lk h (inr s) = inr (s.0, (places items m _ x _ o.rises h (stands k _ lk (inr (s.0, refl)))).1 s.1)
 
   pub explained_by : Explains c (map (λ z. z.act) items)
   explained_by = record {
     legal = legal c rank ranked none items o;
-    asked = asked_of;
-    took = took_of;
-    asks = λ k lk d. act_at items (asked_of k) _ ((own_at k lk).0 d);
-    takes = λ k lk s. act_at items (took_of k) _ ((own_at k lk).1 s) ∙ ap Some (let same : (take_item c rank k).act ≡ taken c k = grind (arith, nat_tests) in same);
+    asked = λ k. index_of (ask_item (version_at c k)) items;
+    took = λ k. index_of (take_item c rank k) items;
+    asks = λ k lk d. act_at items _ _ (stands k _ lk (inl (d, refl)));
+    takes = λ k lk s. act_at items _ _ (stands k _ lk (inr (s, refl))) ∙ ap Some (let same : (take_item c rank k).act ≡ taken c k = grind (arith, nat_tests) in same);
     apart = λ j k m lj lk ne p q.
-        let x = moment_item j m lj p in
-        let y = moment_item k m lk q in
+        let x = placed_item j m lj p in
+        let y = placed_item k m lk q in
         apart_by c rank ranked none j k lj lk ne x.0 y.0 (same_Some x.0 y.0 (sym x.1 ∙ y.1)) x.2 y.2;
     ordered = λ j k m n lj lk pre p q.
-        let x = moment_item j m lj p in
-        let y = moment_item k n lk q in
+        let x = placed_item j m lj p in
+        let y = placed_item k n lk q in
         (places items m n x.0 y.0 o.rises x.1 y.1).0 (before_key c rank ranked none j k lj lk pre x.0 y.0 x.2 y.2);
     owned = λ j k lj lk is d same.
         let stray = no_stray c none k lk is in
@@ -147,7 +143,7 @@ module _ (c : Case) (rank : ℕ → ℕ) (ranked : IsRanked c rank) (none : HasN
     others = λ m act h.
         let x = item_of c rank ranked none items o m act h in
         elim (whose c rank none x.0 x.3) [
-          | inl line ↦ inl (line.0, line.1, item_moment line.0 m x.0 line.1 x.1 line.2)
+          | inl line ↦ inl (line.0, line.1, place_of line.0 m x.0 line.1 x.1 line.2)
           | inr others ↦ inr (others.0, subst (OthersMay c) x.2 others.1)
         ];
   }

@@ -50,15 +50,12 @@ first_stands c found is =
 
 -- ---- the list is empty exactly where none stands
 
-none_if : (c : Case) (fault : Fault) (k : ℕ) → length (found_if c fault k) ≡ 0 → stands c fault k ≡ false
-none_if c fault k e = grind arith
-
-none_at : (c : Case) (k : ℕ) → length (faults_at c k) ≡ 0 → (fault : Fault) → stands c fault k ≡ false
-none_at c k e Order = none_if c Order k (omega (arith, length-append {A = Found}))
-none_at c k e Wrong = none_if c Wrong k (omega (arith, length-append {A = Found}))
-none_at c k e NotAbove = none_if c NotAbove k (omega (arith, length-append {A = Found}))
-none_at c k e Twice = none_if c Twice k (omega (arith, length-append {A = Found}))
-none_at c k e Stray = none_if c Stray k (omega (arith, length-append {A = Found}))
+none_at : (c : Case) (k : ℕ) → length (faults_at c k) ≡ 0 → (fault : Fault) → length (found_if c fault k) ≡ 0
+none_at c k e Order = omega (arith, length-append {A = Found})
+none_at c k e Wrong = omega (arith, length-append {A = Found})
+none_at c k e NotAbove = omega (arith, length-append {A = Found})
+none_at c k e Twice = omega (arith, length-append {A = Found})
+none_at c k e Stray = omega (arith, length-append {A = Found})
 
 none_below : (c : Case) (n : ℕ) → length (faults_below c n) ≡ 0 → (fault : Fault) (k : ℕ) → k < n → stands c fault k ≡ false
 none_below c zero e fault k lt = absurd (omega arith)
