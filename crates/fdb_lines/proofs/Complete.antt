@@ -3,16 +3,16 @@ use Rattle.std.proofs.Common.{◌≡◌, ◌≢◌, ◌⊎◌, ℕ, zero, suc, �
 use Rattle.std.proofs.lemmas.Bool.{and_parts}
 use Rattle.std.proofs.lemmas.Bool.Decides.{nat_tests}
 use Rattle.std.proofs.lemmas.Option.{same_Some}
-use Rattle.fdb_lines.specs.Lines.{Case, kind_at, version_at, client_at, draws, shows, is_commit}
+use Rattle.fdb_lines.specs.Lines.{Case, kind_at, version_at, draws, shows, is_commit}
 use Rattle.fdb_lines.specs.declared.act.Act.TheVariants.{Reports}
 use Rattle.fdb_lines.specs.declared.fault.Fault.TheVariants.{Order, NotAbove, Twice}
 use Rattle.fdb_lines.specs.Explained.{OthersMay, precedes, taken, IsMoment, Explains}
-use Rattle.fdb_lines.specs.Faults.{IsFaultless, is_own}
+use Rattle.fdb_lines.specs.Faults.{IsFaultless}
 use Rattle.fdb_lines.specs.Order.{Item, ask_item, shared_item, take_item, needs_ask, needs_report, sorted, history, IsRanked}
 use Rattle.fdb_lines.specs.Reasons.{draws_again, draws_it, reports_it}
 use Rattle.fdb_lines.proofs.Numbers.{some_find, none_at}
 use Rattle.fdb_lines.proofs.Sorted.{In, KeyLess, IsSortedOf, put_if_sorted, index_of, places, act_at}
-use Rattle.fdb_lines.proofs.Facts.{HasNone, shown_known, drawn_known, known_known, no_stray, no_wrong, asked_above, draws_own, raises_it}
+use Rattle.fdb_lines.proofs.Facts.{HasNone, shown_known, drawn_known, known_known, no_stray, no_wrong, asked_above}
 use Rattle.fdb_lines.proofs.Legal.{IsItemBelow, IsItemOf, Origin, Asked, origin_take, same_items, IsOrder, place, item_of, legal}
 
 -- ---- the sorted list has an item of each key that is needed, and no others
@@ -76,14 +76,9 @@ module _ (c : Case) (rank : ℕ → ℕ) (ranked : IsRanked c rank) (none : HasN
       let ranks = ranked.apart j k lj lk in
       grind (arith, nat_tests)
 
-owner : (c : Case) (k : ℕ) → is_own c k ≡ true
-    → (i : ℕ) × (i < length c.lines) × (draws (kind_at c i) ≡ true) × (version_at c i ≡ version_at c k) × (client_at c i ≡ client_at c k)
-owner c k own = let some = some_find (draws_own c k) (length c.lines) own in grind (arith, nat_tests)
-
 -- a read of what nobody reports, where no fault stands
 unreported : (c : Case) → HasNone c → (k : ℕ) → k < length c.lines → needs_report c k ≡ true → (c.complete ≡ false) × OthersMay c (Reports (version_at c k))
 unreported c none k lk need =
-    let raised = some_find (raises_it c (version_at c k)) (length c.lines) in
     let wrong = no_wrong c none k lk in
     let unsaid = none_at (reports_it c (version_at c k)) (length c.lines) in
     (grind (arith, nat_tests), λ j lj r same. let here = unsaid j in grind (arith, nat_tests))
@@ -139,7 +134,7 @@ module _ (c : Case) (rank : ℕ → ℕ) (ranked : IsRanked c rank) (none : HasN
     owned = λ j k lj lk is d same.
         let stray = no_stray c none k lk is in
         let undrawn = none_at (draws_it c (version_at c k)) (length c.lines) j in
-        owner c k (grind (arith, nat_tests));
+        grind (arith, nat_tests);
     others = λ m act h.
         let x = item_of c rank ranked none items o m act h in
         elim (whose c rank none x.0 x.3) [

@@ -1,11 +1,11 @@
 -- What holds of lines without a fault.
-use Rattle.std.proofs.Common.{◌≡◌, ◌≢◌, ◌⊎◌, ℕ, ◌<◌, ◌≤◌, ◌==◌, nat_lt, Bool, true, false, ◌&&◌, length, arith}
+use Rattle.std.proofs.Common.{◌≡◌, ◌⊎◌, ℕ, ◌<◌, ◌≤◌, ◌==◌, nat_lt, Bool, true, false, ◌&&◌, length, arith}
 use Rattle.std.proofs.lemmas.Bool.{and_parts, and_from}
 use Rattle.std.proofs.lemmas.Bool.Decides.{nat_tests}
 use Rattle.fdb_lines.specs.Lines.{Read, Report, Case, kind_at, version_at, client_at, same_client, draws, reports, shows}
 use Rattle.fdb_lines.specs.declared.fault.Fault.TheVariants.{Order, Wrong, NotAbove, Stray}
-use Rattle.fdb_lines.specs.Faults.{IsFaultless, knows, last, is_reported, is_drawn, is_raised, is_own}
-use Rattle.fdb_lines.specs.Order.{needs_ask, IsRanked}
+use Rattle.fdb_lines.specs.Faults.{IsFaultless, knows, last, is_reported, is_drawn}
+use Rattle.fdb_lines.specs.Order.{needs_ask, needs_report, IsRanked}
 use Rattle.fdb_lines.specs.Reasons.{draws_it}
 use Rattle.fdb_lines.proofs.Numbers.{greatest_bound, greatest_least, some_at, some_find}
 
@@ -44,13 +44,23 @@ known_known c rank ranked j k lj lk b =
 pub no_order : (c : Case) → HasNone c → (k : ℕ) → k < length c.lines → kind_at c k ≡ Read → knows c k ≤ version_at c k
 no_order c none k lk is = let f = none Order k lk in grind (arith, nat_tests)
 
-pub no_wrong : (c : Case) → HasNone c → (k : ℕ) → k < length c.lines → kind_at c k ≡ Read → version_at c k ≢ c.start
-    → (is_raised c (version_at c k) ≡ true) ⊎ ((c.complete ≡ false) × (is_reported c (version_at c k) ≡ false))
-no_wrong c none k lk is ne = let f = none Wrong k lk in grind (arith, nat_tests)
+pub no_wrong : (c : Case) → HasNone c → (k : ℕ) → k < length c.lines → kind_at c k ≡ Read
+    → (version_at c k ≡ c.start)
+    ⊎ (((j : ℕ) × (j < length c.lines) × (raises_it c (version_at c k) j ≡ true))
+    ⊎ ((c.complete ≡ false) × (is_reported c (version_at c k) ≡ false) × (needs_report c k ≡ true)))
+no_wrong c none k lk is =
+    let f = none Wrong k lk in
+    let some = some_find (raises_it c (version_at c k)) (length c.lines) in
+    grind (arith, nat_tests)
 
 pub no_stray : (c : Case) → HasNone c → (k : ℕ) → k < length c.lines → kind_at c k ≡ Report
-    → ((is_drawn c (version_at c k) ≡ true) × (is_own c k ≡ true)) ⊎ ((c.complete ≡ false) × (is_drawn c (version_at c k) ≡ false) × (c.start < version_at c k))
-no_stray c none k lk is = let f = none Stray k lk in grind (arith, nat_tests)
+    → ((is_drawn c (version_at c k) ≡ true)
+    × ((i : ℕ) × (i < length c.lines) × (draws (kind_at c i) ≡ true) × (version_at c i ≡ version_at c k) × (client_at c i ≡ client_at c k)))
+    ⊎ ((c.complete ≡ false) × (is_drawn c (version_at c k) ≡ false) × (c.start < version_at c k))
+no_stray c none k lk is =
+    let f = none Stray k lk in
+    let some = some_find (draws_own c k) (length c.lines) in
+    grind (arith, nat_tests)
 
 -- ---- what is asked for is above the start, and a line drew it or others may have
 
@@ -69,10 +79,7 @@ pub asked_above : (c : Case) → HasNone c → (k : ℕ) → k < length c.lines 
     → (c.start < version_at c k) × ((is_drawn c (version_at c k) ≡ true) ⊎ (c.complete ≡ false))
 asked_above c none k lk need =
     let said = said_above c none k lk in
-    let raised : is_raised c (version_at c k) ≡ true → (c.start < version_at c k) × ((is_drawn c (version_at c k) ≡ true) ⊎ (c.complete ≡ false)) = λ h.
-    let some = some_find (raises_it c (version_at c k)) (length c.lines) h in
-    let by = said_above c none some.0 some.1 in
-    grind (arith, nat_tests) in
+    let raised = said_above c none in
     let read = no_wrong c none k lk in
     let order = no_order c none k lk in
     grind (arith, nat_tests)

@@ -1,13 +1,11 @@
 -- Where the acts of the order by version come from, and that it is legal.
 use Rattle.std.proofs.Common.{◌≡◌, ◌⊎◌, ℕ, ◌+◌, ◌*◌, ◌<◌, ◌≤◌, true, List, map, length, Some, slice_get, refl, ap, sym, ◌∙◌, inl, inr, arith}
-use Rattle.std.proofs.lemmas.Bool.{cases_eq}
 use Rattle.std.proofs.lemmas.Bool.Decides.{nat_tests}
 use Rattle.fdb_lines.specs.Lines.{Case, Read, kind_at, version_at, shows}
 use Rattle.fdb_lines.specs.declared.act.Act.{Act}
 use Rattle.fdb_lines.specs.declared.act.Act.TheVariants.{Asks, Reports, Reads}
 use Rattle.fdb_lines.specs.Explained.{Happens, ReportedBefore, IsLegal}
 use Rattle.fdb_lines.specs.Order.{Item, ask_item, shared_item, take_item, needs_ask, needs_report, IsRanked}
-use Rattle.fdb_lines.proofs.Numbers.{some_find}
 use Rattle.fdb_lines.proofs.Sorted.{In, KeyLess, SameKey, Rises, index_of, in_at, rises_at, places, index_at, act_at, item_at}
 use Rattle.fdb_lines.proofs.Steps.{IsAllowed, legal_allowed}
 use Rattle.fdb_lines.proofs.Facts.{HasNone, no_order, no_wrong, asked_above, raises_it}
@@ -94,25 +92,6 @@ module _ (c : Case) (rank : ℕ → ℕ) (ranked : IsRanked c rank) (none : HasN
       let less = rises_at items q.0 m y.0 x o.rises y.1 at q.1 in
       inr (omega arith)
 
-  -- a version that is read, and not the start, was reported before
-  had : (m v : ℕ) → Happens (map (λ z. z.act) items) m (Reads v) → ReportedBefore c.start (map (λ z. z.act) items) m v
-  had m v h =
-      let x = item_of m (Reads v) h in
-      let k = x.3.line in
-      elim (cases_eq (version_at c k) c.start) [
-        | inl first ↦ inl (sym x.4.1 ∙ first)
-        | inr ne ↦ elim (no_wrong c none k x.3.there x.4.0 ne) [
-          | inl raised ↦
-              let some = some_find (raises_it c (version_at c k)) (length c.lines) raised in
-              let up = raising c rank (version_at c k) some.0 some.2 in
-              inr (earlier (take_item c rank some.0) x.0 m (Reports v) (o.takes some.0 some.1 up.0) (up.1 ∙ ap Reports x.4.1) x.1 (inl (omega arith)))
-          | inr others ↦
-              let read = x.4.0 in
-              let need : needs_report c k ≡ true = grind (arith, nat_tests) in
-              inr (earlier (shared_item (version_at c k)) x.0 m (Reports v) (o.reports k x.3.there need) (ap Reports x.4.1) x.1 (inl (omega arith)))
-        ]
-      ]
-
   allowed : (m : ℕ) (act : Act) → Happens (map (λ z. z.act) items) m act → IsAllowed c.start (map (λ z. z.act) items) m act
   allowed m (Asks v) h =
       let x = item_of m (Asks v) h in
@@ -125,8 +104,19 @@ module _ (c : Case) (rank : ℕ → ℕ) (ranked : IsRanked c rank) (none : HasN
       earlier (ask_item (version_at c x.3.line)) x.0 m (Asks v) (o.asks x.3.line x.3.there x.4.0) (ap Asks x.4.1) x.1 (inl (omega arith))
   allowed m (Reads v) h =
       let x = item_of m (Reads v) h in
-      let order = no_order c none x.3.line x.3.there x.4.0 in
-      (had m v h, λ w r. let under = low m w x.0 x.1 r in omega arith)
+      let k = x.3.line in
+      let order = no_order c none k x.3.there x.4.0 in (
+        elim (no_wrong c none k x.3.there x.4.0) [
+          | inl first ↦ inl (sym x.4.1 ∙ first)
+          | inr reported ↦ elim reported [
+            | inl raised ↦
+                let up = raising c rank (version_at c k) raised.0 raised.2 in
+                inr (earlier (take_item c rank raised.0) x.0 m (Reports v) (o.takes raised.0 raised.1 up.0) (up.1 ∙ ap Reports x.4.1) x.1 (inl (omega arith)))
+            | inr others ↦ inr (earlier (shared_item (version_at c k)) x.0 m (Reports v) (o.reports k x.3.there others.2) (ap Reports x.4.1) x.1 (inl (omega arith)))
+          ]
+        ],
+        λ w r. let under = low m w x.0 x.1 r in omega arith,
+      )
 
   pub legal : IsLegal c.start (map (λ z. z.act) items)
   legal = (legal_allowed c.start (map (λ z. z.act) items)).0 allowed
