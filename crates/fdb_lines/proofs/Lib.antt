@@ -1,12 +1,10 @@
 pub mod Numbers
-pub mod Standing
 pub mod Sound
 pub mod Sorted
 pub mod Facts
 pub mod Legal
 pub mod Complete
 pub mod Steps
-pub mod Clocks
 pub mod Told
 pub mod Ranked
 pub mod Arranged

@@ -1,28 +1,50 @@
 -- The lines of a log are ranked: with times by when calls began, without by place.
-use Rattle.std.proofs.Common.{◌≡◌, ℕ, ◌+◌, ◌*◌, ◌<◌, ◌≤◌, Bool, true, false, List, length, Option, Some, None, true≢false, refl, ap, inl, inr, arith}
-use Rattle.std.proofs.lemmas.Bool.{cases_order}
+use Rattle.std.proofs.Common.{◌≡◌, ◌⊎◌, ℕ, ◌+◌, ◌*◌, ◌<◌, ◌≤◌, Bool, true, false, List, length, Some, ap, inl, inr, arith}
 use Rattle.std.proofs.Math.Nat.{mul-le-mul_left}
+use Rattle.std.proofs.lemmas.Bool.Decides.{nat_tests}
 use Rattle.fdb_lines.specs.declared.line.Line.{Line}
-use Rattle.fdb_lines.specs.declared.line.Times.{Times}
 use Rattle.fdb_lines.specs.declared.log.Log.{Log}
-use Rattle.fdb_lines.specs.Before.{began, began_of}
+use Rattle.fdb_lines.specs.Before.{began, ended, one_client, by_time}
 use Rattle.fdb_lines.specs.Log.{lines_of}
 use Rattle.fdb_lines.specs.private.Spots.{spot_rank}
-use Rattle.fdb_lines.specs.Lines.{Lines, are_known, has_times, line_at}
+use Rattle.fdb_lines.specs.Lines.{Lines, has_times, line_at}
 use Rattle.fdb_lines.specs.declared.opts.AuditOpts.{AuditOpts}
 use Rattle.fdb_lines.specs.Audit.{case_of}
-use Rattle.fdb_lines.specs.Order.{IsRanked, rank_of}
-use Rattle.fdb_lines.proofs.Clocks as clocks
+use Rattle.fdb_lines.specs.Order.{IsRanked, began_rank, rank_of}
 use Rattle.fdb_lines.proofs.Told as telling
+
+-- a line had ended before another began, by time or by their client
+abbrev IsBefore : ℕ → Line → ℕ → Line → ℕ → ℕ → Type 0
+IsBefore margin one j other k end =
+    (end + margin < began other) ⊎ ((one_client one.client other.client ≡ true) × ((end < began other) ⊎ ((j < k) × (end ≡ began other))))
+
+opened : (margin : ℕ) (lines : List Line) (j k : ℕ) → by_time margin lines j k ≡ true
+    → (end : ℕ) × (ended (line_at lines j) ≡ Some end) × (began (line_at lines j) ≤ end) × IsBefore margin (line_at lines j) j (line_at lines k) k end
+opened margin lines j k h = grind (arith, nat_tests)
+
+closed : (margin : ℕ) (lines : List Line) (j k end : ℕ) → ended (line_at lines j) ≡ Some end → IsBefore margin (line_at lines j) j (line_at lines k) k end
+    → by_time margin lines j k ≡ true
+closed margin lines j k end e h = grind (arith, nat_tests)
+
+-- a rank is first by one number, and then by place
+ranks : (n a b j k : ℕ) → j < n → (a < b) ⊎ ((a ≤ b) × (j < k)) → n * a + j < n * b + k
+ranks n a b j k lt (inl less) = let m = mul-le-mul_left n (let h : a + 1 ≤ b = omega arith in h) in omega arith
+ranks n a b j k lt (inr same) = let m = mul-le-mul_left n same.0 in omega arith
 
 pub ranked : (log : Lines) (opts : AuditOpts) → IsRanked (case_of log opts) (rank_of log.timed log.lines)
 ranked log opts = by log.timed
   where
     by : (timed : Bool) → IsRanked (case_of (record { timed = timed; lines = log.lines }) opts) (rank_of timed log.lines)
     by true = record {
-      transitive = clocks.transitive opts.margin log.lines;
-      climbs = clocks.climbs opts.margin log.lines;
-      apart = clocks.apart log.lines;
+      transitive = λ i j k li lj lk p q.
+          let a = opened opts.margin log.lines i j p in
+          let b = opened opts.margin log.lines j k q in
+          closed opts.margin log.lines i k a.0 a.1 (grind (arith, nat_tests));
+      climbs = λ j k lj lk p. let a = opened opts.margin log.lines j k p in ranks (length log.lines) _ _ j k lj (grind arith);
+      apart = λ j k lj lk same.
+          let less = ranks (length log.lines) (began (line_at log.lines j)) (began (line_at log.lines k)) j k lj in
+          let more = ranks (length log.lines) (began (line_at log.lines k)) (began (line_at log.lines j)) k j lk in
+          grind arith;
     }
     by false = record {
       transitive = λ i j k li lj lk. telling.transitive log.lines i j k;
@@ -32,31 +54,16 @@ ranked log opts = by log.timed
 
 -- ---- the same of the numbers by which spots are sorted
 
-no_time : (o : Option Times) → are_known o ≡ false → began_of o ≡ 0
-no_time None e = refl
-no_time (Some times) e = absurd (true≢false e)
-
 spot_climbs : (timed : Bool) (lines : List Line) → length lines ≤ 4294967295 → ((k : ℕ) → k < length lines → has_times (line_at lines k) ≡ timed)
     → (j k : ℕ) → j < length lines → k < length lines → rank_of timed lines j < rank_of timed lines k → spot_rank lines j < spot_rank lines k
 spot_climbs true lines few alike j k lj lk less =
-    elim (cases_order (began (line_at lines j)) (began (line_at lines k))) [
-      | inl same ↦ let m = ap (λ b. length lines * b) same in omega arith
-      | inr other ↦ elim other [
-        | inl a ↦ omega arith
-        | inr b ↦ let m = mul-le-mul_left (length lines) (let h : began (line_at lines k) + 1 ≤ began (line_at lines j) = omega arith in h) in absurd (omega arith)
-      ]
-    ]
-spot_climbs false lines few alike j k lj lk less =
-    let a = no_time (line_at lines j).times (alike j lj) in
-    let b = no_time (line_at lines k).times (alike k lk) in
-    omega arith
+    let back = ranks (length lines) (began (line_at lines k)) (began (line_at lines j)) k j lk in
+    let same : j ≡ k → began_rank lines j ≡ began_rank lines k = ap (began_rank lines) in
+    grind arith
+spot_climbs false lines few alike j k lj lk less = let one = alike j lj in let other = alike k lk in grind arith
 
 spot_apart : (lines : List Line) → length lines ≤ 4294967295 → (j k : ℕ) → j < length lines → k < length lines → spot_rank lines j ≡ spot_rank lines k → j ≡ k
-spot_apart lines few j k lj lk same =
-    elim (cases_order (began (line_at lines j)) (began (line_at lines k))) [
-      | inl e ↦ omega arith
-      | inr other ↦ elim other [ inl a ↦ absurd (omega arith) | inr b ↦ absurd (omega arith) ]
-    ]
+spot_apart lines few j k lj lk same = grind arith
 
 pub spot_ranked : (log : Log) (opts : AuditOpts) → IsRanked (case_of (lines_of log) opts) (spot_rank log.lines.items)
 spot_ranked log opts =

@@ -1,197 +1,99 @@
 -- A history is legal exactly where register and sequencer run through it.
-use Rattle.std.proofs.Common.{◌≡◌, ◌⊎◌, ◌↔◌, ℕ, zero, suc, max, ◌<◌, ◌≤◌, ◌==◌, nat_lt, true, false, List, [], ◌∷◌, Some, refl, ap, sym, subst, inl, inr, arith}
-use Rattle.std.proofs.lemmas.Bool.{cases_lt, and_parts, and_from, or_cases, or_left, or_right, both_ways, eqb-true, eq-eqb, ltb-true, lt-ltb}
+use Rattle.std.proofs.Common.{◌≡◌, ◌⊎◌, ◌↔◌, ℕ, suc, ◌+◌, ◌-◌, ◌<◌, ◌≤◌, true, false, List, [], ◌∷◌, slice_get, refl, ap, sym, subst, ◌∙◌, inl, inr, arith}
+use Rattle.std.proofs.lemmas.Bool.{cases_eq, and_parts, and_from, both_ways}
+use Rattle.std.proofs.lemmas.Bool.Decides.{nat_tests}
 use Rattle.std.proofs.lemmas.Option.{same_Some, none-some}
 use Rattle.fdb_lines.specs.declared.act.Act.{Act}
 use Rattle.fdb_lines.specs.declared.act.Act.TheVariants.{Asks, Reports, Reads}
-use Rattle.fdb_lines.specs.Explained.{Happens, IsLegal}
+use Rattle.fdb_lines.specs.Explained.{Happens, ReportedBefore, AskedBefore, IsLegal}
 use Rattle.fdb_lines.specs.Steps.{State, is_in, may, after, runs, fresh}
 
-abbrev Before : (ℕ → Act) → List Act → ℕ → ℕ → Type 0
-Before kind history m v = (i : ℕ) × (i < m) × Happens history i (kind v)
+-- whether an act is legal at a moment
+abbrev pub IsAllowed : ℕ → List Act → ℕ → Act → Type 0
+IsAllowed start history m (Asks v) = ((w : ℕ) → AskedBefore history m w → w < v) × ((w : ℕ) → ReportedBefore start history m w → w < v)
+IsAllowed start history m (Reports v) = AskedBefore history m v
+IsAllowed start history m (Reads v) = ReportedBefore start history m v × ((w : ℕ) → ReportedBefore start history m w → w ≤ v)
 
--- legal after a past in which some versions were reported and some asked for
-record LegalFrom (R D : ℕ → Type 0) (history : List Act) : Type 0 where
-  had : (m v : ℕ) → Happens history m (Reads v) → R v ⊎ Before Reports history m v
-  greatest : (m v w : ℕ) → Happens history m (Reads v) → R w ⊎ Before Reports history m w → w ≤ v
-  drawn : (m v : ℕ) → Happens history m (Reports v) → D v ⊎ Before Asks history m v
-  rising : (m v w : ℕ) → Happens history m (Asks v) → D w ⊎ Before Asks history m w → w < v
-  above : (m v w : ℕ) → Happens history m (Asks v) → R w ⊎ Before Reports history m w → w < v
+-- a state is that after the first acts
+record IsStateAt (start : ℕ) (history : List Act) (m : ℕ) (s : State) : Type 0 where
+  register : ReportedBefore start history m s.register
+  most : (v : ℕ) → ReportedBefore start history m v → v ≤ s.register
+  drawn : (v : ℕ) → is_in v s.drawn ≡ true → AskedBefore history m v
+  asked : (v : ℕ) → AskedBefore history m v → (is_in v s.drawn ≡ true) × (v ≤ s.last)
+  last : AskedBefore history m s.last ⊎ ReportedBefore start history m s.last
 
--- a state is that of a past
-record Matches (s : State) (R D : ℕ → Type 0) : Type 0 where
-  register : R s.register
-  most : (v : ℕ) → R v → v ≤ s.register
-  drawn_in : (v : ℕ) → is_in v s.drawn ≡ true → D v
-  in_drawn : (v : ℕ) → D v → is_in v s.drawn ≡ true
-  last : (v : ℕ) → D v → v ≤ s.last
-  top : D s.last ⊎ R s.last
+module _ (start : ℕ) (history : List Act) where
+  reported_next : (m v : ℕ) → ReportedBefore start history (suc m) v ↔ (ReportedBefore start history m v ⊎ Happens history m (Reports v))
+  reported_next m v = (λ r. grind arith, λ r. grind arith)
 
--- a past with one more act
-abbrev With : (ℕ → Act) → Act → (ℕ → Type 0) → ℕ → Type 0
-With kind act P v = P v ⊎ (act ≡ kind v)
+  asked_next : (m v : ℕ) → AskedBefore history (suc m) v ↔ (AskedBefore history m v ⊎ Happens history m (Asks v))
+  asked_next m v = (λ r. grind arith, λ r. grind arith)
 
-push : (kind : ℕ → Act) (P : ℕ → Type 0) (act : Act) (acts : List Act) (m v : ℕ) → P v ⊎ Before kind (act ∷ acts) (suc m) v → With kind act P v ⊎ Before kind acts m v
-push kind P act acts m v (inl p) = inl (inl p)
-push kind P act acts m v (inr b) = by b.0 b.1 b.2
-  where
-    by : (i : ℕ) → i < suc m → Happens (act ∷ acts) i (kind v) → With kind act P v ⊎ Before kind acts m v
-    by zero l h = inl (inr (same_Some act (kind v) h))
-    by (suc i) l h = inr (i, omega arith, h)
+  may_allowed : (m : ℕ) (s : State) (act : Act) → IsStateAt start history m s → (may s act ≡ true) ↔ IsAllowed start history m act
+  may_allowed m s (Asks v) at = (
+    λ h. (λ w b. let old = (at.asked w b).1 in grind (arith, nat_tests), λ w b. let old = at.most w b in grind (arith, nat_tests)),
+    λ h. let register = h.1 s.register at.register in let asked = h.0 s.last in let reported = h.1 s.last in let last = at.last in grind (arith, nat_tests),
+  )
+  may_allowed m s (Reports v) at = (at.drawn v, λ h. (at.asked v h).0)
+  may_allowed m s (Reads v) at = (
+    λ h. (let register = at.register in grind (arith, nat_tests), λ w b. let old = at.most w b in grind (arith, nat_tests)),
+    λ h. let most = at.most v h.0 in let least = h.1 s.register at.register in grind (arith, nat_tests),
+  )
 
-pull : (kind : ℕ → Act) (P : ℕ → Type 0) (act : Act) (acts : List Act) (m v : ℕ) → With kind act P v ⊎ Before kind acts m v → P v ⊎ Before kind (act ∷ acts) (suc m) v
-pull kind P act acts m v (inl (inl p)) = inl p
-pull kind P act acts m v (inl (inr e)) = inr (0, omega arith, ap Some e)
-pull kind P act acts m v (inr b) = let l = b.1 in inr (suc b.0, omega arith, b.2)
+  next : (m : ℕ) (s : State) (act : Act) → IsStateAt start history m s → Happens history m act → may s act ≡ true → IsStateAt start history (suc m) (after s act)
+  next m s act at h may = record {
+    register = let old = at.register in (reported_next m (after s act).register).1 (grind (arith, nat_tests));
+    most = λ v r. let old = at.most v in let new = (reported_next m v).0 r in grind (arith, nat_tests);
+    drawn = λ v i. let old = at.drawn v in (asked_next m v).1 (grind (arith, nat_tests));
+    asked = λ v a. let old = at.asked v in let new = (asked_next m v).0 a in grind (arith, nat_tests);
+    last = let old = at.last in let asked = (asked_next m (after s act).last).1 in let reported = (reported_next m s.last).1 in grind (arith, nat_tests);
+  }
 
--- nothing is before the first
-first : (kind : ℕ → Act) (P : ℕ → Type 0) (history : List Act) (v : ℕ) → P v ⊎ Before kind history 0 v → P v
-first kind P history v (inl p) = p
-first kind P history v (inr b) = let l = b.1 in absurd (omega arith)
+  -- what is left of the history after the first acts
+  abbrev IsRest : ℕ → List Act → Type 0
+  IsRest m rest = (i n : ℕ) → n ≡ i + m → slice_get rest i ≡ slice_get history n
 
--- the state after an act is that of the past with it
-matches : (s : State) (R D : ℕ → Type 0) (act : Act) → Matches s R D → may s act ≡ true → Matches (after s act) (With Reports act R) (With Asks act D)
-matches s R D (Asks w) m h = record {
-  register = inl m.register;
-  most = λ v r. elim r [ inl p ↦ m.most v p | inr e ↦ absurd cc ];
-  drawn_in = λ v i. elim (or_cases (w == v) (is_in v s.drawn) i) [ inl e ↦ inr (ap Asks (eqb-true w v e)) | inr o ↦ inl (m.drawn_in v o) ];
-  in_drawn = λ v d. elim d [
-    | inl o ↦ or_right (w == v) (is_in v s.drawn) (m.in_drawn v o)
-    | inr e ↦ or_left (w == v) (is_in v s.drawn) (eq-eqb w v (let same : w ≡ v = cc in same))
-  ];
-  last = λ v d. elim d [
-    | inl o ↦ let a = m.last v o in let b = ltb-true s.last w (and_parts (nat_lt s.last w) (nat_lt s.register w) h).0 in omega arith
-    | inr e ↦ let same : w ≡ v = cc in omega arith
-  ];
-  top = inl (inr refl);
-}
-matches s R D (Reports w) m h = record {
-  register = elim (cases_lt s.register w) [
-    | inl less ↦ let e : max s.register w ≡ w = omega arith in inr (ap Reports (sym e))
-    | inr ge ↦ let e : max s.register w ≡ s.register = omega arith in inl (subst R (sym e) m.register)
-  ];
-  most = λ v r. elim r [ inl p ↦ let a = m.most v p in omega arith | inr e ↦ let same : w ≡ v = cc in omega arith ];
-  drawn_in = λ v i. inl (m.drawn_in v i);
-  in_drawn = λ v d. elim d [ inl o ↦ m.in_drawn v o | inr e ↦ absurd cc ];
-  last = λ v d. elim d [ inl o ↦ m.last v o | inr e ↦ absurd cc ];
-  top = elim m.top [ inl d ↦ inl (inl d) | inr r ↦ inr (inl r) ];
-}
-matches s R D (Reads w) m h = record {
-  register = inl m.register;
-  most = λ v r. elim r [ inl p ↦ m.most v p | inr e ↦ absurd cc ];
-  drawn_in = λ v i. inl (m.drawn_in v i);
-  in_drawn = λ v d. elim d [ inl o ↦ m.in_drawn v o | inr e ↦ absurd cc ];
-  last = λ v d. elim d [ inl o ↦ m.last v o | inr e ↦ absurd cc ];
-  top = elim m.top [ inl d ↦ inl (inl d) | inr r ↦ inr (inl r) ];
-}
+  -- the rest runs from a state exactly where each of its acts is allowed
+  walk : (rest : List Act) (m : ℕ) (s : State) → IsRest m rest → IsStateAt start history m s
+      → (runs s rest ≡ true) ↔ ((n : ℕ) (act : Act) → m ≤ n → Happens history n act → IsAllowed start history n act)
+  walk [] m s left at = (λ h n act le is. absurd (none-some act (left (n - m) n (omega arith) ∙ is)), λ all. refl)
+  walk (a ∷ rest) m s left at =
+      let here = sym (left 0 m (omega arith)) in
+      let on = λ (may_here : may s a ≡ true). walk rest (suc m) (after s a) (λ i k e. left (suc i) k (omega arith)) (next m s a at here may_here) in (
+        λ h n act le is.
+            let p = and_parts (may s a) (runs (after s a) rest) h in
+            elim (cases_eq m n) [
+              | inl same ↦ let is : a ≡ act = same_Some a act (sym here ∙ (ap (slice_get history) same ∙ is)) in
+                  subst (IsAllowed start history n) is (subst (λ k. IsAllowed start history k a) same ((may_allowed m s a at).0 p.0))
+              | inr other ↦ (on p.0).0 p.1 n act (omega arith) is
+            ],
+        λ all. let may_here = (may_allowed m s a at).1 (all m a (omega arith) here) in and_from _ _ may_here ((on may_here).1 (λ n act le. all n act (omega arith))),
+      )
 
--- an act that may be, by what it is
-may_read : (s : State) (act : Act) (v : ℕ) → act ≡ Reads v → may s act ≡ true → s.register ≡ v
-may_read s act v e h = eqb-true s.register v (subst (λ a. may s a ≡ true) e h)
+  pub legal_allowed : ((m : ℕ) (act : Act) → Happens history m act → IsAllowed start history m act) ↔ IsLegal start history
+  legal_allowed = (
+    λ all. record {
+      had = λ m v is. (all m (Reads v) is).0;
+      greatest = λ m v w is. (all m (Reads v) is).1 w;
+      drawn = λ m v. all m (Reports v);
+      rising = λ m v w is. (all m (Asks v) is).0 w;
+      above = λ m v w is. (all m (Asks v) is).1 w;
+    },
+    λ l m act. elim act as (λ a. Happens history m a → IsAllowed start history m a) [
+      | Asks v ↦ λ is. (λ w. l.rising m v w is, λ w. l.above m v w is)
+      | Reports v ↦ l.drawn m v
+      | Reads v ↦ λ is. (l.had m v is, λ w. l.greatest m v w is)
+    ],
+  )
 
-may_report : (s : State) (act : Act) (v : ℕ) → act ≡ Reports v → may s act ≡ true → is_in v s.drawn ≡ true
-may_report s act v e h = subst (λ a. may s a ≡ true) e h
-
-may_ask : (s : State) (act : Act) (v : ℕ) → act ≡ Asks v → may s act ≡ true → (s.last < v) × (s.register < v)
-may_ask s act v e h =
-    let p = and_parts (nat_lt s.last v) (nat_lt s.register v) (subst (λ a. may s a ≡ true) e h) in
-    (ltb-true s.last v p.0, ltb-true s.register v p.1)
-
-legal_from : (s : State) (R D : ℕ → Type 0) (history : List Act) → Matches s R D → runs s history ≡ true → LegalFrom R D history
-legal_from s R D [] m h = record {
-  had = λ i v g. absurd (none-some (Reads v) g);
-  greatest = λ i v w g. absurd (none-some (Reads v) g);
-  drawn = λ i v g. absurd (none-some (Reports v) g);
-  rising = λ i v w g. absurd (none-some (Asks v) g);
-  above = λ i v w g. absurd (none-some (Asks v) g);
-}
-legal_from s R D (act ∷ acts) m h =
-    let p = and_parts (may s act) (runs (after s act) acts) h in
-    let rest = legal_from (after s act) (With Reports act R) (With Asks act D) acts (matches s R D act m p.0) p.1 in
-    record {
-      had = λ i v g. had_at p.0 rest i v g;
-      greatest = λ i v w g b. greatest_at p.0 rest i v w g b;
-      drawn = λ i v g. drawn_at p.0 rest i v g;
-      rising = λ i v w g b. rising_at p.0 rest i v w g b;
-      above = λ i v w g b. above_at p.0 rest i v w g b;
-    }
-  where
-    had_at : may s act ≡ true → LegalFrom (With Reports act R) (With Asks act D) acts → (i v : ℕ) → Happens (act ∷ acts) i (Reads v) → R v ⊎ Before Reports (act ∷ acts) i v
-    had_at p rest zero v g = inl (subst R (may_read s act v (same_Some act (Reads v) g) p) m.register)
-    had_at p rest (suc i) v g = pull Reports R act acts i v (rest.had i v g)
-
-    greatest_at : may s act ≡ true → LegalFrom (With Reports act R) (With Asks act D) acts → (i v w : ℕ) → Happens (act ∷ acts) i (Reads v) → R w ⊎ Before Reports (act ∷ acts) i w → w ≤ v
-    greatest_at p rest zero v w g b =
-        let e = may_read s act v (same_Some act (Reads v) g) p in
-        let a = m.most w (first Reports R (act ∷ acts) w b) in
-        omega arith
-    greatest_at p rest (suc i) v w g b = rest.greatest i v w g (push Reports R act acts i w b)
-
-    drawn_at : may s act ≡ true → LegalFrom (With Reports act R) (With Asks act D) acts → (i v : ℕ) → Happens (act ∷ acts) i (Reports v) → D v ⊎ Before Asks (act ∷ acts) i v
-    drawn_at p rest zero v g = inl (m.drawn_in v (may_report s act v (same_Some act (Reports v) g) p))
-    drawn_at p rest (suc i) v g = pull Asks D act acts i v (rest.drawn i v g)
-
-    rising_at : may s act ≡ true → LegalFrom (With Reports act R) (With Asks act D) acts → (i v w : ℕ) → Happens (act ∷ acts) i (Asks v) → D w ⊎ Before Asks (act ∷ acts) i w → w < v
-    rising_at p rest zero v w g b =
-        let e = (may_ask s act v (same_Some act (Asks v) g) p).0 in
-        let a = m.last w (first Asks D (act ∷ acts) w b) in
-        omega arith
-    rising_at p rest (suc i) v w g b = rest.rising i v w g (push Asks D act acts i w b)
-
-    above_at : may s act ≡ true → LegalFrom (With Reports act R) (With Asks act D) acts → (i v w : ℕ) → Happens (act ∷ acts) i (Asks v) → R w ⊎ Before Reports (act ∷ acts) i w → w < v
-    above_at p rest zero v w g b =
-        let e = (may_ask s act v (same_Some act (Asks v) g) p).1 in
-        let a = m.most w (first Reports R (act ∷ acts) w b) in
-        omega arith
-    above_at p rest (suc i) v w g b = rest.above i v w g (push Reports R act acts i w b)
-
-may_from : (s : State) (R D : ℕ → Type 0) (act : Act) (acts : List Act) → Matches s R D → LegalFrom R D (act ∷ acts) → may s act ≡ true
-may_from s R D (Asks v) acts m l =
-    let a : s.last < v = elim m.top [ inl d ↦ l.rising 0 v s.last refl (inl d) | inr r ↦ l.above 0 v s.last refl (inl r) ] in
-    and_from (nat_lt s.last v) (nat_lt s.register v) (lt-ltb s.last v a) (lt-ltb s.register v (l.above 0 v s.register refl (inl m.register)))
-may_from s R D (Reports v) acts m l = m.in_drawn v (first Asks D (Reports v ∷ acts) v (l.drawn 0 v refl))
-may_from s R D (Reads v) acts m l =
-    let a = m.most v (first Reports R (Reads v ∷ acts) v (l.had 0 v refl)) in
-    let b = l.greatest 0 v s.register refl (inl m.register) in
-    eq-eqb s.register v (omega arith)
-
-runs_from : (s : State) (R D : ℕ → Type 0) (history : List Act) → Matches s R D → LegalFrom R D history → runs s history ≡ true
-runs_from s R D [] m l = refl
-runs_from s R D (act ∷ acts) m l =
-    let here = may_from s R D act acts m l in
-    and_from (may s act) (runs (after s act) acts) here
-    (runs_from (after s act) (With Reports act R) (With Asks act D) acts (matches s R D act m here) (record {
-      had = λ i v g. push Reports R act acts i v (l.had (suc i) v g);
-      greatest = λ i v w g b. l.greatest (suc i) v w g (pull Reports R act acts i w b);
-      drawn = λ i v g. push Asks D act acts i v (l.drawn (suc i) v g);
-      rising = λ i v w g b. l.rising (suc i) v w g (pull Asks D act acts i w b);
-      above = λ i v w g b. l.above (suc i) v w g (pull Reports R act acts i w b);
-    }))
-
-begun : (start : ℕ) → Matches (fresh start) (λ v. v ≡ start) (λ v. ⊥)
-begun start = record {
-  register = refl;
-  most = λ v e. omega arith;
-  drawn_in = λ v h. both_ways false refl h;
-  in_drawn = λ v d. absurd d;
-  last = λ v d. absurd d;
-  top = inr refl;
-}
-
-pub legal_runs : (start : ℕ) (history : List Act) → (runs (fresh start) history ≡ true) ↔ IsLegal start history
-legal_runs start history = (
-  λ h. let l = legal_from (fresh start) (λ v. v ≡ start) (λ v. ⊥) history (begun start) h in record {
-    had = l.had;
-    greatest = l.greatest;
-    drawn = λ m v g. elim (l.drawn m v g) [ inl d ↦ absurd d | inr b ↦ b ];
-    rising = λ m v w g b. l.rising m v w g (inr b);
-    above = l.above;
-  },
-  λ l. runs_from (fresh start) (λ v. v ≡ start) (λ v. ⊥) history (begun start) (record {
-    had = l.had;
-    greatest = l.greatest;
-    drawn = λ m v g. inr (l.drawn m v g);
-    rising = λ m v w g b. elim b [ inl d ↦ absurd d | inr q ↦ l.rising m v w g q ];
-    above = l.above;
-  }),
-)
+  pub legal_runs : (runs (fresh start) history ≡ true) ↔ IsLegal start history
+  legal_runs =
+      let begun : IsStateAt start history 0 (fresh start) = record {
+        register = inl refl;
+        most = λ v r. grind arith;
+        drawn = λ v i. absurd (both_ways false refl i);
+        asked = λ v a. absurd (omega (arith, a.1));
+        last = inr (inl refl);
+      } in
+      let all = walk history 0 (fresh start) (λ i n e. ap (slice_get history) (let same : i ≡ n = omega arith in same)) begun in
+      (λ h. legal_allowed.0 (λ m act. all.0 h m act (omega arith)), λ l. all.1 (λ n act le. legal_allowed.1 l n act))
