@@ -1,5 +1,5 @@
 -- Spots in order are an order of the acts.
-use Rattle.std.proofs.Common.{◌≡◌, ℕ, zero, suc, ◌<◌, ◌≤◌, Bool, true, false, cond, List, [], ◌∷◌, map, length, Option, Some, None, refl, ap, sym, subst, ◌∙◌, inl, inr, arith, All, Contains, IsPermutation, option_to_list}
+use Rattle.std.proofs.Common.{◌≡◌, ℕ, zero, suc, nat_lt, ◌<◌, ◌≤◌, Bool, true, false, cond, List, [], ◌∷◌, map, length, Option, Some, None, refl, ap, sym, subst, ◌∙◌, inl, inr, arith, All, Contains, IsPermutation, option_to_list}
 use Rattle.std.proofs.lemmas.Bool.Decides.{nat_tests}
 use Rattle.std.specs.Ordering.{ordering_then, on, is_lt}
 use Rattle.std.specs.declared.cmp.Ordering.{Ordering}
@@ -18,15 +18,15 @@ use Rattle.fdb_lines.specs.contracts.spot.KeyOrd.TheImpl.{cmp-value}
 use Rattle.fdb_lines.specs.contracts.spot.KeyOrd.TheImpl.Laws.{total-law, matches_eq-law}
 use Rattle.fdb_lines.specs.declared.spot.Spot.{Spot}
 use Rattle.fdb_lines.specs.declared.turn.Turn.{Turn}
-use Rattle.fdb_lines.specs.declared.act.Act.TheVariants.{Asks}
-use Rattle.fdb_lines.specs.Explained.{Explains}
-use Rattle.fdb_lines.specs.Lines.{Case, draws, kind_at, shows, version_at}
-use Rattle.fdb_lines.specs.Order.{Item, IsRanked, ask_item, needs_ask, needs_report, shared_item, take_item}
+use Rattle.fdb_lines.specs.declared.act.Act.TheVariants.{Asks, Reports}
+use Rattle.fdb_lines.specs.Explained.{Explains, taken_by}
+use Rattle.fdb_lines.specs.Lines.{Kind, Read, Commit, Ask, Report, Learn, Case, draws, kind_at, shows, version_at}
+use Rattle.fdb_lines.specs.Order.{Item, IsRanked, ask_item, needs_ask, needs_report, report_item, shared_item, take_by, take_item}
 use Rattle.fdb_lines.specs.Turns.{acts_of, AreTurnsOf, HasTurn, HaveTurns, IsActOf}
 use Rattle.fdb_lines.specs.private.Spots.{entries_below, entry_of, item_of, spot_rank, turns_from}
 use Rattle.fdb_lines.proofs.Complete.{explained_by}
-use Rattle.fdb_lines.proofs.Facts.{HasNone, take_act}
-use Rattle.fdb_lines.proofs.Legal.{Origin, Asked as AskedBy, asks_drawn, origin_take, origin_report, same_items}
+use Rattle.fdb_lines.proofs.Facts.{HasNone}
+use Rattle.fdb_lines.proofs.Legal.{Origin, Asked as AskedBy, origin_take, origin_report, same_items}
 use Rattle.fdb_lines.proofs.Sorted.{In, KeyLess, SameKey, Rises}
 use Rattle.fdb_lines.proofs.Turned.{is_one, turned_acts, turned_all, turned_one}
 
@@ -57,6 +57,20 @@ by_key o rest h = grind arith
 -- an act has its origin, and is of its line where it is of one
 abbrev IsNeeded : Case → Item × Option ℕ → Type 0
 IsNeeded c e = Origin c (spot_rank c.lines) e.0 × IsActOf c e.0.act e.1
+
+take_act : (kind : Kind) (r known v : ℕ) → (take_by kind r known v).act ≡ taken_by kind v
+take_act Read r known v = refl
+take_act Commit r known v = refl
+take_act Ask r known v = refl
+take_act Learn r known v = refl
+take_act Report r known v = by (nat_lt known v)
+  where
+    by : (b : Bool) → (report_item b r known v).act ≡ Reports v
+    by true = refl
+    by false = refl
+
+asks_drawn : (c : Case) (k : ℕ) → draws (kind_at c k) ≡ true → needs_ask c k ≡ true
+asks_drawn c k d = grind (arith, nat_tests)
 
 all_if : (P : Item × Option ℕ → Type 0) (b : Bool) (e : Item × Option ℕ) → (b ≡ true → P e) → All P (option_to_list (cond b (Some e) None))
 all_if P b e h = cond_both b (Some e) None (λ o. All P (option_to_list o)) (λ t. All-cons P e [] (h t) (All-nil P)) (λ _. All-nil P)
