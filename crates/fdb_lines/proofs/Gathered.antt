@@ -1,9 +1,8 @@
 -- Of how many lines clients have heard, line by line.
-use Rattle.std.proofs.Common.{◌≡◌, ℕ, zero, suc, min, max, ◌+◌, ◌-◌, ◌<◌, ◌≤◌, ◌==◌, nat_lt, nat_eq, Bool, true, false, cond, ◌||◌, List, [], ◌∷◌, Option, None, Some, unwrap_or, refl, ap, sym, subst, ◌∙◌, inl, inr, arith, zero-le, add-one}
+use Rattle.std.proofs.Common.{◌≡◌, ℕ, zero, suc, min, ◌+◌, ◌-◌, ◌<◌, ◌≤◌, ◌==◌, nat_lt, nat_eq, Bool, true, false, cond, ◌||◌, List, [], ◌∷◌, Option, None, Some, unwrap_or, refl, ap, sym, subst, ◌∙◌, arith, zero-le}
 use Rattle.std.proofs.Math.Path.{fun_ext}
 use Rattle.std.specs.Map.{keys_of, lookup}
-use Rattle.std.specs.List.{AllByRecursion, IsDistinct}
-use Rattle.std.proofs.lemmas.Bool.{cases_eq}
+use Rattle.std.specs.List.{AllByRecursion}
 use Rattle.std.proofs.lemmas.Bool.Decides.{nat_tests}
 use Rattle.fdb_lines.specs.declared.heard_counts.HeardCounts.{HeardCounts}
 use Rattle.fdb_lines.specs.declared.line.Line.{Line}
@@ -11,7 +10,7 @@ use Rattle.fdb_lines.specs.Before.{has_heard, is_of, by_telling, heard_by}
 use Rattle.fdb_lines.specs.Lines.{line_at, teller_of}
 use Rattle.fdb_lines.specs.Summary.{tally}
 use Rattle.fdb_lines.specs.private.Counts.{lines_by, is_within, is_counted, AddUp}
-use Rattle.fdb_lines.specs.private.HeardCounts.{count_in, total_in, total_by, count_after, heard_count}
+use Rattle.fdb_lines.specs.private.HeardCounts.{count_in, total_in, total_by, heard_count}
 use Rattle.fdb_lines.proofs.Tallies.{adds, none_pass, tally_most, tally_up}
 
 one_of : (a b : ℕ) (o : Option ℕ) → is_of a o ≡ true → is_of b o ≡ (a == b)
@@ -92,26 +91,8 @@ heard_in_all lines k n heard line le fits at is = rw at (by (line_at lines k).cl
         (λ b. omega (arith, few lines k a b, tally_up (λ i. is_of b (line_at lines i).client) k n))
         ∙ ap (λ test. tally test n) (fun_ext (λ j. sym (heard_of lines k a j (line_at lines j).client refl)))
 
-pub heard_more : (lines : List Line) (k : ℕ) (count : ℕ → ℕ → ℕ) (line : Line) → line ≡ line_at lines k → ((a b : ℕ) → count a b ≡ heard_count lines k a b)
-    → (a b : ℕ) → count_after count line a b ≡ heard_count lines (k + 1) a b
-heard_more lines k count line at is a b = rw (add-one, at) (grind (arith, is a b, is (teller_of (line_at lines k).call) b))
-
 -- ---- what another has heard of
 
-not_there : (es : List (ℕ × ℕ)) (k : ℕ) → AllByRecursion (λ y. nat_eq k y ≡ false) (keys_of es) → lookup (nat_eq k) es ≡ None
+pub not_there : (es : List (ℕ × ℕ)) (k : ℕ) → AllByRecursion (λ y. nat_eq k y ≡ false) (keys_of es) → lookup (nat_eq k) es ≡ None
 not_there [] k h = refl
 not_there (e ∷ es) k h = grind (arith, not_there es k h.1, h.0)
-
--- one more entry is taken
-pub more_told : (k v : ℕ) (rest : List (ℕ × ℕ)) (before after most : ℕ → ℕ) → IsDistinct nat_eq (keys_of ((k, v) ∷ rest))
-    → after k ≡ max (before k) v → ((q : ℕ) → (q ≡ k → ⊥) → after q ≡ before q)
-    → ((q : ℕ) → max (before q) (unwrap_or (lookup (nat_eq q) ((k, v) ∷ rest)) 0) ≡ most q)
-    → record { counts : (q : ℕ) → max (after q) (unwrap_or (lookup (nat_eq q) rest) 0) ≡ most q; distinct : IsDistinct nat_eq (keys_of rest) }
-unfolding IsDistinct
-more_told k v rest before after most distinct here others so_far = record {
-  counts = λ q. elim (cases_eq q k) [
-    | inl same ↦ subst (λ x. max (after x) (unwrap_or (lookup (nat_eq x) rest) 0) ≡ most x) (sym same) (grind (arith, nat_tests, not_there rest k distinct.0, so_far k))
-    | inr other ↦ grind (arith, nat_tests, others q other, so_far q)
-  ];
-  distinct = distinct.1;
-}

@@ -8,8 +8,8 @@ use Rattle.fdb_lines.specs.declared.line.Line.{Line}
 use Rattle.fdb_lines.specs.Before.{began, ended, one_client, ended_before, by_time}
 use Rattle.fdb_lines.specs.Lines.{line_at}
 use Rattle.fdb_lines.specs.Summary.{tally}
-use Rattle.fdb_lines.specs.private.Ends.{is_earlier, end_key, end_at, IsFront}
-use Rattle.fdb_lines.specs.private.Ended.{by_group, stands_before, count_before, HasEnds}
+use Rattle.fdb_lines.specs.private.Ends.{end_key, end_at, IsFront}
+use Rattle.fdb_lines.specs.private.Ended.{stands_before, count_before, HasEnds}
 use Rattle.fdb_lines.proofs.Tallies.{adds, item_at, tally_sums}
 
 -- ---- the table
@@ -53,8 +53,8 @@ pair margin j k one other (Some end) = by one.client other.client (began other)
   where
     by : (own client : Option ℕ) (time : ℕ)
         → adds (nat_lt (end + margin) time || (one_client own client && (nat_lt end time || (nat_lt j k && end == time))))
-        + adds (by_group own client (is_earlier end j (time - margin) 0))
-        ≡ adds (by_group (Some 0) (Some 0) (is_earlier end j (time - margin) 0)) + adds (by_group own client (is_earlier end j time k))
+        + adds (stands_before client (time - margin) 0 own (Some end) j)
+        ≡ adds (stands_before (Some 0) (time - margin) 0 (Some 0) (Some end) j) + adds (stands_before client time k own (Some end) j)
     by None client time = grind (arith, nat_tests)
     by (Some a) None time = grind (arith, nat_tests)
     by (Some a) (Some b) time = grind (arith, nat_tests)

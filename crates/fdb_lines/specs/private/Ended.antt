@@ -5,7 +5,6 @@ use Rattle.fdb_lines.specs.declared.line.Line.{Line}
 use Rattle.fdb_lines.specs.Before.{ended}
 use Rattle.fdb_lines.specs.Lines.{line_at}
 use Rattle.fdb_lines.specs.Summary.{tally}
-use Rattle.fdb_lines.specs.private.Ends.{is_earlier}
 
 -- in which group of the table a line's end stands, if in any: in its client's, or in that of all
 abbrev pub group_in : Bool → Option ℕ → Option ℕ
@@ -21,7 +20,7 @@ by_group (Some a) (Some b) earlier = nat_lt a b || (a == b && earlier)
 -- whether what ended stands before a moment of a group in the table: by group, and then by time and place
 abbrev pub stands_before : Option ℕ → ℕ → ℕ → Option ℕ → Option ℕ → ℕ → Bool
 stands_before group time place of_group None above = false
-stands_before group time place of_group (Some end) above = by_group of_group group (is_earlier end above time place)
+stands_before group time place of_group (Some end) above = by_group of_group group (nat_lt end time || (end == time && nat_lt above place))
 
 abbrev pub count_before : List End → Option ℕ → ℕ → ℕ → ℕ
 count_before ends group time place =
