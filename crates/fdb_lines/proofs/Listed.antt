@@ -51,11 +51,7 @@ first_stands c found is =
 -- ---- the list is empty exactly where none stands
 
 none_at : (c : Case) (k : ℕ) → length (faults_at c k) ≡ 0 → (fault : Fault) → length (found_if c fault k) ≡ 0
-none_at c k e Order = omega (arith, length-append {A = Found})
-none_at c k e Wrong = omega (arith, length-append {A = Found})
-none_at c k e NotAbove = omega (arith, length-append {A = Found})
-none_at c k e Twice = omega (arith, length-append {A = Found})
-none_at c k e Stray = omega (arith, length-append {A = Found})
+none_at c k e fault = grind (arith, length-append {A = Found})
 
 none_below : (c : Case) (n : ℕ) → length (faults_below c n) ≡ 0 → (fault : Fault) (k : ℕ) → k < n → stands c fault k ≡ false
 none_below c zero e fault k lt = absurd (omega arith)
