@@ -75,8 +75,9 @@ explained_by_length log opts found e =
 
 pub explained_by_first : (log : Lines) (opts : AuditOpts) (first : Option Found) → first ≡ slice_get (faults_of (case_of log opts)) 0 → (first ≡ None) ↔ AreExplained (case_of log opts)
 explained_by_first log opts first e =
-    let listed = explained_by_length log opts (faults_of (case_of log opts)) refl in
-    (λ none. listed.0 (no_first (faults_of (case_of log opts)) (sym e ∙ none)), λ some. e ∙ slice_get_past (faults_of (case_of log opts)) 0 (omega (arith, listed.1 some)))
+    let all = faults_of (case_of log opts) in
+    let listed = explained_by_length log opts all refl in
+    (λ none. listed.0 (no_first all (sym e ∙ none)), λ some. e ∙ slice_get_past all 0 (omega (arith, listed.1 some)))
   where
     no_first : (found : List Found) → slice_get found 0 ≡ None → length found ≡ 0
     no_first [] e = refl
