@@ -49,9 +49,7 @@ IsFor c (Reports v) k x = (needs_ask c k ≡ true) × (version_at c k ≡ v) × 
 IsFor c (Reads v) k x = (kind_at c k ≡ Read) × (version_at c k ≡ v) × (x.stage ≡ 4 * v + 3)
 
 is_for : (c : Case) (rank : ℕ → ℕ) (x : Item) (p : Origin c rank x) (act : Act) → x.act ≡ act → IsFor c act p.line x
-is_for c rank x p (Asks v) e = grind (arith, nat_tests)
-is_for c rank x p (Reports v) e = grind (arith, nat_tests)
-is_for c rank x p (Reads v) e = grind (arith, nat_tests)
+is_for c rank x p act e = grind (arith, nat_tests)
 
 raising : (c : Case) (rank : ℕ → ℕ) (v k : ℕ) → raises_it c v k ≡ true
     → (shows (kind_at c k) ≡ true) × ((take_item c rank k).act ≡ Reports v) × ((take_item c rank k).stage < 4 * v + 3)

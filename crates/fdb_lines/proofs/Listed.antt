@@ -24,11 +24,7 @@ law log opts = (
 -- ---- the list is empty exactly where none stands
 
 none_at : (c : Case) (k : ℕ) → length (faults_at c k) ≡ 0 → (fault : Fault) → length (found_if c fault k) ≡ 0
-none_at c k e Order = omega (arith, length-append {A = Found})
-none_at c k e Wrong = omega (arith, length-append {A = Found})
-none_at c k e NotAbove = omega (arith, length-append {A = Found})
-none_at c k e Twice = omega (arith, length-append {A = Found})
-none_at c k e Stray = omega (arith, length-append {A = Found})
+none_at c k e fault = grind (arith, length-append {A = Found})
 
 none_below : (c : Case) (n : ℕ) → length (faults_below c n) ≡ 0 → (fault : Fault) (k : ℕ) → k < n → stands c fault k ≡ false
 none_below c zero e fault k lt = absurd (omega arith)
@@ -54,8 +50,9 @@ explained_by_length log opts found e =
 
 pub explained_by_first : (log : Lines) (opts : AuditOpts) (first : Option Found) → first ≡ slice_get (faults_of (case_of log opts)) 0 → (first ≡ None) ↔ AreExplained (case_of log opts)
 explained_by_first log opts first e =
-    let listed = explained_by_length log opts (faults_of (case_of log opts)) refl in
-    (λ none. listed.0 (no_first (faults_of (case_of log opts)) (sym e ∙ none)), λ some. e ∙ slice_get_past (faults_of (case_of log opts)) 0 (omega (arith, listed.1 some)))
+    let all = faults_of (case_of log opts) in
+    let listed = explained_by_length log opts all refl in
+    (λ none. listed.0 (no_first all (sym e ∙ none)), λ some. e ∙ slice_get_past all 0 (omega (arith, listed.1 some)))
   where
     no_first : (found : List Found) → slice_get found 0 ≡ None → length found ≡ 0
     no_first [] e = refl
