@@ -107,8 +107,8 @@ fn add_findings(
 ) -> Result<(), AllocError>
     requires tables { AreTables (lines_of log.now) opts.now tables.now }
     requires place { place < length (lines_of log.now).lines }
-    ensures { OnOk result (ListsMore (lines_of log.now) opts.now findings.old.items findings.new.items
-        (faults_at (case_of (lines_of log.now) opts.now) place)) }
+    ensures { OnOk result (ListsMore (lines_of log.now) opts.now
+        findings.old.items findings.new.items (faults_at (case_of (lines_of log.now) opts.now) place)) }
 {
     add_finding(findings, tables, log, opts, place, Fault::Order)?;
     add_finding(findings, tables, log, opts, place, Fault::Wrong)?;
@@ -128,8 +128,8 @@ fn add_finding(
 ) -> Result<(), AllocError>
     requires tables { AreTables (lines_of log.now) opts.now tables.now }
     requires place { place < length (lines_of log.now).lines }
-    ensures { OnOk result (ListsMore (lines_of log.now) opts.now findings.old.items findings.new.items
-        (found_if (case_of (lines_of log.now) opts.now) fault place)) }
+    ensures { OnOk result (ListsMore (lines_of log.now) opts.now
+        findings.old.items findings.new.items (found_if (case_of (lines_of log.now) opts.now) fault place)) }
 {
     if let Some(reason) = reason_of(tables, log, opts, place, fault) {
         let line = place as u32;

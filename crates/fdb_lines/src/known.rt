@@ -69,7 +69,8 @@ fn add_own(
     requires few { length lines.now ≤ 4294967295 }
     requires known { AreKnownOf (of_all margin seen lines.now) margin lines.now
         (length lines.now) known.old.items }
-    ensures { OnOk result (AreKnown (by_time margin lines.now) margin seen lines.now known.new.items) }
+    ensures { OnOk result
+        (AreKnown (by_time margin lines.now) margin seen lines.now known.new.items) }
 {
     let table = table_of(alloc, lines, seen, true)?;
     let mut nears = Nears::new();

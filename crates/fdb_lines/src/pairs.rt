@@ -1,7 +1,7 @@
 //! How many pairs of lines are in order.
 
-ghost use Rattle.std.specs.Prelude.{◌≡◌, ◌+◌, ◌<◌, ◌≤◌, ◌==◌, ℕ, None, true, false, IfOk, OnOk, cond};
-ghost use Rattle.std.specs.Prelude.{length, max, nat_eq};
+ghost use Rattle.std.specs.Prelude.{◌≡◌, ◌+◌, ◌<◌, ◌≤◌, ◌==◌, ℕ, None, true, false, IfOk, OnOk};
+ghost use Rattle.std.specs.Prelude.{cond, length, max, nat_eq};
 ghost use Rattle.std.specs.HashMap.{get};
 ghost use Rattle.fdb_lines.specs.Audit.{case_of};
 ghost use Rattle.fdb_lines.specs.Before.{by_telling, by_time};

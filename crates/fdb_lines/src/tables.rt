@@ -2,7 +2,8 @@
 
 ghost use Rattle.std.specs.Prelude.{◌≡◌, ◌<◌, ◌≤◌, IfOk, length};
 ghost use Rattle.fdb_lines.specs.Audit.{case_of};
-ghost use Rattle.fdb_lines.specs.Faults.{is_drawn, is_own, is_raised, is_reported, is_twice, knows, last};
+ghost use Rattle.fdb_lines.specs.Faults.{is_drawn, is_own, is_raised, is_reported, is_twice, knows};
+ghost use Rattle.fdb_lines.specs.Faults.{last};
 ghost use Rattle.fdb_lines.specs.Lines.{version_at};
 ghost use Rattle.fdb_lines.specs.Log.{lines_of};
 ghost use Rattle.fdb_lines.specs.Reasons.{draws_again, draws_it, reports_it};
