@@ -20,12 +20,12 @@ use Rattle.fdb_lines.specs.declared.spot.Spot.{Spot}
 use Rattle.fdb_lines.specs.declared.turn.Turn.{Turn}
 use Rattle.fdb_lines.specs.declared.act.Act.TheVariants.{Asks, Reports}
 use Rattle.fdb_lines.specs.Explained.{Explains, taken_by}
+use Rattle.fdb_lines.specs.Faults.{IsFaultless}
 use Rattle.fdb_lines.specs.Lines.{Kind, Read, Commit, Ask, Report, Learn, Case, draws, kind_at, shows, version_at}
 use Rattle.fdb_lines.specs.Order.{Item, IsRanked, ask_item, needs_ask, needs_report, report_item, shared_item, take_by, take_item}
 use Rattle.fdb_lines.specs.Turns.{acts_of, AreTurnsOf, HasTurn, HaveTurns, IsActOf}
 use Rattle.fdb_lines.specs.private.Spots.{entries_below, entry_of, item_of, spot_rank, turns_from}
 use Rattle.fdb_lines.proofs.Complete.{explained_by}
-use Rattle.fdb_lines.proofs.Facts.{HasNone}
 use Rattle.fdb_lines.proofs.Legal.{Origin, Asked as AskedBy, origin_take, origin_report, same_items}
 use Rattle.fdb_lines.proofs.Sorted.{In, KeyLess, SameKey, Rises}
 use Rattle.fdb_lines.proofs.Turned.{is_one, turned_acts, turned_all, turned_one}
@@ -75,7 +75,7 @@ asks_drawn c k d = grind (arith, nat_tests)
 all_if : (P : Item × Option ℕ → Type 0) (b : Bool) (e : Item × Option ℕ) → (b ≡ true → P e) → All P (option_to_list (cond b (Some e) None))
 all_if P b e h = cond_both b (Some e) None (λ o. All P (option_to_list o)) (λ t. All-cons P e [] (h t) (All-nil P)) (λ _. All-nil P)
 
-needed : (c : Case) → HasNone c → (i : ℕ) → i ≤ length c.lines → All (IsNeeded c) (entries_below c i)
+needed : (c : Case) → IsFaultless c → (i : ℕ) → i ≤ length c.lines → All (IsNeeded c) (entries_below c i)
 needed c none zero le = All-nil (IsNeeded c)
 needed c none (suc k) le =
     let lt : k < length c.lines = omega arith in
@@ -120,7 +120,7 @@ in_map (x ∷ ss) s (suc k, lt, is) = inr (in_map ss s (k, omega arith, is))
 
 -- ---- all of it
 
-module _ (c : Case) (ranked : IsRanked c (spot_rank c.lines)) (none : HasNone c) (spots : List Spot)
+module _ (c : Case) (ranked : IsRanked c (spot_rank c.lines)) (none : IsFaultless c) (spots : List Spot)
     (are : IsPermutation (entries_below c (length c.lines)) (map entry_of spots)) (sorted : IsSorted (on (λ s. s.key) cmp-value.it) spots) where
   abbrev items : List Item
   items = map item_of (dedup is_one spots)

@@ -12,7 +12,7 @@ use Rattle.fdb_lines.specs.Order.{Item, ask_item, shared_item, take_item, needs_
 use Rattle.fdb_lines.specs.Reasons.{draws_again, draws_it, reports_it}
 use Rattle.fdb_lines.proofs.Numbers.{some_find, none_at}
 use Rattle.fdb_lines.proofs.Sorted.{In, KeyLess, IsSortedOf, put_if_sorted, index_of, places, act_at}
-use Rattle.fdb_lines.proofs.Facts.{HasNone, shown_known, drawn_known, known_known, no_stray, no_wrong, asked_above}
+use Rattle.fdb_lines.proofs.Facts.{shown_known, drawn_known, known_known, no_stray, no_wrong, asked_above}
 use Rattle.fdb_lines.proofs.Legal.{IsItemBelow, IsItemOf, Origin, Asked, origin_take, same_items, IsOrder, place, item_of, legal}
 
 -- ---- the sorted list has an item of each key that is needed, and no others
@@ -57,7 +57,7 @@ module _ (c : Case) (rank : ℕ → ℕ) where
 abbrev IsActOf : Case → (ℕ → ℕ) → ℕ → Item → Type 0
 IsActOf c rank k x = ((draws (kind_at c k) ≡ true) × (x ≡ ask_item (version_at c k))) ⊎ ((shows (kind_at c k) ≡ true) × (x ≡ take_item c rank k))
 
-module _ (c : Case) (rank : ℕ → ℕ) (ranked : IsRanked c rank) (none : HasNone c) (j k : ℕ) (lj : j < length c.lines) (lk : k < length c.lines) where
+module _ (c : Case) (rank : ℕ → ℕ) (ranked : IsRanked c rank) (none : IsFaultless c) (j k : ℕ) (lj : j < length c.lines) (lk : k < length c.lines) where
   before_key : precedes c j k ≡ true → (x y : Item) → IsActOf c rank j x → IsActOf c rank k y → KeyLess x y
   before_key pre x y p q =
       let b = (and_parts (c.before j k) _ pre).0 in
@@ -77,14 +77,14 @@ module _ (c : Case) (rank : ℕ → ℕ) (ranked : IsRanked c rank) (none : HasN
       grind (arith, nat_tests)
 
 -- a read of what nobody reports, where no fault stands
-unreported : (c : Case) → HasNone c → (k : ℕ) → k < length c.lines → needs_report c k ≡ true → (c.complete ≡ false) × OthersMay c (Reports (version_at c k))
+unreported : (c : Case) → IsFaultless c → (k : ℕ) → k < length c.lines → needs_report c k ≡ true → (c.complete ≡ false) × OthersMay c (Reports (version_at c k))
 unreported c none k lk need =
     let wrong = no_wrong c none k lk in
     let unsaid = none_at (reports_it c (version_at c k)) (length c.lines) in
     (grind (arith, nat_tests), λ j lj r same. let here = unsaid j in grind (arith, nat_tests))
 
 -- whose act it is
-whose : (c : Case) (rank : ℕ → ℕ) → HasNone c → (x : Item) (p : Origin c rank x)
+whose : (c : Case) (rank : ℕ → ℕ) → IsFaultless c → (x : Item) (p : Origin c rank x)
     → ((k : ℕ) × (k < length c.lines) × IsActOf c rank k x) ⊎ ((c.complete ≡ false) × OthersMay c x.act)
 whose c rank none x p = elim p.item [
   | inl ask ↦ elim (asked_above c none p.line p.there ask.0).1 [
@@ -99,7 +99,7 @@ whose c rank none x p = elim p.item [
 
 -- ---- all of it
 
-module _ (c : Case) (rank : ℕ → ℕ) (ranked : IsRanked c rank) (none : HasNone c) (items : List Item) (o : IsOrder c rank items) where
+module _ (c : Case) (rank : ℕ → ℕ) (ranked : IsRanked c rank) (none : IsFaultless c) (items : List Item) (o : IsOrder c rank items) where
   -- the moments of a line are the places of its items
   abbrev IsPlace : ℕ → ℕ → Type 0
   IsPlace = IsMoment c (λ k. index_of (ask_item (version_at c k)) items) (λ k. index_of (take_item c rank k) items)

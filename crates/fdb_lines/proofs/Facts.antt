@@ -9,12 +9,6 @@ use Rattle.fdb_lines.specs.Order.{needs_ask, needs_report, IsRanked}
 use Rattle.fdb_lines.specs.Reasons.{draws_it}
 use Rattle.fdb_lines.proofs.Numbers.{greatest_bound, greatest_least, some_at, some_find}
 
-abbrev pub HasNone : Case → Type 0
-HasNone = IsFaultless
-
-pub none_stands : (c : Case) → IsFaultless c → HasNone c
-none_stands c none = none
-
 -- whether a line raises the register to a version
 abbrev pub raises_it : Case → ℕ → ℕ → Bool
 raises_it c v j = reports (kind_at c j) && (version_at c j == v && nat_lt (knows c j) v)
@@ -41,10 +35,10 @@ known_known c rank ranked j k lj lk b =
 
 -- ---- no fault
 
-pub no_order : (c : Case) → HasNone c → (k : ℕ) → k < length c.lines → kind_at c k ≡ Read → knows c k ≤ version_at c k
+pub no_order : (c : Case) → IsFaultless c → (k : ℕ) → k < length c.lines → kind_at c k ≡ Read → knows c k ≤ version_at c k
 no_order c none k lk is = let f = none Order k lk in grind (arith, nat_tests)
 
-pub no_wrong : (c : Case) → HasNone c → (k : ℕ) → k < length c.lines → kind_at c k ≡ Read
+pub no_wrong : (c : Case) → IsFaultless c → (k : ℕ) → k < length c.lines → kind_at c k ≡ Read
     → (version_at c k ≡ c.start)
     ⊎ (((j : ℕ) × (j < length c.lines) × (raises_it c (version_at c k) j ≡ true))
     ⊎ ((c.complete ≡ false) × (is_reported c (version_at c k) ≡ false) × (needs_report c k ≡ true)))
@@ -53,7 +47,7 @@ no_wrong c none k lk is =
     let some = some_find (raises_it c (version_at c k)) (length c.lines) in
     grind (arith, nat_tests)
 
-pub no_stray : (c : Case) → HasNone c → (k : ℕ) → k < length c.lines → kind_at c k ≡ Report
+pub no_stray : (c : Case) → IsFaultless c → (k : ℕ) → k < length c.lines → kind_at c k ≡ Report
     → ((is_drawn c (version_at c k) ≡ true)
     × ((i : ℕ) × (i < length c.lines) × (draws (kind_at c i) ≡ true) × (version_at c i ≡ version_at c k) × (client_at c i ≡ client_at c k)))
     ⊎ ((c.complete ≡ false) × (is_drawn c (version_at c k) ≡ false) × (c.start < version_at c k))
@@ -64,7 +58,7 @@ no_stray c none k lk is =
 
 -- ---- what is asked for is above the start, and a line drew it or others may have
 
-said_above : (c : Case) → HasNone c → (k : ℕ) → k < length c.lines → (draws (kind_at c k) ≡ true) ⊎ (kind_at c k ≡ Report)
+said_above : (c : Case) → IsFaultless c → (k : ℕ) → k < length c.lines → (draws (kind_at c k) ≡ true) ⊎ (kind_at c k ≡ Report)
     → (c.start < version_at c k) × ((is_drawn c (version_at c k) ≡ true) ⊎ (c.complete ≡ false))
 said_above c none k lk said =
     let f = no_stray c none k lk in
@@ -75,7 +69,7 @@ said_above c none k lk said =
     let drawn = some_at (draws_it c (version_at c k)) (length c.lines) k lk in
     grind (arith, nat_tests)
 
-pub asked_above : (c : Case) → HasNone c → (k : ℕ) → k < length c.lines → needs_ask c k ≡ true
+pub asked_above : (c : Case) → IsFaultless c → (k : ℕ) → k < length c.lines → needs_ask c k ≡ true
     → (c.start < version_at c k) × ((is_drawn c (version_at c k) ≡ true) ⊎ (c.complete ≡ false))
 asked_above c none k lk need =
     let said = said_above c none k lk in

@@ -1,6 +1,7 @@
 -- Where the acts of the order by version come from, and that it is legal.
 use Rattle.std.proofs.Common.{◌≡◌, ◌⊎◌, ℕ, ◌+◌, ◌*◌, ◌<◌, ◌≤◌, true, List, map, length, Some, slice_get, refl, ap, sym, ◌∙◌, inl, inr, arith}
 use Rattle.std.proofs.lemmas.Bool.Decides.{nat_tests}
+use Rattle.fdb_lines.specs.Faults.{IsFaultless}
 use Rattle.fdb_lines.specs.Lines.{Case, Read, kind_at, version_at, shows}
 use Rattle.fdb_lines.specs.declared.act.Act.{Act}
 use Rattle.fdb_lines.specs.declared.act.Act.TheVariants.{Asks, Reports, Reads}
@@ -8,7 +9,7 @@ use Rattle.fdb_lines.specs.Explained.{Happens, ReportedBefore, IsLegal}
 use Rattle.fdb_lines.specs.Order.{Item, ask_item, shared_item, take_item, needs_ask, needs_report, IsRanked}
 use Rattle.fdb_lines.proofs.Sorted.{In, KeyLess, SameKey, Rises, index_of, in_at, rises_at, places, index_at, act_at, item_at}
 use Rattle.fdb_lines.proofs.Steps.{IsAllowed, legal_allowed}
-use Rattle.fdb_lines.proofs.Facts.{HasNone, no_order, no_wrong, asked_above, raises_it}
+use Rattle.fdb_lines.proofs.Facts.{no_order, no_wrong, asked_above, raises_it}
 
 -- an item of a line: its ask, its read or report, or the report of others that it needs
 abbrev pub IsItemOf : Case → (ℕ → ℕ) → ℕ → Item → Type 0
@@ -32,7 +33,7 @@ Asked k lk need is = record { line = k; there = lk; item = inl (need, is) }
 pub origin_take : (c : Case) (rank : ℕ → ℕ) (k : ℕ) → k < length c.lines → shows (kind_at c k) ≡ true → Origin c rank (take_item c rank k)
 origin_take c rank k lk s = record { line = k; there = lk; item = inr (inl (s, refl)) }
 
-pub origin_report : (c : Case) (rank : ℕ → ℕ) → HasNone c → (k : ℕ) → k < length c.lines → needs_report c k ≡ true → Origin c rank (shared_item (version_at c k))
+pub origin_report : (c : Case) (rank : ℕ → ℕ) → IsFaultless c → (k : ℕ) → k < length c.lines → needs_report c k ≡ true → Origin c rank (shared_item (version_at c k))
 origin_report c rank none k lk need = record { line = k; there = lk; item = inr (inr (need, refl)) }
 
 -- one item for a key
@@ -64,7 +65,7 @@ pub record IsOrder (c : Case) (rank : ℕ → ℕ) (s : List Item) : Type 0 wher
   pub takes : (k : ℕ) → k < length c.lines → shows (kind_at c k) ≡ true → In (take_item c rank k) s
   pub reports : (k : ℕ) → k < length c.lines → needs_report c k ≡ true → In (shared_item (version_at c k)) s
 
-module _ (c : Case) (rank : ℕ → ℕ) (ranked : IsRanked c rank) (none : HasNone c) (items : List Item) (o : IsOrder c rank items) where
+module _ (c : Case) (rank : ℕ → ℕ) (ranked : IsRanked c rank) (none : IsFaultless c) (items : List Item) (o : IsOrder c rank items) where
   pub place : (x : Item) → In x items → slice_get items (index_of x items) ≡ Some x
   place x i = index_at items x (λ y j s. same_items c rank ranked x y (o.origins x i) (o.origins y j) s) i
 
