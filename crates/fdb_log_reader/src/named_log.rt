@@ -37,22 +37,9 @@ pub(crate) fn add_line(named: &mut NamedLog, alloc: Global, bytes: &[u8]) -> Res
         return Err(Why::TooMany);
     }
     let value = value_of(alloc, bytes)?;
-    add_value(named, alloc, &value)
-}
-
-/// Adds a line, by its JSON value.
-fn add_value(named: &mut NamedLog, alloc: Global, value: &Value) -> Result<(), Why>
-    requires has_room { HasRoom named.old }
-    requires room { length (lines_of named.old.log).lines < MAX_LINES }
-    ensures has_room { OnOk result (HasRoom named.new) }
-    ensures read { MatchResult result
-        (λ _. with_value (reading_of named.old) (view value.now) ≡ Ok (reading_of named.new))
-        (λ why. (why ≡ Why.Memory)
-        ⊎ (with_value (reading_of named.old) (view value.now) ≡ Err why)) }
-{
-    let name = client_of(value)?;
-    let call = call_of(value, &named.names)?;
-    let times = times_of(value)?;
+    let name = client_of(&value)?;
+    let call = call_of(&value, &named.names)?;
+    let times = times_of(&value)?;
     let client = add_client(&mut named.names, alloc, name)?;
     named.log.push(Line {
         client,

@@ -64,11 +64,13 @@ pub(crate) fn client_of(value: &Value) -> Result<Option<&str>, Why>
         (λ client. client_of (view value.now) ≡ Ok (option_map (λ name. name.now) client))
         (λ why. client_of (view value.now) ≡ Err why) }
 {
-    let Some(name) = member_of(value, Member::Client) else {
-        return Ok(None);
-    };
-    let name = name.as_str().ok_or(Why::BadMember(Member::Client))?;
-    Ok(Some(name))
+    match member_of(value, Member::Client) {
+        Some(name) => name
+            .as_str()
+            .map(Some)
+            .ok_or(Why::BadMember(Member::Client)),
+        None => Ok(None),
+    }
 }
 
 /// The call of a line, which has to name just one.
@@ -112,18 +114,10 @@ fn teller_of(value: &Value, names: &Names) -> Result<u32, Why>
     requires { length (names_of names.now) ≤ MAX_LINES }
     ensures { result ≡ teller_of (names_of names.now) (view value.now) }
 {
-    let teller = teller_number(value, names).ok_or(Why::BadMember(Member::Learn))?;
+    let name = member_of(value, Member::Learn).and_then(Value::as_str);
+    let teller = name.and_then(|name| names.number(name));
+    let teller = teller.ok_or(Why::BadMember(Member::Learn))?;
     Ok(teller as u32)
-}
-
-/// The number of the client from whom it was learnt.
-fn teller_number(value: &Value, names: &Names) -> Option<usize>
-    ensures number { result ≡ option_and_then (number_in (names_of names.now))
-        (option_and_then as_str (member_of (view value.now) Member.Learn)) }
-    ensures within { IfSome result (λ number. number < length (names_of names.now)) }
-{
-    let name = member_of(value, Member::Learn)?.as_str()?;
-    names.number(name)
 }
 
 /// When the call began and ended; none where a line has neither member.
