@@ -61,6 +61,7 @@ impl Names {
     }
 
     /// Adds a name, unless it is there.
+    #[tactic(auto, using(crate::proofs::Naming::keys_added))]
     pub(crate) fn add(&mut self, alloc: Global, name: &str) -> Result<(), AllocError>
         ensures { OnOk result (names_of self.new ≡ with_name (names_of self.old) name.now) }
     {
