@@ -2,6 +2,7 @@
 use Rattle.std.proofs.Common.{◌≡◌, ℕ, ◌+◌, suc, ◌<◌, ◌==◌, nat_lt, true, false, List, [], ◌∷◌, ◌++◌, length, length-append, Result, Err, refl, ap, sym, ◌∙◌, arith, append_assoc, if◌then◌else◌}
 use Rattle.std.proofs.lemmas.Bool.Decides.{nat_tests}
 use Rattle.std.proofs.lemmas.List.{append-nil}
+use Rattle.std.proofs.lemmas.List.Elements.{All-append}
 use Rattle.std.proofs.lemmas.List.Splits.{length-slice_split, slice_split-cons_no, slice_split_at, slice_split_none}
 use Rattle.std.specs.List.{onto_first, slice_split}
 use Rattle.fdb_log_reader.specs.private.{IsOneLine}
@@ -53,12 +54,15 @@ long_first reading line (next ∷ more) long =
     rw is
 
 -- a line that is too long is refused before it has ended
-pub too_long : (reading : Reading) (front text : List ℕ) → IsOneLine front → MAX_LINE_BYTES < length front
-    → with_lines reading (lines_in (front ++ text)) ≡ Err (record { line = length reading.log.lines + 1; why = TooLong })
-too_long reading front text one long =
-    let stays = front_stays front text one in
+pub too_long : (reader : LogReader) (more text : List ℕ) → IsOneLine more → MAX_LINE_BYTES < length reader.front.items + length more
+    → reads_on reader (more ++ text) ≡ Err (record { line = length (reading_of reader.named).log.lines + 1; why = TooLong })
+too_long reader more text one long =
+    let front = reader.front.items ++ more in
+    let stays = front_stays front text (All-append (λ byte. is_line_feed byte ≡ false) reader.front.items more reader.one_line one) in
     let lengths = length-append front stays.0 in
-    ap (λ parts. with_lines reading (without_empty_end parts)) stays.2 ∙ long_first reading (front ++ stays.0) stays.1 (omega arith)
+    let whole = length-append reader.front.items more in
+    ap (λ bytes. with_lines (reading_of reader.named) (lines_in bytes)) (sym (append_assoc reader.front.items more text))
+    ∙ (ap (λ parts. with_lines (reading_of reader.named) (without_empty_end parts)) stays.2 ∙ long_first (reading_of reader.named) (front ++ stays.0) stays.1 (omega arith))
 
 -- a reader's line that ends is read, and then what comes after it
 pub ends_line : (reader : LogReader) (line : List ℕ) (read : Result Reading Why) (text : List ℕ) → line ≡ reader.front.items → with_line (reading_of reader.named) line ≡ read
@@ -71,3 +75,7 @@ ends_line reader line read text is comes =
 pub goes_on : (fed now : LogReader) (bytes rest line after : List ℕ) → ((text : List ℕ) → reads_on fed (bytes ++ text) ≡ reads_on now (rest ++ text))
     → rest ≡ line ++ 10 ∷ after → (text : List ℕ) → reads_on fed (bytes ++ text) ≡ reads_on now (line ++ 10 ∷ (after ++ text))
 goes_on fed now bytes rest line after on is text = on text ∙ ap (reads_on now) (ap (λ r. r ++ text) is ∙ append_assoc line (10 ∷ after) text)
+
+-- a text that ends within a line may end behind that line's feed
+pub fed_last : (reader : LogReader) → 0 < length reader.front.items → reads_on reader [] ≡ reads_on reader (10 ∷ [])
+fed_last reader some = ap (with_lines (reading_of reader.named)) (last_ends reader.front.items reader.one_line some)

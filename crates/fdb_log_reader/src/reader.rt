@@ -54,6 +54,7 @@ impl LogReader {
     }
 
     /// Reads on. An error names the first line that is refused, or says that memory was refused.
+    #[tactic(auto, using(crate::proofs::Splitting::goes_on))]
     pub fn feed(mut self, bytes: &[u8]) -> Result<Self, ReadError>
         ensures { MatchResult result
             (λ reader. (text : List ℕ) → reads_on reader text ≡ reads_on self (bytes.now ++ text))
@@ -69,6 +70,7 @@ impl LogReader {
     }
 
     /// The log, where the text ends here, with or without a last line feed.
+    #[tactic(auto, using(crate::proofs::Splitting::fed_last))]
     pub fn finish(self) -> Result<NamedLog, ReadError>
         ensures { StandsFor result (reads_on self []) }
     {
@@ -80,6 +82,7 @@ impl LogReader {
     }
 
     /// Keeps what has come of a line, unless that gets too long.
+    #[tactic(auto, using(crate::proofs::Splitting::too_long))]
     fn keep(mut self, bytes: &[u8]) -> Result<Self, ReadError>
         requires { IsOneLine bytes.now }
         ensures { Feeds self bytes.now result }
@@ -94,6 +97,7 @@ impl LogReader {
     }
 
     /// Reads the line that has been kept, which ends here.
+    #[tactic(auto, using(crate::proofs::Splitting::ends_line))]
     fn end_line(self) -> Result<Self, ReadError>
         ensures empty { IfOk result (λ ended. ended.front.items ≡ []) }
         ensures read { Feeds self (10 ∷ []) result }

@@ -17,8 +17,3 @@ returns-in_err-self c =
       | inl m ↦ inl m
       | inr h ↦ inr (λ text. on text ∙ (sym (c.in_ok-keep.ensures (10 ∷ (c.in-Some.after.now ++ text))) ∙ h (c.in-Some.after.now ++ text)))
     ])
-
-pub loop-line-preserved : goal.loop-line-preserved
-loop-line-preserved c =
-    let on = goes_on c.args.self c.loop-line.self c.args.bytes.now c.loop-line.rest.now c.in-Some.line.now c.in-Some.after.now c.loop-line.invariant c.in-Some.ensures.0 in
-    λ text. on text ∙ (sym (c.in_ok-keep.ensures (10 ∷ (c.in-Some.after.now ++ text))) ∙ sym (c.in_ok-self.ensures.read (c.in-Some.after.now ++ text)))
