@@ -1,44 +1,54 @@
 -- The lines of a text, piece by piece.
-use Rattle.std.proofs.Common.{◌≡◌, ℕ, ◌+◌, suc, ◌<◌, ◌==◌, nat_lt, true, false, List, [], ◌∷◌, ◌++◌, length, length-append, Result, Err, refl, ap, sym, ◌∙◌, arith, append_assoc, if◌then◌else◌}
+use Rattle.std.proofs.Common.{◌≡◌, ℕ, ◌+◌, suc, ◌<◌, ◌==◌, nat_lt, true, false, List, [], ◌∷◌, ◌++◌, length, length-append, Err, refl, ap, sym, ◌∙◌, arith, append_assoc, if◌then◌else◌}
 use Rattle.std.proofs.lemmas.Bool.Decides.{nat_tests}
 use Rattle.std.proofs.lemmas.List.{append-nil}
 use Rattle.std.proofs.lemmas.List.Elements.{All-append}
 use Rattle.std.proofs.lemmas.List.Splits.{length-slice_split, slice_split-cons_no, slice_split_at, slice_split_none}
 use Rattle.std.specs.List.{onto_first, slice_split}
 use Rattle.fdb_log_reader.specs.private.{IsOneLine}
-use Rattle.fdb_log_reader.specs.declared.error.Why.{Why}
 use Rattle.fdb_log_reader.specs.declared.error.Why.TheVariants.{TooLong}
 use Rattle.fdb_log_reader.specs.declared.reader.TheConstants.{MAX_LINE_BYTES}
 use Rattle.fdb_log_reader.specs.declared.reader.LogReader.{LogReader}
 use Rattle.fdb_log_reader.specs.Reader.{reads_on}
 use Rattle.fdb_log_reader.specs.Reading.{Reading, is_line_feed, lines_in, or_refused, reading_of, with_line, with_lines, without_empty_end}
 
-some_parts : (line : List ℕ) (parts : List (List ℕ)) → 0 < length parts → without_empty_end (line ∷ parts) ≡ line ∷ without_empty_end parts
-some_parts line [] some = absurd (omega arith)
-some_parts line (next ∷ more) some = refl
+first_of : (parts : List (List ℕ)) → 0 < length parts → (first : List ℕ) × (more : List (List ℕ)) × (parts ≡ first ∷ more)
+first_of [] some = absurd (omega arith)
+first_of (first ∷ more) some = (first, more, refl)
 
--- a line ends where its line feed is
-pub line_ends : (line text : List ℕ) → IsOneLine line → lines_in (line ++ 10 ∷ text) ≡ line ∷ lines_in text
-line_ends line text one =
-    let parts = length-slice_split is_line_feed text in
-    ap without_empty_end (slice_split_at is_line_feed line 10 text one refl) ∙ some_parts line (slice_split is_line_feed text) (omega arith)
+-- a text always has a first part
+parts : (text : List ℕ) → (first : List ℕ) × (more : List (List ℕ)) × (slice_split is_line_feed text ≡ first ∷ more)
+parts text = let count = length-slice_split is_line_feed text in first_of (slice_split is_line_feed text) (omega arith)
 
--- a text that is not empty may end without a line feed
-pub last_ends : (line : List ℕ) → IsOneLine line → 0 < length line → lines_in (line ++ []) ≡ lines_in (line ++ 10 ∷ [])
-last_ends line one some =
+-- a reader's line that ends is read, and then what comes after it
+pub ends_line : (reader : LogReader) (text : List ℕ)
+    → reads_on reader (10 ∷ text) ≡ or_refused (length (reading_of reader.named).log.lines + 1) (with_line (reading_of reader.named) reader.front.items) (λ more. with_lines more (lines_in text))
+ends_line reader text =
+    let line = reader.front.items in
+    let are = (parts text).2 in
+    ap (with_lines (reading_of reader.named)) (ap without_empty_end (slice_split_at is_line_feed line 10 text reader.one_line refl)
+    ∙ (ap (λ more. without_empty_end (line ∷ more)) are ∙ ap (λ more. line ∷ without_empty_end more) (sym are)))
+
+-- a text that ends within a line may end behind that line's feed
+pub fed_last : (reader : LogReader) → 0 < length reader.front.items → reads_on reader [] ≡ reads_on reader (10 ∷ [])
+fed_last reader some =
+    let line = reader.front.items in
     let is : (length line == 0) ≡ false = grind (arith, nat_tests) in
-    ap lines_in (append-nil line)
-    ∙ (ap without_empty_end (slice_split_none is_line_feed line one) ∙ (ap (λ b. if b then [] else line ∷ []) is ∙ sym (line_ends line [] one)))
+    ap (λ bytes. with_lines (reading_of reader.named) (lines_in bytes)) (append-nil line)
+    ∙ (ap (λ parts. with_lines (reading_of reader.named) (without_empty_end parts)) (slice_split_none is_line_feed line reader.one_line)
+    ∙ (ap (λ b. with_lines (reading_of reader.named) (if b then [] else line ∷ [])) is ∙ sym (ends_line reader [])))
+
+-- what a reader that was fed some bytes is to read on with, up to the end of a line
+pub goes_on : (fed now : LogReader) (bytes rest line after : List ℕ) → ((text : List ℕ) → reads_on fed (bytes ++ text) ≡ reads_on now (rest ++ text))
+    → rest ≡ line ++ 10 ∷ after → (text : List ℕ) → reads_on fed (bytes ++ text) ≡ reads_on now (line ++ 10 ∷ (after ++ text))
+goes_on fed now bytes rest line after on is text = on text ∙ ap (reads_on now) (ap (λ r. r ++ text) is ∙ append_assoc line (10 ∷ after) text)
+
+-- ---- a line that gets too long
 
 -- what is put before a text without a line feed is put before its first part
 front_stays : (front text : List ℕ) → IsOneLine front
     → (rest : List ℕ) × (more : List (List ℕ)) × (slice_split is_line_feed (front ++ text) ≡ (front ++ rest) ∷ more)
-front_stays [] text one =
-    let parts = length-slice_split is_line_feed text in
-    elim (slice_split is_line_feed text) as (λ ls. slice_split is_line_feed text ≡ ls → (rest : List ℕ) × (more : List (List ℕ)) × (slice_split is_line_feed text ≡ rest ∷ more)) [
-      | [] ↦ λ e. absurd (let none = ap length e in omega arith)
-      | rest ∷ more ↦ λ e. (rest, more, e)
-    ] refl
+front_stays [] text one = parts text
 front_stays (b ∷ front) text one =
     let stays = front_stays front text (λ k d lt. one (suc k) d (omega arith)) in
     (stays.0, stays.1, slice_split-cons_no is_line_feed b (front ++ text) (one 0 b (omega arith)) ∙ ap (onto_first b) stays.2)
@@ -63,19 +73,3 @@ too_long reader more text one long =
     let whole = length-append reader.front.items more in
     ap (λ bytes. with_lines (reading_of reader.named) (lines_in bytes)) (sym (append_assoc reader.front.items more text))
     ∙ (ap (λ parts. with_lines (reading_of reader.named) (without_empty_end parts)) stays.2 ∙ long_first (reading_of reader.named) (front ++ stays.0) stays.1 (omega arith))
-
--- a reader's line that ends is read, and then what comes after it
-pub ends_line : (reader : LogReader) (line : List ℕ) (read : Result Reading Why) (text : List ℕ) → line ≡ reader.front.items → with_line (reading_of reader.named) line ≡ read
-    → reads_on reader (10 ∷ text) ≡ or_refused (length (reading_of reader.named).log.lines + 1) read (λ more. with_lines more (lines_in text))
-ends_line reader line read text is comes =
-    ap (with_lines (reading_of reader.named)) (line_ends reader.front.items text reader.one_line)
-    ∙ ap (λ read. or_refused (length (reading_of reader.named).log.lines + 1) read (λ more. with_lines more (lines_in text))) (ap (with_line (reading_of reader.named)) (sym is) ∙ comes)
-
--- what a reader that was fed some bytes is to read on with, up to the end of a line
-pub goes_on : (fed now : LogReader) (bytes rest line after : List ℕ) → ((text : List ℕ) → reads_on fed (bytes ++ text) ≡ reads_on now (rest ++ text))
-    → rest ≡ line ++ 10 ∷ after → (text : List ℕ) → reads_on fed (bytes ++ text) ≡ reads_on now (line ++ 10 ∷ (after ++ text))
-goes_on fed now bytes rest line after on is text = on text ∙ ap (reads_on now) (ap (λ r. r ++ text) is ∙ append_assoc line (10 ∷ after) text)
-
--- a text that ends within a line may end behind that line's feed
-pub fed_last : (reader : LogReader) → 0 < length reader.front.items → reads_on reader [] ≡ reads_on reader (10 ∷ [])
-fed_last reader some = ap (with_lines (reading_of reader.named)) (last_ends reader.front.items reader.one_line some)
