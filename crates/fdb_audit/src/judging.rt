@@ -86,13 +86,10 @@ pub fn judge_text(
         (λ error. (error.why ≡ Why.Memory) ⊎ (reading_in bytes.now ≡ Err error)) }
 {
     let named = read_log(alloc, bytes)?;
-    match judge_named(alloc, &named, opts, wanted) {
-        Ok(found) => Ok(found),
-        Err(_) => Err(ReadError {
-            line: 0,
-            why: Why::Memory,
-        }),
-    }
+    judge_named(alloc, &named, opts, wanted).map_err(|_| ReadError {
+        line: 0,
+        why: Why::Memory,
+    })
 }
 
 /// Audits a log whose clients have names, which are printed as JSON strings.

@@ -4,7 +4,7 @@ ghost use Rattle.std.specs.Prelude.{◌≡◌, ◌++◌, OnOk, string_bytes};
 ghost use Rattle.fdb_lines.specs.Before.{began, ended};
 ghost use Rattle.fdb_lines.specs.Lines.{line_at};
 ghost use Rattle.fdb_audit.specs.Text.{caller_text, deed_text, finding_text, is_by, known_text};
-ghost use Rattle.fdb_audit.specs.Text.{line, listing_text, means_text, reason_text, sentence_text};
+ghost use Rattle.fdb_audit.specs.Text.{line, listing_text, reason_text, sentence_text};
 ghost use Rattle.fdb_audit.specs.Text.{since};
 ghost use Rattle.fdb_audit.specs.private.{lines_in, names_in};
 
@@ -105,17 +105,9 @@ impl View<'_> {
         ensures { OnOk result (string_bytes out.new ≡ string_bytes out.old
             ++ known_text (lines_in self.entry) (names_in self.entry) place version by) }
     {
-        match by {
-            Some(by) => self.push_means(out, place, by),
-            None => write!(out, "all began with {version}"),
-        }
-    }
-
-    /// Writes how the call at a place knew of a line.
-    fn push_means(self, out: &mut String, place: u32, by: Witness) -> Result<(), AllocError>
-        ensures { OnOk result (string_bytes out.new ≡ string_bytes out.old
-            ++ means_text (lines_in self.entry) (names_in self.entry) place by.line by.means) }
-    {
+        let Some(by) = by else {
+            return write!(out, "all began with {version}");
+        };
         match by.means {
             Means::Ended => {
                 let wait = self.wait(by.line, place);
