@@ -27,33 +27,24 @@ pub(crate) fn push_verdict(out: &mut String, counts: Summary) -> Result<(), Allo
 fn push_versions(out: &mut String, counts: Summary) -> Result<(), AllocError>
     ensures { OnOk result (string_bytes out.new ≡ string_bytes out.old ++ versions_text counts) }
 {
-    write!(
-        out,
-        " timed {} reads {} commits {}",
-        counts.timed, counts.reads, counts.commits
-    )
+    let (timed, reads, commits) = (counts.timed, counts.reads, counts.commits);
+    write!(out, " timed {timed} reads {reads} commits {commits}")
 }
 
 /// Writes how many asks, reports and learns there were.
 fn push_parts(out: &mut String, counts: Summary) -> Result<(), AllocError>
     ensures { OnOk result (string_bytes out.new ≡ string_bytes out.old ++ parts_text counts) }
 {
-    write!(
-        out,
-        " asks {} reports {} learns {}",
-        counts.asks, counts.reports, counts.learns
-    )
+    let (asks, reports, learns) = (counts.asks, counts.reports, counts.learns);
+    write!(out, " asks {asks} reports {reports} learns {learns}")
 }
 
 /// Writes how many versions others must have reported, and how many pairs of lines are in order.
 fn push_evidence(out: &mut String, counts: Summary) -> Result<(), AllocError>
     ensures { OnOk result (string_bytes out.new ≡ string_bytes out.old ++ evidence_text counts) }
 {
-    write!(
-        out,
-        " unreported {} ordered {}",
-        counts.unreported, counts.ordered
-    )
+    let (unreported, ordered) = (counts.unreported, counts.ordered);
+    write!(out, " unreported {unreported} ordered {ordered}")
 }
 
 impl View<'_> {
