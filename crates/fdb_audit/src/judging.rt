@@ -1,15 +1,12 @@
 //! From a log to what is said of it.
 
-ghost use Rattle.std.specs.Prelude.{◌≡◌, ◌⊎◌, ◌++◌, false, true, IfOk, IfErr, List, OnOk, Err};
-ghost use Rattle.std.specs.Prelude.{map, string_bytes};
+ghost use Rattle.std.specs.Prelude.{◌≡◌, ◌⊎◌, IfOk, IfErr, Err, map, string_bytes};
 ghost use Rattle.json.specs.Print.{quoted};
 ghost use Rattle.fdb_lines.specs.Audit.{AreExplained, case_of};
 ghost use Rattle.fdb_lines.specs.Log.{lines_of};
 ghost use Rattle.fdb_log_reader.specs.Names.{names_of};
 ghost use Rattle.fdb_log_reader.specs.Reading.{reading_in};
-ghost use Rattle.fdb_audit.specs.Judged.{IsJudgement, IsOrder, IsText};
-ghost use Rattle.fdb_audit.specs.Text.{history_lines};
-ghost use Rattle.fdb_lines.specs.declared.turn.Turn.{Turn};
+ghost use Rattle.fdb_audit.specs.Judged.{IsJudgement, IsText};
 
 use crate::verdict::push_verdict;
 use crate::view::View;
@@ -122,28 +119,12 @@ fn passed(
     let mut text = String::new(alloc);
     let counts = summary(alloc, view.log, opts)?;
     push_verdict(&mut text, counts)?;
-    if wanted.history {
-        push_order(alloc, &mut text, view, opts)?;
+    if !wanted.history {
+        return Ok(Judgement { fault: None, text });
     }
+    let Some(turns) = order(alloc, view.log, opts)? else {
+        return Ok(Judgement { fault: None, text });
+    };
+    view.push_history(&mut text, &turns)?;
     Ok(Judgement { fault: None, text })
-}
-
-/// Writes an order that explains the lines, a line for each turn.
-fn push_order(
-    alloc: Global,
-    out: &mut String,
-    view: View<'_>,
-    opts: &AuditOpts,
-) -> Result<(), AllocError>
-    requires explained { AreExplained (case_of (lines_of view.log.now) opts.now) }
-    ensures { OnOk result ((turns : List Turn)
-        × IsOrder (lines_of view.entry.log.now) opts.now turns
-        × (string_bytes out.new ≡ string_bytes out.old
-        ++ history_lines (lines_of view.entry.log.now).lines
-        (map string_bytes view.entry.names.now) 0 turns)) }
-{
-    match order(alloc, view.log, opts)? {
-        Some(turns) => view.push_history(out, &turns),
-        None => Ok(()),
-    }
 }

@@ -1,9 +1,9 @@
 //! The program: its command, and what it prints of a log.
 
-ghost use Rattle.std.specs.Prelude.{◌≡◌, ◌≢◌, ℕ, List, IfErr, IfOk, MatchResult};
+ghost use Rattle.std.specs.Prelude.{◌≡◌, ◌≢◌, ℕ, List, IfOk, MatchResult};
 ghost use Rattle.clap.specs.Words.{app_of};
 ghost use Rattle.fdb_audit.specs.Judged.{IsJudgement};
-ghost use Rattle.fdb_audit.specs.Program.{HasRead, IsAsked, audit, command};
+ghost use Rattle.fdb_audit.specs.Program.{HasRead, audit, command};
 ghost use Rattle.fdb_command.specs.Driving.{IsDriven, Stops};
 
 use crate::judging::{Judgement, Wanted, judge_named};

@@ -1,11 +1,9 @@
 //! A log with the names of its clients, and how a line is added to it.
 
-ghost use Rattle.std.specs.Prelude.{◌≡◌, ◌⊎◌, ◌≤◌, ◌<◌, ◌+◌, Err, Ok, IfOk, MatchResult, OnOk};
-ghost use Rattle.std.specs.Prelude.{length, option_map};
-ghost use Rattle.serde_json.specs.View.{view};
-ghost use Rattle.fdb_lines.specs.Log.{lines_of};
+ghost use Rattle.std.specs.Prelude.{◌≡◌, ◌⊎◌, ◌≤◌, ◌<◌, Err, Ok, IfOk, MatchResult, OnOk, length};
+ghost use Rattle.std.specs.Prelude.{option_map};
 ghost use Rattle.fdb_log_reader.specs.Names.{client_in, names_of, with_client};
-ghost use Rattle.fdb_log_reader.specs.Reading.{reading_of, with_line, with_value};
+ghost use Rattle.fdb_log_reader.specs.Reading.{reading_of, with_line};
 ghost use Rattle.fdb_log_reader.specs.private.{HasRoom};
 
 use crate::error::Why;

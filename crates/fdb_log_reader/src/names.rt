@@ -1,7 +1,7 @@
 //! The names of clients, and their numbers in the log.
 
-ghost use Rattle.std.specs.Prelude.{◌≡◌, ◌<◌, ◌≤◌, [], IfOk, IfSome, OnErr, OnOk, length, map};
-ghost use Rattle.std.specs.Prelude.{option_map, slice_get, Some, string_bytes};
+ghost use Rattle.std.specs.Prelude.{◌≡◌, ◌<◌, [], IfOk, IfSome, OnOk, length, map, option_map};
+ghost use Rattle.std.specs.Prelude.{slice_get, string_bytes};
 ghost use Rattle.json.specs.Print.{quoted};
 ghost use Rattle.fdb_log_reader.specs.Names.{names_of, number_in, with_name};
 

@@ -1,13 +1,12 @@
 //! What a line says, by the members of its JSON value.
 
-ghost use Rattle.std.specs.Prelude.{◌≡◌, ◌⊎◌, ◌<◌, ◌≤◌, IfSome, MatchResult, length, option_map};
-ghost use Rattle.std.specs.Prelude.{option_and_then};
-ghost use Rattle.serde_json.specs.Find.{as_str};
+ghost use Rattle.std.specs.Prelude.{◌≡◌, ◌⊎◌, ◌≤◌, MatchResult, length, option_and_then};
+ghost use Rattle.std.specs.Prelude.{option_map};
 ghost use Rattle.serde_json.specs.View.{view};
 ghost use Rattle.fdb_log_reader.specs.Members.{call_count, call_named, call_of, client_of};
-ghost use Rattle.fdb_log_reader.specs.Members.{end_of, has, member_of, number_of, some_times};
-ghost use Rattle.fdb_log_reader.specs.Members.{teller_of, times_of, times_with};
-ghost use Rattle.fdb_log_reader.specs.Names.{names_of, number_in};
+ghost use Rattle.fdb_log_reader.specs.Members.{end_of, has, member_of, number_of, teller_of};
+ghost use Rattle.fdb_log_reader.specs.Members.{times_of, times_with};
+ghost use Rattle.fdb_log_reader.specs.Names.{names_of};
 ghost use Rattle.fdb_log_reader.specs.Reading.{value_of};
 
 use crate::error::Why;
@@ -125,20 +124,13 @@ pub(crate) fn times_of(value: &Value) -> Result<Option<Times>, Why>
     ensures { result ≡ times_of (view value.now) }
 {
     if has(value, Member::Began) || has(value, Member::Ended) {
-        some_times(value)
+        let began = number_of(value, Member::Began)?;
+        let ended = end_of(value).ok_or(Why::BadMember(Member::Ended))?;
+        let times = times_with(began, ended).ok_or(Why::BadMember(Member::Ended))?;
+        Ok(Some(times))
     } else {
         Ok(None)
     }
-}
-
-/// When the call began and ended, of a line that has to have both members.
-fn some_times(value: &Value) -> Result<Option<Times>, Why>
-    ensures { result ≡ some_times (view value.now) }
-{
-    let began = number_of(value, Member::Began)?;
-    let ended = end_of(value).ok_or(Why::BadMember(Member::Ended))?;
-    let times = times_with(began, ended).ok_or(Why::BadMember(Member::Ended))?;
-    Ok(Some(times))
 }
 
 /// Times, unless the call ended before it began.

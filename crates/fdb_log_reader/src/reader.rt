@@ -1,10 +1,8 @@
 //! A log that is read piece by piece.
 
-ghost use Rattle.std.specs.Prelude.{◌≡◌, ◌⊎◌, ◌++◌, ◌∷◌, ◌+◌, ◌≤◌, ℕ, List, [], false, Err, Ok};
-ghost use Rattle.std.specs.Prelude.{All, IfErr, IfOk, MatchOption, MatchResult, OnOk, length};
-ghost use Rattle.fdb_lines.specs.Log.{lines_of};
-ghost use Rattle.fdb_log_reader.specs.Reading.{ReadsAs, StandsFor, is_line_feed, reading_in};
-ghost use Rattle.fdb_log_reader.specs.Reading.{reading_of};
+ghost use Rattle.std.specs.Prelude.{◌≡◌, ◌⊎◌, ◌++◌, ◌∷◌, ◌+◌, ◌≤◌, ℕ, List, [], Err, IfOk};
+ghost use Rattle.std.specs.Prelude.{MatchOption, MatchResult, length};
+ghost use Rattle.fdb_log_reader.specs.Reading.{ReadsAs, StandsFor, reading_in, reading_of};
 ghost use Rattle.fdb_log_reader.specs.private.{HasRoom, IsOneLine};
 
 use crate::error::{ReadError, Why};
