@@ -1,18 +1,14 @@
 //! From a log to what is said of it.
 
-ghost use Rattle.std.specs.Prelude.{◌≡◌, ◌⊎◌, ◌++◌, false, true, IfOk, IfErr, List, OnOk, Err};
-ghost use Rattle.std.specs.Prelude.{map, string_bytes};
+ghost use Rattle.std.specs.Prelude.{◌≡◌, ◌⊎◌, IfOk, IfErr, Err, map, string_bytes};
 ghost use Rattle.json.specs.Print.{quoted};
 ghost use Rattle.fdb_lines.specs.Audit.{AreExplained, case_of};
 ghost use Rattle.fdb_lines.specs.Log.{lines_of};
 ghost use Rattle.fdb_log_reader.specs.Names.{names_of};
 ghost use Rattle.fdb_log_reader.specs.Reading.{reading_in};
-ghost use Rattle.fdb_audit.specs.Judged.{IsJudgement, IsOrder, IsPassed, IsText};
-ghost use Rattle.fdb_audit.specs.Text.{history_lines};
-ghost use Rattle.fdb_lines.specs.declared.turn.Turn.{Turn};
+ghost use Rattle.fdb_audit.specs.Judged.{IsJudgement, IsText};
 
-use crate::finding::{finding_line, finding_lines};
-use crate::verdict::{push_history, verdict_line};
+use crate::verdict::push_verdict;
 use crate::view::View;
 use fdb_lines::{AuditOpts, Found, Log, findings, first_finding, order, summary};
 use fdb_log_reader::{NamedLog, ReadError, Why, read_log};
@@ -52,10 +48,22 @@ pub fn judge(
         opts.now wanted found.fault (string_bytes found.text)) }
 {
     let view = View { log, names };
+    let mut text = String::new(alloc);
     if wanted.all {
-        judge_all(alloc, view, opts, wanted)
+        let found = findings(alloc, log, opts)?;
+        let Some(first) = found.first() else {
+            return passed(alloc, view, opts, wanted);
+        };
+        let fault = Some(first.found);
+        view.push_findings(&mut text, &found)?;
+        Ok(Judgement { fault, text })
     } else {
-        judge_first(alloc, view, opts, wanted)
+        let Some(finding) = first_finding(alloc, log, opts)? else {
+            return passed(alloc, view, opts, wanted);
+        };
+        let fault = Some(finding.found);
+        view.push_finding(&mut text, finding)?;
+        Ok(Judgement { fault, text })
     }
 }
 
@@ -75,13 +83,10 @@ pub fn judge_text(
         (λ error. (error.why ≡ Why.Memory) ⊎ (reading_in bytes.now ≡ Err error)) }
 {
     let named = read_log(alloc, bytes)?;
-    match judge_named(alloc, &named, opts, wanted) {
-        Ok(found) => Ok(found),
-        Err(_) => Err(ReadError {
-            line: 0,
-            why: Why::Memory,
-        }),
-    }
+    judge_named(alloc, &named, opts, wanted).map_err(|_| ReadError {
+        line: 0,
+        why: Why::Memory,
+    })
 }
 
 /// Audits a log whose clients have names, which are printed as JSON strings.
@@ -99,51 +104,6 @@ pub(crate) fn judge_named(
     judge(alloc, &named.log, &names, opts, wanted)
 }
 
-/// Finds all faults, and prints a line for each; where there is none, as [`passed`] says.
-fn judge_all(
-    alloc: Global,
-    view: View<'_>,
-    opts: &AuditOpts,
-    wanted: Wanted,
-) -> Result<Judgement, AllocError>
-    requires all { wanted.all ≡ true }
-    ensures { IfOk result (λ found. IsText (lines_of view.entry.log.now)
-        (map string_bytes view.entry.names.now) opts.now wanted
-        found.fault (string_bytes found.text)) }
-{
-    let found = findings(alloc, view.log, opts)?;
-    match found.first() {
-        Some(first) => {
-            let fault = Some(first.found);
-            let text = finding_lines(alloc, view, &found)?;
-            Ok(Judgement { fault, text })
-        }
-        None => passed(alloc, view, opts, wanted),
-    }
-}
-
-/// Finds the first fault, and prints a line for it; where there is none, as [`passed`] says.
-fn judge_first(
-    alloc: Global,
-    view: View<'_>,
-    opts: &AuditOpts,
-    wanted: Wanted,
-) -> Result<Judgement, AllocError>
-    requires first { wanted.all ≡ false }
-    ensures { IfOk result (λ found. IsText (lines_of view.entry.log.now)
-        (map string_bytes view.entry.names.now) opts.now wanted
-        found.fault (string_bytes found.text)) }
-{
-    match first_finding(alloc, view.log, opts)? {
-        Some(finding) => {
-            let fault = Some(finding.found);
-            let text = finding_line(alloc, view, finding)?;
-            Ok(Judgement { fault, text })
-        }
-        None => passed(alloc, view, opts, wanted),
-    }
-}
-
 /// The judgement of a log without a fault, which some history has to explain.
 fn passed(
     alloc: Global,
@@ -156,46 +116,15 @@ fn passed(
         (map string_bytes view.entry.names.now) opts.now wanted
         found.fault (string_bytes found.text)) }
 {
-    let text = passed_text(alloc, view, opts, wanted.history)?;
-    Ok(Judgement { fault: None, text })
-}
-
-/// The text of a log without a fault, with an order if that is wanted.
-fn passed_text(
-    alloc: Global,
-    view: View<'_>,
-    opts: &AuditOpts,
-    with_history: bool,
-) -> Result<String, AllocError>
-    requires explained { AreExplained (case_of (lines_of view.log.now) opts.now) }
-    ensures { IfOk result (λ text. IsPassed (lines_of view.entry.log.now)
-        (map string_bytes view.entry.names.now) opts.now with_history (string_bytes text)) }
-{
+    let mut text = String::new(alloc);
     let counts = summary(alloc, view.log, opts)?;
-    let mut printed = verdict_line(alloc, counts)?;
-    if !with_history {
-        return Ok(printed);
+    push_verdict(&mut text, counts)?;
+    if !wanted.history {
+        return Ok(Judgement { fault: None, text });
     }
-    push_order(alloc, &mut printed, view, opts)?;
-    Ok(printed)
-}
-
-/// Appends an order that explains the lines, a line for each turn.
-fn push_order(
-    alloc: Global,
-    printed: &mut String,
-    view: View<'_>,
-    opts: &AuditOpts,
-) -> Result<(), AllocError>
-    requires explained { AreExplained (case_of (lines_of view.log.now) opts.now) }
-    ensures { OnOk result ((turns : List Turn)
-        × IsOrder (lines_of view.entry.log.now) opts.now turns
-        × (string_bytes printed.new ≡ string_bytes printed.old
-        ++ history_lines (lines_of view.entry.log.now).lines
-        (map string_bytes view.entry.names.now) 0 turns)) }
-{
-    match order(alloc, view.log, opts)? {
-        Some(turns) => push_history(printed, view, &turns),
-        None => Ok(()),
-    }
+    let Some(turns) = order(alloc, view.log, opts)? else {
+        return Ok(Judgement { fault: None, text });
+    };
+    view.push_history(&mut text, &turns)?;
+    Ok(Judgement { fault: None, text })
 }

@@ -4,9 +4,7 @@
 //! the log; [`judge_text`] reads the log from JSON Lines.
 #![tactic(auto)]
 
-mod finding;
 mod judging;
-mod mention;
 mod program;
 mod reason;
 mod refused;

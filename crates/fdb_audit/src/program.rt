@@ -1,10 +1,9 @@
 //! The program: its command, and what it prints of a log.
 
-ghost use Rattle.std.specs.Prelude.{◌≡◌, ◌≢◌, ℕ, List, IfErr, IfOk, MatchResult, codes, unwrap_or};
-ghost use Rattle.clap.specs.Words.{Text, app_of};
+ghost use Rattle.std.specs.Prelude.{◌≡◌, ◌≢◌, ℕ, List, IfOk, MatchResult};
+ghost use Rattle.clap.specs.Words.{app_of};
 ghost use Rattle.fdb_audit.specs.Judged.{IsJudgement};
-ghost use Rattle.fdb_audit.specs.Program.{HasRead, IsAsked, audit, command, number_named};
-ghost use Rattle.fdb_command.specs.Arguments.{AreMatches};
+ghost use Rattle.fdb_audit.specs.Program.{HasRead, audit, command};
 ghost use Rattle.fdb_command.specs.Driving.{IsDriven, Stops};
 
 use crate::judging::{Judgement, Wanted, judge_named};
@@ -81,7 +80,7 @@ impl Program for Audit {
         AuditArguments {
             opts: AuditOpts {
                 complete: number(matches, "complete"),
-                margin: margin_of(matches),
+                margin: number(matches, "margin").unwrap_or(0),
             },
             wanted: Wanted {
                 history: is_given(matches, "history"),
@@ -174,15 +173,6 @@ fn refusal(error: ReadError) -> Fault<LogsRefused, Found>
         Why::Memory => Fault::Memory,
         _ => Fault::Refused(LogsRefused { error }),
     }
-}
-
-/// The margin, in the unit of the log's times; 0 where `--margin` is not given.
-fn margin_of(matches: &ArgMatches) -> u64
-    requires { (arguments : List Text) × AreMatches command arguments matches.now }
-    ensures { (arguments : List Text) → AreMatches command arguments matches.now
-        → result ≡ unwrap_or (number_named (codes "margin") arguments) 0 }
-{
-    number(matches, "margin").unwrap_or(0)
 }
 
 /// The command that clap is given: one file, two numbers from 0 to 2^63 - 1, and three flags.

@@ -1,125 +1,154 @@
-//! Why a fault stands, in words of the log.
+//! Faults as they are printed: a line for each, with why it stands, in words of the log.
 
-ghost use Rattle.std.specs.Prelude.{◌≡◌};
+ghost use Rattle.std.specs.Prelude.{◌≡◌, ◌++◌, OnOk, string_bytes};
 ghost use Rattle.fdb_lines.specs.Before.{began, ended};
 ghost use Rattle.fdb_lines.specs.Lines.{line_at};
-ghost use Rattle.fdb_lines.specs.Log.{lines_of};
-ghost use Rattle.fdb_audit.specs.Text.{is_by, since};
+ghost use Rattle.fdb_audit.specs.Text.{caller_text, deed_text, finding_text, is_by, known_text};
+ghost use Rattle.fdb_audit.specs.Text.{line, listing_text, reason_text, sentence_text};
+ghost use Rattle.fdb_audit.specs.Text.{since};
+ghost use Rattle.fdb_audit.specs.private.{lines_in, names_in};
 
-use crate::mention::{Caller, Mention, Number};
-use crate::view::View;
-use fdb_lines::{Call, Means, Reason, Witness};
-use std::fmt;
+use crate::view::{View, push_number};
+use fdb_lines::{Call, Finding, Means, Reason, Witness};
+use std::alloc::AllocError;
+use std::fmt::Write;
 
-/// How long after an end a moment was; 0 where no end is known.
-fn since(end: Option<u64>, moment: u64) -> u64
-    ensures { result ≡ since end moment }
-{
-    match end {
-        Some(end) => moment.saturating_sub(end),
-        None => 0,
-    }
-}
-
-/// How the call at a place knew of a line.
-#[derive(Clone, Copy)]
-struct Telling<'a> {
-    view: View<'a>,
-    place: u32,
-    by: Witness,
-}
-
-impl Telling<'_> {
-    /// How long the line had ended when the call began.
-    fn wait(&self) -> u64
-        ensures { result
-            ≡ since (ended (line_at (lines_of self.now.view.log.now).lines self.now.by.line))
-            (began (line_at (lines_of self.now.view.log.now).lines self.now.place)) }
+impl View<'_> {
+    /// Writes a line for each of some faults, in their order.
+    pub(crate) fn push_findings(self, out: &mut String, found: &[Finding]) -> Result<(), AllocError>
+        ensures { OnOk result (string_bytes out.new ≡ string_bytes out.old
+            ++ listing_text (lines_in self.entry) (names_in self.entry) found.now) }
     {
-        let end = self.view.line(self.by.line).ended();
-        let moment = self.view.line(self.place).began();
-        since(end, moment)
+        for finding in found {
+            self.push_finding(out, *finding)?;
+        }
+        Ok(())
     }
-}
 
-impl fmt::Display for Telling<'_> {
-    ghost use Rattle.std.specs.Prelude.{Some, map, string_bytes};
-    ghost use Rattle.fdb_lines.specs.Log.{lines_of};
-    ghost use Rattle.fdb_audit.specs.Text.{means_text};
+    /// Writes a line for a fault, with why it stands.
+    pub(crate) fn push_finding(self, out: &mut String, finding: Finding) -> Result<(), AllocError>
+        ensures { OnOk result (string_bytes out.new ≡ string_bytes out.old
+            ++ line (finding_text (lines_in self.entry) (names_in self.entry) finding)) }
+    {
+        let fault = finding.found;
+        write!(out, "audit fault: {fault}: ")?;
+        self.push_sentence(out, fault.line, finding.reason)?;
+        writeln!(out)
+    }
 
-    ghost output = { λ it. Some (means_text (lines_of it.view.log.now).lines
-        (map string_bytes it.view.names.now) it.place it.by.line it.by.means) };
+    /// Writes what the caller of the line at a place did, and why that is a fault.
+    fn push_sentence(self, out: &mut String, place: u32, reason: Reason) -> Result<(), AllocError>
+        ensures { OnOk result (string_bytes out.new ≡ string_bytes out.old
+            ++ sentence_text (lines_in self.entry) (names_in self.entry) place reason) }
+    {
+        let line = self.line(place);
+        self.push_caller(out, line.client)?;
+        push_deed(out, line.call)?;
+        self.push_reason(out, place, reason)
+    }
 
-    fn fmt<W: fmt::Write>(&self, f: &mut fmt::Formatter<W>) -> fmt::Result {
-        let view = self.view;
-        let other = self.by.line;
-        let mention = Mention { view, place: other };
-        match self.by.means {
+    /// Writes who made a call: a client, or `its caller` where that is not known.
+    fn push_caller(self, out: &mut String, client: Option<u32>) -> Result<(), AllocError>
+        ensures { OnOk result (string_bytes out.new
+            ≡ string_bytes out.old ++ caller_text (names_in self.entry) client) }
+    {
+        match client {
+            Some(number) => self.push_client(out, number),
+            None => write!(out, "its caller"),
+        }
+    }
+
+    /// Writes why a fault stands, behind what the caller of the line at a place did.
+    fn push_reason(self, out: &mut String, place: u32, reason: Reason) -> Result<(), AllocError>
+        ensures { OnOk result (string_bytes out.new ≡ string_bytes out.old
+            ++ reason_text (lines_in self.entry) (names_in self.entry) place reason) }
+    {
+        match reason {
+            Reason::Known { version, by } => {
+                write!(out, ", but {version} was known: ")?;
+                self.push_known(out, place, version, by)
+            }
+            Reason::Unreported => write!(out, ", which nobody reported"),
+            Reason::Reported { line, version, by } => {
+                if is_by(place, by) {
+                    write!(out, ", which was reported only after this: ")?;
+                    self.push_known(out, line, version, by)
+                } else {
+                    write!(out, ", which ")?;
+                    self.push_mention(out, line)?;
+                    write!(out, " reported when {version} was known: ")?;
+                    self.push_known(out, line, version, by)
+                }
+            }
+            Reason::Drawn { line } => {
+                if self.line(place).call.draws() {
+                    write!(out, ", and so did ")?;
+                    self.push_mention(out, line)
+                } else {
+                    write!(out, ", which ")?;
+                    self.push_mention(out, line)?;
+                    write!(out, " drew")
+                }
+            }
+            Reason::Undrawn => write!(out, ", which nobody drew"),
+        }
+    }
+
+    /// Writes how the call at a place knew of a version.
+    fn push_known(
+        self,
+        out: &mut String,
+        place: u32,
+        version: u64,
+        by: Option<Witness>,
+    ) -> Result<(), AllocError>
+        ensures { OnOk result (string_bytes out.new ≡ string_bytes out.old
+            ++ known_text (lines_in self.entry) (names_in self.entry) place version by) }
+    {
+        let Some(by) = by else {
+            return write!(out, "all began with {version}");
+        };
+        match by.means {
             Means::Ended => {
-                let number = Number(self.place);
-                let wait = self.wait();
-                write!(f, "{mention} had ended {wait} before {number} began")
+                let wait = self.wait(by.line, place);
+                self.push_mention(out, by.line)?;
+                write!(out, " had ended {wait} before ")?;
+                push_number(out, place)?;
+                write!(out, " began")
             }
-            Means::Own => write!(f, "{mention} is an earlier call of its client"),
+            Means::Own => {
+                self.push_mention(out, by.line)?;
+                write!(out, " is an earlier call of its client")
+            }
             Means::Learnt(teller) => {
-                let teller = Number(teller);
-                write!(f, "{teller} had learnt of {mention}")
+                push_number(out, teller)?;
+                write!(out, " had learnt of ")?;
+                self.push_mention(out, by.line)
             }
+        }
+    }
+
+    /// How long a line had ended when a call began; 0 where its end is not known.
+    fn wait(self, other: u32, place: u32) -> u64
+        ensures { result ≡ since (ended (line_at (lines_in self.entry) other))
+            (began (line_at (lines_in self.entry) place)) }
+    {
+        match self.line(other).ended() {
+            Some(end) => self.line(place).began().saturating_sub(end),
+            None => 0,
         }
     }
 }
 
-/// How the call at a place knew of a version.
-#[derive(Clone, Copy)]
-struct Knowing<'a> {
-    view: View<'a>,
-    place: u32,
-    version: u64,
-    by: Option<Witness>,
-}
-
-impl fmt::Display for Knowing<'_> {
-    ghost use Rattle.std.specs.Prelude.{Some, map, string_bytes};
-    ghost use Rattle.fdb_lines.specs.Log.{lines_of};
-    ghost use Rattle.fdb_audit.specs.Text.{known_text};
-
-    ghost output = { λ it. Some (known_text (lines_of it.view.log.now).lines
-        (map string_bytes it.view.names.now) it.place it.version it.by) };
-
-    fn fmt<W: fmt::Write>(&self, f: &mut fmt::Formatter<W>) -> fmt::Result {
-        let Knowing {
-            view,
-            place,
-            version,
-            by,
-        } = *self;
-        match by {
-            Some(by) => {
-                let telling = Telling { view, place, by };
-                write!(f, "{telling}")
-            }
-            None => write!(f, "all began with {version}"),
-        }
-    }
-}
-
-/// What a caller did: it read, drew or reported a version.
-#[derive(Clone, Copy)]
-struct Deed(Call);
-
-impl fmt::Display for Deed {
-    ghost use Rattle.std.specs.Prelude.{Some};
-    ghost use Rattle.fdb_audit.specs.Text.{deed_text};
-
-    ghost output = { λ deed. Some (deed_text deed.0) };
-
-    fn fmt<W: fmt::Write>(&self, f: &mut fmt::Formatter<W>) -> fmt::Result {
-        match self.0 {
-            Call::Read(version) => write!(f, " read {version}"),
-            Call::Commit(version) | Call::Ask(version) => write!(f, " drew {version}"),
-            Call::Report(version) => write!(f, " reported {version}"),
-            Call::Learn(client) => write!(f, " learnt of {client}"),
-        }
+/// Writes what a caller did: it read, drew or reported a version.
+fn push_deed(out: &mut String, call: Call) -> Result<(), AllocError>
+    ensures { OnOk result (string_bytes out.new ≡ string_bytes out.old ++ deed_text call) }
+{
+    match call {
+        Call::Read(version) => write!(out, " read {version}"),
+        Call::Commit(version) | Call::Ask(version) => write!(out, " drew {version}"),
+        Call::Report(version) => write!(out, " reported {version}"),
+        Call::Learn(client) => write!(out, " learnt of {client}"),
     }
 }
 
@@ -127,106 +156,5 @@ impl fmt::Display for Deed {
 fn is_by(place: u32, by: Option<Witness>) -> bool
     ensures { result ≡ is_by place by }
 {
-    match by {
-        Some(by) => by.line == place,
-        None => false,
-    }
-}
-
-/// Why a fault stands, behind what the caller of the line at a place did.
-#[derive(Clone, Copy)]
-struct Because<'a> {
-    view: View<'a>,
-    place: u32,
-    reason: Reason,
-}
-
-impl fmt::Display for Because<'_> {
-    ghost use Rattle.std.specs.Prelude.{Some, map, string_bytes};
-    ghost use Rattle.fdb_lines.specs.Log.{lines_of};
-    ghost use Rattle.fdb_audit.specs.Text.{reason_text};
-
-    ghost output = { λ it. Some (reason_text (lines_of it.view.log.now).lines
-        (map string_bytes it.view.names.now) it.place it.reason) };
-
-    fn fmt<W: fmt::Write>(&self, f: &mut fmt::Formatter<W>) -> fmt::Result {
-        let Because {
-            view,
-            place,
-            reason,
-        } = *self;
-        match reason {
-            Reason::Known { version, by } => {
-                let knowing = Knowing {
-                    view,
-                    place,
-                    version,
-                    by,
-                };
-                write!(f, ", but {version} was known: {knowing}")
-            }
-            Reason::Unreported => write!(f, ", which nobody reported"),
-            Reason::Reported { line, version, by } => {
-                let knowing = Knowing {
-                    view,
-                    place: line,
-                    version,
-                    by,
-                };
-                let reporter = Mention { view, place: line };
-                if is_by(place, by) {
-                    write!(f, ", which was reported only after this: {knowing}")
-                } else {
-                    write!(
-                        f,
-                        ", which {reporter} reported when {version} was known: {knowing}"
-                    )
-                }
-            }
-            Reason::Drawn { line } => {
-                let other = Mention { view, place: line };
-                if view.line(place).call.draws() {
-                    write!(f, ", and so did {other}")
-                } else {
-                    write!(f, ", which {other} drew")
-                }
-            }
-            Reason::Undrawn => write!(f, ", which nobody drew"),
-        }
-    }
-}
-
-/// What the caller of the line at a place did, and why that is a fault.
-#[derive(Clone, Copy)]
-pub(crate) struct Sentence<'a> {
-    pub view: View<'a>,
-    pub place: u32,
-    pub reason: Reason,
-}
-
-impl fmt::Display for Sentence<'_> {
-    ghost use Rattle.std.specs.Prelude.{Some, map, string_bytes};
-    ghost use Rattle.fdb_lines.specs.Log.{lines_of};
-    ghost use Rattle.fdb_audit.specs.Text.{sentence_text};
-
-    ghost output = { λ it. Some (sentence_text (lines_of it.view.log.now).lines
-        (map string_bytes it.view.names.now) it.place it.reason) };
-
-    fn fmt<W: fmt::Write>(&self, f: &mut fmt::Formatter<W>) -> fmt::Result {
-        let Sentence {
-            view,
-            place,
-            reason,
-        } = *self;
-        let line = view.line(place);
-        let client = line.client;
-        let caller = Caller { view, client };
-        let deed = Deed(line.call);
-        let because = Because {
-            view,
-            place,
-            reason,
-        };
-        write!(f, "{caller}{deed}{because}")
-    }
+    matches!(by, Some(by) if by.line == place)
 }

@@ -35,20 +35,15 @@ fn cause_of(why: Why) -> &'static str {
         Why::NoCall => "no read, commit, ask, report or learn",
         Why::TwoCalls => "more than one of read, commit, ask, report and learn",
         Why::SomeTimes => "began and ended stand in all lines or in none",
-        Why::BadMember(member) => wanted_of(member),
-        Why::Memory => "want of memory",
-    }
-}
-
-/// What a member has to be.
-fn wanted_of(member: Member) -> &'static str {
-    match member {
-        Member::Client => "no text, or none in a log without times",
-        Member::Read | Member::Commit | Member::Ask | Member::Report => {
+        Why::BadMember(Member::Client) => "no text, or none in a log without times",
+        Why::BadMember(Member::Read | Member::Commit | Member::Ask | Member::Report) => {
             "no whole number below 2^64"
         }
-        Member::Learn => "no client of a line above, or beside times",
-        Member::Began => "no whole number below 2^64, or none beside ended",
-        Member::Ended => "no whole number below 2^64 and not null, or before began",
+        Why::BadMember(Member::Learn) => "no client of a line above, or beside times",
+        Why::BadMember(Member::Began) => "no whole number below 2^64, or none beside ended",
+        Why::BadMember(Member::Ended) => {
+            "no whole number below 2^64 and not null, or before began"
+        }
+        Why::Memory => "want of memory",
     }
 }

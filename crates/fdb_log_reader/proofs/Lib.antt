@@ -1,5 +1,3 @@
 pub mod Naming
-pub mod GoingOn
 pub mod Splitting
-pub mod Values
 pub mod Quoting

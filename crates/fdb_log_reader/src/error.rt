@@ -4,7 +4,7 @@ ghost use Rattle.std.specs.Prelude.{◌≡◌};
 
 use crate::member::Member;
 use fdb_lines::LineError;
-use std::alloc::{AllocError, AllocFailed};
+use std::alloc::AllocError;
 use std::fmt;
 
 /// What is wrong with a line. docs/FORMATS.md has the order in which this is looked for.
@@ -52,17 +52,6 @@ impl From<AllocError> for Why {
     ghost from_gives = { λ _ why. why ≡ Memory };
 
     fn from(_error: AllocError) -> Self {
-        Why::Memory
-    }
-}
-
-impl<T: Drop> From<AllocFailed<T>> for Why {
-    ghost use Rattle.std.specs.Prelude.{◌≡◌};
-    ghost use Rattle.fdb_log_reader.specs.declared.error.Why.TheVariants.{Memory};
-
-    ghost from_gives = { λ _ why. why ≡ Memory };
-
-    fn from(_error: AllocFailed<T>) -> Self {
         Why::Memory
     }
 }

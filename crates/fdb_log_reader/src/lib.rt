@@ -11,11 +11,9 @@ mod named_log;
 mod names;
 mod parsing;
 mod reader;
-mod reading;
 
 pub use error::{ReadError, Why};
 pub use member::Member;
 pub use named_log::NamedLog;
 pub use names::Names;
-pub use reader::{LogReader, MAX_LINE_BYTES};
-pub use reading::read_log;
+pub use reader::{LogReader, MAX_LINE_BYTES, read_log};

@@ -1,11 +1,9 @@
 //! A log with the names of its clients, and how a line is added to it.
 
-ghost use Rattle.std.specs.Prelude.{◌≡◌, ◌⊎◌, ◌≤◌, ◌<◌, Err, Ok, MatchResult, OnErr, OnOk};
-ghost use Rattle.std.specs.Prelude.{length, option_map};
-ghost use Rattle.serde_json.specs.View.{view};
-ghost use Rattle.fdb_lines.specs.Log.{lines_of};
+ghost use Rattle.std.specs.Prelude.{◌≡◌, ◌⊎◌, ◌≤◌, ◌<◌, Err, Ok, IfOk, MatchResult, OnOk, length};
+ghost use Rattle.std.specs.Prelude.{option_map};
 ghost use Rattle.fdb_log_reader.specs.Names.{client_in, names_of, with_client};
-ghost use Rattle.fdb_log_reader.specs.Reading.{reading_of, with_line, with_value};
+ghost use Rattle.fdb_log_reader.specs.Reading.{reading_of, with_line};
 ghost use Rattle.fdb_log_reader.specs.private.{HasRoom};
 
 use crate::error::Why;
@@ -24,12 +22,11 @@ pub struct NamedLog {
     pub names: Names,
 }
 
-/// Adds a line, by its bytes. Where memory is refused it may be in the log, without its client's
-/// name.
+/// Adds a line, by its bytes. After an error the log is not to be read on.
 pub(crate) fn add_line(named: &mut NamedLog, alloc: Global, bytes: &[u8]) -> Result<(), Why>
     requires has_room { HasRoom named.old }
     requires short { length bytes.now ≤ MAX_LINE_BYTES }
-    ensures has_room { HasRoom named.new }
+    ensures has_room { OnOk result (HasRoom named.new) }
     ensures read { MatchResult result
         (λ _. with_line (reading_of named.old) bytes.now ≡ Ok (reading_of named.new))
         (λ why. (why ≡ Why.Memory) ⊎ (with_line (reading_of named.old) bytes.now ≡ Err why)) }
@@ -38,51 +35,36 @@ pub(crate) fn add_line(named: &mut NamedLog, alloc: Global, bytes: &[u8]) -> Res
         return Err(Why::TooMany);
     }
     let value = value_of(alloc, bytes)?;
-    add_value(named, alloc, &value)
-}
-
-/// Adds a line, by its JSON value.
-fn add_value(named: &mut NamedLog, alloc: Global, value: &Value) -> Result<(), Why>
-    requires has_room { HasRoom named.old }
-    requires room { length (lines_of named.old.log).lines < MAX_LINES }
-    ensures has_room { HasRoom named.new }
-    ensures read { MatchResult result
-        (λ _. with_value (reading_of named.old) (view value.now) ≡ Ok (reading_of named.new))
-        (λ why. (why ≡ Why.Memory)
-        ⊎ (with_value (reading_of named.old) (view value.now) ≡ Err why)) }
-{
-    let name = client_of(value)?;
-    let call = call_of(value, &named.names)?;
-    let times = times_of(value)?;
-    let client = number_for(&named.names, name);
+    let name = client_of(&value)?;
+    let call = call_of(&value, &named.names)?;
+    let times = times_of(&value)?;
+    let client = add_client(&mut named.names, alloc, name)?;
     named.log.push(Line {
         client,
         call,
         times,
     })?;
-    add_name(&mut named.names, alloc, name)?;
     Ok(())
 }
 
-/// The number that the client of a line has once its name is added.
-fn number_for(names: &Names, name: Option<&str>) -> Option<u32>
-    requires { length (names_of names.now) < MAX_LINES }
-    ensures { result ≡ client_in
-        (with_client (names_of names.now) (option_map (λ name. name.now) name.entry))
-        (option_map (λ name. name.now) name.entry) }
-{
-    let number = names.number_for(name?);
-    Some(number as u32)
-}
-
-/// Adds the name of the client of a line, if it has one.
-fn add_name(names: &mut Names, alloc: Global, name: Option<&str>) -> Result<(), AllocError>
+/// Adds the name of the client of a line, if it has one. Answers the client's number.
+fn add_client(
+    names: &mut Names,
+    alloc: Global,
+    name: Option<&str>,
+) -> Result<Option<u32>, AllocError>
+    requires { length (names_of names.old) < MAX_LINES }
     ensures added { OnOk result (names_of names.new
         ≡ with_client (names_of names.old) (option_map (λ name. name.now) name.entry)) }
-    ensures err { OnErr result (names_of names.new ≡ names_of names.old) }
+    ensures number { IfOk result (λ client. client
+        ≡ client_in (names_of names.new) (option_map (λ name. name.now) name.entry)) }
 {
-    match name {
-        Some(name) => names.add(alloc, name),
-        None => Ok(()),
+    let Some(name) = name else {
+        return Ok(None);
+    };
+    names.add(alloc, name)?;
+    match names.number(name) {
+        Some(number) => Ok(Some(number as u32)),
+        None => Ok(None),
     }
 }

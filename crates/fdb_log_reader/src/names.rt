@@ -1,7 +1,7 @@
 //! The names of clients, and their numbers in the log.
 
-ghost use Rattle.std.specs.Prelude.{◌≡◌, ◌<◌, ◌≤◌, [], IfOk, IfSome, OnErr, OnOk, length, map};
-ghost use Rattle.std.specs.Prelude.{option_map, slice_get, Some, string_bytes};
+ghost use Rattle.std.specs.Prelude.{◌≡◌, ◌<◌, [], IfOk, IfSome, OnOk, length, map, option_map};
+ghost use Rattle.std.specs.Prelude.{slice_get, string_bytes};
 ghost use Rattle.json.specs.Print.{quoted};
 ghost use Rattle.fdb_log_reader.specs.Names.{names_of, number_in, with_name};
 
@@ -60,26 +60,16 @@ impl Names {
         self.texts.get_index_of(name)
     }
 
-    /// The number that the client of a name has once the name is added.
-    pub(crate) fn number_for(&self, name: &str) -> usize
-        ensures number { Some result ≡ number_in (with_name (names_of self.now) name.now) name.now }
-        ensures within { result ≤ length (names_of self.now) }
-    {
-        match self.number(name) {
-            Some(number) => number,
-            None => self.count(),
-        }
-    }
-
     /// Adds a name, unless it is there.
+    #[tactic(auto, using(crate::proofs::Naming::keys_added))]
     pub(crate) fn add(&mut self, alloc: Global, name: &str) -> Result<(), AllocError>
-        ensures added { OnOk result (names_of self.new ≡ with_name (names_of self.old) name.now) }
-        ensures err { OnErr result (names_of self.new ≡ names_of self.old) }
+        ensures { OnOk result (names_of self.new ≡ with_name (names_of self.old) name.now) }
     {
-        if self.number(name).is_none() {
-            let text = String::from_str(alloc, name)?;
-            self.texts.insert(text)?;
+        if self.number(name).is_some() {
+            return Ok(());
         }
+        let text = String::from_str(alloc, name)?;
+        self.texts.insert(text)?;
         Ok(())
     }
 }

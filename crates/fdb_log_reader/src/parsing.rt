@@ -1,13 +1,12 @@
 //! What a line says, by the members of its JSON value.
 
-ghost use Rattle.std.specs.Prelude.{◌≡◌, ◌⊎◌, ◌<◌, ◌≤◌, IfSome, MatchResult, length, option_map};
-ghost use Rattle.std.specs.Prelude.{option_and_then};
-ghost use Rattle.serde_json.specs.Find.{as_str};
+ghost use Rattle.std.specs.Prelude.{◌≡◌, ◌⊎◌, ◌≤◌, MatchResult, length, option_and_then};
+ghost use Rattle.std.specs.Prelude.{option_map};
 ghost use Rattle.serde_json.specs.View.{view};
 ghost use Rattle.fdb_log_reader.specs.Members.{call_count, call_named, call_of, client_of};
-ghost use Rattle.fdb_log_reader.specs.Members.{end_of, has, member_of, number_of, some_times};
-ghost use Rattle.fdb_log_reader.specs.Members.{teller_of, times_of, whole};
-ghost use Rattle.fdb_log_reader.specs.Names.{names_of, number_in};
+ghost use Rattle.fdb_log_reader.specs.Members.{end_of, has, member_of, number_of, teller_of};
+ghost use Rattle.fdb_log_reader.specs.Members.{times_of, times_with};
+ghost use Rattle.fdb_log_reader.specs.Names.{names_of};
 ghost use Rattle.fdb_log_reader.specs.Reading.{value_of};
 
 use crate::error::Why;
@@ -54,17 +53,8 @@ fn has(value: &Value, member: Member) -> bool
 fn number_of(value: &Value, member: Member) -> Result<u64, Why>
     ensures { result ≡ number_of (view value.now) member }
 {
-    match whole_of(value, member) {
-        Some(number) => Ok(number),
-        None => Err(Why::BadMember(member)),
-    }
-}
-
-/// A member that is a whole number.
-fn whole_of(value: &Value, member: Member) -> Option<u64>
-    ensures { result ≡ option_and_then whole (member_of (view value.now) member) }
-{
-    member_of(value, member)?.as_u64()
+    let said = member_of(value, member).and_then(Value::as_u64);
+    said.ok_or(Why::BadMember(member))
 }
 
 /// The name of the client whose call it was; none where that is left out.
@@ -73,12 +63,12 @@ pub(crate) fn client_of(value: &Value) -> Result<Option<&str>, Why>
         (λ client. client_of (view value.now) ≡ Ok (option_map (λ name. name.now) client))
         (λ why. client_of (view value.now) ≡ Err why) }
 {
-    let Some(name) = member_of(value, Member::Client) else {
-        return Ok(None);
-    };
-    match name.as_str() {
-        Some(name) => Ok(Some(name)),
-        None => Err(Why::BadMember(Member::Client)),
+    match member_of(value, Member::Client) {
+        Some(name) => name
+            .as_str()
+            .map(Some)
+            .ok_or(Why::BadMember(Member::Client)),
+        None => Ok(None),
     }
 }
 
@@ -106,20 +96,15 @@ fn call_named(value: &Value, names: &Names) -> Result<Call, Why>
     ensures { result ≡ call_named (names_of names.now) (view value.now) }
 {
     if has(value, Member::Read) {
-        let version = number_of(value, Member::Read)?;
-        Ok(Call::Read(version))
+        Ok(Call::Read(number_of(value, Member::Read)?))
     } else if has(value, Member::Commit) {
-        let version = number_of(value, Member::Commit)?;
-        Ok(Call::Commit(version))
+        Ok(Call::Commit(number_of(value, Member::Commit)?))
     } else if has(value, Member::Ask) {
-        let version = number_of(value, Member::Ask)?;
-        Ok(Call::Ask(version))
+        Ok(Call::Ask(number_of(value, Member::Ask)?))
     } else if has(value, Member::Report) {
-        let version = number_of(value, Member::Report)?;
-        Ok(Call::Report(version))
+        Ok(Call::Report(number_of(value, Member::Report)?))
     } else {
-        let teller = teller_of(value, names)?;
-        Ok(Call::Learn(teller))
+        Ok(Call::Learn(teller_of(value, names)?))
     }
 }
 
@@ -128,20 +113,10 @@ fn teller_of(value: &Value, names: &Names) -> Result<u32, Why>
     requires { length (names_of names.now) ≤ MAX_LINES }
     ensures { result ≡ teller_of (names_of names.now) (view value.now) }
 {
-    match teller_number(value, names) {
-        Some(teller) => Ok(teller as u32),
-        None => Err(Why::BadMember(Member::Learn)),
-    }
-}
-
-/// The number of the client from whom it was learnt.
-fn teller_number(value: &Value, names: &Names) -> Option<usize>
-    ensures number { result ≡ option_and_then (number_in (names_of names.now))
-        (option_and_then as_str (member_of (view value.now) Member.Learn)) }
-    ensures within { IfSome result (λ number. number < length (names_of names.now)) }
-{
-    let name = member_of(value, Member::Learn)?.as_str()?;
-    names.number(name)
+    let name = member_of(value, Member::Learn).and_then(Value::as_str);
+    let teller = name.and_then(|name| names.number(name));
+    let teller = teller.ok_or(Why::BadMember(Member::Learn))?;
+    Ok(teller as u32)
 }
 
 /// When the call began and ended; none where a line has neither member.
@@ -149,24 +124,20 @@ pub(crate) fn times_of(value: &Value) -> Result<Option<Times>, Why>
     ensures { result ≡ times_of (view value.now) }
 {
     if has(value, Member::Began) || has(value, Member::Ended) {
-        some_times(value)
+        let began = number_of(value, Member::Began)?;
+        let ended = end_of(value).ok_or(Why::BadMember(Member::Ended))?;
+        let times = times_with(began, ended).ok_or(Why::BadMember(Member::Ended))?;
+        Ok(Some(times))
     } else {
         Ok(None)
     }
 }
 
-/// When the call began and ended, of a line that has to have both members.
-fn some_times(value: &Value) -> Result<Option<Times>, Why>
-    ensures { result ≡ some_times (view value.now) }
+/// Times, unless the call ended before it began.
+fn times_with(began: u64, ended: Option<u64>) -> Option<Times>
+    ensures { result ≡ times_with began ended }
 {
-    let began = number_of(value, Member::Began)?;
-    let Some(ended) = end_of(value) else {
-        return Err(Why::BadMember(Member::Ended));
-    };
-    match Times::new(began, ended) {
-        Some(times) => Ok(Some(times)),
-        None => Err(Why::BadMember(Member::Ended)),
-    }
+    Times::new(began, ended)
 }
 
 /// When it ended, or that this is not known.
@@ -177,6 +148,5 @@ fn end_of(value: &Value) -> Option<Option<u64>>
     if end.is_null() {
         return Some(None);
     }
-    let end = end.as_u64()?;
-    Some(Some(end))
+    end.as_u64().map(Some)
 }

@@ -1,10 +1,8 @@
 //! A log that is read piece by piece.
 
-ghost use Rattle.std.specs.Prelude.{◌≡◌, ◌⊎◌, ◌++◌, ◌∷◌, ◌+◌, ◌≤◌, ℕ, List, [], false, Err, Ok};
-ghost use Rattle.std.specs.Prelude.{All, IfErr, IfOk, MatchOption, MatchResult, OnOk, length};
-ghost use Rattle.fdb_lines.specs.Log.{lines_of};
-ghost use Rattle.fdb_log_reader.specs.Reading.{StandsFor, is_line_feed, reading_in, reading_of};
-ghost use Rattle.fdb_log_reader.specs.Reading.{with_line};
+ghost use Rattle.std.specs.Prelude.{◌≡◌, ◌⊎◌, ◌++◌, ◌∷◌, ◌+◌, ◌≤◌, ℕ, List, [], Err, IfOk};
+ghost use Rattle.std.specs.Prelude.{MatchOption, MatchResult, length};
+ghost use Rattle.fdb_log_reader.specs.Reading.{ReadsAs, StandsFor, reading_in, reading_of};
 ghost use Rattle.fdb_log_reader.specs.private.{HasRoom, IsOneLine};
 
 use crate::error::{ReadError, Why};
@@ -30,6 +28,7 @@ pub struct LogReader {
 
 impl LogReader {
     ghost use Rattle.fdb_log_reader.specs.Reader.{reads_on};
+    ghost use Rattle.fdb_log_reader.specs.private.Feeding.{Feeds};
 
     /// A log of which nothing has been read.
     pub fn new(alloc: Global) -> Self
@@ -53,6 +52,7 @@ impl LogReader {
     }
 
     /// Reads on. An error names the first line that is refused, or says that memory was refused.
+    #[tactic(auto, using(crate::proofs::Splitting::goes_on))]
     pub fn feed(mut self, bytes: &[u8]) -> Result<Self, ReadError>
         ensures { MatchResult result
             (λ reader. (text : List ℕ) → reads_on reader text ≡ reads_on self (bytes.now ++ text))
@@ -61,66 +61,66 @@ impl LogReader {
     {
         let mut rest = bytes;
         while let Some((line, after)) = split_line(rest) {
-            self.keep(line)?;
-            self.end_line()?;
+            self = self.keep(line)?.end_line()?;
             rest = after;
         }
-        self.keep(rest)?;
-        Ok(self)
+        self.keep(rest)
     }
 
     /// The log, where the text ends here, with or without a last line feed.
-    pub fn finish(mut self) -> Result<NamedLog, ReadError>
+    #[tactic(auto, using(crate::proofs::Splitting::fed_last))]
+    pub fn finish(self) -> Result<NamedLog, ReadError>
         ensures { StandsFor result (reads_on self []) }
     {
         if self.front.is_empty() {
             return Ok(self.named);
         }
-        self.end_line()?;
-        Ok(self.named)
+        let ended = self.end_line()?;
+        Ok(ended.named)
     }
 
     /// Keeps what has come of a line, unless that gets too long.
-    fn keep(&mut self, bytes: &[u8]) -> Result<(), ReadError>
+    #[tactic(auto, using(crate::proofs::Splitting::too_long))]
+    fn keep(mut self, bytes: &[u8]) -> Result<Self, ReadError>
         requires { IsOneLine bytes.now }
-        ensures kept { OnOk result ((self.new.front.items ≡ self.old.front.items ++ bytes.now)
-            × (reading_of self.new.named ≡ reading_of self.old.named)) }
-        ensures refused { IfErr result (λ error. (error.why ≡ Why.Memory)
-            ⊎ ((text : List ℕ) → reads_on self.old (bytes.now ++ text) ≡ Err error)) }
+        ensures { Feeds self bytes.now result }
     {
         if bytes.len() > MAX_LINE_BYTES - self.front.len() {
             return Err(self.error(Why::TooLong));
         }
         match self.front.extend_from_slice(bytes) {
-            Ok(()) => Ok(()),
+            Ok(()) => Ok(self),
             Err(_) => Err(self.error(Why::Memory)),
         }
     }
 
     /// Reads the line that has been kept, which ends here.
-    fn end_line(&mut self) -> Result<(), ReadError>
-        ensures empty { OnOk result (self.new.front.items ≡ []) }
-        ensures read { IfOk result (λ _.
-            with_line (reading_of self.old.named) self.old.front.items
-            ≡ Ok (reading_of self.new.named)) }
-        ensures refused { IfErr result (λ error. (error.why ≡ Why.Memory)
-            ⊎ ((with_line (reading_of self.old.named) self.old.front.items ≡ Err error.why)
-            × (error.line ≡ length (reading_of self.old.named).log.lines + 1))) }
+    #[tactic(auto, using(crate::proofs::Splitting::ends_line))]
+    fn end_line(self) -> Result<Self, ReadError>
+        ensures empty { IfOk result (λ ended. ended.front.items ≡ []) }
+        ensures read { Feeds self (10 ∷ []) result }
     {
         let refused = self.error(Why::Memory);
-        match add_line(&mut self.named, self.alloc, &self.front) {
-            Ok(()) => {
-                self.front.clear();
-                Ok(())
-            }
-            Err(why) => Err(ReadError { why, ..refused }),
+        let LogReader {
+            alloc,
+            mut named,
+            mut front,
+        } = self;
+        if let Err(why) = add_line(&mut named, alloc, &front) {
+            return Err(ReadError { why, ..refused });
         }
+        front.clear();
+        Ok(LogReader {
+            alloc,
+            named,
+            front,
+        })
     }
 
     /// What is wrong with the line that has been begun.
     fn error(&self, why: Why) -> ReadError
-        ensures line { result.line ≡ length (reading_of self.now.named).log.lines + 1 }
-        ensures why { result.why ≡ why }
+        ensures { result ≡ record
+            { line = length (reading_of self.now.named).log.lines + 1; why = why } }
     {
         let line = self.line_count() as u64 + 1;
         ReadError { line, why }
@@ -134,4 +134,16 @@ fn split_line(bytes: &[u8]) -> Option<(&[u8], &[u8])>
 {
     let end = memchr(b'\n', bytes)?;
     Some((&bytes[..end], &bytes[end + 1..]))
+}
+
+/// The log that a text of JSON Lines stands for. An error names the first line that is refused, or
+/// says that memory was refused.
+///
+/// Linear in the bytes, but for the members of a line, which are sorted. Beside the log and the
+/// names it takes the memory of one line.
+pub fn read_log(alloc: Global, bytes: &[u8]) -> Result<NamedLog, ReadError>
+    ensures { ReadsAs bytes.now result }
+{
+    let reader = LogReader::new(alloc).feed(bytes)?;
+    reader.finish()
 }

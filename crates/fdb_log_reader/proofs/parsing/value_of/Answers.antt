@@ -1,12 +1,22 @@
-use Rattle.std.proofs.Common.{inr, subst, sym, true≢false}
+use Rattle.std.proofs.Common.{◌≡◌, ℕ, List, None, Err, true, false, ap, if◌then◌else◌, inr, refl, subst, sym, true≢false}
+use Rattle.std.proofs.lemmas.Str.{IsUtf8-from_is_utf8, is_utf8-from_IsUtf8}
 use Rattle.std.specs.Bool.{IsTrue}
-use Rattle.serde_json.specs.View.{view}
-use Rattle.fdb_log_reader.proofs.Values.{value_is, value_none}
+use Rattle.std.specs.Str.{IsUtf8, is_utf8}
+use Rattle.serde_json.specs.Read.{read}
+use Rattle.fdb_log_reader.specs.declared.error.Why.TheVariants.{NotJson}
+use Rattle.fdb_log_reader.specs.Reading.{or_not_json, value_of}
 use Rattle.fdb_log_reader.proofs.parsing.value_of.Goals as goal
 
 pub returns-in-Ok : goal.returns-in-Ok
-returns-in-Ok c = value_is c.args.bytes.now (view c.in-Ok.value) c.in-Ok.ensures.ok.0 c.in-Ok.ensures.ok.1
+returns-in-Ok c = let text = is_utf8-from_IsUtf8 c.args.bytes.now c.in-Ok.ensures.ok.0 in rw (text, c.in-Ok.ensures.ok.1)
+
+no_value : (bytes : List ℕ) → (IsUtf8 bytes → read bytes ≡ None) → value_of bytes ≡ Err NotJson
+no_value bytes none =
+    elim (is_utf8 bytes) as (λ b. is_utf8 bytes ≡ b → or_not_json (if b then read bytes else None) ≡ Err NotJson) [
+      | true ↦ λ e. ap or_not_json (none (IsUtf8-from_is_utf8 bytes e))
+      | false ↦ λ e. refl
+    ] refl
 
 pub returns-in-Err-2 : goal.returns-in-Err-2
 returns-in-Err-2 c =
-    inr (value_none c.args.bytes.now (λ text. c.in-Err.ensures.err (λ memory. true≢false (sym (subst IsTrue c.if-is_memory.false (c.is_memory.ensures.1 memory)))) text))
+    inr (no_value c.args.bytes.now (λ text. c.in-Err.ensures.err (λ memory. true≢false (sym (subst IsTrue c.if-is_memory.false (c.is_memory.ensures.1 memory)))) text))

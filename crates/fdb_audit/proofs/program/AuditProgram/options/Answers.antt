@@ -1,4 +1,5 @@
-use Rattle.std.proofs.Common.{arith, refl}
+use Rattle.std.proofs.Common.{◌∙◌, ap, arith, refl}
+use Rattle.std.specs.Prelude.{unwrap_or}
 use Rattle.fdb_audit.specs.Program.{command}
 use Rattle.fdb_audit.proofs.Numbers.{number_of}
 use Rattle.fdb_audit.proofs.program.AuditProgram.options.Goals as goal
@@ -6,7 +7,8 @@ use Rattle.fdb_audit.proofs.program.AuditProgram.options.Goals as goal
 pub returns : goal.returns
 returns c = λ arguments matches. record {
   complete = number_of 0 9223372036854775807 _ _ (c.number.ensures command arguments matches 0 9223372036854775807 (omega arith) (refl, refl, refl));
-  margin = c.margin_of.ensures arguments matches;
+  margin = c.unwrap_or.ensures ∙ ap (λ found. unwrap_or found 0)
+      (number_of 0 9223372036854775807 _ _ (c.number-2.ensures command arguments matches 0 9223372036854775807 (omega arith) (refl, refl, refl)));
   all = c.is_given-2.ensures command arguments matches (refl, refl, refl);
   history = c.is_given.ensures command arguments matches (refl, refl, refl);
   progress = c.is_given-3.ensures command arguments matches (refl, refl, refl);

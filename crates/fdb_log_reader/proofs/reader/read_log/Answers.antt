@@ -2,7 +2,7 @@ use Rattle.std.proofs.Common.{◌∙◌, inl, inr, ap, sym, []}
 use Rattle.std.proofs.lemmas.List.{append-nil}
 use Rattle.std.proofs.lemmas.Result.{err_from_is_err_and}
 use Rattle.fdb_log_reader.specs.Reading.{reading_in}
-use Rattle.fdb_log_reader.proofs.reading.read_log.Goals as goal
+use Rattle.fdb_log_reader.proofs.reader.read_log.Goals as goal
 
 pub returns-in_err-reader : goal.returns-in_err-reader
 returns-in_err-reader c =
