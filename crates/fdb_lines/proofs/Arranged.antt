@@ -1,30 +1,29 @@
 -- Spots in order are an order of the acts.
-use Rattle.std.proofs.Common.{◌≡◌, ℕ, zero, suc, ◌<◌, ◌≤◌, Bool, true, false, cond, List, [], ◌∷◌, ◌++◌, map, length, Option, Some, None, refl, ap, sym, subst, ◌∙◌, inl, inr, arith, All, Contains, IsPermutation, option_to_list}
+use Rattle.std.proofs.Common.{◌≡◌, ℕ, zero, suc, ◌<◌, ◌≤◌, Bool, true, false, cond, List, [], ◌∷◌, map, length, Option, Some, None, refl, ap, sym, subst, ◌∙◌, inl, inr, arith, All, Contains, IsPermutation, option_to_list}
 use Rattle.std.proofs.lemmas.Bool.Decides.{nat_tests}
-use Rattle.std.specs.Ordering.{nat_cmp, ordering_then, on, is_lt}
+use Rattle.std.specs.Ordering.{ordering_then, on, is_lt}
 use Rattle.std.specs.declared.cmp.Ordering.{Ordering}
 use Rattle.std.specs.declared.cmp.Ordering.TheVariants.{Less}
-use Rattle.std.specs.List.{dedup}
+use Rattle.std.specs.List.{AllByRecursion, dedup}
 use Rattle.std.specs.List.Sorted.{IsSorted, IsStrictlySortedBy}
 use Rattle.std.proofs.lemmas.Bool.{cases_lt, cond_both}
 use Rattle.std.proofs.lemmas.Cmp.{on_total, on_equiv}
 use Rattle.std.proofs.lemmas.List.{get_or-map, length-map}
-use Rattle.std.proofs.lemmas.List.Elements.{All-append, All-cons, All-contains, All-from_recursion, All-nil, All-tail, All-weaker, Contains-append_left, Contains-append_right}
+use Rattle.std.proofs.lemmas.List.Elements.{All-append, All-cons, All-contains, All-nil, Contains-append_left, Contains-append_right, recursion_from_All}
 use Rattle.std.proofs.lemmas.List.Filters.{All-dedup}
 use Rattle.std.proofs.lemmas.List.Sorted.{All-permutation, Contains-permutation}
 use Rattle.std.proofs.lemmas.List.Kept.{Any-dedup, IsStrictlySortedBy-dedup}
-use Rattle.fdb_lines.specs.contracts.spot.StageOrd.TheImpl.{cmp-value as stage_cmp}
 use Rattle.fdb_lines.specs.contracts.spot.KeyEq.TheImpl.Laws.{laws-law}
 use Rattle.fdb_lines.specs.contracts.spot.KeyOrd.TheImpl.{cmp-value}
 use Rattle.fdb_lines.specs.contracts.spot.KeyOrd.TheImpl.Laws.{total-law, matches_eq-law}
 use Rattle.fdb_lines.specs.declared.spot.Spot.{Spot}
-use Rattle.fdb_lines.specs.declared.spot.Stage.{Stage}
+use Rattle.fdb_lines.specs.declared.turn.Turn.{Turn}
 use Rattle.fdb_lines.specs.declared.act.Act.TheVariants.{Asks}
 use Rattle.fdb_lines.specs.Explained.{Explains}
 use Rattle.fdb_lines.specs.Lines.{Case, draws, kind_at, shows, version_at}
 use Rattle.fdb_lines.specs.Order.{Item, IsRanked, ask_item, needs_ask, needs_report, shared_item, take_item}
 use Rattle.fdb_lines.specs.Turns.{acts_of, AreTurnsOf, HasTurn, HaveTurns, IsActOf}
-use Rattle.fdb_lines.specs.private.Spots.{entries_below, entry_of, item_of, spot_rank, stage_number, turns_from}
+use Rattle.fdb_lines.specs.private.Spots.{entries_below, entry_of, item_of, spot_rank, turns_from}
 use Rattle.fdb_lines.proofs.Complete.{explained_by}
 use Rattle.fdb_lines.proofs.Facts.{HasNone, take_act}
 use Rattle.fdb_lines.proofs.Legal.{Origin, Asked as AskedBy, asks_drawn, origin_take, origin_report, same_items}
@@ -33,42 +32,21 @@ use Rattle.fdb_lines.proofs.Turned.{is_one, turned_acts, turned_all, turned_one}
 
 -- ---- keys
 
-stages : (x y : Stage) → stage_cmp.it x y ≡ nat_cmp (stage_number x) (stage_number y)
-stages x y = grind arith
-
-stage_small : (stage : Stage) → stage_number stage < 4
-stage_small stage = grind arith
-
-compared : (x y : Spot) → cmp-value.it x.key y.key ≡ ordering_then (nat_cmp (item_of x).stage (item_of y).stage) (nat_cmp (item_of x).rank (item_of y).rank)
-compared x y =
-    let fx = x.key.fits in
-    let fy = y.key.fits in
-    let sx = stage_small x.key.stage in
-    let sy = stage_small y.key.stage in
-    let e = stages x.key.stage y.key.stage in
-    grind (arith, nat_tests)
-
 less : (x y : Spot) → cmp-value.it x.key y.key ≡ Less → KeyLess (item_of x) (item_of y)
-less x y e = let h = compared x y in grind (arith, nat_tests)
+less x y e = grind (arith, nat_tests)
 
 one_same : (x y : Spot) → is_one x y ≡ true → SameKey (item_of x) (item_of y)
-one_same x y e = let h = compared x y in let m = matches_eq-law x.key y.key in (grind (arith, nat_tests), grind (arith, nat_tests))
+one_same x y e = (grind (arith, nat_tests), grind (arith, nat_tests))
 
-in_all : (P : Item → Type 0) (ss : List Spot) → All (λ s. P (item_of s)) ss → (x : Item) → In x (map item_of ss) → P x
-in_all P [] all x i = absurd i
-in_all P (s ∷ ss) all x (inl e) = subst P (sym e) (all 0 s (omega arith))
-in_all P (s ∷ ss) all x (inr i) = in_all P ss (All-tail (λ (z : Spot). P (item_of z)) s ss all) x i
+in_all : (P : Spot → Type 0) (Q : Item → Type 0) → ((s : Spot) → P s → Q (item_of s)) → (ss : List Spot) → AllByRecursion P ss → (x : Item) → In x (map item_of ss) → Q x
+in_all P Q f [] all x i = absurd i
+in_all P Q f (s ∷ ss) all x (inl e) = subst Q (sym e) (f s all.0)
+in_all P Q f (s ∷ ss) all x (inr i) = in_all P Q f ss all.1 x i
 
 rising : (ss : List Spot) → IsStrictlySortedBy (on (λ s. s.key) cmp-value.it) ss → Rises (map item_of ss)
 unfolding IsStrictlySortedBy
 rising [] h = tt
-rising (s ∷ ss) h =
-    let later : All (λ t. KeyLess (item_of s) (item_of t)) ss =
-    All-weaker (λ (t : Spot). cmp-value.it s.key t.key ≡ Less) (λ (t : Spot). KeyLess (item_of s) (item_of t)) (less s) ss (All-from_recursion (λ (t : Spot). cmp-value.it s.key t.key ≡ Less) ss h.0) in
-    (in_all (KeyLess (item_of s)) ss later, rising ss h.1)
-
-rises : (ss : List Spot) → IsSorted (on (λ s. s.key) cmp-value.it) ss → Rises (map item_of (dedup is_one ss))
-rises ss sorted = rising (dedup is_one ss) (IsStrictlySortedBy-dedup (on_total (λ s. s.key) total-law) (λ x y. matches_eq-law x.key y.key) ss sorted)
+rising (s ∷ ss) h = (in_all (λ t. cmp-value.it s.key t.key ≡ Less) (KeyLess (item_of s)) (less s) ss h.0, rising ss h.1)
 
 -- what is in order by the key and then by something else is in order by the key
 pub by_key : (o rest : Ordering) → is_lt (ordering_then o rest) ≡ false → is_lt o ≡ false
@@ -86,13 +64,15 @@ all_if P b e h = cond_both b (Some e) None (λ o. All P (option_to_list o)) (λ 
 needed : (c : Case) → HasNone c → (i : ℕ) → i ≤ length c.lines → All (IsNeeded c) (entries_below c i)
 needed c none zero le = All-nil (IsNeeded c)
 needed c none (suc k) le =
-    let ask = all_if (IsNeeded c) (needs_ask c k) _ (λ need. (
-      AskedBy k (omega arith) need refl,
-      cond_both (draws (kind_at c k)) (Some k) None (IsActOf c (Asks (version_at c k))) (λ d. (omega arith, inl (d, refl))) (λ _. tt),
-    )) in
-    let take = all_if (IsNeeded c) (shows (kind_at c k)) _ (λ s. (origin_take c (spot_rank c.lines) k (omega arith) s, (omega arith, inr (s, take_act (kind_at c k) _ _ _)))) in
-    let report = all_if (IsNeeded c) (needs_report c k) _ (λ need. (origin_report c (spot_rank c.lines) none k (omega arith) need, tt)) in
-    All-append (IsNeeded c) _ _ (All-append (IsNeeded c) _ _ (All-append (IsNeeded c) _ _ (needed c none k (omega arith)) ask) take) report
+    let lt : k < length c.lines = omega arith in
+    All-append (IsNeeded c) _ _ (All-append (IsNeeded c) _ _ (All-append (IsNeeded c) _ _
+    (needed c none k (omega arith))
+    (all_if (IsNeeded c) (needs_ask c k) _ (λ need. (
+      AskedBy k lt need refl,
+      cond_both (draws (kind_at c k)) (Some k) None (IsActOf c (Asks (version_at c k))) (λ d. (lt, inl (d, refl))) (λ _. tt),
+    ))))
+    (all_if (IsNeeded c) (shows (kind_at c k)) _ (λ s. (origin_take c (spot_rank c.lines) k lt s, (lt, inr (s, take_act (kind_at c k) _ _ _))))))
+    (all_if (IsNeeded c) (needs_report c k) _ (λ need. (origin_report c (spot_rank c.lines) none k lt need, tt)))
 
 has_if : (b : Bool) (e : Item × Option ℕ) → b ≡ true → Contains (option_to_list (cond b (Some e) None)) e
 has_if b e t = subst (λ b. Contains (option_to_list (cond b (Some e) None)) e) (sym t) (0, omega arith, refl)
@@ -106,13 +86,13 @@ has_below c k (suc n) e lt h =
     ]
 
 has_ask : (c : Case) (k : ℕ) → needs_ask c k ≡ true → Contains (entries_below c (suc k)) (ask_item (version_at c k), cond (draws (kind_at c k)) (Some k) None)
-has_ask c k need = Contains-append_left _ _ _ (Contains-append_left _ _ _ (Contains-append_right (entries_below c k) _ _ (has_if (needs_ask c k) _ need)))
+has_ask c k need = search (Contains-append_left, Contains-append_right, has_if)
 
 has_take : (c : Case) (k : ℕ) → shows (kind_at c k) ≡ true → Contains (entries_below c (suc k)) (take_item c (spot_rank c.lines) k, Some k)
-has_take c k s = Contains-append_left _ _ _ (Contains-append_right (entries_below c k ++ _) _ _ (has_if (shows (kind_at c k)) _ s))
+has_take c k s = search (Contains-append_left, Contains-append_right, has_if)
 
 has_report : (c : Case) (k : ℕ) → needs_report c k ≡ true → Contains (entries_below c (suc k)) (shared_item (version_at c k), None)
-has_report c k need = Contains-append_right (entries_below c k ++ _ ++ _) _ _ (has_if (needs_report c k) _ need)
+has_report c k need = search (Contains-append_left, Contains-append_right, has_if)
 
 unmapped : (ss : List Spot) (e : Item × Option ℕ) → Contains (map entry_of ss) e → (s : Spot) × Contains ss s × (entry_of s ≡ e)
 unmapped [] e h = absurd (omega (arith, h.1))
@@ -138,8 +118,8 @@ module _ (c : Case) (ranked : IsRanked c (spot_rank c.lines)) (none : HasNone c)
 
   origins : (x : Item) → In x items → Origin c (spot_rank c.lines) x
   origins =
-      let from : Item → Type 0 = Origin c (spot_rank c.lines) in
-      in_all from (dedup is_one spots) (All-dedup is_one (λ s. from (item_of s)) spots (λ k d lt. (all k d lt).0))
+      in_all (λ s. IsNeeded c (entry_of s)) (Origin c (spot_rank c.lines)) (λ s need. need.0) (dedup is_one spots)
+      (recursion_from_All (λ s. IsNeeded c (entry_of s)) (dedup is_one spots) (All-dedup is_one (λ s. IsNeeded c (entry_of s)) spots all))
 
   -- an act that a line needs is there, and its turn, if it is of a line
   found : (k : ℕ) (e : Item × Option ℕ) → k < length c.lines → Contains (entries_below c (suc k)) e
@@ -154,21 +134,23 @@ module _ (c : Case) (ranked : IsRanked c (spot_rank c.lines)) (none : HasNone c)
         λ own. subst (λ x. HasTurn (turns_from None spots) k x.0.act) s.2 (turned_one None spots s.0 k s.1 (ap (λ x. x.1) s.2 ∙ own)),
       )
 
-  pub explain : Explains c (acts_of (turns_from None spots))
+  explain : Explains c (acts_of (turns_from None spots))
   explain =
       subst (Explains c) (sym (turned_acts spots)) (explained_by c (spot_rank c.lines) ranked none items record {
-        rises = rises spots sorted;
+        rises = rising (dedup is_one spots) (IsStrictlySortedBy-dedup (on_total (λ s. s.key) total-law) (λ x y. matches_eq-law x.key y.key) spots sorted);
         origins = origins;
         asks = λ k lt need. (found k _ lt (has_ask c k need)).0;
         takes = λ k lt s. (found k _ lt (has_take c k s)).0;
         reports = λ k lt need. (found k _ lt (has_report c k need)).0;
       })
 
-  pub are_turns : AreTurnsOf c (turns_from None spots)
-  are_turns = turned_all (IsActOf c) None spots (λ k d lt. (all k d lt).1)
-
-  pub have_turns : HaveTurns c (turns_from None spots)
+  have_turns : HaveTurns c (turns_from None spots)
   have_turns k lt = (
     λ d. (found k _ lt (has_ask c k (asks_drawn c k d))).1 (ap (λ b. cond b (Some k) None) d),
     λ s. subst (HasTurn (turns_from None spots) k) (take_act (kind_at c k) _ _ _) ((found k _ lt (has_take c k s)).1 refl),
   )
+
+  pub arranged : (turns : List Turn) → turns ≡ turns_from None spots → Explains c (acts_of turns) × AreTurnsOf c turns × HaveTurns c turns
+  arranged turns e =
+      subst (λ ts. Explains c (acts_of ts) × AreTurnsOf c ts × HaveTurns c ts) (sym e)
+      (explain, turned_all (IsActOf c) None spots (λ k d lt. (all k d lt).1), have_turns)

@@ -6,7 +6,7 @@ ghost use Rattle.fdb_lines.specs.Audit.{AreExplained, case_of};
 ghost use Rattle.fdb_lines.specs.Explained.{Explains};
 ghost use Rattle.fdb_lines.specs.Log.{lines_of};
 ghost use Rattle.fdb_lines.specs.Turns.{acts_of, AreTurnsOf, HaveTurns};
-ghost use Rattle.fdb_lines.specs.private.Spots.{entries_below, entry_of, turn_by, turns_from};
+ghost use Rattle.fdb_lines.specs.private.Spots.{entries_below, entry_of, turns_from};
 
 use crate::judging::first_fault;
 use crate::log::Log;
@@ -33,6 +33,7 @@ pub fn order(alloc: Global, log: &Log, opts: &AuditOpts) -> Result<Option<Vec<Tu
         return Ok(None);
     }
     let mut spots = spots_of(alloc, log, opts)?;
+    // Others come after the lines that share their act.
     spots.sort_unstable_by_key(|spot| (spot.key, spot.line.is_none(), spot.line));
     let turns = turns_in(alloc, &spots)?;
     Ok(Some(turns))
@@ -66,7 +67,7 @@ fn add_spot(spots: &mut Vec<Spot>, spot: Option<Spot>) -> Result<(), AllocError>
     Ok(())
 }
 
-/// The turns of spots, in their order. Others have none beside a line.
+/// The turns of spots, in their order. Others have none beside a line that did the same.
 fn turns_in(alloc: Global, spots: &[Spot]) -> Result<Vec<Turn>, AllocError>
     ensures { IfOk result (λ turns. turns.items ≡ turns_from None spots.now) }
 {
@@ -74,23 +75,15 @@ fn turns_in(alloc: Global, spots: &[Spot]) -> Result<Vec<Turn>, AllocError>
     let mut above = None;
     for spot in spots {
         let shared = Some(spot.key) == above;
-        add_turn(&mut turns, shared, spot)?;
         above = Some(spot.key);
+        if shared && spot.line.is_none() {
+            continue;
+        }
+        turns.push(Turn {
+            act: spot.act,
+            line: spot.line,
+            shared,
+        })?;
     }
     Ok(turns)
-}
-
-/// Adds the turn of a spot. Others have none beside a line.
-fn add_turn(turns: &mut Vec<Turn>, shared: bool, spot: &Spot) -> Result<(), AllocError>
-    ensures { OnOk result (turns.new.items ≡ turns.old.items ++ turn_by shared spot.now) }
-{
-    if shared && spot.line.is_none() {
-        return Ok(());
-    }
-    turns.push(Turn {
-        act: spot.act,
-        line: spot.line,
-        shared,
-    })?;
-    Ok(())
 }

@@ -1,7 +1,6 @@
 //! Where an act stands in an order.
 
-ghost use Rattle.std.specs.Prelude.{◌≡◌, ◌<◌, ◌^◌, option_map};
-ghost use Rattle.fdb_lines.specs.Before.{began};
+ghost use Rattle.std.specs.Prelude.{◌≡◌, ◌<◌, ◌^◌, Some, option_map};
 
 use crate::act::Act;
 use crate::line::{Call, Line};
@@ -39,35 +38,22 @@ pub(crate) struct Spot {
 }
 
 impl Spot {
-    ghost use Rattle.fdb_lines.specs.private.Spots.{entry_of, ask_entry, take_entry};
+    ghost use Rattle.fdb_lines.specs.private.Spots.{ask_entry, entry_of, item_by, take_entry};
     ghost use Rattle.fdb_lines.specs.private.Spots.{report_entry};
 
     /// An act that may be of several lines, or of none.
     fn sharing(level: u64, stage: Stage, act: Act, line: Option<u32>) -> Self
-        ensures level { result.key.level ≡ level }
-        ensures stage { result.key.stage ≡ stage }
-        ensures began { result.key.began ≡ 0 }
-        ensures place { result.key.place ≡ 0 }
-        ensures act { result.act ≡ act }
-        ensures line { result.line ≡ line }
+        ensures { entry_of result ≡ (item_by level stage 0 0 act, line) }
     {
-        let key = Key {
-            level,
-            stage,
-            began: 0,
-            place: 0,
-        };
-        Spot { key, act, line }
+        Spot {
+            line,
+            ..Spot::single(level, stage, 0, 0, act)
+        }
     }
 
     /// An act of one line alone, which stands by when that began.
     fn single(level: u64, stage: Stage, began: u64, place: u32, act: Act) -> Self
-        ensures level { result.key.level ≡ level }
-        ensures stage { result.key.stage ≡ stage }
-        ensures began { result.key.began ≡ began }
-        ensures place { result.key.place ≡ place }
-        ensures act { result.act ≡ act }
-        ensures line { result.line ≡ Some place }
+        ensures { entry_of result ≡ (item_by level stage began place act, Some place) }
     {
         let key = Key {
             level,

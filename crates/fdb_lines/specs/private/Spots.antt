@@ -1,6 +1,7 @@
 -- Spots: acts, and where they stand in an order.
 use Rattle.std.specs.Option.{option_eq}
-use Rattle.std.specs.Prelude.{ℕ, zero, suc, ◌+◌, ◌*◌, ◌^◌, ◌==◌, ◌&&◌, ◌||◌, Bool, not, cond, List, [], ◌∷◌, ◌++◌, Option, None, Some, option_to_list, is_some}
+use Rattle.std.specs.Prelude.{ℕ, zero, suc, ◌+◌, ◌*◌, ◌^◌, ◌==◌, ◌&&◌, Bool, not, cond, List, [], ◌∷◌, ◌++◌, Option, None, Some, option_to_list, is_some}
+use Rattle.fdb_lines.specs.declared.act.Act.{Act}
 use Rattle.fdb_lines.specs.declared.line.Line.{Line}
 use Rattle.fdb_lines.specs.declared.spot.Key.{Key}
 use Rattle.fdb_lines.specs.declared.spot.Spot.{Spot}
@@ -19,12 +20,11 @@ stage_number Shared = 1
 stage_number Raising = 2
 stage_number Shown = 3
 
+abbrev pub item_by : ℕ → Stage → ℕ → ℕ → Act → Item
+item_by level stage began place act = record { stage = 4 * level + stage_number stage; rank = began * 2 ^ 33 + place; act = act }
+
 abbrev pub item_of : Spot → Item
-item_of spot = record {
-  stage = 4 * spot.key.level + stage_number spot.key.stage;
-  rank = spot.key.began * 2 ^ 33 + spot.key.place;
-  act = spot.act;
-}
+item_of spot = item_by spot.key.level spot.key.stage spot.key.began spot.key.place spot.act
 
 -- a rank of lines: by when calls began, and then by place
 abbrev pub spot_rank : List Line → ℕ → ℕ
@@ -59,14 +59,15 @@ entries_below c (suc k) =
     ++ option_to_list (take_entry (line_at c.lines k) k (knows c k))
     ++ option_to_list (report_entry (line_at c.lines k) c.start (is_reported c (version_at c k)))
 
--- ---- the turns of spots: others have none beside a line
-
-abbrev pub turn_by : Bool → Spot → List Turn
-turn_by shared spot =
-    cond (not shared || is_some spot.line) (record { act = spot.act; line = spot.line; shared = shared } ∷ []) []
+-- ---- the turns of spots
 
 -- a spot shares the act of the one above, if both stand at one place
+abbrev pub shares : Option Key → Spot → Bool
+shares above spot = option_eq eq-value.it (Some spot.key) above
+
+-- others have no turn beside a line
 abbrev pub turns_from : Option Key → List Spot → List Turn
 turns_from above [] = []
 turns_from above (spot ∷ spots) =
-    turn_by (option_eq eq-value.it (Some spot.key) above) spot ++ turns_from (Some spot.key) spots
+    cond (shares above spot && not (is_some spot.line)) (turns_from (Some spot.key) spots)
+    (record { act = spot.act; line = spot.line; shared = shares above spot } ∷ turns_from (Some spot.key) spots)

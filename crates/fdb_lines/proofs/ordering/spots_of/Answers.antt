@@ -8,12 +8,6 @@ use Rattle.fdb_lines.specs.private.Spots.{entries_below, ask_entry, take_entry, 
 use Rattle.fdb_lines.proofs.Verdicts.{knows_is, reported_is}
 use Rattle.fdb_lines.proofs.ordering.spots_of.Goals as goal
 
-pub returns : goal.returns
-returns c =
-    let it = case_of (lines_of c.args.log.now) c.args.opts.now in
-    let all : c.loop-place.place ≡ length it.lines = omega (arith, ap length c.lines-line-items.ensures) in
-    c.loop-place.invariant ∙ ap (entries_below it) all
-
 pub loop-place-preserved : goal.loop-place-preserved
 loop-place-preserved c =
     let it = case_of (lines_of c.args.log.now) c.args.opts.now in
