@@ -137,31 +137,20 @@ pub fn drive<R: Files, I: Read, O: Write, E: Write>(
         ensures { (bytes : List ℕ) → HasRead reader bytes → MatchResult result
             (λ answer. IsJudgement bytes asked.opts asked.wanted answer.found answer.text.items)
             (Stops audit bytes) }
-    { answer_of(alloc, asked, reader) };
-    fdb_command::drive(&Audit, rt, alloc, arguments, input, out, err, body)
-}
-
-/// What an audit of a log prints that has been read to its end.
-fn answer_of(
-    alloc: Global,
-    asked: AuditArguments,
-    reader: LogReader,
-) -> Result<Answer<Found>, Fault<LogsRefused, Found>>
-    ensures { (bytes : List ℕ) → HasRead reader bytes → MatchResult result
-        (λ answer. IsJudgement bytes asked.opts asked.wanted answer.found answer.text.items)
-        (Stops audit bytes) }
-{
-    let named = match reader.finish() {
-        Ok(named) => named,
-        Err(error) => return Err(refusal(error)),
+    {
+        let named = match reader.finish() {
+            Ok(named) => named,
+            Err(error) => return Err(refusal(error)),
+        };
+        match judge_named(alloc, &named, &asked.opts, asked.wanted) {
+            Ok(Judgement { fault, text }) => Ok(Answer {
+                text: text.into_bytes(),
+                found: fault,
+            }),
+            Err(_) => Err(Fault::Memory),
+        }
     };
-    match judge_named(alloc, &named, &asked.opts, asked.wanted) {
-        Ok(Judgement { fault, text }) => Ok(Answer {
-            text: text.into_bytes(),
-            found: fault,
-        }),
-        Err(_) => Err(Fault::Memory),
-    }
+    fdb_command::drive(&Audit, rt, alloc, arguments, input, out, err, body)
 }
 
 /// The fault that a program ends with whose log is refused.

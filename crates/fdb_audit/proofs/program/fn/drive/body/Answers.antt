@@ -1,6 +1,6 @@
 use Rattle.std.proofs.Common.{◌≡◌, ◌∙◌, [], ℕ, Vec, Global, string_bytes, ap, sym, append-nil}
 use Rattle.fdb_log_reader.specs.Reading.{reading_in, reading_of}
-use Rattle.fdb_audit.proofs.program.answer_of.Goals as goal
+use Rattle.fdb_audit.proofs.program.fn.drive.body.Goals as goal
 
 -- what was read to its end is what the bytes stand for
 pub returns-in-Ok-judge_named : goal.returns-in-Ok-judge_named
