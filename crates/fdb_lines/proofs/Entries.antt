@@ -100,15 +100,11 @@ pub first_is : (test : ℕ → Bool) (n : ℕ) (o : Option ℕ) → IsFirstFrom 
 first_is test n None none = false_from_ne_true (some_below test n) (λ some. let f = some_find test n some in both_ways (test f.0) (none f.0 (omega arith) f.1) f.2)
 first_is test n (Some j) first = some_at test n j first.1 first.2
 
-pub some_same : (one other : ℕ → Bool) (n : ℕ) → ((j : ℕ) → j < n → one j ≡ other j) → some_below one n ≡ some_below other n
-some_same one other zero h = refl
-some_same one other (suc n) h = ap (λ b. b || some_below one n) (h n (omega arith)) ∙ ap (λ b. other n || b) (some_same one other n (λ j l. h j (omega arith)))
-
 -- tests that agree have one first
-pub first_same : (one another : ℕ → Bool) (n : ℕ) (o : Option ℕ) → ((j : ℕ) → one j ≡ another j) → IsFirstFrom one 0 n o → IsFirstFrom another 0 n o
-first_same one another n None same none = λ j ge lt. sym (same j) ∙ none j ge lt
+pub first_same : (one another : ℕ → Bool) (n : ℕ) (o : Option ℕ) → ((j : ℕ) → j < n → one j ≡ another j) → IsFirstFrom one 0 n o → IsFirstFrom another 0 n o
+first_same one another n None same none = λ j ge lt. sym (same j lt) ∙ none j ge lt
 first_same one another n (Some q) same first =
-    (first.0, first.1, sym (same q) ∙ first.2, λ i ge lt. sym (same i) ∙ first.3 i ge lt)
+    (first.0, first.1, sym (same q first.1) ∙ first.2, λ i ge lt. sym (same i (let within = first.1 in omega arith)) ∙ first.3 i ge lt)
 
 -- the first but one
 
@@ -121,10 +117,3 @@ other_behind test k n (Some q) first next = (
   grind (arith, nat_tests, next.0, next.2),
   λ i ge lt. let before = first.3 i in let behind = next.3 i in grind (arith, nat_tests),
 )
-
-pub other_first : (test : ℕ → Bool) (k n q : ℕ) → q ≢ k → IsFirstFrom test 0 n (Some q) → IsFirstFrom (other test k) 0 n (Some q)
-other_first test k n q ne first =
-    (first.0, first.1, grind (arith, nat_tests, first.2), λ i ge lt. let before = first.3 i ge lt in grind (arith, nat_tests))
-
-pub other_none : (test : ℕ → Bool) (k n : ℕ) → IsFirstFrom test 0 n None → IsFirstFrom (other test k) 0 n None
-other_none test k n none = λ j ge lt. let fails = none j ge lt in grind (arith, nat_tests)

@@ -126,9 +126,6 @@ heard_more seen lines newest k q lt are =
           still)
     ]
 
-pub none_yet : (seen : Seen) (lines : List Line) (q : ℕ) → IsHeard seen lines 0 q None
-none_yet seen lines q j lt = refl
-
 -- ---- what a call knows by what its client has heard of
 
 means_is : (margin : ℕ) (lines : List Line) (k a j : ℕ) (means : Means) → (line_at lines k).client ≡ Some a → IsHeardAs lines k a j means → IsMeans margin lines j k means

@@ -87,13 +87,6 @@ pub known_so : (test : ℕ → ℕ → Bool) (margin : ℕ) (lines : List Line) 
 known_so test margin lines k means None so none = none
 known_so test margin lines k means (Some j) so is = (is.0, is.1, so j is.1, is.2)
 
--- an end before a moment and any place is just an end before it
-pub at_zero : (end time above : ℕ) → is_earlier end above time 0 ≡ nat_lt end time
-at_zero end time above = grind (arith, nat_tests)
-
-margins : (end margin time above : ℕ) → nat_lt (end + margin) time ≡ is_earlier end above (time - margin) 0
-margins end margin time above = grind (arith, nat_tests)
-
 pub no_client : (own client : Option ℕ) → client ≡ None → one_client own client ≡ false
 no_client None client none = refl
 no_client (Some b) client none = ap (one_client (Some b)) none

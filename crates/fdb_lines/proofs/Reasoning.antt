@@ -12,14 +12,14 @@ use Rattle.fdb_lines.specs.declared.seen.Seen.TheVariants.{Shown, Drawn}
 use Rattle.fdb_lines.specs.declared.sort.Sort.TheVariants.{Raises, Owned, Nameless}
 use Rattle.fdb_lines.specs.Audit.{case_of, start_of}
 use Rattle.fdb_lines.specs.Before.{comes_before}
-use Rattle.fdb_lines.specs.Faults.{greatest_of, is_drawn, is_own, is_raised, knows, last, stands}
+use Rattle.fdb_lines.specs.Faults.{greatest_of, is_drawn, is_own, is_raised, knows, some_below, last, stands}
 use Rattle.fdb_lines.specs.Lines.{Case, Kind, Read, Commit, Ask, Report, Learn, Lines, client_at, draws, is_ask, is_commit, kind_at, reports, same_client, shows, version_at}
 use Rattle.fdb_lines.specs.Reasons.{IsFirst, IsKnown, knew_by, IsReason, draws_again, draws_it, reports_it, shows_or_draws}
 use Rattle.fdb_lines.specs.private.Entries.{other, IsFirstFrom}
 use Rattle.fdb_lines.specs.private.Known.{by_at, counts_at, newest_known, of_version, tells, version_by, version_in}
 use Rattle.fdb_lines.specs.private.Marks.{is_marked_at, knows_at, name}
 use Rattle.fdb_lines.specs.private.Tables.{drawn_by, AreKnownIn, IsFoundIn}
-use Rattle.fdb_lines.proofs.Entries.{first_is, first_same, some_same}
+use Rattle.fdb_lines.proofs.Entries.{first_is, first_same}
 use Rattle.fdb_lines.proofs.Knowing.{found_is, version_is}
 use Rattle.fdb_lines.proofs.Numbers.{greatest_bound, greatest_least, some_at}
 
@@ -45,50 +45,26 @@ pub known_is : (log : Lines) (opts : AuditOpts) (seen : Seen) (known : List (Opt
 known_is log opts seen known k version are lt most =
     found_is (comes_before log.timed opts.margin log.lines) opts.margin seen log.lines k version (by_at known k) (are.1 k lt) most
 
--- a test of a version, and that it is another one
-moved : (b : Bool) (known v w : ℕ) → ((b && nat_lt known w) && w == v) ≡ (b && (w == v && nat_lt known v))
-moved b known v w = grind (arith, nat_tests)
+-- a question of a version is answered by what is found for it
+pub answered : (test question : ℕ → Bool) (n : ℕ) (first : Option ℕ) → ((j : ℕ) → j < n → test j ≡ question j) → IsFirstFrom test 0 n first
+    → is_some first ≡ some_below question n
+answered test question n first same found = sym (first_is question n first (first_same test question n first same found))
 
 pub raised_is : (log : Lines) (opts : AuditOpts) (shown : List (Option Witness)) (v : ℕ) (first : Option ℕ) → AreKnownIn log opts Shown shown
-    → IsFirstFrom (is_marked_at Raises (start_of opts.complete) log.lines shown (name v 0)) 0 (length log.lines) first → is_raised (case_of log opts) v ≡ is_some first
-raised_is log opts shown v first are found =
-    let c = case_of log opts in
-    let test = is_marked_at Raises (start_of opts.complete) log.lines shown (name v 0) in
-    sym (some_same test (λ j. reports (kind_at c j) && (version_at c j == v && nat_lt (knows c j) v)) (length log.lines)
-    (λ j l. moved (reports (kind_at c j)) (knows_at (start_of opts.complete) log.lines shown j) v (version_at c j)
-    ∙ ap (λ n. reports (kind_at c j) && (version_at c j == v && nat_lt n v)) (knows_is log opts shown j are l)))
-    ∙ first_is test (length log.lines) first found
+    → IsFirstFrom (is_marked_at Raises (start_of opts.complete) log.lines shown (name v 0)) 0 (length log.lines) first → is_some first ≡ is_raised (case_of log opts) v
+raised_is log opts shown v first are =
+    answered _ _ (length log.lines) first (λ j l. let knows = knows_is log opts shown j are l in grind (arith, nat_tests))
 
 -- who drew a version
-owned_by : (d e : Bool) (client : Option ℕ) (a : ℕ) → (unwrap_or client 0 == a && ((d && is_some client) && e)) ≡ (d && (e && same_client client (Some a)))
-owned_by d e None a = grind arith
-owned_by d e (Some b) a = grind arith
-
-nameless_by : (d e : Bool) (client : Option ℕ) → ((d && is_none client) && e) ≡ (d && (e && same_client client None))
-nameless_by d e None = grind arith
-nameless_by d e (Some b) = grind arith
-
 pub owned_is : (log : Lines) (opts : AuditOpts) (shown : List (Option Witness)) (k a : ℕ) (first : Option ℕ) → client_at (case_of log opts) k ≡ Some a
     → IsFirstFrom (is_marked_at Owned (start_of opts.complete) log.lines shown (name (version_at (case_of log opts) k) a)) 0 (length log.lines) first
-    → is_own (case_of log opts) k ≡ is_some first
-owned_is log opts shown k a first whose found =
-    let c = case_of log opts in
-    let test = is_marked_at Owned (start_of opts.complete) log.lines shown (name (version_at c k) a) in
-    sym (some_same test (λ j. draws (kind_at c j) && (version_at c j == version_at c k && same_client (client_at c j) (client_at c k))) (length log.lines)
-    (λ j l. owned_by (draws (kind_at c j)) (version_at c j == version_at c k) (client_at c j) a
-    ∙ ap (λ o. draws (kind_at c j) && (version_at c j == version_at c k && same_client (client_at c j) o)) (sym whose)))
-    ∙ first_is test (length log.lines) first found
+    → is_some first ≡ is_own (case_of log opts) k
+owned_is log opts shown k a first whose = answered _ _ (length log.lines) first (λ j l. grind (arith, nat_tests))
 
 pub nameless_is : (log : Lines) (opts : AuditOpts) (shown : List (Option Witness)) (k : ℕ) (first : Option ℕ) → client_at (case_of log opts) k ≡ None
     → IsFirstFrom (is_marked_at Nameless (start_of opts.complete) log.lines shown (name (version_at (case_of log opts) k) 0)) 0 (length log.lines) first
-    → is_own (case_of log opts) k ≡ is_some first
-nameless_is log opts shown k first whose found =
-    let c = case_of log opts in
-    let test = is_marked_at Nameless (start_of opts.complete) log.lines shown (name (version_at c k) 0) in
-    sym (some_same test (λ j. draws (kind_at c j) && (version_at c j == version_at c k && same_client (client_at c j) (client_at c k))) (length log.lines)
-    (λ j l. nameless_by (draws (kind_at c j)) (version_at c j == version_at c k) (client_at c j)
-    ∙ ap (λ o. draws (kind_at c j) && (version_at c j == version_at c k && same_client (client_at c j) o)) (sym whose)))
-    ∙ first_is test (length log.lines) first found
+    → is_some first ≡ is_own (case_of log opts) k
+nameless_is log opts shown k first whose = answered _ _ (length log.lines) first (λ j l. grind (arith, nat_tests))
 
 -- ---- drawn twice
 
@@ -105,7 +81,7 @@ pub beside_a_commit : (c : Case) (k : ℕ) (first : Option ℕ) → is_commit (k
     → IsFirstFrom (λ j. is_ask (kind_at c j) && version_at c j == version_at c k) 0 (length c.lines) first → IsFirstFrom (draws_again c k) 0 (length c.lines) first
 beside_a_commit c k first commit =
     first_same (λ j. is_ask (kind_at c j) && version_at c j == version_at c k) (draws_again c k) (length c.lines) first
-    (λ j.
+    (λ j l.
     let kind = drawn_as (kind_at c j) in
     let own = drawn_as (kind_at c k) in
     let same = λ (e : j ≡ k). ap (λ i. is_ask (kind_at c i)) e in
@@ -114,7 +90,7 @@ beside_a_commit c k first commit =
 pub beside_an_ask : (c : Case) (k : ℕ) (first : Option ℕ) → is_commit (kind_at c k) ≡ false
     → IsFirstFrom (other (draws_it c (version_at c k)) k) 0 (length c.lines) first → IsFirstFrom (draws_again c k) 0 (length c.lines) first
 beside_an_ask c k first not_commit =
-    first_same (other (draws_it c (version_at c k)) k) (draws_again c k) (length c.lines) first (λ j. grind (arith, nat_tests))
+    first_same (other (draws_it c (version_at c k)) k) (draws_again c k) (length c.lines) first (λ j l. grind (arith, nat_tests))
 
 -- ---- a version that was known
 
@@ -147,10 +123,6 @@ either b s d e = grind arith
 either_at : (log : Lines) (opts : AuditOpts) (k version j : ℕ) → (tells (before log opts) Shown log.lines k version j || tells (before log opts) Drawn log.lines k version j)
     ≡ knew_by log opts shows_or_draws k version j
 either_at log opts k version j = either (before log opts j k) (counts_at Shown log.lines j) (counts_at Drawn log.lines j) (version_in log.lines j == version)
-
-pub by_shown : (log : Lines) (opts : AuditOpts) (k version : ℕ) (by : Witness) → IsFoundIn log opts Shown k version (Some by) → IsKnown log opts shows_or_draws k version (Some by)
-by_shown log opts k version by found =
-    record { there = found.0; knew = sym (either_at log opts k version by.line) ∙ or_left _ _ found.1; means = found.2 }
 
 pub by_drawn : (log : Lines) (opts : AuditOpts) (k version : ℕ) (by : Option Witness) → IsFoundIn log opts Shown k version None → IsFoundIn log opts Drawn k version by
     → version ≡ max (knows (case_of log opts) k) (last (case_of log opts) k) → IsKnown log opts shows_or_draws k version by
