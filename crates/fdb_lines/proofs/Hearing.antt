@@ -1,5 +1,6 @@
 -- What clients have heard of, line by line.
 use Rattle.std.proofs.Common.{◌≡◌, ℕ, suc, ◌<◌, ◌==◌, Bool, true, false, cond, ◌&&◌, ◌||◌, List, length, Option, None, Some, refl, ap, sym, subst, ◌∙◌, inl, inr, arith}
+use Rattle.std.proofs.lemmas.Bool.Decides.{nat_tests}
 use Rattle.std.proofs.lemmas.Bool.{cases_Bool, and_parts, and_from, both_ways, cond-true, cond-false, eq-eqb, eqb-true}
 use Rattle.fdb_lines.specs.declared.line.Call.{Call}
 use Rattle.fdb_lines.specs.declared.line.Line.{Line}
@@ -19,42 +20,23 @@ use Rattle.fdb_lines.proofs.Knowing.{as_well, newer_is}
 use Rattle.fdb_lines.proofs.Tests.{only_left, share}
 
 learns_nothing : (seen : Seen) (kind : Kind) → is_learn kind ≡ true → counts seen kind ≡ false
-learns_nothing Shown Learn e = refl
-learns_nothing Drawn Learn e = refl
-learns_nothing seen Read e = absurd (both_ways false refl e)
-learns_nothing seen Commit e = absurd (both_ways false refl e)
-learns_nothing seen Ask e = absurd (both_ways false refl e)
-learns_nothing seen Report e = absurd (both_ways false refl e)
+learns_nothing seen kind e = grind (arith, nat_tests)
 
 -- what was heard of by the lines above is heard of by one line more
 stays : (lines : List Line) (k a j : ℕ) (means : Means) → IsHeardAs lines k a j means → IsHeardAs lines (suc k) a j means
-stays lines k a j Ended h = h
-stays lines k a j Own h = h
-stays lines k a j (Learnt m) h = let below = h.0 in (omega arith, h.1, h.2, h.3)
+stays lines k a j means h = grind arith
 
 of_one : (a : ℕ) (o : Option ℕ) → is_of a o ≡ true → one_client o (Some a) ≡ true
-of_one a None e = e
-of_one a (Some b) e = eq-eqb b a (sym (eqb-true a b e))
+of_one a o e = grind (arith, nat_tests)
 
 -- ---- what is new by a line
 
 abbrev IsOf : List Line → ℕ → ℕ → Witness → Type 0
 IsOf lines n a by = IsHeardAs lines n a by.line by.means
 
-silent : (same counts : Bool) → (same ≡ true → counts ≡ false) → (same && counts) ≡ false
-silent same counts h = grind arith
-
 abbrev new : Seen → List Line → ℕ → ℕ → Bool
 new seen lines k j =
     (k == j || (is_learn (kind_of (line_at lines k).call) && has_heard lines k (teller_of (line_at lines k).call) j)) && counts_at seen lines j
-
--- a line that learns lets hear of what its teller has heard of, and another of itself, if it counts
-learnt_new : (learns counts_k counts_j same heard : Bool) → (learns ≡ true → counts_k ≡ false) → (same ≡ true → counts_k ≡ counts_j) → learns ≡ true
-    → (heard && counts_j) ≡ ((same || (learns && heard)) && counts_j)
-learnt_new learns counts_k counts_j same heard silent is does = grind arith
-
-own_new : (learns counts_j same heard : Bool) → learns ≡ false → (same && counts_j) ≡ ((same || (learns && heard)) && counts_j)
-own_new learns counts_j same heard does_not = grind arith
 
 learnt_is : (seen : Seen) (lines : List Line) (k a : ℕ) (o : Option Witness) → is_of a (line_at lines k).client ≡ true → is_learn (kind_of (line_at lines k).call) ≡ true
     → IsHeard seen lines k (teller_of (line_at lines k).call) o → IsKnownBy (new seen lines k) (IsOf lines (suc k) a) lines (learnt_by k o)
@@ -64,9 +46,7 @@ learnt_is seen lines k a o of does is = by o is
     call = (line_at lines k).call
 
     same : (j : ℕ) → (has_heard lines k (teller_of call) j && counts_at seen lines j) ≡ new seen lines k j
-    same j =
-        learnt_new (is_learn (kind_of call)) (counts_at seen lines k) (counts_at seen lines j) (k == j) (has_heard lines k (teller_of call) j)
-        (learns_nothing seen (kind_of call)) (λ e. ap (counts_at seen lines) (eqb-true k j e)) does
+    same j = let silent = learns_nothing seen (kind_of call) does in let own = λ (e : k ≡ j). ap (counts_at seen lines) e in grind (arith, nat_tests)
 
     by : (o : Option Witness) → IsHeard seen lines k (teller_of call) o → IsKnownBy (new seen lines k) (IsOf lines (suc k) a) lines (learnt_by k o)
     by None none = λ j lt. sym (same j) ∙ none j lt
@@ -86,7 +66,7 @@ gained_is seen lines newest k a lt of are = by (is_learn (kind_of call)) (counts
     call = (line_at lines k).call
 
     same : is_learn (kind_of call) ≡ false → (j : ℕ) → ((k == j) && counts_at seen lines j) ≡ new seen lines k j
-    same does_not j = own_new (is_learn (kind_of call)) (counts_at seen lines j) (k == j) (has_heard lines k (teller_of call) j) does_not
+    same does_not j = grind arith
 
     by : (learns counted : Bool) → is_learn (kind_of call) ≡ learns → counts seen (kind_of call) ≡ counted
         → IsKnownBy (new seen lines k) (IsOf lines (suc k) a) lines
@@ -98,7 +78,7 @@ gained_is seen lines newest k a lt of are = by (is_learn (kind_of call)) (counts
       of_one a (line_at lines k).client of,
       λ j l passes. let e = ap (version_in lines) (eqb-true k j (and_parts (k == j) _ (same does_not j ∙ passes)).0) in omega arith,
     )
-    by false false does_not is = λ j l. sym (same does_not j) ∙ silent (k == j) (counts_at seen lines j) (λ e. sym (ap (counts_at seen lines) (eqb-true k j e)) ∙ is)
+    by false false does_not is = λ j l. sym (same does_not j) ∙ (let own = λ (e : k ≡ j). ap (counts_at seen lines) e in grind (arith, nat_tests))
 
 -- what each client has heard of by one line more
 pub heard_more : (seen : Seen) (lines : List Line) (newest : ℕ → Option Witness) (k q : ℕ) → k < length lines → ((p : ℕ) → IsHeard seen lines k p (newest p))
@@ -129,9 +109,7 @@ heard_more seen lines newest k q lt are =
 -- ---- what a call knows by what its client has heard of
 
 means_is : (margin : ℕ) (lines : List Line) (k a j : ℕ) (means : Means) → (line_at lines k).client ≡ Some a → IsHeardAs lines k a j means → IsMeans margin lines j k means
-means_is margin lines k a j Ended is h = absurd h
-means_is margin lines k a j Own is h = ap (one_client (line_at lines j).client) is ∙ h
-means_is margin lines k a j (Learnt m) is h = (h.0, ap (one_client (line_at lines m).client) is ∙ h.1, h.2, h.3)
+means_is margin lines k a j means is h = grind arith
 
 pub knows_is : (margin : ℕ) (seen : Seen) (lines : List Line) (newest : ℕ → Option Witness) (k : ℕ) → ((p : ℕ) → IsHeard seen lines k p (newest p))
     → KnowsOf (lets_know (by_telling lines) seen lines) margin lines k (heard_by newest (line_at lines k).client)

@@ -88,8 +88,7 @@ known_so test margin lines k means None so none = none
 known_so test margin lines k means (Some j) so is = (is.0, is.1, so j is.1, is.2)
 
 pub no_client : (own client : Option ℕ) → client ≡ None → one_client own client ≡ false
-no_client None client none = refl
-no_client (Some b) client none = ap (one_client (Some b)) none
+no_client own client none = grind arith
 
 pub ended_means : (margin : ℕ) (seen : Seen) (lines : List Line) (k j : ℕ) → of_all margin seen lines k j ≡ true → IsMeans margin lines j k Ended
 ended_means margin seen lines k j is = by (ended (line_at lines j)) refl (and_parts (counts_at seen lines j) _ is).1

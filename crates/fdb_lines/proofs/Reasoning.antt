@@ -18,16 +18,12 @@ use Rattle.fdb_lines.specs.Reasons.{IsFirst, IsKnown, knew_by, IsReason, draws_a
 use Rattle.fdb_lines.specs.private.Entries.{other, IsFirstFrom}
 use Rattle.fdb_lines.specs.private.Known.{by_at, counts_at, newest_known, of_version, tells, version_by, version_in}
 use Rattle.fdb_lines.specs.private.Marks.{is_marked_at, knows_at, name}
-use Rattle.fdb_lines.specs.private.Tables.{drawn_by, AreKnownIn, IsFoundIn}
+use Rattle.fdb_lines.specs.private.Tables.{drawn_by, AreKnownIn, IsAnswer, IsFoundIn}
 use Rattle.fdb_lines.proofs.Entries.{first_is, first_same}
 use Rattle.fdb_lines.proofs.Knowing.{found_is, version_is}
 use Rattle.fdb_lines.proofs.Numbers.{greatest_bound, greatest_least, some_at}
 
 -- ---- the tables
-
--- the version of a line that is read
-pub read : (lines now : List Line) (k version : ℕ) → now ≡ lines → version ≡ version_in now k → version ≡ version_in lines k
-read lines now k version same is = is ∙ ap (λ l. version_in l k) same
 
 abbrev pub newest : Lines → AuditOpts → Seen → ℕ → ℕ
 newest log opts seen k = newest_known (comes_before log.timed opts.margin log.lines) seen log.lines k
@@ -70,11 +66,7 @@ nameless_is log opts shown k first whose = answered _ _ (length log.lines) first
 
 -- what draws is either a commit or an ask
 drawn_as : (kind : Kind) → (draws kind ≡ (is_commit kind || is_ask kind)) × ((is_commit kind && is_ask kind) ≡ false)
-drawn_as Read = (refl, refl)
-drawn_as Commit = (refl, refl)
-drawn_as Ask = (refl, refl)
-drawn_as Report = (refl, refl)
-drawn_as Learn = (refl, refl)
+drawn_as kind = (grind arith, grind arith)
 
 -- beside a commit the asks of its version, and beside an ask what else draws it
 pub beside_a_commit : (c : Case) (k : ℕ) (first : Option ℕ) → is_commit (kind_at c k) ≡ true
@@ -142,10 +134,6 @@ order_is log opts k version by stand is found = (grind (arith, nat_tests), is, s
 is_first : (test : ℕ → Bool) (n j : ℕ) → IsFirstFrom test 0 n (Some j) → IsFirst test n j
 is_first test n j first = (first.1, first.2, λ i lt. first.3 i (omega arith) lt)
 
-pub wrong_none : (log : Lines) (opts : AuditOpts) (k : ℕ) → IsFirstFrom (reports_it (case_of log opts) (version_at (case_of log opts) k)) 0 (length log.lines) None
-    → IsReason log opts k Wrong Unreported
-wrong_none log opts k none = first_is (reports_it (case_of log opts) (version_at (case_of log opts) k)) (length log.lines) None none
-
 pub wrong_is : (log : Lines) (opts : AuditOpts) (k j version : ℕ) (by : Option Witness) → stands (case_of log opts) Wrong k ≡ true
     → IsFirstFrom (reports_it (case_of log opts) (version_at (case_of log opts) k)) 0 (length log.lines) (Some j) → version ≡ knows (case_of log opts) j
     → IsFoundIn log opts Shown j version by → IsReason log opts k Wrong (Reported j version by)
@@ -160,15 +148,15 @@ pub not_above_is : (log : Lines) (opts : AuditOpts) (k version : ℕ) (by : Opti
     → IsReason log opts k NotAbove (Known version by)
 not_above_is log opts k version by stand is known = (grind (arith, nat_tests), is, known)
 
-pub twice_is : (log : Lines) (opts : AuditOpts) (k : ℕ) (first : Option ℕ) → stands (case_of log opts) Twice k ≡ true
-    → IsFirstFrom (draws_again (case_of log opts) k) 0 (length log.lines) first → IsReason log opts k Twice (drawn_by first)
+pub twice_is : (log : Lines) (opts : AuditOpts) (k : ℕ) (first : Option ℕ) → true ≡ stands (case_of log opts) Twice k
+    → IsFirstFrom (draws_again (case_of log opts) k) 0 (length log.lines) first → IsAnswer log opts k Twice (Some (drawn_by first))
 twice_is log opts k None stand none = let fails = first_is (draws_again (case_of log opts) k) (length log.lines) None none in grind arith
-twice_is log opts k (Some j) stand first = is_first (draws_again (case_of log opts) k) (length log.lines) j first
+twice_is log opts k (Some j) stand first = (sym stand, is_first (draws_again (case_of log opts) k) (length log.lines) j first)
 
-pub stray_is : (log : Lines) (opts : AuditOpts) (k : ℕ) (first : Option ℕ) → stands (case_of log opts) Stray k ≡ true
-    → IsFirstFrom (draws_it (case_of log opts) (version_at (case_of log opts) k)) 0 (length log.lines) first → IsReason log opts k Stray (drawn_by first)
-stray_is log opts k None stand none = first_is (draws_it (case_of log opts) (version_at (case_of log opts) k)) (length log.lines) None none
+pub stray_is : (log : Lines) (opts : AuditOpts) (k : ℕ) (first : Option ℕ) → true ≡ stands (case_of log opts) Stray k
+    → IsFirstFrom (draws_it (case_of log opts) (version_at (case_of log opts) k)) 0 (length log.lines) first → IsAnswer log opts k Stray (Some (drawn_by first))
+stray_is log opts k None stand none = (sym stand, first_is (draws_it (case_of log opts) (version_at (case_of log opts) k)) (length log.lines) None none)
 stray_is log opts k (Some j) stand first =
     let c = case_of log opts in
     let drawn : is_drawn c (version_at c k) ≡ true = first_is (draws_it c (version_at c k)) (length log.lines) (Some j) first in
-    (is_first (draws_it c (version_at c k)) (length log.lines) j first, grind (arith, nat_tests))
+    (sym stand, (is_first (draws_it c (version_at c k)) (length log.lines) j first, grind (arith, nat_tests)))

@@ -87,6 +87,7 @@ fn is_stray(tables: &Tables, log: &Log, opts: &AuditOpts, place: usize) -> bool
 }
 
 /// The newest version that the call knew, which is newer than what it read.
+#[tactic(auto, using(crate::proofs::Reasoning::order_is))]
 fn of_order(tables: &Tables, log: &Log, opts: &AuditOpts, place: usize) -> Reason
     requires tables { AreTables (lines_of log.now) opts.now tables.now }
     requires place { place < length (lines_of log.now).lines }
@@ -99,6 +100,7 @@ fn of_order(tables: &Tables, log: &Log, opts: &AuditOpts, place: usize) -> Reaso
 }
 
 /// The first line that reports the version, and the newest version that it knew.
+#[tactic(auto, using(crate::proofs::Entries::first_is))]
 fn of_wrong(tables: &Tables, log: &Log, opts: &AuditOpts, place: usize) -> Reason
     requires tables { AreTables (lines_of log.now) opts.now tables.now }
     requires place { place < length (lines_of log.now).lines }

@@ -140,6 +140,7 @@ impl Tables {
     }
 
     /// Whether a line reports its version.
+    #[tactic(auto, using(crate::proofs::Entries::first_is))]
     pub(crate) fn is_reported(&self, log: &Log, opts: &AuditOpts, place: usize) -> bool
         requires { AreTables (lines_of log.now) opts.now self.now }
         ensures { let c = case_of (lines_of log.now) opts.now in
@@ -168,6 +169,7 @@ impl Tables {
     }
 
     /// Whether a line draws its version.
+    #[tactic(auto, using(crate::proofs::Entries::first_is))]
     pub(crate) fn is_drawn(&self, log: &Log, opts: &AuditOpts, place: usize) -> bool
         requires { AreTables (lines_of log.now) opts.now self.now }
         ensures { let c = case_of (lines_of log.now) opts.now in
@@ -191,6 +193,7 @@ impl Tables {
     }
 
     /// Whether another line draws its version, and not both are commits.
+    #[tactic(auto, using(crate::proofs::Entries::first_is))]
     pub(crate) fn is_twice(&self, log: &Log, opts: &AuditOpts, place: usize) -> bool
         requires tables { AreTables (lines_of log.now) opts.now self.now }
         requires place { place < length (lines_of log.now).lines }

@@ -1,11 +1,10 @@
-use Rattle.std.proofs.Common.{◌≡◌, ◌<◌, ℕ, Option, None, length, slice_set, ap, sym, subst, ◌∙◌, inl, inr, arith}
+use Rattle.std.proofs.Common.{◌≡◌, ◌<◌, None, length, ap, ◌∙◌, inl, inr, arith}
 use Rattle.std.proofs.lemmas.Bool.{cases_eq}
 use Rattle.std.proofs.lemmas.List.{get_or_default, get_or-set_same, get_or-set_other, length-set}
-use Rattle.fdb_lines.specs.declared.reason.Witness.{Witness}
 use Rattle.fdb_lines.specs.declared.reason.Means.TheVariants.{Own}
 use Rattle.fdb_lines.specs.Before.{by_time}
 use Rattle.fdb_lines.specs.Lines.{nobody, line_at}
-use Rattle.fdb_lines.specs.private.Known.{by_at, lets_know, newer, of_all, of_own, witness, KnowsOf}
+use Rattle.fdb_lines.specs.private.Known.{by_at, lets_know, of_own, witness, KnowsOf}
 use Rattle.fdb_lines.proofs.Knowing.{both_are, known_so, own_means}
 use Rattle.fdb_lines.proofs.known.add_own.Goals as goal
 
@@ -22,20 +21,15 @@ loop-place-preserved c =
     let line : item ≡ line_at lines k = c.index-lines-place.is ∙ get_or_default lines k item nobody lt in
     let own = known_so (of_own seen lines) margin lines k Own c.own_before-own.result (own_means margin seen lines k)
     (c.own_before-own.ensures seen lines line c.in_ok-table.ensures.ends) in
-    let old : KnowsOf (of_all margin seen lines) margin lines k (by_at before k) =
-    subst (KnowsOf (of_all margin seen lines) margin lines k) (sym (inv.left k (omega arith))) (c.requires.known.1 k lt) in
     let inside : k < length before = (let len = inv.as_many in omega arith) in
     let at : c.index.result.now ≡ by_at before k = c.index.ensures ∙ get_or_default before k c.index.result.now None inside in
     let new : KnowsOf (lets_know (by_time margin lines) seen lines) margin lines k c.newer.result =
-    subst (KnowsOf (lets_know (by_time margin lines) seen lines) margin lines k)
-    (sym (c.newer.ensures ∙ (ap (λ o. newer lines o c.witness.result) at ∙ ap (newer lines (by_at before k)) c.witness.ensures)))
-    (both_are margin seen lines k (by_at before k) (witness c.own_before-own.result Own) old own) in
-    let Known : ℕ → Option Witness → Type 0 = KnowsOf (lets_know (by_time margin lines) seen lines) margin lines in
+    rw (c.newer.ensures, at, c.witness.ensures, inv.left k (omega arith)) (both_are margin seen lines k _ (witness c.own_before-own.result Own) (c.requires.known.1 k lt) own) in
     record {
       as_many = length-set before k c.newer.result ∙ inv.as_many;
       with_own = λ i less. elim (cases_eq i k) [
-        | inl same ↦ subst (Known i) (sym (ap (by_at (slice_set before k c.newer.result)) same ∙ get_or-set_same before k c.newer.result None inside)) (subst (λ n. Known n c.newer.result) (sym same) new)
-        | inr other ↦ subst (Known i) (sym (get_or-set_other before k i c.newer.result None other)) (inv.with_own i (omega arith))
+        | inl same ↦ rw (same, get_or-set_same before k c.newer.result None inside) new
+        | inr other ↦ rw (get_or-set_other before k i c.newer.result None other) (inv.with_own i (omega arith))
       ];
       left = λ i ge. get_or-set_other before k i c.newer.result None (λ same. omega arith) ∙ inv.left i (omega arith);
     }

@@ -1,4 +1,4 @@
-use Rattle.std.proofs.Common.{◌≡◌, ◌+◌, ◌≤◌, ◌++◌, ◌∷◌, [], List, Option, Vec, Global, Some, None, length, option_to_list, ap, sym, subst, ◌∙◌, arith, append-nil, length-append}
+use Rattle.std.proofs.Common.{◌≡◌, ◌+◌, ◌≤◌, ◌++◌, ◌∷◌, [], List, Option, Some, None, length, option_to_list, ap, ◌∙◌, arith, append-nil, length-append}
 use Rattle.std.proofs.lemmas.List.{get_or_default}
 use Rattle.std.proofs.lemmas.Result.{IfOk-weaker}
 use Rattle.fdb_lines.specs.declared.end.End.{End}
@@ -22,14 +22,11 @@ loop-place-preserved c =
     let Next : List End → Type 0 = λ ends. AreEnds by_client seen lines (k + 1) ends × (length ends ≤ k + 1) in
     let grown : (o : Option End) → IsEndOf by_client seen item k o → AreEnds by_client seen lines (k + 1) (before ++ option_to_list o) = λ o is.
     more (λ (e : End). e.place) (λ (e : End). e.version) comes_by (version_in lines) (λ m j. stands_in by_client seen (line_at lines j) j m) k before o c.loop-place.invariant.ends
-    (subst (λ l. IsEndOf by_client seen l k o) line is) in
+    (rw line at is) in
     let next : Next c.match-end_of.ends.items = elim c.match-end_of.branch as (λ b. Next c.match-end_of.ends.items) [
       | in-Some+in_ok-push w ↦
-          subst Next (sym (ap (λ (v : Vec End Global). v.items) w.ends-is ∙ w.in_ok-push.ensures.items))
-          (grown (Some w.in-Some.end) w.in-Some.ensures, (let len = length-append before (w.in-Some.end ∷ []) in omega arith))
-      | in_default w ↦
-          subst Next (append-nil before ∙ sym (ap (λ (v : Vec End Global). v.items) w.ends-is))
-          (grown None w.in_default.ensures, (let len = ap length (append-nil before) in omega arith))
+          rw (w.ends-is, w.in_ok-push.ensures.items) (grown (Some w.in-Some.end) w.in-Some.ensures, (let len = length-append before (w.in-Some.end ∷ []) in omega arith))
+      | in_default w ↦ rw w.ends-is (rw append-nil at (grown None w.in_default.ensures), omega arith)
     ] in
     record { ends = next.0; few = next.1 }
 
@@ -39,5 +36,5 @@ returns-clause-ends c =
     let all : c.loop-place.place ≡ length lines = (let end = c.loop-place.auto.place-end in let test = c.loop-place-test.false in omega arith) in
     IfOk-weaker c.new.result _ (λ table. AreEnds c.args.by_client c.args.seen lines (length lines) table.ends.items)
     (λ table same. moved (λ (e : End). e.place) (λ (e : End). e.version) comes_by (version_in lines) (λ m j. stands_in c.args.by_client c.args.seen (line_at lines j) j m) (length lines)
-    c.loop-place.ends.items table.ends.items same (subst (λ n. AreEnds c.args.by_client c.args.seen lines n c.loop-place.ends.items) all c.loop-place.invariant.ends))
+    c.loop-place.ends.items table.ends.items same (rw all at c.loop-place.invariant.ends))
     c.new.ensures.same

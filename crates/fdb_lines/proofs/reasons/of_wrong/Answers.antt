@@ -1,11 +1,8 @@
 use Rattle.fdb_lines.specs.Log.{lines_of}
-use Rattle.fdb_lines.proofs.Reasoning.{wrong_is, wrong_none}
+use Rattle.fdb_lines.proofs.Reasoning.{wrong_is}
 use Rattle.fdb_lines.proofs.reasons.of_wrong.Goals as goal
 
 pub returns-in-Some : goal.returns-in-Some
 returns-in-Some c =
     wrong_is (lines_of c.args.log.now) c.args.opts.now c.args.place c.in-Some.line c.knows-version.result c.shown-by.result c.requires.stands
     c.in-Some.ensures c.knows-version.ensures c.shown-by.ensures
-
-pub returns-in-None : goal.returns-in-None
-returns-in-None c = wrong_none (lines_of c.args.log.now) c.args.opts.now c.args.place c.in-None.ensures

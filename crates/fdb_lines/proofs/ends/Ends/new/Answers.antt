@@ -1,6 +1,6 @@
-use Rattle.std.proofs.Common.{rules, subst}
+use Rattle.std.proofs.Common.{rules}
 use Rattle.std.proofs.lemmas.List.Sorted.{IsNonDecreasingBy-from_sort_by}
-use Rattle.fdb_lines.specs.private.Ends.{end_key, AreNewest}
+use Rattle.fdb_lines.specs.private.Ends.{end_key}
 use Rattle.fdb_lines.proofs.ends.Ends.new.Goals as goal
 
 pub newest_of-requires-clause-sorted : goal.newest_of-requires-clause-sorted
@@ -10,5 +10,5 @@ newest_of-requires-clause-sorted c =
 pub returns-clause-settled : goal.returns-clause-settled
 returns-clause-settled c = (
   IsNonDecreasingBy-from_sort_by end_key _ c.sort_unstable_by.ensures.sorted (λ a r f k. search rules),
-  subst (λ ends. AreNewest ends c.in_ok-newest.newest.items) c.deref.ensures.value c.in_ok-newest.ensures,
+  rw c.deref.ensures.value at c.in_ok-newest.ensures,
 )

@@ -1,4 +1,4 @@
-use Rattle.std.proofs.Common.{◌≡◌, ◌+◌, Vec, Global, List, ◌++◌, Option, Some, None, option_to_list, length, sym, subst, ◌∙◌, arith, rules, append-nil}
+use Rattle.std.proofs.Common.{◌≡◌, ◌+◌, List, ◌++◌, Option, Some, None, option_to_list, length, ◌∙◌, arith, rules, append-nil}
 use Rattle.std.proofs.lemmas.List.{get_or_default}
 use Rattle.std.proofs.lemmas.List.Sorted.{IsNonDecreasingBy-from_sort_by}
 use Rattle.fdb_lines.specs.declared.mark.Mark.{Mark}
@@ -10,22 +10,17 @@ use Rattle.fdb_lines.proofs.marks.Marks.new.Goals.{in-Some+in_ok-push, in_defaul
 
 pub loop-place-preserved : goal.loop-place-preserved
 loop-place-preserved c =
-    let sort = c.args.sort in
-    let start = c.args.start in
     let lines = c.args.lines.now in
-    let known = c.args.known.now in
     let k = c.loop-place.place in
-    let marks = c.loop-place.marks.items in
-    let line : c.index-lines-place.result ≡ line_at lines k = c.index-lines-place.is ∙ get_or_default lines k c.index-lines-place.result nobody c.loop-place-test.true in
-    let knows = c.knows_at-knows.ensures in
-    let Next : List Mark → Type 0 = AreMarks sort start lines known (k + 1) in
-    let grown : (o : Option Mark) → IsMarkOf sort c.index-lines-place.result c.knows_at-knows.result k o → Next (marks ++ option_to_list o) = λ o is.
-    more (λ (m : Mark). m.place) (λ (m : Mark). m.place) is_named (λ j. j) (is_marked_at sort start lines known) k marks o c.loop-place.invariant
-    (subst (λ n. IsMarkOf sort (line_at lines k) n k o) knows (subst (λ l. IsMarkOf sort l c.knows_at-knows.result k o) line is)) in
+    let item = c.index-lines-place.result in
+    let line : item ≡ line_at lines k = c.index-lines-place.is ∙ get_or_default lines k item nobody c.loop-place-test.true in
+    let Next : List Mark → Type 0 = AreMarks c.args.sort c.args.start lines c.args.known.now (k + 1) in
+    let grown : (o : Option Mark) → IsMarkOf c.args.sort item c.knows_at-knows.result k o → Next (c.loop-place.marks.items ++ option_to_list o) = λ o is.
+    more (λ (m : Mark). m.place) (λ (m : Mark). m.place) is_named (λ j. j) (is_marked_at c.args.sort c.args.start lines c.args.known.now) k c.loop-place.marks.items o c.loop-place.invariant
+    (rw (line, c.knows_at-knows.ensures) at is) in
     elim c.match-mark_of.branch as (λ b. Next c.match-mark_of.marks.items) [
-      | in-Some+in_ok-push w ↦
-          subst (λ (m : Vec Mark Global). Next m.items) (sym w.marks-is) (subst Next (sym w.in_ok-push.ensures.items) (grown (Some w.in-Some.mark) w.in-Some.ensures))
-      | in_default w ↦ subst (λ (m : Vec Mark Global). Next m.items) (sym w.marks-is) (subst Next (append-nil marks) (grown None w.in_default.ensures))
+      | in-Some+in_ok-push w ↦ rw (w.marks-is, w.in_ok-push.ensures.items) (grown (Some w.in-Some.mark) w.in-Some.ensures)
+      | in_default w ↦ rw w.marks-is (rw append-nil at (grown None w.in_default.ensures))
     ]
 
 pub invariant_of-result : goal.invariant_of-result
@@ -35,5 +30,4 @@ pub returns : goal.returns
 returns c =
     let all : c.loop-place.place ≡ length c.args.lines.now = (let end = c.loop-place.auto.place-end in let test = c.loop-place-test.false in omega arith) in
     moved (λ (m : Mark). m.place) (λ (m : Mark). m.place) is_named (λ j. j) (is_marked_at c.args.sort c.args.start c.args.lines.now c.args.known.now) (length c.args.lines.now)
-    c.loop-place.marks.items c.sort_unstable_by.new.self.items c.sort_unstable_by.ensures.permutation
-    (subst (λ n. AreMarks c.args.sort c.args.start c.args.lines.now c.args.known.now n c.loop-place.marks.items) all c.loop-place.invariant)
+    c.loop-place.marks.items c.sort_unstable_by.new.self.items c.sort_unstable_by.ensures.permutation (rw all at c.loop-place.invariant)

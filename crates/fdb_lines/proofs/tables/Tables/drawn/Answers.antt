@@ -6,4 +6,4 @@ use Rattle.fdb_lines.proofs.tables.Tables.drawn.Goals as goal
 pub returns : goal.returns
 returns c =
     rw (c.of_version.ensures, c.by_at.ensures, c.lines.ensures, c.deref.ensures.value)
-    (known_is (lines_of c.args.log.now) c.args.opts.now Drawn c.args.self.now.drawn.items c.args.place c.args.version c.requires.tables.drawn c.requires.place c.requires.newest)
+    (known_is (lines_of c.args.log.now) c.args.opts.now Drawn _ c.args.place c.args.version c.requires.tables.drawn c.requires.place c.requires.newest)
