@@ -1,5 +1,6 @@
 use Rattle.std.proofs.Common.{◌∙◌, append_assoc}
 use Rattle.std.proofs.lemmas.Result.{on_ok_weaker}
+use Rattle.fdb_audit.proofs.Texts.{two_written}
 use Rattle.fdb_audit.proofs.view.View.push_reason.Goals as goal
 
 pub returns-in_ok-write-in-Known : goal.returns-in_ok-write-in-Known
@@ -15,7 +16,7 @@ returns-in-Undrawn c = rw c.in-Undrawn.is c.write-in-Undrawn.ensures.bytes
 pub returns-in_ok-write-in-Reported : goal.returns-in_ok-write-in-Reported
 returns-in_ok-write-in-Reported c =
     rw (c.in-Reported.is, ← c.is_by.ensures, c.if-is_by.true)
-    (on_ok_weaker c.push_known-then-is_by.result (λ e. e ∙ rw c.in_ok-write-in-Reported.ensures.bytes (simp append_assoc)) c.push_known-then-is_by.ensures)
+    (on_ok_weaker c.push_known-then-is_by.result (two_written _ _ _ _ _ c.in_ok-write-in-Reported.ensures.bytes) c.push_known-then-is_by.ensures)
 
 pub returns-in_ok-write-in-Reported-3 : goal.returns-in_ok-write-in-Reported-3
 returns-in_ok-write-in-Reported-3 c =
