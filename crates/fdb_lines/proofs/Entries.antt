@@ -1,7 +1,7 @@
 -- Tables of lines grow by a line, may be moved, and have what is looked for.
-use Rattle.std.proofs.Common.{◌≡◌, ◌≢◌, ℕ, zero, suc, ◌+◌, ◌<◌, ◌==◌, Bool, true, ◌||◌, List, [], ◌∷◌, ◌++◌, length, get_or, option_to_list, Option, None, Some, is_some, refl, ap, sym, subst, ◌∙◌, inl, inr, arith, append-nil}
+use Rattle.std.proofs.Common.{◌≡◌, ◌≢◌, ℕ, zero, suc, ◌+◌, ◌<◌, ◌==◌, nat_lt, zero-le, Bool, true, false, ◌||◌, List, [], ◌∷◌, ◌++◌, length, get_or, option_to_list, Option, None, Some, is_some, refl, ap, sym, subst, ◌∙◌, inl, inr, arith, append-nil}
 use Rattle.std.specs.List.{list_any, All}
-use Rattle.std.specs.List.Sorted.{IsPermutation}
+use Rattle.std.specs.List.Sorted.{IsPartitionPoint, IsPermutation}
 use Rattle.std.proofs.lemmas.Bool.{cases_lt, both_ways, or_left, or_right, eq-eqb, eqb-true, false_from_ne_true}
 use Rattle.std.proofs.lemmas.Bool.Decides.{nat_tests}
 use Rattle.std.proofs.lemmas.List.{get_or_default}
@@ -9,7 +9,7 @@ use Rattle.std.proofs.lemmas.List.Elements.{All-get_or, All-push}
 use Rattle.std.proofs.lemmas.List.Folds.{Any-from_list_any, list_any-append}
 use Rattle.std.proofs.lemmas.List.Sorted.{All-permutation, list_any-IsPermutation}
 use Rattle.fdb_lines.specs.Faults.{some_below}
-use Rattle.fdb_lines.specs.private.Entries.{other, AreEntries, IsEntry, IsFirstFrom, IsNewest}
+use Rattle.fdb_lines.specs.private.Entries.{other, AreEntries, IsEntry, IsFirstFrom, IsFrontBy, IsNewest}
 use Rattle.fdb_lines.proofs.Numbers.{some_at, some_find}
 
 abbrev Is : {X Q : Type 0} → (X → ℕ) → (X → ℕ) → (Q → X → Bool) → (ℕ → ℕ) → (Q → ℕ → Bool) → ℕ → X → Type 0
@@ -93,6 +93,12 @@ no_line place number answers f test n xs d are q none j lt =
     false_from_ne_true (test q j) (λ passes.
     let own = entry_for place number answers f test n xs d are q j lt passes in
     both_ways _ (none own.0 own.1) own.3)
+
+-- where the keys below one end
+pub front_is : {X : Type 0} (key : X → ℕ) (d : X) (xs : List X) (moment front : ℕ) → IsPartitionPoint (λ x. nat_lt (key x) moment ≡ true) (λ x. nat_lt (key x) moment ≡ false) xs front
+    → IsFrontBy key d xs moment front
+front_is key d xs moment front point =
+    (λ i below. let less = point.0 i d zero-le below in grind (arith, nat_tests), λ i above lt. let no_less = point.1 i d above lt in grind (arith, nat_tests))
 
 -- ---- the first that passes a test
 

@@ -64,18 +64,12 @@ nameless_is log opts shown k first whose = answered _ _ (length log.lines) first
 
 -- ---- drawn twice
 
--- what draws is either a commit or an ask
-drawn_as : (kind : Kind) → (draws kind ≡ (is_commit kind || is_ask kind)) × ((is_commit kind && is_ask kind) ≡ false)
-drawn_as kind = (grind arith, grind arith)
-
 -- beside a commit the asks of its version, and beside an ask what else draws it
 pub beside_a_commit : (c : Case) (k : ℕ) (first : Option ℕ) → is_commit (kind_at c k) ≡ true
     → IsFirstFrom (λ j. is_ask (kind_at c j) && version_at c j == version_at c k) 0 (length c.lines) first → IsFirstFrom (draws_again c k) 0 (length c.lines) first
 beside_a_commit c k first commit =
     first_same (λ j. is_ask (kind_at c j) && version_at c j == version_at c k) (draws_again c k) (length c.lines) first
     (λ j l.
-    let kind = drawn_as (kind_at c j) in
-    let own = drawn_as (kind_at c k) in
     let same = λ (e : j ≡ k). ap (λ i. is_ask (kind_at c i)) e in
     grind (arith, nat_tests))
 
@@ -95,35 +89,25 @@ unheld test f n version none is =
     let most = greatest_least test f n (version - 1) (λ i l passes. let up = greatest_bound test f n i l passes in let other = none i l in grind (arith, nat_tests)) in
     omega arith
 
-grouped : (b d e : Bool) → (b && (d && e)) ≡ false → ((b && d) && e) ≡ false
-grouped b d e h = grind arith
-
 untold : (log : Lines) (opts : AuditOpts) (seen : Seen) (k version : ℕ) → IsFoundIn log opts seen k version None → newest log opts seen k ≡ version → version ≡ 0
 untold log opts seen k version none =
     unheld (λ j. before log opts j k && counts_at seen log.lines j) (version_in log.lines) (length log.lines) version
-    (λ j lt. grouped (before log opts j k) (counts_at seen log.lines j) (version_in log.lines j == version) (none j lt))
+    (λ j lt. let fails = none j lt in grind arith)
 
 pub shown_is : (log : Lines) (opts : AuditOpts) (k version : ℕ) (by : Option Witness) → IsFoundIn log opts Shown k version by → version ≡ knows (case_of log opts) k
     → IsKnown log opts shows k version by
 shown_is log opts k version None none is = ((let zero = untold log opts Shown k version none in grind arith), none)
 shown_is log opts k version (Some by) found is = record { there = found.0; knew = found.1; means = found.2 }
 
--- what shows a version or draws it lets it be known
-either : (b s d e : Bool) → ((b && (s && e)) || (b && (d && e))) ≡ (b && ((s || d) && e))
-either b s d e = grind arith
-
-either_at : (log : Lines) (opts : AuditOpts) (k version j : ℕ) → (tells (before log opts) Shown log.lines k version j || tells (before log opts) Drawn log.lines k version j)
-    ≡ knew_by log opts shows_or_draws k version j
-either_at log opts k version j = either (before log opts j k) (counts_at Shown log.lines j) (counts_at Drawn log.lines j) (version_in log.lines j == version)
-
 pub by_drawn : (log : Lines) (opts : AuditOpts) (k version : ℕ) (by : Option Witness) → IsFoundIn log opts Shown k version None → IsFoundIn log opts Drawn k version by
     → version ≡ max (knows (case_of log opts) k) (last (case_of log opts) k) → IsKnown log opts shows_or_draws k version by
 by_drawn log opts k version None no_show no_draw is = (
   (let shown = untold log opts Shown k version no_show in let drawn = untold log opts Drawn k version no_draw in grind arith),
-  λ j lt. sym (either_at log opts k version j) ∙ (let a = no_show j lt in let b = no_draw j lt in grind arith),
+  λ j lt. let a = no_show j lt in let b = no_draw j lt in grind arith,
 )
 by_drawn log opts k version (Some by) no_show found is =
-    record { there = found.0; knew = sym (either_at log opts k version by.line) ∙ or_right _ _ found.1; means = found.2 }
+    let drawn = found.1 in
+    record { there = found.0; knew = grind arith; means = found.2 }
 
 -- ---- the reasons
 
