@@ -55,15 +55,12 @@ learnt_is seen lines k a (Some w) of does h = (
 -- what a line lets its client hear of
 gained_is : (seen : Seen) (lines : List Line) (newest : ℕ → Option Witness) (k a : ℕ) → k < length lines → is_of a (line_at lines k).client ≡ true
     → ((p : ℕ) → IsHeard seen lines k p (newest p)) → IsKnownBy (new seen lines k) (IsOf lines (suc k) a) lines (gained seen newest k (line_at lines k).call)
-gained_is seen lines newest k a lt of are = by (is_learn (kind_of call)) (counts seen (kind_of call)) refl refl
+gained_is seen lines newest k a lt of are = by (is_learn (kind_of (line_at lines k).call)) (counts seen (kind_of (line_at lines k).call)) refl refl
   where
-    call : Call
-    call = (line_at lines k).call
-
-    by : (learns counted : Bool) → is_learn (kind_of call) ≡ learns → counts seen (kind_of call) ≡ counted
+    by : (learns counted : Bool) → is_learn (kind_of (line_at lines k).call) ≡ learns → counts seen (kind_of (line_at lines k).call) ≡ counted
         → IsKnownBy (new seen lines k) (IsOf lines (suc k) a) lines
-        (cond learns (learnt_by k (newest (teller_of call))) (cond counted (Some (record { line = k; means = Own })) None))
-    by true counted does is = learnt_is seen lines k a (newest (teller_of call)) of does (are (teller_of call))
+        (cond learns (learnt_by k (newest (teller_of (line_at lines k).call))) (cond counted (Some (record { line = k; means = Own })) None))
+    by true counted does is = learnt_is seen lines k a (newest (teller_of (line_at lines k).call)) of does (are (teller_of (line_at lines k).call))
     by false true does_not is = (
       lt,
       grind (arith, nat_tests),

@@ -118,7 +118,6 @@ pub both_are : (margin : ℕ) (seen : Seen) (lines : List Line) (k : ℕ) (one o
     → KnowsOf (of_all margin seen lines) margin lines k one → KnowsOf (of_own seen lines) margin lines k other
     → KnowsOf (lets_know (by_time margin lines) seen lines) margin lines k (newer lines one other)
 both_are margin seen lines k one other is too =
-    let Is : Witness → Type 0 = λ (by : Witness). IsMeans margin lines by.line k by.means in
-    as_well (λ j. of_all margin seen lines k j || of_own seen lines k j) (lets_know (by_time margin lines) seen lines k) Is Is lines (newer lines one other)
+    as_well (λ j. of_all margin seen lines k j || of_own seen lines k j) (lets_know (by_time margin lines) seen lines k) _ _ lines (newer lines one other)
     (λ j lt. sym (before_is margin seen lines j k (ended (line_at lines j)))) (λ by h. h)
-    (newer_is (of_all margin seen lines k) (of_own seen lines k) Is lines one other is too)
+    (newer_is (of_all margin seen lines k) (of_own seen lines k) (λ by. IsMeans margin lines by.line k by.means) lines one other is too)

@@ -84,15 +84,14 @@ abbrev before : Lines → AuditOpts → ℕ → ℕ → Bool
 before log opts = comes_before log.timed opts.margin log.lines
 
 -- a greatest that none has is 0
-unheld : (test : ℕ → Bool) (f : ℕ → ℕ) (n version : ℕ) → ((i : ℕ) → i < n → (test i && f i == version) ≡ false) → greatest_of test f n ≡ version → version ≡ 0
-unheld test f n version none is =
-    let most = greatest_least test f n (version - 1) (λ i l passes. let up = greatest_bound test f n i l passes in let other = none i l in grind (arith, nat_tests)) in
-    omega arith
-
 untold : (log : Lines) (opts : AuditOpts) (seen : Seen) (k version : ℕ) → IsFoundIn log opts seen k version None → newest log opts seen k ≡ version → version ≡ 0
-untold log opts seen k version none =
-    unheld (λ j. before log opts j k && counts_at seen log.lines j) (version_in log.lines) (length log.lines) version
-    (λ j lt. let fails = none j lt in grind arith)
+untold log opts seen k version none is =
+    let test = λ (j : ℕ). before log opts j k && counts_at seen log.lines j in
+    let most = greatest_least test (version_in log.lines) (length log.lines) (version - 1) (λ i l passes.
+    let up = greatest_bound test (version_in log.lines) (length log.lines) i l passes in
+    let other = none i l in
+    grind (arith, nat_tests)) in
+    omega arith
 
 pub shown_is : (log : Lines) (opts : AuditOpts) (k version : ℕ) (by : Option Witness) → IsFoundIn log opts Shown k version by → version ≡ knows (case_of log opts) k
     → IsKnown log opts shows k version by

@@ -13,9 +13,7 @@ returns-then-is_of c = λ sort start lines known are.
     let lt : front < length marks = (let less = c.if-front-len.true in let len = c.len.ensures in omega arith) in
     let at : c.index.result.now ≡ mark_at marks front = c.index.ensures ∙ sym (get_or_default marks front no_mark c.index.result.now lt) in
     let there : c.index-then-is_of.result.now ≡ mark_at marks front = c.index-then-is_of.ensures ∙ sym (get_or_default marks front no_mark c.index-then-is_of.result.now lt) in
-    rw there
-    (found sort start lines known marks c.args.version c.args.group c.args.from front c.args.self.now.in_order parts are lt
-    (sym (ap (is_named (name c.args.version c.args.group)) at) ∙ sym c.if-is_of.ensures))
+    rw there (found sort start lines known marks c.args.version c.args.group c.args.from front c.args.self.now.in_order parts are lt (sym (rw at at c.if-is_of.ensures)))
 
 pub returns-else-front-len : goal.returns-else-front-len
 returns-else-front-len c = λ sort start lines known are.
