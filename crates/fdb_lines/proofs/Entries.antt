@@ -1,8 +1,8 @@
 -- Tables of lines grow by a line, may be moved, and have what is looked for.
-use Rattle.std.proofs.Common.{◌≡◌, ◌≢◌, ℕ, zero, suc, ◌+◌, ◌<◌, ◌==◌, nat_lt, zero-le, Bool, true, false, ◌||◌, List, [], ◌∷◌, ◌++◌, length, get_or, option_to_list, option_map, Option, None, Some, is_some, refl, ap, sym, subst, ◌∙◌, inl, inr, arith, append-nil}
-use Rattle.std.specs.List.{list_any, All}
+use Rattle.std.proofs.Common.{◌≡◌, ℕ, ◌+◌, ◌<◌, ◌==◌, nat_lt, zero-le, Bool, true, false, List, [], ◌∷◌, ◌++◌, length, get_or, option_to_list, option_map, Option, None, Some, is_some, ap, sym, subst, ◌∙◌, arith, append-nil}
+use Rattle.std.specs.List.{All}
 use Rattle.std.specs.List.Sorted.{IsPartitionPoint, IsPermutation}
-use Rattle.std.proofs.lemmas.Bool.{cases_lt, both_ways, or_left, or_right, eq-eqb, eqb-true, false_from_ne_true}
+use Rattle.std.proofs.lemmas.Bool.{both_ways, eqb-true, false_from_ne_true}
 use Rattle.std.proofs.lemmas.Bool.Decides.{nat_tests}
 use Rattle.std.proofs.lemmas.List.{get_or_default}
 use Rattle.std.proofs.lemmas.List.Elements.{All-get_or, All-push}
@@ -41,7 +41,8 @@ more place number answers f test n xs None are none =
 more place number answers f test n xs (Some x) are one =
     let at = one.0 in
     record {
-      of = All-push (Is place number answers f test (n + 1)) xs x (further place number answers f test n xs are.of) (omega arith, one.1 ∙ ap f (sym at), λ q. one.2 q ∙ ap (test q) (sym at));
+      of = All-push (Is place number answers f test (n + 1)) xs x (further place number answers f test n xs are.of)
+          (omega arith, one.1 ∙ ap f (sym at), λ q. one.2 q ∙ ap (test q) (sym at));
       all = λ q j lt passes. let joined = list_any-append (λ y. place y == j) xs (x ∷ []) in let old = are.all q j in grind (arith, nat_tests);
     }
 
@@ -82,8 +83,8 @@ newest_line place number answers f test n xs d are q (Some i) found =
     )
 
 -- where the keys below one end
-pub front_is : {X : Type 0} (key : X → ℕ) (d : X) (xs : List X) (moment front : ℕ) → IsPartitionPoint (λ x. nat_lt (key x) moment ≡ true) (λ x. nat_lt (key x) moment ≡ false) xs front
-    → IsFrontBy key d xs moment front
+pub front_is : {X : Type 0} (key : X → ℕ) (d : X) (xs : List X) (moment front : ℕ)
+    → IsPartitionPoint (λ x. nat_lt (key x) moment ≡ true) (λ x. nat_lt (key x) moment ≡ false) xs front → IsFrontBy key d xs moment front
 front_is key d xs moment front point =
     (λ i below. let less = point.0 i d zero-le below in grind (arith, nat_tests), λ i above lt. let no_less = point.1 i d above lt in grind (arith, nat_tests))
 

@@ -1,23 +1,20 @@
 -- What clients have heard of, line by line.
-use Rattle.std.proofs.Common.{◌≡◌, ℕ, suc, ◌<◌, ◌==◌, Bool, true, false, cond, ◌&&◌, ◌||◌, List, length, Option, None, Some, refl, ap, sym, subst, ◌∙◌, inl, inr, arith}
+use Rattle.std.proofs.Common.{◌≡◌, ℕ, suc, ◌<◌, ◌==◌, Bool, true, false, cond, ◌&&◌, ◌||◌, List, length, Option, None, Some, refl, ap, sym, ◌∙◌, inl, inr, arith}
 use Rattle.std.proofs.lemmas.Bool.Decides.{nat_tests}
-use Rattle.std.proofs.lemmas.Bool.{cases_Bool, and_parts, and_from, both_ways, cond-true, cond-false, eq-eqb, eqb-true}
-use Rattle.fdb_lines.specs.declared.line.Call.{Call}
+use Rattle.std.proofs.lemmas.Bool.{cases_Bool, and_parts, cond-true, cond-false}
 use Rattle.fdb_lines.specs.declared.line.Line.{Line}
 use Rattle.fdb_lines.specs.declared.reason.Means.{Means}
-use Rattle.fdb_lines.specs.declared.reason.Means.TheVariants.{Ended, Own, Learnt}
+use Rattle.fdb_lines.specs.declared.reason.Means.TheVariants.{Own}
 use Rattle.fdb_lines.specs.declared.reason.Witness.{Witness}
 use Rattle.fdb_lines.specs.declared.seen.Seen.{Seen}
-use Rattle.fdb_lines.specs.declared.seen.Seen.TheVariants.{Shown, Drawn}
 use Rattle.fdb_lines.specs.Before.{is_of, has_heard, one_client, by_telling}
 use Rattle.fdb_lines.specs.Before.{heard_by as heard_at}
-use Rattle.fdb_lines.specs.Lines.{Kind, Read, Commit, Ask, Report, Learn, line_at, kind_of, is_learn, teller_of}
+use Rattle.fdb_lines.specs.Lines.{line_at, kind_of, is_learn, teller_of}
 use Rattle.fdb_lines.specs.Reasons.{IsMeans}
 use Rattle.fdb_lines.specs.private.Known.{counts_at, newer, version_in, lets_know, IsKnownBy, KnowsOf}
 use Rattle.fdb_lines.specs.private.Seen.{counts}
 use Rattle.fdb_lines.specs.private.Telling.{gained, heard_by, learnt_by, IsHeard, IsHeardAs}
 use Rattle.fdb_lines.proofs.Knowing.{as_well, newer_is}
-use Rattle.fdb_lines.proofs.Tests.{only_left, share}
 
 -- what was heard of by the lines above is heard of by one line more
 stays : (lines : List Line) (k a j : ℕ) (means : Means) → IsHeardAs lines k a j means → IsHeardAs lines (suc k) a j means

@@ -1,5 +1,5 @@
 -- What a call knows: the newest of lines that pass a test, or one of two.
-use Rattle.std.proofs.Common.{◌≡◌, ℕ, ◌+◌, ◌-◌, ◌<◌, ◌≤◌, ◌==◌, nat_lt, Bool, true, false, cond, ◌&&◌, ◌||◌, List, [], ◌∷◌, ◌++◌, length, Option, None, Some, refl, ap, sym, subst, ◌∙◌, inl, inr, arith, length-append}
+use Rattle.std.proofs.Common.{◌≡◌, ℕ, ◌+◌, ◌-◌, ◌<◌, ◌≤◌, ◌==◌, nat_lt, Bool, true, false, cond, ◌&&◌, ◌||◌, List, [], ◌∷◌, ◌++◌, length, Option, None, Some, refl, ap, sym, ◌∙◌, inl, inr, arith, length-append}
 use Rattle.std.proofs.lemmas.Bool.Decides.{nat_tests}
 use Rattle.std.proofs.lemmas.Bool.{cases_lt, both_ways, and_parts}
 use Rattle.std.proofs.lemmas.List.{get_or_append_left, get_or_push}
@@ -14,7 +14,7 @@ use Rattle.fdb_lines.specs.Lines.{line_at}
 use Rattle.fdb_lines.specs.Reasons.{IsMeans}
 use Rattle.fdb_lines.specs.private.Ends.{is_earlier}
 use Rattle.fdb_lines.specs.private.Entries.{IsNewest}
-use Rattle.fdb_lines.specs.private.Known.{by_at, counts_at, had_ended, newer, newest_known, of_all, of_own, of_version, version_by, version_in, witness, lets_know, AreKnownOf, IsFound, IsKnownBy, KnowsOf}
+use Rattle.fdb_lines.specs.private.Known.{counts_at, had_ended, newer, newest_known, of_all, of_own, of_version, version_by, version_in, witness, lets_know, AreKnownOf, IsFound, IsKnownBy, KnowsOf}
 use Rattle.fdb_lines.proofs.Numbers.{greatest_bound, greatest_least}
 
 -- ---- in general

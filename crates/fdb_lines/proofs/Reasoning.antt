@@ -1,22 +1,20 @@
 -- What the tables of a log say, and why a fault stands.
-use Rattle.std.proofs.Common.{◌≡◌, ℕ, max, ◌-◌, ◌<◌, ◌≤◌, ◌==◌, nat_lt, Bool, true, false, ◌&&◌, ◌||◌, List, length, Option, None, Some, is_none, is_some, unwrap_or, refl, ap, sym, ◌∙◌, arith}
+use Rattle.std.proofs.Common.{◌≡◌, ℕ, max, ◌-◌, ◌<◌, ◌≤◌, ◌==◌, nat_lt, Bool, true, false, ◌&&◌, List, length, Option, None, Some, is_some, ap, sym, arith}
 use Rattle.std.proofs.lemmas.Bool.Decides.{nat_tests}
-use Rattle.std.proofs.lemmas.Bool.{or_left, or_right}
 use Rattle.fdb_lines.specs.declared.fault.Fault.TheVariants.{Order, Wrong, NotAbove, Twice, Stray}
-use Rattle.fdb_lines.specs.declared.line.Line.{Line}
 use Rattle.fdb_lines.specs.declared.opts.AuditOpts.{AuditOpts}
-use Rattle.fdb_lines.specs.declared.reason.Reason.TheVariants.{Known, Reported, Unreported}
+use Rattle.fdb_lines.specs.declared.reason.Reason.TheVariants.{Known, Reported}
 use Rattle.fdb_lines.specs.declared.reason.Witness.{Witness}
 use Rattle.fdb_lines.specs.declared.seen.Seen.{Seen}
 use Rattle.fdb_lines.specs.declared.seen.Seen.TheVariants.{Shown, Drawn}
 use Rattle.fdb_lines.specs.declared.sort.Sort.TheVariants.{Raises, Owned, Nameless}
 use Rattle.fdb_lines.specs.Audit.{case_of, start_of}
 use Rattle.fdb_lines.specs.Before.{comes_before}
-use Rattle.fdb_lines.specs.Faults.{greatest_of, is_drawn, is_own, is_raised, knows, some_below, last, stands}
-use Rattle.fdb_lines.specs.Lines.{Case, Kind, Read, Commit, Ask, Report, Learn, Lines, client_at, draws, is_ask, is_commit, kind_at, reports, same_client, shows, version_at}
-use Rattle.fdb_lines.specs.Reasons.{IsFirst, IsKnown, knew_by, IsReason, draws_again, draws_it, reports_it, shows_or_draws}
+use Rattle.fdb_lines.specs.Faults.{is_drawn, is_own, is_raised, knows, some_below, last, stands}
+use Rattle.fdb_lines.specs.Lines.{Case, Lines, client_at, is_ask, is_commit, kind_at, reports, shows, version_at}
+use Rattle.fdb_lines.specs.Reasons.{IsFirst, IsKnown, IsReason, draws_again, draws_it, reports_it, shows_or_draws}
 use Rattle.fdb_lines.specs.private.Entries.{other, IsFirstFrom}
-use Rattle.fdb_lines.specs.private.Known.{by_at, counts_at, newest_known, of_version, tells, version_by, version_in}
+use Rattle.fdb_lines.specs.private.Known.{by_at, counts_at, newest_known, of_version, version_by, version_in}
 use Rattle.fdb_lines.specs.private.Marks.{is_marked_at, knows_at, name}
 use Rattle.fdb_lines.specs.private.Tables.{drawn_by, AreKnownIn, IsAnswer, IsFoundIn}
 use Rattle.fdb_lines.proofs.Entries.{first_is, first_same}

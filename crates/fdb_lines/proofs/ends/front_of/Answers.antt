@@ -10,4 +10,5 @@ returns-clause-parts c =
     let ends = c.args.ends.now in
     let moment = end_key c.args.moment.now in
     front_is end_key no_end ends moment c.partition_point.result
-    (IsPartitionPoint-from_clause (λ (end : End). nat_lt (end_key end) moment) _ _ c.partition_point.ensures.partitioned (IsPartitionedBy-ltb end_key ends moment c.requires) (λ a r q k. search rules))
+    (IsPartitionPoint-from_clause (λ (end : End). nat_lt (end_key end) moment) _ _ c.partition_point.ensures.partitioned
+    (IsPartitionedBy-ltb end_key ends moment c.requires) (λ a r q k. search rules))

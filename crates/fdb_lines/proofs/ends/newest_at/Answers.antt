@@ -1,6 +1,5 @@
-use Rattle.std.proofs.Common.{◌-◌, ap, sym, ◌∙◌, inl, inr, arith}
+use Rattle.std.proofs.Common.{◌-◌, inl, inr, arith}
 use Rattle.std.proofs.lemmas.List.{get_or_default}
-use Rattle.fdb_lines.specs.declared.end.End.{End}
 use Rattle.fdb_lines.specs.private.Ends.{no_end}
 use Rattle.fdb_lines.proofs.Newest.{first_of_group}
 use Rattle.fdb_lines.proofs.ends.newest_at.Goals as goal

@@ -1,4 +1,3 @@
-use Rattle.std.proofs.Common.{true}
 use Rattle.std.proofs.lemmas.List.{map-append}
 use Rattle.std.proofs.lemmas.List.Elements.{All-push}
 use Rattle.fdb_lines.specs.Log.{lines_of}

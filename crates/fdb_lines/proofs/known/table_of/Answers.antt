@@ -1,10 +1,9 @@
-use Rattle.std.proofs.Common.{◌≡◌, ◌+◌, ◌≤◌, ◌++◌, ◌∷◌, [], List, Option, Some, None, length, option_to_list, ap, ◌∙◌, arith, append-nil, length-append}
+use Rattle.std.proofs.Common.{◌≡◌, ◌+◌, ◌≤◌, ◌++◌, ◌∷◌, [], List, Option, Some, None, length, option_to_list, ◌∙◌, arith, append-nil, length-append}
 use Rattle.std.proofs.lemmas.List.{get_or_default}
 use Rattle.std.proofs.lemmas.Result.{IfOk-weaker}
 use Rattle.fdb_lines.specs.declared.end.End.{End}
 use Rattle.fdb_lines.specs.Lines.{nobody, line_at}
-use Rattle.fdb_lines.specs.private.Ends.{comes_by}
-use Rattle.fdb_lines.specs.private.Known.{stands_in, version_in, AreEnds, IsEndOf}
+use Rattle.fdb_lines.specs.private.Known.{AreEnds, IsEndOf}
 use Rattle.fdb_lines.proofs.Entries.{more, moved}
 use Rattle.fdb_lines.proofs.known.table_of.Goals as goal
 use Rattle.fdb_lines.proofs.known.table_of.Goals.{in-Some+in_ok-push, in_default}

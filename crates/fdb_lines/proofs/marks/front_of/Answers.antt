@@ -10,4 +10,5 @@ returns-clause-parts c =
     let marks = c.args.marks.now in
     let key = mark_key c.args.mark.now in
     front_is mark_key no_mark marks key c.partition_point.result
-    (IsPartitionPoint-from_clause (λ (m : Mark). nat_lt (mark_key m) key) _ _ c.partition_point.ensures.partitioned (IsPartitionedBy-ltb mark_key marks key c.requires) (λ a r q k. search rules))
+    (IsPartitionPoint-from_clause (λ (m : Mark). nat_lt (mark_key m) key) _ _ c.partition_point.ensures.partitioned
+    (IsPartitionedBy-ltb mark_key marks key c.requires) (λ a r q k. search rules))

@@ -1,8 +1,5 @@
-use Rattle.std.proofs.Common.{subst}
 use Rattle.std.proofs.lemmas.Result.{IfOk-weaker}
-use Rattle.fdb_lines.specs.Before.{by_telling, comes_before}
 use Rattle.fdb_lines.specs.Log.{lines_of}
-use Rattle.fdb_lines.specs.private.Known.{AreKnown}
 use Rattle.fdb_lines.specs.private.Tables.{AreKnownIn}
 use Rattle.fdb_lines.proofs.tables.known.Goals as goal
 

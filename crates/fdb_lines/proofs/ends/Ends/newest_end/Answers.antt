@@ -1,7 +1,6 @@
-use Rattle.std.proofs.Common.{◌≡◌, ◌-◌, ◌<◌, ◌≤◌, ℕ, List, length, get_or, ap, sym, ◌∙◌, inl, inr, arith}
+use Rattle.std.proofs.Common.{◌-◌, ◌<◌, length, get_or, ◌∙◌, inl, inr, arith}
 use Rattle.std.proofs.lemmas.List.{get_or_default, get_or_read}
-use Rattle.fdb_lines.specs.declared.end.End.{End}
-use Rattle.fdb_lines.specs.private.Ends.{end_at, no_end}
+use Rattle.fdb_lines.specs.private.Ends.{no_end}
 use Rattle.fdb_lines.proofs.Newest.{found, not_found}
 use Rattle.fdb_lines.proofs.ends.Ends.newest_end.Goals as goal
 use Rattle.fdb_lines.proofs.ends.Ends.newest_end.Goals.{else-front-gt0-via-then-front-gt0+else-index-group, else-front-gt0-via-else-front-gt0}
@@ -17,7 +16,8 @@ returns-then-index-group c =
     let inside : front - 1 < length newest = omega arith in
     rw (get_or_read newest (front - 1) c.index-then-index-group.result.now inside c.index-then-index-group.ensures 0)
     (found c.args.self.now.ends.items c.args.group c.args.time c.args.place front (get_or newest (front - 1) 0) c.ranges.place.fits bound parts some
-    (rw (c.index.ensures ∙ get_or_default c.args.self.now.ends.items (front - 1) c.index.result.now no_end (omega arith)) at c.if-index-group.true) (c.requires.1.1 (front - 1) inside))
+    (rw (c.index.ensures ∙ get_or_default c.args.self.now.ends.items (front - 1) c.index.result.now no_end (omega arith)) at c.if-index-group.true)
+    (c.requires.1.1 (front - 1) inside))
 
 pub returns-else-front-gt0 : goal.returns-else-front-gt0
 returns-else-front-gt0 c =

@@ -3,7 +3,7 @@ use Rattle.std.proofs.lemmas.List.{get_or_default}
 use Rattle.std.proofs.lemmas.List.Sorted.{IsNonDecreasingBy-from_sort_by}
 use Rattle.fdb_lines.specs.declared.mark.Mark.{Mark}
 use Rattle.fdb_lines.specs.Lines.{nobody, line_at}
-use Rattle.fdb_lines.specs.private.Marks.{is_marked_at, is_named, mark_key, AreMarks, IsMarkOf}
+use Rattle.fdb_lines.specs.private.Marks.{mark_key, AreMarks, IsMarkOf}
 use Rattle.fdb_lines.proofs.Entries.{more, moved}
 use Rattle.fdb_lines.proofs.marks.Marks.new.Goals as goal
 use Rattle.fdb_lines.proofs.marks.Marks.new.Goals.{in-Some+in_ok-push, in_default}
