@@ -1,15 +1,15 @@
 -- Tables of lines grow by a line, may be moved, and have what is looked for.
-use Rattle.std.proofs.Common.{◌≡◌, ◌≢◌, ℕ, zero, suc, ◌+◌, ◌<◌, ◌==◌, Bool, true, ◌||◌, List, [], ◌∷◌, ◌++◌, length, get_or, option_to_list, Option, None, Some, is_some, refl, ap, sym, subst, ◌∙◌, inl, inr, arith, append-nil}
-use Rattle.std.specs.List.{list_any, All}
-use Rattle.std.specs.List.Sorted.{IsPermutation}
-use Rattle.std.proofs.lemmas.Bool.{cases_lt, both_ways, or_left, or_right, eq-eqb, eqb-true, false_from_ne_true}
+use Rattle.std.proofs.Common.{◌≡◌, ℕ, ◌+◌, ◌<◌, ◌==◌, nat_lt, zero-le, Bool, true, false, List, [], ◌∷◌, ◌++◌, length, get_or, option_to_list, option_map, Option, None, Some, is_some, ap, sym, subst, ◌∙◌, arith, append-nil}
+use Rattle.std.specs.List.{All}
+use Rattle.std.specs.List.Sorted.{IsPartitionPoint, IsPermutation}
+use Rattle.std.proofs.lemmas.Bool.{both_ways, eqb-true, false_from_ne_true}
 use Rattle.std.proofs.lemmas.Bool.Decides.{nat_tests}
 use Rattle.std.proofs.lemmas.List.{get_or_default}
 use Rattle.std.proofs.lemmas.List.Elements.{All-get_or, All-push}
 use Rattle.std.proofs.lemmas.List.Folds.{Any-from_list_any, list_any-append}
 use Rattle.std.proofs.lemmas.List.Sorted.{All-permutation, list_any-IsPermutation}
 use Rattle.fdb_lines.specs.Faults.{some_below}
-use Rattle.fdb_lines.specs.private.Entries.{other, AreEntries, IsEntry, IsFirstFrom, IsNewest}
+use Rattle.fdb_lines.specs.private.Entries.{other, AreEntries, IsEntry, IsFirstFrom, IsFrontBy, IsNewest}
 use Rattle.fdb_lines.proofs.Numbers.{some_at, some_find}
 
 abbrev Is : {X Q : Type 0} → (X → ℕ) → (X → ℕ) → (Q → X → Bool) → (ℕ → ℕ) → (Q → ℕ → Bool) → ℕ → X → Type 0
@@ -25,33 +25,26 @@ moved place number answers f test n xs ys same are = record {
   all = λ q j lt is. sym (list_any-IsPermutation (λ x. place x == j) xs ys same) ∙ are.all q j lt is;
 }
 
+further : {X Q : Type 0} (place number : X → ℕ) (answers : Q → X → Bool) (f : ℕ → ℕ) (test : Q → ℕ → Bool) (n : ℕ) (xs : List X)
+    → All (Is place number answers f test n) xs → All (Is place number answers f test (n + 1)) xs
+further place number answers f test n xs are i d lt = let x = are i d lt in let below = x.0 in (omega arith, x.1, x.2)
+
 -- line by line
 pub more : {X Q : Type 0} (place number : X → ℕ) (answers : Q → X → Bool) (f : ℕ → ℕ) (test : Q → ℕ → Bool) (n : ℕ) (xs : List X) (o : Option X)
     → AreEntries place number answers f test n xs → IsEntry place number answers n (f n) (λ q. test q n) o
     → AreEntries place number answers f test (n + 1) (xs ++ option_to_list o)
-more {X = X} {Q = Q} place number answers f test n xs o are is = by o is
-  where
-    further : All (Is place number answers f test (n + 1)) xs
-    further i d lt = let x = are.of i d lt in let below = x.0 in (omega arith, x.1, x.2)
-
-    by : (o : Option X) → IsEntry place number answers n (f n) (λ q. test q n) o → AreEntries place number answers f test (n + 1) (xs ++ option_to_list o)
-    by None none = subst (AreEntries place number answers f test (n + 1)) (sym (append-nil xs)) (record {
-      of = further;
-      all = λ q j lt passes. elim (cases_lt j n) [
-        | inl less ↦ are.all q j less passes
-        | inr ge ↦ let same : j ≡ n = omega arith in absurd (both_ways (test q n) (none q) (subst (λ i. test q i ≡ true) same passes))
-      ];
+more place number answers f test n xs None are none =
+    subst (AreEntries place number answers f test (n + 1)) (sym (append-nil xs)) (record {
+      of = further place number answers f test n xs are.of;
+      all = λ q j lt passes. let old = are.all q j in let no = none q in let same = λ (e : j ≡ n). ap (test q) e in grind arith;
     })
-    by (Some x) one =
-        let at = one.0 in
-        record {
-          of = All-push (Is place number answers f test (n + 1)) xs x further
-              (omega arith, one.1 ∙ ap f (sym at), λ q. one.2 q ∙ ap (test q) (sym at));
-          all = λ q j lt passes. list_any-append (λ y. place y == j) xs (x ∷ []) ∙ elim (cases_lt j n) [
-            | inl less ↦ or_left (list_any (λ y. place y == j) xs) _ (are.all q j less passes)
-            | inr ge ↦ or_right (list_any (λ y. place y == j) xs) _ (or_left (place x == j) _ (eq-eqb (place x) j (omega arith)))
-          ];
-        }
+more place number answers f test n xs (Some x) are one =
+    let at = one.0 in
+    record {
+      of = All-push (Is place number answers f test (n + 1)) xs x (further place number answers f test n xs are.of)
+          (omega arith, one.1 ∙ ap f (sym at), λ q. one.2 q ∙ ap (test q) (sym at));
+      all = λ q j lt passes. let joined = list_any-append (λ y. place y == j) xs (x ∷ []) in let old = are.all q j in grind (arith, nat_tests);
+    }
 
 -- ---- what stands in them
 
@@ -72,9 +65,12 @@ entry_for place number answers f test n xs d are q j lt passes =
 
 -- the newest entry is of the newest line
 pub newest_line : {X Q : Type 0} (place number : X → ℕ) (answers : Q → X → Bool) (f : ℕ → ℕ) (test : Q → ℕ → Bool) (n : ℕ) (xs : List X) (d : X)
-    → AreEntries place number answers f test n xs → (q : Q) (i : ℕ)
-    → IsNewest (λ k. answers q (get_or xs k d)) (λ k. number (get_or xs k d)) (length xs) (Some i) → IsNewest (test q) f n (Some (place (get_or xs i d)))
-newest_line place number answers f test n xs d are q i found =
+    → AreEntries place number answers f test n xs → (q : Q) (o : Option ℕ)
+    → IsNewest (λ k. answers q (get_or xs k d)) (λ k. number (get_or xs k d)) (length xs) o → IsNewest (test q) f n (option_map (λ i. place (get_or xs i d)) o)
+newest_line place number answers f test n xs d are q None none = λ j lt. false_from_ne_true (test q j) (λ passes.
+    let own = entry_for place number answers f test n xs d are q j lt passes in
+    both_ways _ (none own.0 own.1) own.3)
+newest_line place number answers f test n xs d are q (Some i) found =
     let is = entry place number answers f test n xs d are i found.0 in (
       is.0,
       sym (is.2 q) ∙ found.1,
@@ -86,13 +82,11 @@ newest_line place number answers f test n xs d are q i found =
           omega arith,
     )
 
-pub no_line : {X Q : Type 0} (place number : X → ℕ) (answers : Q → X → Bool) (f : ℕ → ℕ) (test : Q → ℕ → Bool) (n : ℕ) (xs : List X) (d : X)
-    → AreEntries place number answers f test n xs → (q : Q)
-    → IsNewest (λ k. answers q (get_or xs k d)) (λ k. number (get_or xs k d)) (length xs) None → IsNewest (test q) f n None
-no_line place number answers f test n xs d are q none j lt =
-    false_from_ne_true (test q j) (λ passes.
-    let own = entry_for place number answers f test n xs d are q j lt passes in
-    both_ways _ (none own.0 own.1) own.3)
+-- where the keys below one end
+pub front_is : {X : Type 0} (key : X → ℕ) (d : X) (xs : List X) (moment front : ℕ)
+    → IsPartitionPoint (λ x. nat_lt (key x) moment ≡ true) (λ x. nat_lt (key x) moment ≡ false) xs front → IsFrontBy key d xs moment front
+front_is key d xs moment front point =
+    (λ i below. let less = point.0 i d zero-le below in grind (arith, nat_tests), λ i above lt. let no_less = point.1 i d above lt in grind (arith, nat_tests))
 
 -- ---- the first that passes a test
 

@@ -1,26 +1,20 @@
 -- What clients have heard of, line by line.
-use Rattle.std.proofs.Common.{◌≡◌, ℕ, suc, ◌<◌, ◌==◌, Bool, true, false, cond, ◌&&◌, ◌||◌, List, length, Option, None, Some, refl, ap, sym, subst, ◌∙◌, inl, inr, arith}
+use Rattle.std.proofs.Common.{◌≡◌, ℕ, suc, ◌<◌, ◌==◌, Bool, true, false, cond, ◌&&◌, ◌||◌, List, length, Option, None, Some, refl, ap, sym, ◌∙◌, inl, inr, arith}
 use Rattle.std.proofs.lemmas.Bool.Decides.{nat_tests}
-use Rattle.std.proofs.lemmas.Bool.{cases_Bool, and_parts, and_from, both_ways, cond-true, cond-false, eq-eqb, eqb-true}
-use Rattle.fdb_lines.specs.declared.line.Call.{Call}
+use Rattle.std.proofs.lemmas.Bool.{cases_Bool, and_parts, cond-true, cond-false}
 use Rattle.fdb_lines.specs.declared.line.Line.{Line}
 use Rattle.fdb_lines.specs.declared.reason.Means.{Means}
-use Rattle.fdb_lines.specs.declared.reason.Means.TheVariants.{Ended, Own, Learnt}
+use Rattle.fdb_lines.specs.declared.reason.Means.TheVariants.{Own}
 use Rattle.fdb_lines.specs.declared.reason.Witness.{Witness}
 use Rattle.fdb_lines.specs.declared.seen.Seen.{Seen}
-use Rattle.fdb_lines.specs.declared.seen.Seen.TheVariants.{Shown, Drawn}
 use Rattle.fdb_lines.specs.Before.{is_of, has_heard, one_client, by_telling}
 use Rattle.fdb_lines.specs.Before.{heard_by as heard_at}
-use Rattle.fdb_lines.specs.Lines.{Kind, Read, Commit, Ask, Report, Learn, line_at, kind_of, is_learn, teller_of}
+use Rattle.fdb_lines.specs.Lines.{line_at, kind_of, is_learn, teller_of}
 use Rattle.fdb_lines.specs.Reasons.{IsMeans}
 use Rattle.fdb_lines.specs.private.Known.{counts_at, newer, version_in, lets_know, IsKnownBy, KnowsOf}
 use Rattle.fdb_lines.specs.private.Seen.{counts}
 use Rattle.fdb_lines.specs.private.Telling.{gained, heard_by, learnt_by, IsHeard, IsHeardAs}
 use Rattle.fdb_lines.proofs.Knowing.{as_well, newer_is}
-use Rattle.fdb_lines.proofs.Tests.{only_left, share}
-
-learns_nothing : (seen : Seen) (kind : Kind) → is_learn kind ≡ true → counts seen kind ≡ false
-learns_nothing seen kind e = grind (arith, nat_tests)
 
 -- what was heard of by the lines above is heard of by one line more
 stays : (lines : List Line) (k a j : ℕ) (means : Means) → IsHeardAs lines k a j means → IsHeardAs lines (suc k) a j means
@@ -38,47 +32,39 @@ abbrev new : Seen → List Line → ℕ → ℕ → Bool
 new seen lines k j =
     (k == j || (is_learn (kind_of (line_at lines k).call) && has_heard lines k (teller_of (line_at lines k).call) j)) && counts_at seen lines j
 
+-- a line that learns lets hear of what its teller has heard of
+learns_new : (seen : Seen) (lines : List Line) (k j : ℕ) → is_learn (kind_of (line_at lines k).call) ≡ true
+    → (has_heard lines k (teller_of (line_at lines k).call) j && counts_at seen lines j) ≡ new seen lines k j
+learns_new seen lines k j does =
+    let own = λ (e : k ≡ j). ap (counts_at seen lines) e in
+    grind (arith, nat_tests)
+
 learnt_is : (seen : Seen) (lines : List Line) (k a : ℕ) (o : Option Witness) → is_of a (line_at lines k).client ≡ true → is_learn (kind_of (line_at lines k).call) ≡ true
     → IsHeard seen lines k (teller_of (line_at lines k).call) o → IsKnownBy (new seen lines k) (IsOf lines (suc k) a) lines (learnt_by k o)
-learnt_is seen lines k a o of does is = by o is
-  where
-    call : Call
-    call = (line_at lines k).call
-
-    same : (j : ℕ) → (has_heard lines k (teller_of call) j && counts_at seen lines j) ≡ new seen lines k j
-    same j = let silent = learns_nothing seen (kind_of call) does in let own = λ (e : k ≡ j). ap (counts_at seen lines) e in grind (arith, nat_tests)
-
-    by : (o : Option Witness) → IsHeard seen lines k (teller_of call) o → IsKnownBy (new seen lines k) (IsOf lines (suc k) a) lines (learnt_by k o)
-    by None none = λ j lt. sym (same j) ∙ none j lt
-    by (Some w) h = (
-      h.0,
-      sym (same w.line) ∙ h.1,
-      (omega arith, of_one a (line_at lines k).client of, does, (and_parts (has_heard lines k (teller_of call) w.line) _ h.1).0),
-      λ j lt passes. h.3 j lt (same j ∙ passes),
-    )
+learnt_is seen lines k a None of does none = λ j lt. sym (learns_new seen lines k j does) ∙ none j lt
+learnt_is seen lines k a (Some w) of does h = (
+  h.0,
+  sym (learns_new seen lines k w.line does) ∙ h.1,
+  (omega arith, of_one a (line_at lines k).client of, does, (and_parts (has_heard lines k (teller_of (line_at lines k).call) w.line) _ h.1).0),
+  λ j lt passes. h.3 j lt (learns_new seen lines k j does ∙ passes),
+)
 
 -- what a line lets its client hear of
 gained_is : (seen : Seen) (lines : List Line) (newest : ℕ → Option Witness) (k a : ℕ) → k < length lines → is_of a (line_at lines k).client ≡ true
     → ((p : ℕ) → IsHeard seen lines k p (newest p)) → IsKnownBy (new seen lines k) (IsOf lines (suc k) a) lines (gained seen newest k (line_at lines k).call)
-gained_is seen lines newest k a lt of are = by (is_learn (kind_of call)) (counts seen (kind_of call)) refl refl
+gained_is seen lines newest k a lt of are = by (is_learn (kind_of (line_at lines k).call)) (counts seen (kind_of (line_at lines k).call)) refl refl
   where
-    call : Call
-    call = (line_at lines k).call
-
-    same : is_learn (kind_of call) ≡ false → (j : ℕ) → ((k == j) && counts_at seen lines j) ≡ new seen lines k j
-    same does_not j = grind arith
-
-    by : (learns counted : Bool) → is_learn (kind_of call) ≡ learns → counts seen (kind_of call) ≡ counted
+    by : (learns counted : Bool) → is_learn (kind_of (line_at lines k).call) ≡ learns → counts seen (kind_of (line_at lines k).call) ≡ counted
         → IsKnownBy (new seen lines k) (IsOf lines (suc k) a) lines
-        (cond learns (learnt_by k (newest (teller_of call))) (cond counted (Some (record { line = k; means = Own })) None))
-    by true counted does is = learnt_is seen lines k a (newest (teller_of call)) of does (are (teller_of call))
+        (cond learns (learnt_by k (newest (teller_of (line_at lines k).call))) (cond counted (Some (record { line = k; means = Own })) None))
+    by true counted does is = learnt_is seen lines k a (newest (teller_of (line_at lines k).call)) of does (are (teller_of (line_at lines k).call))
     by false true does_not is = (
       lt,
-      sym (same does_not k) ∙ and_from (k == k) _ (eq-eqb k k refl) is,
+      grind (arith, nat_tests),
       of_one a (line_at lines k).client of,
-      λ j l passes. let e = ap (version_in lines) (eqb-true k j (and_parts (k == j) _ (same does_not j ∙ passes)).0) in omega arith,
+      λ j l passes. let same = λ (e : k ≡ j). ap (version_in lines) e in grind (arith, nat_tests),
     )
-    by false false does_not is = λ j l. sym (same does_not j) ∙ (let own = λ (e : k ≡ j). ap (counts_at seen lines) e in grind (arith, nat_tests))
+    by false false does_not is = λ j l. let own = λ (e : k ≡ j). ap (counts_at seen lines) e in grind (arith, nat_tests)
 
 -- what each client has heard of by one line more
 pub heard_more : (seen : Seen) (lines : List Line) (newest : ℕ → Option Witness) (k q : ℕ) → k < length lines → ((p : ℕ) → IsHeard seen lines k p (newest p))
@@ -87,23 +73,18 @@ pub heard_more : (seen : Seen) (lines : List Line) (newest : ℕ → Option Witn
 heard_more seen lines newest k q lt are =
     let own = is_of q (line_at lines k).client in
     let here = gained seen newest k (line_at lines k).call in
-    let more = newer lines (newest q) here in
     let old : ℕ → Bool = λ j. has_heard lines k q j && counts_at seen lines j in
     let after : ℕ → Bool = λ j. has_heard lines (suc k) q j && counts_at seen lines j in
-    let learnt : ℕ → Bool = λ j. k == j || (is_learn (kind_of (line_at lines k).call) && has_heard lines k (teller_of (line_at lines k).call) j) in
     let still : IsKnownBy old (IsOf lines (suc k) q) lines (newest q) =
     as_well old old (IsOf lines k q) (IsOf lines (suc k) q) lines (newest q) (λ j l. refl) (λ by h. stays lines k q by.line by.means h) (are q) in
     elim (cases_Bool own) [
       | inl does ↦
-          subst (IsHeard seen lines (suc k) q) (sym (cond-true own more (newest q) does))
-          (as_well (λ j. old j || new seen lines k j) after (IsOf lines (suc k) q) (IsOf lines (suc k) q) lines more
-          (λ j l. sym (ap (λ b. (has_heard lines k q j || (b && learnt j)) && counts_at seen lines j) does ∙ share (has_heard lines k q j) (learnt j) (counts_at seen lines j))) (λ by h. h)
+          rw (cond-true own (newer lines (newest q) here) (newest q) does)
+          (as_well (λ j. old j || new seen lines k j) after (IsOf lines (suc k) q) (IsOf lines (suc k) q) lines (newer lines (newest q) here) (λ j l. grind arith) (λ by h. h)
           (newer_is old (new seen lines k) (IsOf lines (suc k) q) lines (newest q) here still (gained_is seen lines newest k q lt does are)))
       | inr does_not ↦
-          subst (IsHeard seen lines (suc k) q) (sym (cond-false own more (newest q) does_not))
-          (as_well old after (IsOf lines (suc k) q) (IsOf lines (suc k) q) lines (newest q)
-          (λ j l. sym (ap (λ b. (has_heard lines k q j || (b && learnt j)) && counts_at seen lines j) does_not ∙ ap (λ b. b && counts_at seen lines j) (only_left (has_heard lines k q j)))) (λ by h. h)
-          still)
+          rw (cond-false own (newer lines (newest q) here) (newest q) does_not)
+          (as_well old after (IsOf lines (suc k) q) (IsOf lines (suc k) q) lines (newest q) (λ j l. grind arith) (λ by h. h) still)
     ]
 
 -- ---- what a call knows by what its client has heard of

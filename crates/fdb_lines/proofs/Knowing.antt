@@ -1,5 +1,5 @@
 -- What a call knows: the newest of lines that pass a test, or one of two.
-use Rattle.std.proofs.Common.{◌≡◌, ℕ, ◌+◌, ◌-◌, ◌<◌, ◌≤◌, ◌==◌, nat_lt, Bool, true, false, cond, ◌&&◌, ◌||◌, List, [], ◌∷◌, ◌++◌, length, Option, None, Some, refl, ap, sym, subst, ◌∙◌, inl, inr, arith, length-append}
+use Rattle.std.proofs.Common.{◌≡◌, ℕ, ◌+◌, ◌-◌, ◌<◌, ◌≤◌, ◌==◌, nat_lt, Bool, true, false, cond, ◌&&◌, ◌||◌, List, [], ◌∷◌, ◌++◌, length, Option, None, Some, refl, ap, sym, ◌∙◌, inl, inr, arith, length-append}
 use Rattle.std.proofs.lemmas.Bool.Decides.{nat_tests}
 use Rattle.std.proofs.lemmas.Bool.{cases_lt, both_ways, and_parts}
 use Rattle.std.proofs.lemmas.List.{get_or_append_left, get_or_push}
@@ -14,7 +14,7 @@ use Rattle.fdb_lines.specs.Lines.{line_at}
 use Rattle.fdb_lines.specs.Reasons.{IsMeans}
 use Rattle.fdb_lines.specs.private.Ends.{is_earlier}
 use Rattle.fdb_lines.specs.private.Entries.{IsNewest}
-use Rattle.fdb_lines.specs.private.Known.{by_at, counts_at, had_ended, newer, newest_known, of_all, of_own, of_version, version_by, version_in, witness, lets_know, AreKnownOf, IsFound, IsKnownBy, KnowsOf}
+use Rattle.fdb_lines.specs.private.Known.{counts_at, had_ended, newer, newest_known, of_all, of_own, of_version, version_by, version_in, witness, lets_know, AreKnownOf, IsFound, IsKnownBy, KnowsOf}
 use Rattle.fdb_lines.proofs.Numbers.{greatest_bound, greatest_least}
 
 -- ---- in general
@@ -71,10 +71,10 @@ pub known_more : (test : ℕ → ℕ → Bool) (margin : ℕ) (lines : List Line
 known_more test margin lines n known by are is = (
   length-append known (by ∷ []) ∙ ap (λ m. m + 1) are.0,
   λ k lt. elim (cases_lt k n) [
-    | inl old ↦ let len = are.0 in subst (KnowsOf test margin lines k) (sym (get_or_append_left known (by ∷ []) None k (omega arith))) (are.1 k old)
+    | inl old ↦ let len = are.0 in rw (get_or_append_left known (by ∷ []) None k (omega arith)) (are.1 k old)
     | inr ge ↦
         let at : n ≡ k = omega arith in
-        subst (λ m. KnowsOf test margin lines m (by_at (known ++ by ∷ []) m)) at (subst (KnowsOf test margin lines n) (sym (get_or_push known by None n are.0)) is)
+        rw (← at, get_or_push known by None n are.0) is
   ],
 )
 
@@ -87,9 +87,6 @@ pub known_so : (test : ℕ → ℕ → Bool) (margin : ℕ) (lines : List Line) 
 known_so test margin lines k means None so none = none
 known_so test margin lines k means (Some j) so is = (is.0, is.1, so j is.1, is.2)
 
-pub no_client : (own client : Option ℕ) → client ≡ None → one_client own client ≡ false
-no_client own client none = grind arith
-
 pub ended_means : (margin : ℕ) (seen : Seen) (lines : List Line) (k j : ℕ) → of_all margin seen lines k j ≡ true → IsMeans margin lines j k Ended
 ended_means margin seen lines k j is = by (ended (line_at lines j)) refl (and_parts (counts_at seen lines j) _ is).1
   where
@@ -101,7 +98,7 @@ pub own_means : (margin : ℕ) (seen : Seen) (lines : List Line) (k j : ℕ) →
 own_means margin seen lines k j is = grind arith
 
 pub none_own : (seen : Seen) (lines : List Line) (k j : ℕ) → (line_at lines k).client ≡ None → of_own seen lines k j ≡ false
-none_own seen lines k j none = let nobody = no_client (line_at lines j).client (line_at lines k).client none in grind arith
+none_own seen lines k j none = grind arith
 
 -- what comes before by time stands in one of the tables
 by_two : (margin j k time end : ℕ) (counts same : Bool)
@@ -121,7 +118,6 @@ pub both_are : (margin : ℕ) (seen : Seen) (lines : List Line) (k : ℕ) (one o
     → KnowsOf (of_all margin seen lines) margin lines k one → KnowsOf (of_own seen lines) margin lines k other
     → KnowsOf (lets_know (by_time margin lines) seen lines) margin lines k (newer lines one other)
 both_are margin seen lines k one other is too =
-    let Is : Witness → Type 0 = λ (by : Witness). IsMeans margin lines by.line k by.means in
-    as_well (λ j. of_all margin seen lines k j || of_own seen lines k j) (lets_know (by_time margin lines) seen lines k) Is Is lines (newer lines one other)
+    as_well (λ j. of_all margin seen lines k j || of_own seen lines k j) (lets_know (by_time margin lines) seen lines k) _ _ lines (newer lines one other)
     (λ j lt. sym (before_is margin seen lines j k (ended (line_at lines j)))) (λ by h. h)
-    (newer_is (of_all margin seen lines k) (of_own seen lines k) Is lines one other is too)
+    (newer_is (of_all margin seen lines k) (of_own seen lines k) (λ by. IsMeans margin lines by.line k by.means) lines one other is too)

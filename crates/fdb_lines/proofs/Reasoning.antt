@@ -1,22 +1,20 @@
 -- What the tables of a log say, and why a fault stands.
-use Rattle.std.proofs.Common.{◌≡◌, ℕ, max, ◌-◌, ◌<◌, ◌≤◌, ◌==◌, nat_lt, Bool, true, false, ◌&&◌, ◌||◌, List, length, Option, None, Some, is_none, is_some, unwrap_or, refl, ap, sym, ◌∙◌, arith}
+use Rattle.std.proofs.Common.{◌≡◌, ℕ, max, ◌-◌, ◌<◌, ◌≤◌, ◌==◌, nat_lt, Bool, true, false, ◌&&◌, List, length, Option, None, Some, is_some, ap, sym, arith}
 use Rattle.std.proofs.lemmas.Bool.Decides.{nat_tests}
-use Rattle.std.proofs.lemmas.Bool.{or_left, or_right}
 use Rattle.fdb_lines.specs.declared.fault.Fault.TheVariants.{Order, Wrong, NotAbove, Twice, Stray}
-use Rattle.fdb_lines.specs.declared.line.Line.{Line}
 use Rattle.fdb_lines.specs.declared.opts.AuditOpts.{AuditOpts}
-use Rattle.fdb_lines.specs.declared.reason.Reason.TheVariants.{Known, Reported, Unreported}
+use Rattle.fdb_lines.specs.declared.reason.Reason.TheVariants.{Known, Reported}
 use Rattle.fdb_lines.specs.declared.reason.Witness.{Witness}
 use Rattle.fdb_lines.specs.declared.seen.Seen.{Seen}
 use Rattle.fdb_lines.specs.declared.seen.Seen.TheVariants.{Shown, Drawn}
 use Rattle.fdb_lines.specs.declared.sort.Sort.TheVariants.{Raises, Owned, Nameless}
 use Rattle.fdb_lines.specs.Audit.{case_of, start_of}
 use Rattle.fdb_lines.specs.Before.{comes_before}
-use Rattle.fdb_lines.specs.Faults.{greatest_of, is_drawn, is_own, is_raised, knows, some_below, last, stands}
-use Rattle.fdb_lines.specs.Lines.{Case, Kind, Read, Commit, Ask, Report, Learn, Lines, client_at, draws, is_ask, is_commit, kind_at, reports, same_client, shows, version_at}
-use Rattle.fdb_lines.specs.Reasons.{IsFirst, IsKnown, knew_by, IsReason, draws_again, draws_it, reports_it, shows_or_draws}
+use Rattle.fdb_lines.specs.Faults.{is_drawn, is_own, is_raised, knows, some_below, last, stands}
+use Rattle.fdb_lines.specs.Lines.{Case, Lines, client_at, is_ask, is_commit, kind_at, reports, shows, version_at}
+use Rattle.fdb_lines.specs.Reasons.{IsFirst, IsKnown, IsReason, draws_again, draws_it, reports_it, shows_or_draws}
 use Rattle.fdb_lines.specs.private.Entries.{other, IsFirstFrom}
-use Rattle.fdb_lines.specs.private.Known.{by_at, counts_at, newest_known, of_version, tells, version_by, version_in}
+use Rattle.fdb_lines.specs.private.Known.{by_at, counts_at, newest_known, of_version, version_by, version_in}
 use Rattle.fdb_lines.specs.private.Marks.{is_marked_at, knows_at, name}
 use Rattle.fdb_lines.specs.private.Tables.{drawn_by, AreKnownIn, IsAnswer, IsFoundIn}
 use Rattle.fdb_lines.proofs.Entries.{first_is, first_same}
@@ -64,18 +62,12 @@ nameless_is log opts shown k first whose = answered _ _ (length log.lines) first
 
 -- ---- drawn twice
 
--- what draws is either a commit or an ask
-drawn_as : (kind : Kind) → (draws kind ≡ (is_commit kind || is_ask kind)) × ((is_commit kind && is_ask kind) ≡ false)
-drawn_as kind = (grind arith, grind arith)
-
 -- beside a commit the asks of its version, and beside an ask what else draws it
 pub beside_a_commit : (c : Case) (k : ℕ) (first : Option ℕ) → is_commit (kind_at c k) ≡ true
     → IsFirstFrom (λ j. is_ask (kind_at c j) && version_at c j == version_at c k) 0 (length c.lines) first → IsFirstFrom (draws_again c k) 0 (length c.lines) first
 beside_a_commit c k first commit =
     first_same (λ j. is_ask (kind_at c j) && version_at c j == version_at c k) (draws_again c k) (length c.lines) first
     (λ j l.
-    let kind = drawn_as (kind_at c j) in
-    let own = drawn_as (kind_at c k) in
     let same = λ (e : j ≡ k). ap (λ i. is_ask (kind_at c i)) e in
     grind (arith, nat_tests))
 
@@ -90,40 +82,29 @@ abbrev before : Lines → AuditOpts → ℕ → ℕ → Bool
 before log opts = comes_before log.timed opts.margin log.lines
 
 -- a greatest that none has is 0
-unheld : (test : ℕ → Bool) (f : ℕ → ℕ) (n version : ℕ) → ((i : ℕ) → i < n → (test i && f i == version) ≡ false) → greatest_of test f n ≡ version → version ≡ 0
-unheld test f n version none is =
-    let most = greatest_least test f n (version - 1) (λ i l passes. let up = greatest_bound test f n i l passes in let other = none i l in grind (arith, nat_tests)) in
-    omega arith
-
-grouped : (b d e : Bool) → (b && (d && e)) ≡ false → ((b && d) && e) ≡ false
-grouped b d e h = grind arith
-
 untold : (log : Lines) (opts : AuditOpts) (seen : Seen) (k version : ℕ) → IsFoundIn log opts seen k version None → newest log opts seen k ≡ version → version ≡ 0
-untold log opts seen k version none =
-    unheld (λ j. before log opts j k && counts_at seen log.lines j) (version_in log.lines) (length log.lines) version
-    (λ j lt. grouped (before log opts j k) (counts_at seen log.lines j) (version_in log.lines j == version) (none j lt))
+untold log opts seen k version none is =
+    let test = λ (j : ℕ). before log opts j k && counts_at seen log.lines j in
+    let most = greatest_least test (version_in log.lines) (length log.lines) (version - 1) (λ i l passes.
+    let up = greatest_bound test (version_in log.lines) (length log.lines) i l passes in
+    let other = none i l in
+    grind (arith, nat_tests)) in
+    omega arith
 
 pub shown_is : (log : Lines) (opts : AuditOpts) (k version : ℕ) (by : Option Witness) → IsFoundIn log opts Shown k version by → version ≡ knows (case_of log opts) k
     → IsKnown log opts shows k version by
 shown_is log opts k version None none is = ((let zero = untold log opts Shown k version none in grind arith), none)
 shown_is log opts k version (Some by) found is = record { there = found.0; knew = found.1; means = found.2 }
 
--- what shows a version or draws it lets it be known
-either : (b s d e : Bool) → ((b && (s && e)) || (b && (d && e))) ≡ (b && ((s || d) && e))
-either b s d e = grind arith
-
-either_at : (log : Lines) (opts : AuditOpts) (k version j : ℕ) → (tells (before log opts) Shown log.lines k version j || tells (before log opts) Drawn log.lines k version j)
-    ≡ knew_by log opts shows_or_draws k version j
-either_at log opts k version j = either (before log opts j k) (counts_at Shown log.lines j) (counts_at Drawn log.lines j) (version_in log.lines j == version)
-
 pub by_drawn : (log : Lines) (opts : AuditOpts) (k version : ℕ) (by : Option Witness) → IsFoundIn log opts Shown k version None → IsFoundIn log opts Drawn k version by
     → version ≡ max (knows (case_of log opts) k) (last (case_of log opts) k) → IsKnown log opts shows_or_draws k version by
 by_drawn log opts k version None no_show no_draw is = (
   (let shown = untold log opts Shown k version no_show in let drawn = untold log opts Drawn k version no_draw in grind arith),
-  λ j lt. sym (either_at log opts k version j) ∙ (let a = no_show j lt in let b = no_draw j lt in grind arith),
+  λ j lt. let a = no_show j lt in let b = no_draw j lt in grind arith,
 )
 by_drawn log opts k version (Some by) no_show found is =
-    record { there = found.0; knew = sym (either_at log opts k version by.line) ∙ or_right _ _ found.1; means = found.2 }
+    let drawn = found.1 in
+    record { there = found.0; knew = grind arith; means = found.2 }
 
 -- ---- the reasons
 

@@ -25,5 +25,6 @@ front_of_all ends low high front moment first last sorted le lt first_is last_is
 
 pub returns-then-not-is_before-clause-parts : goal.returns-then-not-is_before-clause-parts
 returns-then-not-is_before-clause-parts c =
-    front_of_all c.args.ends.now c.saturating_sub-low.result c.saturating_add-high.result c.front_of.result (end_key c.args.moment.now) c.index-ends-low.result c.index-ends-high.result
-    c.requires (search rules) (search rules) c.index-ends-low.is c.index-ends-high.is (search rules) (search rules) (search rules) c.front_of.ensures.parts (search rules)
+    front_of_all c.args.ends.now c.saturating_sub-low.result c.saturating_add-high.result c.front_of.result (end_key c.args.moment.now)
+    c.index-ends-low.result c.index-ends-high.result c.requires
+    (search rules) (search rules) c.index-ends-low.is c.index-ends-high.is (search rules) (search rules) (search rules) c.front_of.ensures.parts (search rules)

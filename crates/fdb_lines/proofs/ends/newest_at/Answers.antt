@@ -1,6 +1,5 @@
-use Rattle.std.proofs.Common.{◌-◌, ap, sym, ◌∙◌, inl, inr, arith}
+use Rattle.std.proofs.Common.{◌-◌, inl, inr, arith}
 use Rattle.std.proofs.lemmas.List.{get_or_default}
-use Rattle.fdb_lines.specs.declared.end.End.{End}
 use Rattle.fdb_lines.specs.private.Ends.{no_end}
 use Rattle.fdb_lines.proofs.Newest.{first_of_group}
 use Rattle.fdb_lines.proofs.ends.newest_at.Goals as goal
@@ -14,8 +13,6 @@ returns-else-i-gt0 c =
     first_of_group ends c.requires.sorted i lt
     (elim c.else-i-gt0.branch [
       | else-i-gt0-via-then-i-gt0+else-ends-i w ↦
-          inr (λ same. w.if-ends-i.false
-          (ap (λ (e : End). e.group) (get_or_default ends (i - 1) w.index-ends-i.result no_end (omega arith))
-          ∙ (same ∙ sym (ap (λ (e : End). e.group) (get_or_default ends i w.index-ends-i-then-i-gt0.result no_end lt)))))
+          inr (rw (get_or_default ends (i - 1) w.index-ends-i.result no_end (omega arith), get_or_default ends i w.index-ends-i-then-i-gt0.result no_end lt) at w.if-ends-i.false)
       | else-i-gt0-via-else-i-gt0 w ↦ let none = w.if-i-gt0.false in inl (omega arith)
     ])

@@ -1,6 +1,3 @@
-use Rattle.std.proofs.Common.{◌≡◌, max}
-use Rattle.fdb_lines.specs.Audit.{case_of}
-use Rattle.fdb_lines.specs.Faults.{knows, last}
 use Rattle.fdb_lines.specs.Log.{lines_of}
 use Rattle.fdb_lines.proofs.Reasoning.{by_drawn, not_above_is}
 use Rattle.fdb_lines.proofs.reasons.of_not_above.Goals as goal

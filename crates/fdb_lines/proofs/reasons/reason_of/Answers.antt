@@ -1,4 +1,3 @@
-use Rattle.std.proofs.Common.{sym}
 use Rattle.fdb_lines.specs.Log.{lines_of}
 use Rattle.fdb_lines.proofs.Reasoning.{stray_is, twice_is}
 use Rattle.fdb_lines.proofs.reasons.reason_of.Goals as goal
@@ -6,9 +5,11 @@ use Rattle.fdb_lines.proofs.reasons.reason_of.Goals as goal
 pub returns-in-Twice : goal.returns-in-Twice
 returns-in-Twice c =
     let is = c.in-Twice.is in
-    rw (is, c.drawn_by.ensures) (twice_is (lines_of c.args.log.now) c.args.opts.now c.args.place c.drawn_again.result (rw is at c.if-not-stands.ensures) c.drawn_again.ensures)
+    rw (is, c.drawn_by.ensures)
+    (twice_is (lines_of c.args.log.now) c.args.opts.now c.args.place c.drawn_again.result (rw is at c.if-not-stands.ensures) c.drawn_again.ensures)
 
 pub returns-in-Stray : goal.returns-in-Stray
 returns-in-Stray c =
     let is = c.in-Stray.is in
-    rw (is, c.drawn_by-in-Stray.ensures) (stray_is (lines_of c.args.log.now) c.args.opts.now c.args.place c.first_draw.result (rw is at c.if-not-stands.ensures) c.first_draw.ensures)
+    rw (is, c.drawn_by-in-Stray.ensures)
+    (stray_is (lines_of c.args.log.now) c.args.opts.now c.args.place c.first_draw.result (rw is at c.if-not-stands.ensures) c.first_draw.ensures)

@@ -1,17 +1,10 @@
-use Rattle.std.proofs.Common.{subst}
 use Rattle.std.proofs.lemmas.Result.{IfOk-weaker}
-use Rattle.fdb_lines.specs.Before.{by_telling, comes_before}
 use Rattle.fdb_lines.specs.Log.{lines_of}
-use Rattle.fdb_lines.specs.private.Known.{AreKnown}
 use Rattle.fdb_lines.specs.private.Tables.{AreKnownIn}
 use Rattle.fdb_lines.proofs.tables.known.Goals as goal
 
 pub returns-else-is_timed : goal.returns-else-is_timed
 returns-else-is_timed c =
     let log = lines_of c.args.log.now in
-    let margin = c.args.opts.now.margin in
-    let seen = c.args.seen in
-    IfOk-weaker c.known_by_telling.result _ (λ known. AreKnownIn log c.args.opts.now seen known.items)
-    (λ known are. subst (λ b. AreKnown (comes_before b margin log.lines) margin seen log.lines known.items) c.if-is_timed.ensures
-    (subst (λ l. AreKnown (by_telling l) margin seen l known.items) c.lines-else-is_timed.ensures (are margin)))
-    c.known_by_telling.ensures
+    IfOk-weaker c.known_by_telling.result _ (λ known. AreKnownIn log c.args.opts.now c.args.seen known.items)
+    (λ known are. rw (← c.if-is_timed.ensures) (rw c.lines-else-is_timed.ensures at (are c.args.opts.now.margin))) c.known_by_telling.ensures

@@ -1,14 +1,9 @@
-use Rattle.std.proofs.Common.{◌≡◌, ◌-◌, ◌<◌, ◌≤◌, ℕ, List, length, get_or, ap, sym, ◌∙◌, inl, inr, arith}
+use Rattle.std.proofs.Common.{◌-◌, ◌<◌, length, get_or, ◌∙◌, inl, inr, arith}
 use Rattle.std.proofs.lemmas.List.{get_or_default, get_or_read}
-use Rattle.fdb_lines.specs.declared.end.End.{End}
-use Rattle.fdb_lines.specs.private.Ends.{end_at, no_end}
+use Rattle.fdb_lines.specs.private.Ends.{no_end}
 use Rattle.fdb_lines.proofs.Newest.{found, not_found}
 use Rattle.fdb_lines.proofs.ends.Ends.newest_end.Goals as goal
 use Rattle.fdb_lines.proofs.ends.Ends.newest_end.Goals.{else-front-gt0-via-then-front-gt0+else-index-group, else-front-gt0-via-else-front-gt0}
-
--- the group of the last one in front, read at any default
-last_group : (ends : List End) (front : ℕ) (end : End) → 0 < front → front ≤ length ends → end ≡ get_or ends (front - 1) end → (end_at ends (front - 1)).group ≡ end.group
-last_group ends front end some le is = ap (λ (e : End). e.group) (get_or_default ends (front - 1) no_end end (omega arith) ∙ sym is)
 
 pub returns-then-index-group : goal.returns-then-index-group
 returns-then-index-group c =
@@ -21,7 +16,8 @@ returns-then-index-group c =
     let inside : front - 1 < length newest = omega arith in
     rw (get_or_read newest (front - 1) c.index-then-index-group.result.now inside c.index-then-index-group.ensures 0)
     (found c.args.self.now.ends.items c.args.group c.args.time c.args.place front (get_or newest (front - 1) 0) c.ranges.place.fits bound parts some
-    (last_group c.args.self.now.ends.items front c.index.result.now some bound c.index.ensures ∙ c.if-index-group.true) (c.requires.1.1 (front - 1) inside))
+    (rw (c.index.ensures ∙ get_or_default c.args.self.now.ends.items (front - 1) c.index.result.now no_end (omega arith)) at c.if-index-group.true)
+    (c.requires.1.1 (front - 1) inside))
 
 pub returns-else-front-gt0 : goal.returns-else-front-gt0
 returns-else-front-gt0 c =
@@ -32,6 +28,6 @@ returns-else-front-gt0 c =
     not_found ends c.requires.0 c.args.group c.args.time c.args.place front c.ranges.time.fits c.ranges.place.fits bound parts
     (elim c.else-front-gt0.branch [
       | else-front-gt0-via-then-front-gt0+else-index-group w ↦
-          inr (λ same. w.if-index-group.false (sym (last_group ends front w.index.result.now w.if-front-gt0.true bound w.index.ensures) ∙ same))
+          inr (rw (w.index.ensures ∙ get_or_default ends (front - 1) w.index.result.now no_end (omega arith)) at w.if-index-group.false)
       | else-front-gt0-via-else-front-gt0 w ↦ let none = w.if-front-gt0.false in inl (omega arith)
     ])

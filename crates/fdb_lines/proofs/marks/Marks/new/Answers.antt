@@ -3,7 +3,7 @@ use Rattle.std.proofs.lemmas.List.{get_or_default}
 use Rattle.std.proofs.lemmas.List.Sorted.{IsNonDecreasingBy-from_sort_by}
 use Rattle.fdb_lines.specs.declared.mark.Mark.{Mark}
 use Rattle.fdb_lines.specs.Lines.{nobody, line_at}
-use Rattle.fdb_lines.specs.private.Marks.{is_marked_at, is_named, mark_key, AreMarks, IsMarkOf}
+use Rattle.fdb_lines.specs.private.Marks.{mark_key, AreMarks, IsMarkOf}
 use Rattle.fdb_lines.proofs.Entries.{more, moved}
 use Rattle.fdb_lines.proofs.marks.Marks.new.Goals as goal
 use Rattle.fdb_lines.proofs.marks.Marks.new.Goals.{in-Some+in_ok-push, in_default}
@@ -16,8 +16,7 @@ loop-place-preserved c =
     let line : item ≡ line_at lines k = c.index-lines-place.is ∙ get_or_default lines k item nobody c.loop-place-test.true in
     let Next : List Mark → Type 0 = AreMarks c.args.sort c.args.start lines c.args.known.now (k + 1) in
     let grown : (o : Option Mark) → IsMarkOf c.args.sort item c.knows_at-knows.result k o → Next (c.loop-place.marks.items ++ option_to_list o) = λ o is.
-    more (λ (m : Mark). m.place) (λ (m : Mark). m.place) is_named (λ j. j) (is_marked_at c.args.sort c.args.start lines c.args.known.now) k c.loop-place.marks.items o c.loop-place.invariant
-    (rw (line, c.knows_at-knows.ensures) at is) in
+    more _ _ _ _ _ k c.loop-place.marks.items o c.loop-place.invariant (rw (line, c.knows_at-knows.ensures) at is) in
     elim c.match-mark_of.branch as (λ b. Next c.match-mark_of.marks.items) [
       | in-Some+in_ok-push w ↦ rw (w.marks-is, w.in_ok-push.ensures.items) (grown (Some w.in-Some.mark) w.in-Some.ensures)
       | in_default w ↦ rw w.marks-is (rw append-nil at (grown None w.in_default.ensures))
@@ -29,5 +28,4 @@ invariant_of-result c = record { in_order = IsNonDecreasingBy-from_sort_by mark_
 pub returns : goal.returns
 returns c =
     let all : c.loop-place.place ≡ length c.args.lines.now = (let end = c.loop-place.auto.place-end in let test = c.loop-place-test.false in omega arith) in
-    moved (λ (m : Mark). m.place) (λ (m : Mark). m.place) is_named (λ j. j) (is_marked_at c.args.sort c.args.start c.args.lines.now c.args.known.now) (length c.args.lines.now)
-    c.loop-place.marks.items c.sort_unstable_by.new.self.items c.sort_unstable_by.ensures.permutation (rw all at c.loop-place.invariant)
+    moved _ _ _ _ _ _ c.loop-place.marks.items c.sort_unstable_by.new.self.items c.sort_unstable_by.ensures.permutation (rw all at c.loop-place.invariant)

@@ -2,7 +2,7 @@ use Rattle.std.proofs.Common.{◌≡◌, [], get_or, is_some, ap, sym, ◌∙◌
 use Rattle.std.proofs.lemmas.List.{get_or_default}
 use Rattle.fdb_lines.specs.declared.line.Line.{Line}
 use Rattle.fdb_lines.specs.declared.sort.Sort.TheVariants.{Owned, Nameless}
-use Rattle.fdb_lines.specs.Audit.{case_of, start_of}
+use Rattle.fdb_lines.specs.Audit.{case_of}
 use Rattle.fdb_lines.specs.Faults.{is_own}
 use Rattle.fdb_lines.specs.Lines.{line_at, nobody}
 use Rattle.fdb_lines.specs.Log.{lines_of}

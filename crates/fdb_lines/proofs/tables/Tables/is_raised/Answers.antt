@@ -9,6 +9,5 @@ pub returns : goal.returns
 returns c =
     let log = lines_of c.args.log.now in
     let opts = c.args.opts.now in
-    let shown = c.args.self.now.shown.items in
-    let found = rw (c.version_in-version.ensures, c.lines.ensures) at (c.first.ensures Raises (start_of opts.complete) log.lines shown c.requires.raises) in
-    c.is_some.ensures ∙ raised_is log opts shown _ c.first.result c.requires.shown found
+    let found = rw (c.version_in-version.ensures, c.lines.ensures) at (c.first.ensures Raises (start_of opts.complete) log.lines c.args.self.now.shown.items c.requires.raises) in
+    c.is_some.ensures ∙ raised_is log opts _ _ c.first.result c.requires.shown found
