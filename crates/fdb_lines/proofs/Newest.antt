@@ -53,5 +53,6 @@ not_found xs sorted group time place front ft fp le parts other j lt =
     let there = comes_is (end_at xs j) group time place fp in
     let above = λ (l : front ≤ j). parts.1 j l lt in
     let rise = λ (l : j < front). groups_rise xs sorted j (front - 1) (omega (arith, l)) (omega (arith, l)) in
-    let last = λ (l : 0 < front). group_below (end_at xs (front - 1)) (record { group = group; time = time; place = place; version = 0; fits = (ft, fp) }) (let b = parts.0 (front - 1) (omega (arith, l)) in omega arith) in
+    let last : End = record { group = group; time = time; place = place; version = 0; fits = (ft, fp) } in
+    let below = λ (l : 0 < front). group_below (end_at xs (front - 1)) last (let b = parts.0 (front - 1) (omega (arith, l)) in omega arith) in
     grind (arith, nat_tests)
