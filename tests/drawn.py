@@ -166,25 +166,6 @@ def racing(dice):
     }
 
 
-def fitting(dice, proxies):
-    """Draws the values of a script of shared rounds of reads, with just room enough for all."""
-    drawing = Drawing(dice, dice.choice([2, 3, 5, 16]), ["grv"], [1, 30])
-    rounds = [
-        [drawing.command() for _ in range(dice.randrange(1, 2 * drawing.clients))]
-        for _ in range(dice.choice([1, 3]))
-    ]
-    reads, crowds = [0] * drawing.clients, {}
-    for number, it in ((number, it) for number, commands in enumerate(rounds) for it in commands):
-        client = it["client"]
-        crowds.setdefault((number, (client + reads[client]) % proxies), set()).add(client)
-        reads[client] += 1
-    queue = {
-        "normal": dice.choice([1, 20]), "batch": dice.choice([1, 20]),
-        "room": max(map(len, crowds.values())), "elapsed": 10**6,
-    }
-    return {"epoch_end": 0, "recovery": 100, "clients": drawing.clients, **queue, "rounds": rounds}
-
-
 TOKEN = re.compile(r'"[^"\\]*(?:\\.[^"\\]*)*"|[-+.\w]+|[][{},:]')
 MARKS = list("[]{},:")
 NUMBERS = [
