@@ -19,7 +19,7 @@ WORD = re.compile(r'"([a-z_]+)"')
 READER = f"{ROOT}/crates/fdb_script/src/reading"
 PRIORITIES = {"system", "default", "batch"}
 # What is tried in the place of each member. Of some kinds one of these is right.
-TEXTS = ["-1", "1.5", "18446744073709551616", "null", "true", '"1"', "[]", "{}"]
+TEXTS = ["-1", "-0", "1.0", "1.5", "1e3", "18446744073709551616", "null", "true", '"1"', "[]", "{}"]
 # A right value of each required member, and rounds whose command at place 2 of round 1 is tried.
 TOP = {"epoch_end": "0", "recovery": "100", "clients": "3", "rounds": "[]"}
 A_THROTTLE = {"priority": '"default"', "tag": '"t"', "rate": "5", "expires": "6"}

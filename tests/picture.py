@@ -826,8 +826,8 @@ driven();
 </script>"""
 # All is drawn at once, so that no frame has to be waited for.
 AT_ONCE = "<script>window.requestAnimationFrame = (draw) => draw();</script>"
-# What is done one after another, and then: calls drawn, links of the path, what is said of the fault,
-# the call at fault, and the words of a call that is chosen.
+# What is done one after another, and then: calls drawn, links of the path, what is said of the
+# fault, the call at fault, and the words of a call that is chosen.
 STALE_WORDS, WRONG_WORDS = "but 200 was known: line 1", 'client "b" read 100, which nobody reported'
 ALL = ["0", "1", "2", "3", "4", "5", "6"]
 STEPS = (

@@ -6,8 +6,8 @@ as it nests.
 from answers import crowd_at_all_limits, do
 from audit_logs import PROGRAM as AUDIT
 from audit_logs import learnt_log
+from command_line import HELP
 from harness import DONE, ROOT, Ran, done, fault_of, read, refused, run, script, written
-from help import HELP
 from judge import Lawful
 from memory import CROWD, THROTTLES
 

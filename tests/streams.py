@@ -1,14 +1,13 @@
-"""Streams that are closed, full, broken, endless, or as large as they may be."""
-import os
+"""Scripts that are as large as they may be, and input that never ends."""
 import resource
 import subprocess
 
 from answers import MOST_COMMANDS, MOST_ROUNDS, crowd_at_all_limits, do, large
-from harness import DONE, NO_STREAM, OUT_OF_MEMORY, READING_FAILED, REFUSED, WRITING_FAILED, Ran
-from harness import done, fault_of, first_output, first_script, refused, run, script, under, written
+from command_line import MOST_BYTES
+from harness import DONE, OUT_OF_MEMORY, READING_FAILED, Ran, done, fault_of, first_output
+from harness import first_script, refused, run, script, under, written
 from model import expected
 
-MOST_BYTES = 16_777_216
 # What a pipe holds at most of bytes that nobody has taken.
 PIPE_BYTES = 65_536
 # What is printed of a script without rounds.
@@ -140,76 +139,3 @@ def starved(program):
                 with_values(MOST_BYTES, value, member),
             )
             yield f"bytes, in values {value} of {member}", fault_of(ran, OUT_OF_MEMORY)
-
-
-def broken(program):
-    """A stream that fails ends the run with status 5 and a line; standard error changes none."""
-    first = first_script()
-    large = written([[{"do": "ask", "client": 0, "at": it} for it in range(MOST_COMMANDS)]])
-    reads = written([[{"do": "grv", "client": 1}] * MOST_COMMANDS], clients=2)
-    no_error_line = Ran(NO_STREAM, b"", b"")
-    cases = [
-        ("standard output closed", ">&-", first, WRITING_FAILED),
-        ("standard output full", "> /dev/full", first, WRITING_FAILED),
-        ("standard output full, much to write", "> /dev/full", large, WRITING_FAILED),
-        ("standard output closed, no JSON", ">&-", b"", refused("NotJson")),
-        ("standard output full, a fault of the top level", "> /dev/full", b"{}",
-         refused("BadLimit")),
-        ("standard input closed", "<&-", b"", READING_FAILED),
-        ("standard input a folder", "< /", b"", READING_FAILED),
-        ("standard input and output closed", "<&- >&-", b"", READING_FAILED),
-        ("standard error closed, a script that runs", "2>&-", first, done(first_output())),
-        ("standard error closed, no JSON", "2>&-", b"{", Ran(REFUSED, b"", b"")),
-        ("standard error full, no JSON", "2> /dev/full", b"{", Ran(REFUSED, b"", b"")),
-        ("standard error closed, output full", "> /dev/full 2>&-", first, no_error_line),
-        ("standard error closed, input a folder", "< / 2>&-", b"", no_error_line),
-        ("all closed", "<&- >&- 2>&-", b"", no_error_line),
-    ]
-    for name, redirections, given, wanted in cases:
-        yield name, fault_of(under(redirections, program, given), wanted)
-    for name, given in (("two clients", reads), ("the first script", first)):
-        ran = under("> /dev/full", program, given, ["--history", "--proxies", "2"])
-        yield f"standard output full, the history of {name}", fault_of(ran, WRITING_FAILED)
-    yield "standard output with no reader", fault_of(
-        unread(program, first), Ran(NO_STREAM, None, WRITING_FAILED.err)
-    )
-    half_written = Ran(NO_STREAM, None, WRITING_FAILED.err)
-    yield "standard output that is closed half way", fault_of(
-        half_read(program, large), half_written
-    )
-    yield "standard output that is closed half way, with the history", fault_of(
-        half_read(program, reads, "--history"), half_written
-    )
-    yield "a script that comes byte by byte", fault_of(
-        byte_by_byte(program, first), Ran(DONE, first_output(), b"")
-    )
-
-
-def unread(program, given):
-    """Runs the program with a pipe as standard output that nobody reads."""
-    reader, writer = os.pipe()
-    os.close(reader)
-    try:
-        return run([program], given, stdout=writer)
-    finally:
-        os.close(writer)
-
-
-def half_read(program, given, *arguments):
-    """Runs the program on a large script with a reader that goes away after one byte."""
-    return run(
-        ["bash", "-c", 'set -o pipefail; "$0" "$@" | head -c 1 > /dev/null', program, *arguments],
-        given,
-    )
-
-
-def byte_by_byte(program, given):
-    pipes = {"stdin": subprocess.PIPE, "stdout": subprocess.PIPE, "stderr": subprocess.PIPE}
-    with subprocess.Popen([program], bufsize=0, **pipes) as started:
-        try:
-            for at in range(len(given)):
-                started.stdin.write(given[at : at + 1])
-        except BrokenPipeError:
-            pass
-        out, err = started.communicate(timeout=20)
-    return Ran(started.returncode, out, err)
