@@ -2,6 +2,7 @@
 
     python3 tests/believed.py [DEFINITION..]      (without any, what the headline rests on)
 """
+import glob
 import os
 import re
 import sys
@@ -14,8 +15,6 @@ HEADLINE = (
     ("fdb_replay", "Replay", "Refuses"),
     ("fdb_replay", "Replay", "IsCut"),
 )
-# The parts of it that documents count, each with all that it rests on.
-PARTS = (HEADLINE[0], ("fdb_history", "Linear", "IsLinear"), ("fdb_replay", "Outcome", "IsRunOf"))
 BEGIN = re.compile(r"^(?:abbrev )?pub (?:record |data )?(?!(?:use|mod)\b)([^\s:({]+)")
 USE = re.compile(r"^use Rattle\.(fdb_\w+)\.specs\.([\w.]+?)(?:\.\{([^}]*)\}| as (\w+))\s*$")
 WORD = re.compile(r"[^\W\d][\w-]*")
@@ -54,8 +53,8 @@ def read(crate, file):
 
 
 def rests_on(roots):
-    """Returns all definitions that some rest on, these included, and the types they speak of."""
-    files, todo, found, types = {}, list(roots), {}, set()
+    """Returns all definitions that some rest on, these included."""
+    files, todo, found = {}, list(roots), {}
     while todo:
         at = crate, file, name = todo.pop()
         if at in found:
@@ -67,13 +66,9 @@ def rests_on(roots):
         for word in set(WORD.findall(" ".join(own[name]))):
             if word in own:
                 todo.append((crate, file, word))
-            elif word in taken and "declared" in taken[word][1]:
-                types.add(
-                    taken[word][1].split("/")[-2 if taken[word][1].endswith("TheVariants") else -1]
-                )
-            elif word in taken:
+            elif word in taken and "declared" not in taken[word][1]:
                 todo.append(taken[word])
-    return list(found.values()), types
+    return list(found.values())
 
 
 def lines_of(definitions):
@@ -81,45 +76,27 @@ def lines_of(definitions):
 
 
 def counts():
-    """Returns how many definitions and lines the headline rests on: all, and by part and file."""
-    found, _types = rests_on(HEADLINE)
-    by_file = {
-        f"{it.file}.antt": lines_of(other for other in found if other.file == it.file)
-        for it in found
-    }
-    parts = {root[-1]: lines_of(rests_on([root])[0]) for root in PARTS}
-    return {"definitions": len(found), "headline": lines_of(found), **parts, **by_file}
+    """How many definitions and lines the headline rests on."""
+    found = rests_on(HEADLINE)
+    return {"definitions": len(found), "headline": lines_of(found)}
+
+
+def named(names):
+    """The definitions of these names: their crates and files."""
+    for path in sorted(glob.glob(f"{ROOT}/crates/*/specs/*.antt")):
+        crate, file = path.split("/")[-3], path.split("/")[-1].removesuffix(".antt")
+        found = {} if file == "Lib" else read(crate, file)[0]
+        yield from ((crate, file, name) for name in names if name in found)
 
 
 def main(names):
-    roots = HEADLINE
-    if names:
-        everywhere = [
-            (crate, file[:-5])
-            for crate in sorted(os.listdir(f"{ROOT}/crates"))
-            if os.path.isdir(f"{ROOT}/crates/{crate}/specs")
-            for file in sorted(os.listdir(f"{ROOT}/crates/{crate}/specs"))
-            if file.endswith(".antt") and file != "Lib.antt"
-        ]
-        roots = [
-            (crate, file, name)
-            for crate, file in everywhere
-            for name in names
-            if name in read(crate, file)[0]
-        ]
-    found, types = rests_on(roots)
-    by_file = {}
+    found, by_file = rests_on(named(names) if names else HEADLINE), {}
     for it in found:
         by_file.setdefault((it.crate, it.file), []).append(it)
     for (crate, file), them in sorted(by_file.items()):
-        print(
-            f"{lines_of(them):4} lines  crates/{crate}/specs/{file}.antt: "
-            f"{', '.join(it.name for it in them)}"
-        )
-    print(
-        f"{lines_of(found)} lines, {len(found)} definitions, "
-        f"over the types {', '.join(sorted(types))}"
-    )
+        listed = ", ".join(it.name for it in them)
+        print(f"{lines_of(them):4} lines  crates/{crate}/specs/{file}.antt: {listed}")
+    print(f"{lines_of(found)} lines, {len(found)} definitions")
 
 
 if __name__ == "__main__":

@@ -16,7 +16,7 @@ sys.dont_write_bytecode = True
 
 import generated
 from believed import HEADLINE, counts, rests_on
-from harness import ROOT
+from harness import ROOT, text_of
 
 DOCUMENT = "docs/DEFINITIONS.md"
 DEFINED = re.compile(r"^(?:abbrev )?pub (?:record |data )?(?!(?:use|mod)\b)([^\s:({]+)")
@@ -31,11 +31,6 @@ TOLD = {
     ("fdb_script", "Reading"),
     ("fdb_script", "Text"),
 }
-
-
-def text_of(file):
-    with open(f"{ROOT}/{file}", encoding="utf-8") as it:
-        return it.read()
 
 
 def crates_in_order():
@@ -77,33 +72,20 @@ def comments_of(crate, file):
     return first_words(head), found
 
 
-def link_of(crate, file):
-    return f"[{file}](../crates/{crate}/specs/{file}.antt)"
-
-
 def lines_of(names, comments):
     """A line for each of some definitions, which break where they are shown."""
     said = [f"`{it}`: {comments[it]}" if comments[it] else f"`{it}`" for it in names]
     return "\\\n".join(said).splitlines()
 
 
-def named(names):
-    """A line with the names of some definitions."""
-    return [", ".join(f"`{it}`" for it in names)]
-
-
 def believed():
     """The definitions that the headline rests on: crate, file and name."""
-    return {(it.crate, it.file, it.name) for it in rests_on(HEADLINE)[0]}
+    return {(it.crate, it.file, it.name) for it in rests_on(HEADLINE)}
 
 
 def without_comment():
     """Those of them that have no comment, by name."""
-    return [
-        name
-        for crate, file, name in sorted(believed())
-        if not comments_of(crate, file)[1][name]
-    ]
+    return [name for *at, name in sorted(believed()) if not comments_of(*at)[1][name]]
 
 
 def lines():
@@ -117,8 +99,9 @@ def lines():
             made += ["", f"### {crate}"]
             crate_before = crate
         if wanted:
-            made += ["", f"**{link_of(crate, file)}**: {about}", ""]
-            made += named(wanted) if (crate, file) in TOLD else lines_of(wanted, comments)
+            made += ["", f"**[{file}](../crates/{crate}/specs/{file}.antt)**: {about}", ""]
+            named = [", ".join(f"`{it}`" for it in wanted)]
+            made += named if (crate, file) in TOLD else lines_of(wanted, comments)
     found = counts()
     size = f"{found['headline']} lines in {found['definitions']} definitions"
     return ["", "## What the headline rests on", "", f"These are {size}.", *made]

@@ -1,4 +1,4 @@
-"""What documents say: lists of definitions and wrong bodies, and what is shown of the program."""
+"""What documents say and show: lists, numbers, clauses, files, links, code, and runs of programs."""
 import glob
 import os
 import re
@@ -9,47 +9,72 @@ import generated
 import planted
 from believed import counts
 from edits import BESIDE, TRIED, crates, edits_in, fault_of_edit
-from exported import cited_by
-from harness import EXAMPLES, ROOT, done, fault_of, run
-from readmes import blocks
+from harness import ROOT, done, fault_of, files_below, run, text_of
 
-# What is in this folder of a crate's specs/ is private to the crate.
-PRIVATE_FOLDER = "private/"
-# A citation of what a crate proves for itself. Other crates go by its contracts and definitions.
-PROOFS_OF = re.compile(r"\bRattle\.(fdb_\w+)\.proofs\b")
+# What a crate proves for itself, and what is private to it: others go by its public definitions.
+INNER_OF = re.compile(r"\bRattle\.(fdb_\w+)\.(proofs|specs\.private)\b")
 MOST_TRIED = 12
 # What is trusted of a kit, in what rt says of it. Kits with the same logic differ in their letter.
 LOGIC = re.compile(r"\blogic [0-9a-f]+\b")
 # Where README.md says how many lines of definitions there are, by the names of believed.counts.
 COUNTED = "rest on %(headline)d lines of ours"
+PROMISES = "docs/PROMISES.md"
+# The table of a library's promises begins with this row, and those of docs/PROMISES.md with these.
+PROMISED = "Promise | Function: clause"
+OTHERS = ("Promise | Part of `IsRunOf`", "Promise | Clause of `replay`",
+          "Wrong implementation | The test")
+# The table of docs/ARCHITECTURE.md that says which file has what, and where files stand by ending.
+ARCHITECTURE = "docs/ARCHITECTURE.md"
+PLACED = "README.md | Code and definitions | Tests"
+FOLDERS = {".rt": "crates/{}/src", ".antt": "crates/{}/specs", ".py": "tests"}
+CODE = re.compile(r"`([^`\n]+)`")
+INNER = re.compile(r"\(([^)]*)\)")
+FN = r"(?:pub(?:\(crate\))? )?(?:extern \"C\" )?fn"
+BLOCK = re.compile(r"^```(\w*)\n(.*?)^```$", re.MULTILINE | re.DOTALL)
+LINK = re.compile(r"\]\(([^)\s]+)\)")
+# Where a link may lead to in a document: its headings and its anchors.
+HEADING = re.compile(r"^#+ (.*)$", re.MULTILINE)
+ANCHOR = re.compile(r'<a id="([^"]+)">')
+# What a document says that a crate prints.
+PRINTED = re.compile(r"prints `(\w+: [^`\n]+)`")
 
 
-def text_of(file):
-    with open(file, encoding="utf-8") as it:
-        return it.read()
+def exists(path):
+    return os.path.exists(f"{ROOT}/{path}")
 
 
-def files_below(folder, endings):
-    """Yields the files below a folder of the repository whose names end so."""
-    for at, folders, files in os.walk(f"{ROOT}/{folder}"):
-        folders.sort()
-        yield from (f"{at}/{name}" for name in sorted(files) if name.endswith(endings))
+def readme_of(crate):
+    return f"crates/{crate}/README.md"
 
 
-def specs_of(crate):
-    """The files of a crate's specs/, as their paths from there."""
-    folder = f"crates/{crate}/specs"
-    return [os.path.relpath(path, f"{ROOT}/{folder}") for path in files_below(folder, ".antt")]
+def documents():
+    """The documents, as paths from the top: README.md, those of docs/, of examples/, of crates."""
+    own = filter(exists, map(readme_of, crates()))
+    return ["README.md", *files_below("docs", ".md"), "examples/README.md", *own]
 
 
-def private_files():
-    """The files that are private to their crate: the crate, and the file."""
-    return [
-        (crate, file)
-        for crate in crates()
-        for file in specs_of(crate)
-        if file.startswith(PRIVATE_FOLDER)
-    ]
+def sources_of(crate, *parts):
+    """The files of a crate in src/, specs/ or proofs/."""
+    return [path for it in parts for path in files_below(f"crates/{crate}/{it}", ".rt", ".antt")]
+
+
+def code_of(crate):
+    """The code and the definitions of a crate, as one text."""
+    return "\n".join(map(text_of, sources_of(crate, "src", "specs")))
+
+
+def blocks():
+    """Yields the blocks of code of the documents: the document, the language and the code."""
+    for document in documents():
+        for language, code in BLOCK.findall(text_of(document)):
+            yield document, language, code
+
+
+def said_so(document, said):
+    return f"{document}: {said}", None if said in text_of(document) else "it does not say so"
+
+
+# ---- lists and numbers
 
 
 def lists(_program):
@@ -62,54 +87,15 @@ def lists(_program):
 
 
 def private(_program):
-    """No other crate, no public file and no clause of an exported function uses a private file.
-
-    And no crate uses what is in another's proofs.
-    """
-    for crate, file in private_files():
-        yield f"crates/{crate}/specs/{file} is private", users_of(crate, file)
+    """No crate cites another's proofs and private definitions, and no public file its own."""
     for crate in crates():
-        yield f"crates/{crate} cites no proofs of another", proofs_cited_by(crate)
-        yield f"clauses of what crates/{crate} exports", cited_by(crate)
-
-
-def users_of(crate, file):
-    """Returns what uses a private file and may not, or None."""
-    place = file.removesuffix(".antt").replace("/", r"\.")
-    module = re.compile(rf"Rattle\.{crate}\.specs\.{place}\b")
-    used = [
-        it
-        for it in crates()
-        if it != crate and any(module.search(text_of(path)) for path in sources_of(it))
-    ]
-    public = [it for it in specs_of(crate) if not it.startswith(PRIVATE_FOLDER)]
-    texts = {it: text_of(f"{ROOT}/crates/{crate}/specs/{it}") for it in public}
-    used += [f"specs/{it}" for it, text in texts.items() if module.search(text)]
-    return f"it is used by {', '.join(used)}" if used else None
-
-
-def sources_of(crate):
-    return (
-        path
-        for part in ("src", "specs", "proofs")
-        for path in files_below(f"crates/{crate}/{part}", (".rt", ".antt"))
-    )
-
-
-def proofs_cited_by(crate):
-    """Returns which files of a crate cite proofs of other crates, and of which, or None."""
-    cited = {
-        os.path.relpath(path, ROOT): set(PROOFS_OF.findall(text_of(path))) - {crate}
-        for path in sources_of(crate)
-    }
-    return (
-        "; ".join(
-            f"{path} cites proofs of {', '.join(sorted(them))}"
-            for path, them in cited.items()
-            if them
-        )
-        or None
-    )
+        faults = []
+        for path in sources_of(crate, "src", "specs", "proofs"):
+            is_public = "/specs/" in path and "/specs/private/" not in path
+            inner = INNER_OF.findall(text_of(path))
+            faults += [f"{path} cites {whose}.{part}" for whose, part in inner
+                       if whose != crate or is_public and part == "specs.private"]
+        yield f"crates/{crate}", "; ".join(faults) or None
 
 
 def edits(_program):
@@ -128,37 +114,156 @@ def edits(_program):
 
 def believed(_program):
     """What README.md says of how much a reader has to believe is so."""
-    said, readme = COUNTED % counts(), text_of(f"{ROOT}/README.md")
-    yield f"README.md: {said}", None if said in readme else "it does not say so"
-    yield "README.md: the kit's logic", fault_of_logic(readme)
-
-
-def fault_of_logic(document):
-    """Says which logic the kit has, where a document does not name it, or returns None."""
+    yield said_so("README.md", COUNTED % counts())
     said = run(["rt", "version"]).out.decode(errors="replace").strip()
     logic = LOGIC.search(said)
-    if not logic:
-        return f"rt version names no logic: {said!r}"
-    is_named = logic[0] in LOGIC.findall(document)
-    return None if is_named else f"{logic[0]} is not named there"
+    yield said_so("README.md", logic[0] if logic else f"no logic in {said!r}")
 
 
-def shown(program):
+# ---- clauses and files
+
+
+def rows_of(document, head):
+    """The rows of the table of a document that begins with this row, as lists of cells."""
+    table = text_of(document).partition(f"\n{head}\n")[2].split("\n\n")[0]
+    rows = [line.strip().strip("|").split("|") for line in table.split("\n")[1:] if line]
+    return [[cell.strip() for cell in row] for row in rows]
+
+
+def clauses(_program):
+    """What a row of promises names is there: functions with their clauses, definitions, tests."""
+    everything = "\n".join(map(code_of, crates()))
+    words = set(re.findall(r"\w+", everything)) | set(crates())
+    for crate in filter(lambda it: exists(readme_of(it)), crates()):
+        code = code_of(crate)
+        for promise, where in rows_of(readme_of(crate), PROMISED):
+            faults = faults_of_place(where, code, words)
+            yield f"{readme_of(crate)}: {promise}", "; ".join(faults) or None
+    for row in (row for head in OTHERS for row in rows_of(PROMISES, head)):
+        names = re.findall(r"`(\w+)`", row[1])
+        missing = [it for it in names if it not in words and not exists(f"examples/{it}.json")]
+        yield f"{PROMISES}: {row[0]}", f"there is no {', '.join(missing)}" if missing else None
+
+
+def faults_of_place(where, code, words):
+    """What is wrong with '`Type::function`: `clause` (`Definition`); (`private_function`): ..'."""
+    faults = []
+    for part in where.split("; "):
+        functions, _, said = part.partition(": ")
+        functions = functions.strip("()") if functions.startswith("(") else functions
+        of_definitions = CODE.findall(" ".join(INNER.findall(f"{functions} {said}")))
+        names, wanted = (CODE.findall(INNER.sub("", it)) for it in (functions, said))
+        found = {name: declared(code, name.split("::")[-1]) for name in names}
+        text = "\n".join(found.values()) or code
+        faults += [f"there is no {name}" for name in names if not found[name]]
+        faults += [f"no definition {name}" for name in of_definitions if name not in words]
+        clause = r"\b(?:ensures|requires|ghost) {}\b".format
+        faults += [f"no clause {name}" for name in wanted if not re.search(clause(name), text)]
+    return faults
+
+
+def declared(code, name):
+    """What a crate says of a function of this name, up to the next one; of a type all its code."""
+    if re.search(rf"^(?:pub )?(?:struct|enum|trait|impl)\b.*\b{name}\b", code, re.MULTILINE):
+        return code
+    parts = re.split(rf"(?=^[ \t]*{FN} )", code, flags=re.MULTILINE)
+    return "".join(part for part in parts if re.match(rf"\s*{FN} {name}\b", part))
+
+
+def placed(_program):
+    """Each file of the table of files is there, and has what stands behind it."""
+    for what, *cells in rows_of(ARCHITECTURE, PLACED):
+        faults = [fault for cell in cells for fault in faults_of_files(cell)]
+        yield f"{ARCHITECTURE}: {what}", "; ".join(faults) or None
+
+
+def faults_of_files(cell):
+    """What is wrong with '`crate/file.rt` (`name`), `file.rt`'; a crate counts until the next."""
+    crate, file, faults = "", "", []
+    for word in CODE.findall(cell):
+        ending = os.path.splitext(word)[1]
+        if ending in FOLDERS or "/" in word:
+            rest = word
+            if word.startswith("fdb_"):
+                crate, _, rest = word.partition("/")
+            file = f"{FOLDERS[ending].format(crate)}/{rest}" if ending in FOLDERS else word
+            faults += [f"there is no {file}"] * (not exists(file))
+        elif not exists(file) or not re.search(rf"\b{word}\b", text_of(file)):
+            faults.append(f"{file} has no {word}")
+    return faults
+
+
+# ---- links and code
+
+
+def links(_program):
+    """Each link of a document leads to a file, and to a heading or an anchor that it has."""
+    for document in documents():
+        within = [to for to in LINK.findall(text_of(document)) if not to.startswith("https://")]
+        lost = [to for to in within if not leads(document, to)]
+        yield f"links of {document}", f"they lead nowhere: {', '.join(lost)}" if lost else None
+
+
+def leads(document, to):
+    """Whether a link of a document leads to something."""
+    path, _, place = to.partition("#")
+    target = os.path.normpath(f"{os.path.dirname(document)}/{path}") if path else document
+    target = target.lstrip("/")
+    return exists(target) and (not place or place in places_of(text_of(target)))
+
+
+def places_of(text):
+    """The places of a document that a link may name."""
+    titles = [re.sub(r"[^\w\- ]", "", title.lower()) for title in HEADING.findall(text)]
+    return {title.replace(" ", "-") for title in titles} | set(ANCHOR.findall(text))
+
+
+def code(_program):
+    """Rust that a document shows is code of a crate: what it uses line by line, and each part
+    between blank lines whole. What it says that a crate prints stands in that crate's stdout.
+    """
+    sources = [as_lines(text_of(path)) for it in crates() for path in sources_of(it, "src")]
+    lines = {line for source in sources for line in source.split("\n")}
+    for document, language, shown_code in blocks():
+        for part in shown_code.split("\n\n") if language == "rust" else []:
+            fault = fault_of_code(as_lines(part).strip(), sources, lines)
+            yield f"{document}: {part.strip().splitlines()[0]}", fault
+    outputs = filter(exists, (f"crates/{crate}/stdout" for crate in crates()))
+    printed = "\n".join(map(text_of, outputs)).splitlines()
+    for document in documents():
+        for line in PRINTED.findall(text_of(document)):
+            fault = None if line in printed else "no crate does"
+            yield f"{document} says what is printed: {line}", fault
+
+
+def as_lines(text):
+    """A text without what its lines are indented by."""
+    return "\n".join(line.strip() for line in text.split("\n"))
+
+
+def fault_of_code(text, sources, lines):
+    """Why a part of the code that a document shows is no code of a crate, or None."""
+    if text.startswith(("use ", "ghost use ", "#![tactic")):
+        missing = [line for line in text.split("\n") if line not in lines]
+        return f"no crate has the line: {missing[0]}" if missing else None
+    whole = any(f"\n{text}\n" in f"\n{source}\n" for source in sources)
+    return None if whole else "no crate has these lines, one after another"
+
+
+def runs(program):
     """A block of a run shows what the program prints, and one of a script or log is an example."""
-    scripts = [text_of(it).strip() for it in glob.glob(f"{EXAMPLES}/**/*.json*", recursive=True)]
+    programs = {"./fdb_replay": program, "./fdb_audit": audit_logs.PROGRAM}
+    examples = glob.glob("examples/**/*.json*", root_dir=ROOT, recursive=True)
+    scripts = [text_of(it).strip() for it in examples]
     for document, language, block in blocks():
-        if language:
-            continue
         first, _, rest = block.partition("\n")
-        if first.startswith("$ ./fdb_replay "):
-            arguments = first.split()[2:]
-            yield f"{document}: {first}", fault_of(
-                run([program, *arguments], cwd=ROOT), done(rest.encode())
-            )
-        elif first.startswith("$ ./fdb_audit "):
-            ran = run([audit_logs.PROGRAM, *first.split()[2:]], cwd=ROOT)
-            fault = None if ran.out == rest.encode() else f"it prints {ran.out[:100]!r}"
-            yield f"{document}: {first}", fault
-        elif first.startswith("{"):
+        words = first.split()[1:]
+        if not language and words[:1] and words[0] in programs:
+            ran = run([programs[words[0]], *words[1:]], cwd=ROOT)
+            if ran.out.startswith(b"audit fault"):
+                # (its status, and its line on standard error, are not shown)
+                ran = ran._replace(status=0, err=b"")
+            yield f"{document}: {first}", fault_of(ran, done(rest.encode()))
+        elif not language and first.startswith("{"):
             fault = None if block.strip() in scripts else "it is no script or log of examples/"
             yield f"{document}: {first}", fault

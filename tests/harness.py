@@ -25,6 +25,22 @@ def read(file):
         return it.read()
 
 
+def text_of(file):
+    """The text of a file of the repository."""
+    with open(f"{ROOT}/{file}", encoding="utf-8") as it:
+        return it.read()
+
+
+def files_below(folder, *endings):
+    """The files below a folder of the repository whose names end so, as paths from the top."""
+    found = []
+    for at, folders, files in os.walk(f"{ROOT}/{folder}"):
+        folders[:] = sorted(it for it in folders if it not in ("out", "__pycache__"))
+        here = os.path.relpath(at, ROOT)
+        found += [f"{here}/{name}" for name in sorted(files) if name.endswith(endings)]
+    return found
+
+
 def first_script():
     return read(f"{EXAMPLES}/first.json")
 
