@@ -4,9 +4,8 @@ import json
 import audit_logs
 import bindings
 from audit_lines import lines_of, refusal
-from audit_model import Case, name_of
+from audit_model import Case, name_of, options_of
 from audit_right import why_wrong
-from audit_search import options_of
 
 
 def named(member):

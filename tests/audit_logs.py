@@ -1,14 +1,13 @@
 """What fdb_audit says of logs: worked by hand, random, simulated, refused, and large."""
 import os
 import random
-import resource
 
 import clusters
 from audit_lines import MOST_BYTES, lines_of, refusal
-from audit_model import Case, arguments_of, judged
+from audit_model import Case, judged, options_of
 from audit_right import why_wrong
-from audit_search import fault_of_search, options_of, random_lines, random_words, text_of
-from harness import EXAMPLES, ROOT, Ran, fault_of, read, run
+from audit_search import fault_of_search, random_lines, random_words, text_of
+from harness import EXAMPLES, ROOT, Ran, fault_of, processor_time, read, run
 from reader import DEEPEST
 
 PROGRAM = f"{ROOT}/crates/fdb_audit_cli/out/fdb_audit_cli"
@@ -32,7 +31,7 @@ LARGE, LARGE_SECONDS, CLIENTS = 250_000, 20, 1_000
 
 
 def judged_as(given, words):
-    return Ran(*judged(given, arguments_of(words)[0]))
+    return Ran(*judged(given, options_of(words)))
 
 
 # ---- worked by hand
@@ -69,7 +68,7 @@ def worked_by_model(_program):
     for name, given, words, out in [*worked_cases(), *example_cases()]:
         ran = judged_as(given, words)
         yield name, fault_of(ran, ended_with(out)) or why_wrong(given, words, ran)
-        case = Case(lines_of(given), arguments_of(words)[0])
+        case = Case(lines_of(given), options_of(words))
         several = [it for it in case.faults() if len(set(case.sentences(*it))) > 1]
         yield f"{name}, sentences", f"more than one for {several}" if several else None
 
@@ -182,17 +181,6 @@ def clustered(_program):
             yield f"{kind} with stale reads, seed {seed}", fault or missed(setting, ran, stale)
 
 
-def clustered_by_model(_program):
-    """The model finds no fault in short logs of simulated clusters, and an order."""
-    for kind, setting in clusters.KINDS.items():
-        words = ["--margin", str(clusters.margin_of(setting)), "--history"]
-        for seed in range(LOOKED_AT):
-            given = text_of(clusters.simulated(seed, setting._replace(calls=30))[0])
-            ran = judged_as(given, words)
-            fault = None if ran.status == OK else f"it says {ran.out[:200]}"
-            yield f"{kind}, seed {seed}", fault or why_wrong(given, words, ran)
-
-
 def missed(setting, ran, stale):
     """What is wrong where stale reads of clients that log all their calls are not found."""
     found = [int(it.split(b":")[1].split()[-1]) - 1 for it in ran.out.splitlines()
@@ -215,78 +203,51 @@ def without_times(**members):
     return line_with(**{"began": None, "ended": None, **members})
 
 
-NO_NUMBERS = (
-    '"1"', "-1", "-0", "1.0", "1e3", "true", "null", "[]", "{}", "18446744073709551616", "0.5"
-)
-# A line, and why it is refused.
+NO_NUMBERS = ('"1"', "-1", "-0", "1.0", "1e3", "true", "null", "[]", "18446744073709551616")
+# A line, and why it is refused: alone, below lines with times, or below lines without.
 LINES = (
-    ("an empty line", b"", "NotJson"),
-    ("a blank line", b" \t", "NotJson"),
-    ("a line of a carriage return", b"\r", "NotJson"),
-    ("no JSON", b"{", "NotJson"),
-    ("two values", b"{} {}", "NotJson"),
-    ("a comma too many", b'{"client":"a","read":1,}', "NotJson"),
-    ("a word", b"nil", "NotJson"),
-    ("NaN", b"NaN", "NotJson"),
-    ("no UTF-8", b'{"client":"\xff","read":1}', "NotJson"),
-    ("half a letter", b'{"client":"\\ud83d","read":1}', "NotJson"),
-    ("a mark of byte order", b'\xef\xbb\xbf{"client":"a","read":1}', "NotJson"),
-    ("a zero before a number", b'{"client":"a","read":01}', "NotJson"),
-    ("a number beyond a double", b'{"client":"a","read":1e999}', "NotJson"),
-    ("a letter that is none in a text", b'{"client":"\x01","read":1}', "NotJson"),
-    ("too deep", b"[" * (DEEPEST + 1) + b"]" * (DEEPEST + 1), "NotJson"),
-    ("as deep as may be", b"[" * DEEPEST + b"]" * DEEPEST, "NoCall"),
-    ("a list", b'["client","a","read",1]', "NoCall"),
-    ("a text", b'"read"', "NoCall"),
-    ("null", b"null", "NoCall"),
-    ("an empty object", b"{}", "NoCall"),
-    ("no call", line_with(read=None), "NoCall"),
-    ("a call in capitals", line_with(read=None, READ="1"), "NoCall"),
-    ("two calls", line_with(commit="1"), "TwoCalls"),
-    ("two calls, of which one is null", line_with(learn="null"), "TwoCalls"),
-    ("all calls", line_with(commit="1", ask="1", report="1", learn='"a"'), "TwoCalls"),
-    ("two bad calls", line_with(read='""', ask='""'), "TwoCalls"),
-    *((f"a client that is {it}", line_with(client=it), "BadMember client")
-      for it in ("1", "null", "true", "[]", '{"name":"a"}')),
-    *((f"a {kind} of {it}", line_with(**{"read": None, kind: it}), f"BadMember {kind}")
+    *((it, "NotJson") for it in (
+        b"", b" \t", b"\r", b"{", b"{} {}", b'{"client":"a","read":1,}', b"nil", b"NaN",
+        b'{"client":"\xff","read":1}', b'{"client":"\\ud83d","read":1}',
+        b'\xef\xbb\xbf{"client":"a","read":1}', b'{"client":"a","read":01}',
+        b'{"client":"a","read":1e999}', b'{"client":"\x01","read":1}',
+        b"[" * (DEEPEST + 1) + b"]" * (DEEPEST + 1),
+    )),
+    (b"x" * (MOST_BYTES + 1), "TooLong"),
+    *((it, "NoCall") for it in (
+        b"[" * DEEPEST + b"]" * DEEPEST, b'["client","a","read",1]', b'"read"', b"null", b"{}",
+        line_with(read=None, READ="1"), line_with(read=None, began=None),
+    )),
+    *((it, "TwoCalls") for it in (
+        line_with(commit="1"), line_with(learn="null"), line_with(read='""', ask='""'),
+        line_with(commit="1", ask="1", report="1", learn='"a"'),
+    )),
+    *((line_with(**it), "BadMember client") for it in (
+        {"client": "1"}, {"client": "null"}, {"client": "[]"}, {"client": "1", "read": None},
+        {"client": "1", "ask": "2"},
+    )),
+    *((line_with(**{"read": None, kind: it}), f"BadMember {kind}")
       for kind in ("read", "commit", "ask", "report") for it in NO_NUMBERS),
-    *((f"a begin of {it}", line_with(began=it), "BadMember began") for it in NO_NUMBERS),
-    *((f"an end of {it}", line_with(ended=it), "BadMember ended")
-      for it in NO_NUMBERS if it != "null"),
-    ("no begin", line_with(began=None), "BadMember began"),
-    ("no end", line_with(ended=None), "BadMember ended"),
-    ("an end that is null, and no begin", line_with(began=None, ended="null"), "BadMember began"),
-    ("an end before its begin", line_with(began="3"), "BadMember ended"),
-    *((f"to learn from {it}", line_with(read=None, learn=it), "BadMember learn")
-      for it in ("0", "null", '["a"]', '"nobody"', "true")),
+    *((line_with(began=it), "BadMember began") for it in (*NO_NUMBERS, None)),
+    *((line_with(ended=it), "BadMember ended") for it in (*NO_NUMBERS, None) if it != "null"),
+    (line_with(began=None, ended="null"), "BadMember began"),
+    (line_with(began='""', ended='""'), "BadMember began"),
+    (line_with(read='""', began='""'), "BadMember read"),
+    (line_with(began="3"), "BadMember ended"),
+    *((line_with(read=None, learn=it), "BadMember learn")
+      for it in ("0", "null", '["a"]', '"nobody"')),
 )
-# Which is told first: lines of which several things are wrong.
-FIRST = (
-    ("no JSON and too long", b"x" * (MOST_BYTES + 1), "TooLong"),
-    ("a client before no call", line_with(client="1", read=None), "BadMember client"),
-    ("a client before two calls", line_with(client="1", ask="2"), "BadMember client"),
-    ("no call before no begin", line_with(read=None, began=None), "NoCall"),
-    ("a call before a begin", line_with(read='""', began='""'), "BadMember read"),
-    ("a begin before an end", line_with(began='""', ended='""'), "BadMember began"),
-)
-# What lines above have to do with it: the lines above, the line, and why it is refused.
 BELOW = (
-    ("times below none", UNTIMED, line_with(), "SomeTimes"),
-    ("no times below some", TIMED, without_times(), "SomeTimes"),
-    ("no times and no client below some", TIMED, without_times(client=None), "SomeTimes"),
-    ("a learn with times", TIMED, line_with(read=None, learn='"a"'), "BadMember learn"),
-    ("a learn with times below none", UNTIMED, line_with(read=None, learn='"a"'), "SomeTimes"),
-    ("a learn without times below some", TIMED, without_times(read=None, learn='"a"'),
-     "SomeTimes"),
-    ("no client without times", UNTIMED, without_times(client=None), "BadMember client"),
-    ("no client, in the first line", b"", without_times(client=None), "BadMember client"),
-    ("to learn from one who comes below", UNTIMED, without_times(read=None, learn='"b"'),
-     "BadMember learn"),
-    ("to learn from oneself, in one's first line", UNTIMED,
-     without_times(client='"b"', read=None, learn='"b"'), "BadMember learn"),
-    ("a bad begin below no times", UNTIMED, line_with(began="-1"), "BadMember began"),
-    ("a learn from nobody below times", TIMED, line_with(read=None, learn='"b"'),
-     "BadMember learn"),
+    (UNTIMED, line_with(), "SomeTimes"),
+    (TIMED, without_times(), "SomeTimes"),
+    (TIMED, without_times(client=None), "SomeTimes"),
+    (TIMED, without_times(read=None, learn='"a"'), "SomeTimes"),
+    (TIMED, line_with(read=None, learn='"a"'), "BadMember learn"),
+    (UNTIMED, without_times(client=None), "BadMember client"),
+    (b"", without_times(client=None), "BadMember client"),
+    (UNTIMED, without_times(read=None, learn='"b"'), "BadMember learn"),
+    (UNTIMED, without_times(client='"b"', read=None, learn='"b"'), "BadMember learn"),
+    (UNTIMED, line_with(began="-1"), "BadMember began"),
 )
 
 
@@ -297,14 +258,15 @@ def refused_at(number, why):
 
 def refusals():
     """Names texts that are refused, and how the program ends."""
-    for name, line, why in LINES + FIRST:
+    for line, why in LINES:
         # Without its end an empty last line is none.
-        end = b"\n" if not line else b""
+        end, name = b"\n" if not line else b"", f"{line[:90]}"
         yield f"{name}, alone", line + end, refused_at(1, why)
         yield f"{name}, at the end of three", TIMED * 2 + line + end, refused_at(3, why)
         yield f"{name}, above no JSON", TIMED + line + b"\n{\n", refused_at(2, why)
-    for name, above, line, why in BELOW:
-        yield name, above * 2 + line + b"\n", refused_at(3 if above else 1, why)
+    for above, line, why in BELOW:
+        number = 3 if above else 1
+        yield f"{line} below {above}", above * 2 + line + b"\n", refused_at(number, why)
     yield "the first of two is named", b"{}\nnull\n[\n", refused_at(1, "NoCall")
 
 
@@ -313,12 +275,6 @@ def refused(_program):
     for number, (name, given, wanted) in enumerate(refusals()):
         words = ASKED[number % len(ASKED)]
         yield name, fault_of(run([PROGRAM, *words], given), wanted)
-
-
-def refused_by_model(_program):
-    """The model refuses the same."""
-    for name, given, wanted in refusals():
-        yield name, fault_of(judged_as(given, []), wanted)
 
 
 # ---- large logs
@@ -387,9 +343,6 @@ def large(_program):
 
 def timed(words, given, wanted):
     """What is wrong with a run, also where it takes too long."""
-    before = resource.getrusage(resource.RUSAGE_CHILDREN)
-    ran = run(words, given, 10 * LARGE_SECONDS)
-    after = resource.getrusage(resource.RUSAGE_CHILDREN)
-    spent = after.ru_utime + after.ru_stime - before.ru_utime - before.ru_stime
+    ran, spent = processor_time(lambda: run(words, given, 10 * LARGE_SECONDS))
     fault = f"it took {spent:.1f} s" if spent > LARGE_SECONDS else None
     return fault_of(ran, wanted) or fault

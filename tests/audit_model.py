@@ -1,22 +1,14 @@
-#!/usr/bin/env python3
 """What fdb_audit has to do with a log, by its definitions: slow, and plain.
 
 `Case` has the lines of a log and what is asked of them: which comes before which, what each knew,
-the faults, and of each all sentences that are true of it. As a program of its own it does what
-fdb_audit does, of several true sentences with the first.
+the faults, and of each all sentences that are true of it; `judged` says how fdb_audit ends.
 """
 import json
-import os
-import re
-import sys
 from collections import defaultdict
 from typing import NamedTuple, Optional
 
-sys.dont_write_bytecode = True
-
 from audit_lines import CALLS, KINDS, lines_of
-from harness import ROOT, read
-from reader import LAST_VERSION, Refused
+from reader import Refused
 
 DRAWING, REPORTING, SHOWING = ("commit", "ask"), ("commit", "report"), ("read", "commit", "report")
 # After how many bytes it is told how far reading is.
@@ -255,42 +247,17 @@ def name_of(line):
 # ---- the program
 
 
-class Wrong(Exception):
-    """Arguments that are refused."""
-
-
-class Help(Exception):
-    """Arguments that ask for the help."""
-
-
-def whole(word):
-    if word is None or not re.fullmatch(r"\+?[0-9]+", word) or int(word) > LAST_VERSION:
-        raise Wrong(word)
-    return int(word)
-
-
-def arguments_of(words):
-    """What is asked for, and the file that has the log, if one is named."""
-    found, files, words = {}, [], list(words)
-    if any(not it.isprintable() and "\udc80" <= max(it) <= "\udcff" for it in words):
-        raise Wrong("no UTF-8")
-    while words:
-        name, given, value = words.pop(0).partition("=")
-        if name == "--":
-            files, words = files + words, []
-        elif name in ("--complete", "--margin") and name[2:] not in found:
-            found[name[2:]] = whole(value if given else words.pop(0) if words else None)
-        elif name in ("--all", "--history", "--progress") and not given and name[2:] not in found:
-            found[name[2:]] = True
-        elif name in ("--help", "-h") and not given:
-            raise Help
-        elif name.startswith("-") and name != "-":
-            raise Wrong(name)
-        else:
-            files.append(name + given + value)
-        if len(files) > 1:
-            raise Wrong(files)
-    return Options(**found), files[0] if files else None
+def options_of(words):
+    """What is asked for by arguments of which none is refused."""
+    found, words = {}, [part for it in words for part in it.split("=")]
+    for at, word in enumerate(words):
+        if word == "--":
+            break
+        if word in ("--complete", "--margin"):
+            found[word[2:]] = int(words[at + 1])
+        elif word in ("--all", "--history", "--progress"):
+            found[word[2:]] = True
+    return Options(**found)
 
 
 def judged(given, options=Options()):
@@ -307,42 +274,3 @@ def judged(given, options=Options()):
     fault, k = faults[0]
     line = f"fdb_audit: audit fault: {fault} {k + 1}\n"
     return 4, "".join(f"{it}\n" for it in said).encode(), line.encode()
-
-
-def main(words):
-    try:
-        options, file = arguments_of(words)
-    except Wrong:
-        return 2, b"", b"fdb_audit: words refused: see --help\n"
-    except Help:
-        return 0, read(f"{ROOT}/tests/audit_help.txt"), b""
-    try:
-        with open(0 if file is None else file, "rb", closefd=file is not None) as it:
-            given = it.read()
-    except OSError:
-        return 5, b"", b"fdb_audit: reading failed\n"
-    status, out, err = judged(given, options)
-    return status, out, (told(given) if options.progress and status != 1 else b"") + err
-
-
-def told(given):
-    """What is told of how far reading is, where there is so much."""
-    if len(given) < TOLD:
-        return b""
-    ends = [*range(TOLD, len(given) + 1, TOLD), len(given)]
-    said = [f"fdb_audit: {it} bytes, {given.count(10, 0, it)} calls read" for it in ends]
-    return "\n".join(said).encode() + b"; judging\n"
-
-
-if __name__ == "__main__":
-    STATUS, OUT, ERR = main(sys.argv[1:])
-    try:
-        while OUT:
-            OUT = OUT[os.write(1, OUT):]
-    except OSError:
-        STATUS, ERR = 5, b"fdb_audit: writing failed\n"
-    try:
-        os.write(2, ERR)
-    except OSError:
-        pass
-    os._exit(STATUS)

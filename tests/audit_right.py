@@ -8,7 +8,7 @@ before comes before.
 import re
 
 from audit_lines import lines_of
-from audit_model import DRAWING, SHOWING, Case, arguments_of, judged, name_of
+from audit_model import DRAWING, SHOWING, Case, judged, name_of, options_of
 from harness import Ran, fault_of
 
 TURN = re.compile(r"history (\d+) (ask|report|read) (\d+) (?:(others)|line (\d+)(.*))", re.DOTALL)
@@ -18,7 +18,7 @@ TAKEN = {"read": "read", "commit": "report", "report": "report"}
 
 def why_wrong(given, words, ran):
     """What is wrong with how a run on these bytes ended, or None."""
-    options, _file = arguments_of(words)
+    options = options_of(words)
     status, out, err = judged(given, options)
     if status not in (0, 4):
         return fault_of(ran, Ran(status, out, err))

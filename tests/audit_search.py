@@ -5,7 +5,7 @@ It takes from the audit's model how a line is read, and nothing of what is asked
 import json
 
 from audit_lines import lines_of
-from audit_model import DRAWING, REPORTING, SHOWING, Case, Options
+from audit_model import DRAWING, REPORTING, SHOWING, Case
 
 NAMES = ("a", "b", "c", 'd "e"', "two\nlines", "Ærø", "")
 
@@ -147,12 +147,6 @@ def random_words(dice):
     if dice.random() < 0.5:
         words += ["--margin", str(dice.choice((0, 1, 1, 2)))]
     return words
-
-
-def options_of(words):
-    given = dict(zip(words[::2], words[1::2]))
-    complete = given.get("--complete")
-    return Options(None if complete is None else int(complete), int(given.get("--margin", 0)))
 
 
 def fault_of_search(given, options):

@@ -174,7 +174,7 @@ def with_stale_reads(seed, setting=Setting()):
 
 def judge_of(program):
     """What the first fault of some lines is, and at which lines a stale read was found."""
-    from audit_model import arguments_of, judged
+    from audit_model import options_of, judged
     from audit_search import text_of
     from harness import run
 
@@ -184,7 +184,7 @@ def judge_of(program):
         if program:
             out = run([program, *words], given, 600).out
         else:
-            _status, out, _err = judged(given, arguments_of(words)[0])
+            _status, out, _err = judged(given, options_of(words))
         found = [it.split(": ")[1].split() for it in out.decode().splitlines() if ": " in it]
         return out.startswith(b"audit ok"), {int(line) - 1 for kind, line in found
                                              if kind in ("Order", "Wrong")}

@@ -1,6 +1,7 @@
 """Runs the program, says what was wrong with a run, and writes scripts."""
 import json
 import os
+import resource
 import subprocess
 from typing import NamedTuple
 
@@ -64,6 +65,13 @@ def run(words, given=b"", seconds=SECONDS, **how):
     except subprocess.TimeoutExpired as late:
         return Ran(NOT_ENDED, late.stdout or b"", late.stderr or b"")
     return Ran(ran.returncode, ran.stdout or b"", ran.stderr or b"")
+
+
+def processor_time(call):
+    """What a call gives, and the seconds of processor time that commands take in it."""
+    before = resource.getrusage(resource.RUSAGE_CHILDREN)
+    given, after = call(), resource.getrusage(resource.RUSAGE_CHILDREN)
+    return given, after.ru_utime + after.ru_stime - before.ru_utime - before.ru_stime
 
 
 def under(redirections, program, given=b"", arguments=(), **how):

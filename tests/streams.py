@@ -1,11 +1,10 @@
 """Scripts that are as large as they may be, and input that never ends."""
-import resource
 import subprocess
 
 from answers import MOST_COMMANDS, MOST_ROUNDS, crowd_at_all_limits, do, large
 from command_line import MOST_BYTES
 from harness import DONE, OUT_OF_MEMORY, READING_FAILED, Ran, done, fault_of, first_output
-from harness import first_script, refused, run, script, under, written
+from harness import first_script, processor_time, refused, run, script, under, written
 from model import expected
 
 # What a pipe holds at most of bytes that nobody has taken.
@@ -122,10 +121,7 @@ def largest():
 def work(program):
     """The largest scripts take a bounded time of the processor, with the starts of threads."""
     for name, given, arguments, ends in largest():
-        before = resource.getrusage(resource.RUSAGE_CHILDREN)
-        ran = run([program, *arguments], given)
-        after = resource.getrusage(resource.RUSAGE_CHILDREN)
-        spent = after.ru_utime + after.ru_stime - before.ru_utime - before.ru_stime
+        ran, spent = processor_time(lambda: run([program, *arguments], given))
         fault = f"it took {spent:.1f} s" if spent > WORK_SECONDS else None
         yield name, fault_of(ran, ends) or fault
 
