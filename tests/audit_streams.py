@@ -5,7 +5,7 @@ from audit_lines import MOST_BYTES
 from audit_logs import LOGS, PROGRAM, ended_with, judged_as, refused_at
 from audit_model import TOLD
 from command_line import LINE
-from harness import Ran, fault_of, read, run, under
+from harness import fault_of, read, run, under
 
 LOG = f"{LOGS}/stale.jsonl"
 NO_LINES = ended_with(

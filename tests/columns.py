@@ -1,24 +1,8 @@
 """Lines stay within 100 columns: those of Python, and those that name what a contract uses."""
-import os
-
-from harness import ROOT
+from harness import files_below, text_of
 
 MOST = 100
-BUILT = ["out", "__pycache__"]
 OF_PYTHON = ["bench", "tests", "tools"]
-
-
-def files_below(folder):
-    """The files below a folder, with their lines, but for what was built."""
-    for place, folders, names in os.walk(f"{ROOT}/{folder}"):
-        folders[:] = sorted(it for it in folders if it not in BUILT)
-        for name in sorted(names):
-            with open(f"{place}/{name}", encoding="utf-8", errors="replace") as it:
-                yield os.path.relpath(f"{place}/{name}", ROOT), it.read().splitlines()
-
-
-def is_python(file, lines):
-    return file.endswith(".py") or lines[:1] == ["#!/usr/bin/env python3"]
 
 
 def fault_of(lines):
@@ -29,11 +13,12 @@ def fault_of(lines):
 
 def columns(_program):
     """Each file of Python, and the `ghost use` lines of each crate's source file."""
-    for folder in OF_PYTHON:
-        for file, lines in files_below(folder):
-            if is_python(file, lines):
-                yield file, fault_of(enumerate(lines, 1))
-    for file, lines in files_below("crates"):
-        used = [it for it in enumerate(lines, 1) if it[1].lstrip().startswith("ghost use ")]
+    for file in (it for folder in OF_PYTHON for it in files_below(folder, "")):
+        text = text_of(file) if file.endswith(".py") or "." not in file else ""
+        if file.endswith(".py") or text.startswith("#!/usr/bin/env python3"):
+            yield file, fault_of(enumerate(text.splitlines(), 1))
+    for file in files_below("crates", ".rt"):
+        lines = enumerate(text_of(file).splitlines(), 1)
+        used = [it for it in lines if it[1].lstrip().startswith("ghost use ")]
         if used:
             yield file, fault_of(used)

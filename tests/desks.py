@@ -1,11 +1,9 @@
-"""Which GRV proxy a read goes to, and what its queue refuses it for.
+"""Which GRV proxy a read goes to.
 
 Each GRV proxy has a desk. Where its queue has room for one, two reads that meet there show.
 """
-import json
-
 from answers import Example, do
-from harness import command, done, fault_of, run, script, written
+from harness import fault_of, run, written
 from model import expected
 from races import AGAIN, both, turns
 
@@ -61,49 +59,3 @@ def each_desk(program):
         yield f"{proxies} clients and proxies", fault_of(
             run([program, "--history", "--proxies", str(proxies)], given), expected(given, True)
         )
-
-
-def refused(cause):
-    return f"0 0 0 grv refused {cause}\naudit ok events 0 raised 0 versions 0\n".encode()
-
-
-READ = b"0 0 0 grv 100 unlocked none pos 0\naudit ok events 1 raised 0 versions 0\n"
-BAD_COUNT, THROTTLED, QUOTA = (
-    refused("BadCount"),
-    refused("BatchThrottled"),
-    {"normal": "7", "batch": "3", "elapsed": "10000000"},
-)
-# A read of this priority and count, further members of the top level, and what is printed.
-COUNTS = [
-    *[
-        (priority, count, {}, BAD_COUNT)
-        for priority in ("system", "default", "batch")
-        for count in (0, 100_001, 2**64 - 1)
-    ],
-    *[
-        (priority, 100_000, {"normal": "1", "elapsed": "10000000"}, READ)
-        for priority in ("system", "default")
-    ],
-    ("batch", 17, QUOTA, READ),
-    ("batch", 18, QUOTA, BAD_COUNT),
-    ("batch", 11, {"normal": "1", "batch": "1"}, READ),
-    ("batch", 12, {"normal": "1", "batch": "1"}, BAD_COUNT),
-    ("batch", 100_000, {"normal": "99990", "batch": "100000"}, READ),
-    ("batch", 100_000, {"normal": "99989", "batch": "100000"}, BAD_COUNT),
-    ("batch", 1, {"batch": "0"}, THROTTLED),
-    ("batch", 1010, {"batch": "0"}, THROTTLED),
-    ("batch", 1011, {"batch": "0"}, BAD_COUNT),
-    ("batch", 0, {"batch": "0"}, BAD_COUNT),
-    ("default", 1, {"batch": "0", "room": "1"}, READ),
-]
-
-
-def queue_refusals(program):
-    """What a read is refused for, whoever else waits."""
-    for priority, count, top, wanted in COUNTS:
-        given = script(
-            f"[[{command('grv', priority=json.dumps(priority), count=str(count))}]]", **top
-        ).encode()
-        name = f"a {priority} read for {count} transactions with {top}"
-        yield f"{name}, by the model", fault_of(expected(given), done(wanted))
-        yield name, fault_of(run([program], given), done(wanted))

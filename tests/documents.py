@@ -1,4 +1,4 @@
-"""What documents say and show: lists, numbers, clauses, files, links, code, and runs of programs."""
+"""What documents say and show: lists, numbers, clauses, files, links, code and runs."""
 import glob
 import os
 import re

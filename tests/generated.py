@@ -4,15 +4,14 @@ It stands below the line that MARK begins; what is above is written by hand.
 """
 import sys
 
-from harness import ROOT
+from harness import ROOT, text_of
 
 MARK = "<!-- Made by "
 
 
 def parts_of(document):
     """What is written by hand, with the mark's line, and what was made."""
-    with open(f"{ROOT}/{document}", encoding="utf-8") as it:
-        above, _, rest = it.read().partition(MARK)
+    above, _, rest = text_of(document).partition(MARK)
     mark, _, made = rest.partition("\n")
     return f"{above}{MARK}{mark}\n", made
 

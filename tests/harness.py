@@ -119,7 +119,6 @@ def refused(why):
 
 
 READING_FAILED = faulted(NO_STREAM, "reading failed")
-WRITING_FAILED = faulted(NO_STREAM, "writing failed")
 OUT_OF_MEMORY = faulted(NO_MEMORY, "want of memory")
 ARGUMENTS_REFUSED = faulted(OTHER_ARGUMENTS, "words refused: see --help")
 

@@ -112,7 +112,8 @@ class Room:
         for file in (name, "tools/launcher"):
             shutil.copy(f"{ROOT}/{file}", f"{self.top}/{file}")
         for file, text in (
-            ("top/crates.txt", CRATES), ("top/HANDLES", "\n"), ("bin/rt", RT), ("stand_in", PROGRAM),
+            ("top/crates.txt", CRATES), ("top/HANDLES", "\n"), ("bin/rt", RT),
+            ("stand_in", PROGRAM),
             (f"top/crates/{name}_cli/stdin", "\n"), (f"top/crates/{name}_cli/src/main.rt", "\n"),
         ):
             self.write(file, text)

@@ -1,8 +1,7 @@
 """The limits that documents name are those of the code."""
-import os
 import re
 
-from harness import ROOT
+from harness import files_below, text_of
 
 CONSTANT = re.compile(r"^pub const (MAX_\w+|IDLE_BURST): \w+ = ([\d_]+);", re.MULTILINE)
 FORMATS, README = "docs/FORMATS.md", "README.md"
@@ -42,20 +41,12 @@ SAID = (
 )
 
 
-def text_of(file):
-    with open(f"{ROOT}/{file}", encoding="utf-8") as it:
-        return it.read()
-
-
 def constants():
     """The limits by name, each with the values that it has in the crates."""
     found = {}
-    for crate in sorted(os.listdir(f"{ROOT}/crates")):
-        src = f"crates/{crate}/src"
-        for name in sorted(os.listdir(f"{ROOT}/{src}")):
-            text = text_of(f"{src}/{name}") if name.endswith(".rt") else ""
-            for limit, value in CONSTANT.findall(text):
-                found.setdefault(limit, set()).add(int(value.replace("_", "")))
+    for file in files_below("crates", ".rt"):
+        for limit, value in CONSTANT.findall(text_of(file)):
+            found.setdefault(limit, set()).add(int(value.replace("_", "")))
     return found
 
 

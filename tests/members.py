@@ -3,11 +3,10 @@
 The cases are made from the tables of docs/FORMATS.md, so that a member which the format gains is
 tried too. Other cases compare these with the words that the reader of scripts has in its code.
 """
-import os
 import re
 from typing import NamedTuple
 
-from harness import ROOT, command, fault_of, members, refused, run, script
+from harness import command, fault_of, files_below, members, refused, run, script, text_of
 from model import expected
 
 NAME = re.compile(r"`([a-z_]+)`")
@@ -16,7 +15,7 @@ ROW = re.compile(r"^(`.*?) \| (.*)$")
 THROTTLE = re.compile(r"A throttle .* It has (.*?), all required")
 # A word of a script in the code that reads it.
 WORD = re.compile(r'"([a-z_]+)"')
-READER = f"{ROOT}/crates/fdb_script/src/reading"
+READER = "crates/fdb_script/src/reading"
 PRIORITIES = {"system", "default", "batch"}
 # What is tried in the place of each member. Of some kinds one of these is right.
 TEXTS = ["-1", "-0", "1.0", "1.5", "1e3", "18446744073709551616", "null", "true", '"1"', "[]", "{}"]
@@ -37,8 +36,8 @@ class Member(NamedTuple):
 
 def part():
     """The part of the document on what a script is."""
-    with open(f"{ROOT}/docs/FORMATS.md", encoding="utf-8") as it:
-        return it.read().split("\n## The script\n")[1].split("\n### What is refused\n")[0]
+    text = text_of("docs/FORMATS.md")
+    return text.split("\n## The script\n")[1].split("\n### What is refused\n")[0]
 
 
 def rows_of(of_commands):
@@ -130,11 +129,7 @@ def with_command(texts):
 
 def words_read():
     """The words in the code that reads scripts."""
-    found = set()
-    for name in sorted(os.listdir(READER)):
-        with open(f"{READER}/{name}", encoding="utf-8") as it:
-            found |= set(WORD.findall(it.read()))
-    return found
+    return {word for file in files_below(READER, ".rt") for word in WORD.findall(text_of(file))}
 
 
 def words_told():

@@ -1,7 +1,6 @@
 """Scripts whose clients race, with 1 to 16 proxies: each text that is printed is lawful."""
 import json
 import random
-import re
 
 import drawn
 from answers import MOST_COMMANDS, do
@@ -106,15 +105,6 @@ WORKED = {
 }
 
 
-# What two clients print that each ask, report and read: the versions that they report and read.
-TWO_COMMITS = "".join(
-    rf"0 {who} {3 * who} ask prev \d+ version \d+ ordinal [01] fresh\n"
-    rf"0 {who} {3 * who + 1} report (\d+) (?:not )?raised pos [01]\n"
-    rf"0 {who} {3 * who + 2} grv (\d+) unlocked none pos [01]\n"
-    for who in (0, 1)
-) + r"audit ok events 4 raised 1 versions 2\n"
-
-
 def worked_races(program):
     """Worked scripts, time and again with 1, 2 and 16 proxies."""
     for name, (rounds, top) in WORKED.items():
@@ -122,26 +112,6 @@ def worked_races(program):
         for proxies in (1, 2, 16):
             for time in range(AGAIN):
                 yield f"{name}, {proxies} proxies, run {time}", judged(program, given, proxies)
-    for proxies in (1, 2, 16):
-        for time in range(AGAIN):
-            yield f"each read sees its client's report, {proxies} proxies, run {time}", seen_fault(
-                program, proxies
-            )
-
-
-def seen_fault(program, proxies):
-    """Returns what is wrong with two clients that ask, report and read, without the judge."""
-    rounds, top = WORKED["two clients ask, report and read"]
-    ran = run([program, "--proxies", str(proxies)], written(rounds, **top))
-    numbers = re.fullmatch(TWO_COMMITS, ran.out.decode())
-    if ran.status or ran.err or not numbers:
-        return f"status {ran.status} and {ran.out!r}"
-    reported, read, other_reported, other_read = map(int, numbers.groups())
-    return (
-        None
-        if read >= reported and other_read >= other_reported
-        else f"a read is below its client's report in {ran.out!r}"
-    )
 
 
 def limits():

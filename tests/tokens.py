@@ -23,52 +23,21 @@ use std::sync::Wait;
 
 fn main() {}
 """
-# Each function gives a record of the name `J` a token of the name that stands for NAME.
+# Each function gives a record of the name `J` a token of the name that stands for NAME: what it is
+# given besides, what it gives, and its body.
+FORM = """
+pub fn CALL_ITS<J: Live, K: Live, R: Wait>(rt: &R, live: &LiveRecord<J>, GIVEN)GIVES {
+    BODY
+}
+"""
+MUT = "token: &mut Seen<NAME>"
 CALLS = {
-    "read": """
-pub fn read_ITS<J: Live, K: Live, R: Wait>(
-    rt: &R,
-    live: &LiveRecord<J>,
-    token: &mut Seen<NAME>,
-) -> Fetched {
-    live.read(rt, token)
-}
-""",
-    "report": """
-pub fn report_ITS<J: Live, K: Live, R: Wait>(
-    rt: &R,
-    live: &LiveRecord<J>,
-    token: &mut Seen<NAME>,
-    rec: Record,
-) -> Result<Ack, LiveError> {
-    live.report(rt, &OpenGate, 0, token, rec)
-}
-""",
-    "split": """
-pub fn split_ITS<J: Live, K: Live>(live: &LiveRecord<J>, token: &mut Seen<NAME>) {
-    let _ = live.split(token);
-}
-""",
-    "learn": """
-pub fn learn_ITS<J: Live, K: Live, R: Wait>(
-    rt: &R,
-    live: &LiveRecord<J>,
-    own: &mut Seen<J>,
-    token: Seen<NAME>,
-) {
-    live.learn(rt, own, token);
-}
-""",
-    "meet": """
-pub fn meet_ITS<J: Live, K: Live, R: Wait>(
-    rt: &R,
-    live: &LiveRecord<J>,
-    own: &mut Seen<J>,
-    token: &mut Seen<NAME>,
-) {
-    live.meet(rt, own, token);
-}
-""",
+    "read": (MUT, " -> Fetched", "live.read(rt, token)"),
+    "report": (f"{MUT}, rec: Record", " -> Result<Ack, LiveError>",
+               "live.report(rt, &OpenGate, 0, token, rec)"),
+    "split": (MUT, "", "let _ = live.split(token);"),
+    "learn": ("own: &mut Seen<J>, token: Seen<NAME>", "", "live.learn(rt, own, token);"),
+    "meet": (f"own: &mut Seen<J>, {MUT}", "", "live.meet(rt, own, token);"),
 }
 NAMES = {"own": "J", "other": "K"}
 ERROR = re.compile(r"src/main\.rt:(\d+):\d+: error(.*)")
@@ -82,9 +51,13 @@ def text_of_calls():
     The two forms of a call differ in a name.
     """
     text, places = HEAD, [None] * HEAD.count("\n")
-    for call, form in CALLS.items():
+    for call, (given, gives, body) in CALLS.items():
         for its, name in NAMES.items():
-            text += form.replace("ITS", its).replace("NAME", name)
+            parts = {"CALL": call, "ITS": its, "GIVEN": given, "GIVES": gives, "BODY": body}
+            form = FORM
+            for part, said in {**parts, "NAME": name}.items():
+                form = form.replace(part, said)
+            text += form
             places += [(call, its)] * form.count("\n")
     return text, places
 

@@ -1,10 +1,8 @@
-/* What audits answer: worked out by hand, and of many random logs the same by bytes and by arrays:
- *     ./audit [LOGS] [SEED]
- * The last line is 'ok'. */
+/* What audits answer, by bytes and by arrays, worked out by hand. The last line is 'ok'. Random logs
+ * are audited by tests/audit_bindings.py. */
 #undef NDEBUG
 #include "fdb_read_version.h"
 #include <assert.h>
-#include <inttypes.h>
 #include <stdio.h>
 #include <stdlib.h>
 #include <string.h>
@@ -14,15 +12,6 @@
 #define CLIENT(number) .has_client = true, .client = number
 
 static const fdb_audit_options PLAIN = {0};
-static uint64_t state;
-
-/* (xorshift: the same numbers on each machine) */
-static uint64_t drawn(uint64_t below) {
-    state ^= state << 13;
-    state ^= state >> 7;
-    state ^= state << 17;
-    return state % below;
-}
 
 /* Each array is as long as it is said to be, so that a sanitizer sees what goes beyond. */
 static void *exact(const void *from, size_t size) {
@@ -186,15 +175,8 @@ static void refusals(void) {
     refused_log("{\"client\":1,\"read\":1}", FDB_BAD_MEMBER, 1, FDB_CLIENT);
     refused_log("{\"client\":\"a\"}", FDB_NO_CALL, 1, 0);
     refused_log("{\"client\":\"a\",\"read\":1,\"ask\":1}", FDB_TWO_CALLS, 1, 0);
-    refused_log("{\"client\":\"a\",\"read\":-1}", FDB_BAD_MEMBER, 1, FDB_READ);
-    refused_log("{\"client\":\"a\",\"commit\":-1}", FDB_BAD_MEMBER, 1, FDB_COMMIT);
-    refused_log("{\"client\":\"a\",\"ask\":-1}", FDB_BAD_MEMBER, 1, FDB_ASK);
-    refused_log("{\"client\":\"a\",\"report\":-1}", FDB_BAD_MEMBER, 1, FDB_REPORT);
     refused_log("{\"client\":\"a\",\"learn\":\"b\"}", FDB_BAD_MEMBER, 1, FDB_LEARN);
     refused_log("{\"read\":1,\"ended\":1}", FDB_BAD_MEMBER, 1, FDB_BEGAN);
-    refused_log("{\"read\":1,\"began\":2,\"ended\":1}", FDB_BAD_MEMBER, 1, FDB_ENDED);
-    refused_log("{\"client\":\"a\",\"read\":1}\n{\"read\":1,\"began\":1,\"ended\":1}",
-                FDB_SOME_TIMES, 2, 0);
     refused_log("{\"read\":1}", FDB_BAD_MEMBER, 1, FDB_CLIENT);
     size_t long_line = 1048577;
     char *log = malloc(long_line + 1);
@@ -214,79 +196,11 @@ static void refusals(void) {
     refused_calls((fdb_call){.kind = FDB_READ}, FDB_BAD_MEMBER, FDB_CLIENT);
 }
 
-/* ---- random logs */
-
-static const char *const NAMES[] = {"", "", "read", "commit", "ask", "report", "learn"};
-
-static fdb_call random_call(bool has_times, size_t above, const fdb_call *calls) {
-    fdb_call it = {.kind = (uint8_t)(FDB_READ + drawn(has_times ? 4 : 5)), .version = 1 + drawn(5),
-                   .has_times = has_times, .client = (uint32_t)drawn(3)};
-    it.has_client = !has_times || drawn(4) > 0;
-    if (has_times) {
-        it.began = drawn(10);
-        it.has_ended = drawn(5) > 0;
-        it.ended = it.has_ended ? it.began + drawn(4) : 0;
-    }
-    if (it.kind == FDB_LEARN && !above) it.kind = FDB_READ;
-    if (it.kind == FDB_LEARN) {
-        it.version = 0;
-        it.teller = calls[drawn(above)].client;
-    }
-    return it;
-}
-
-/* The line of a call. */
-static char *line(char *to, const fdb_call *it) {
-    to += sprintf(to, "{\"%s\":", NAMES[it->kind]);
-    to += it->kind == FDB_LEARN ? sprintf(to, "\"%" PRIu32 "\"", it->teller)
-                                : sprintf(to, "%" PRIu64, it->version);
-    if (it->has_client) to += sprintf(to, ",\"client\":\"%" PRIu32 "\"", it->client);
-    if (it->has_times) to += sprintf(to, ",\"began\":%" PRIu64, it->began);
-    if (it->has_ended) to += sprintf(to, ",\"ended\":%" PRIu64, it->ended);
-    else if (it->has_times) to += sprintf(to, ",\"ended\":null");
-    return to + sprintf(to, "}\n");
-}
-
-/* How many verdicts of each kind there were. */
-static size_t faulty, faultless;
-
-static void log_agrees(void) {
-    fdb_call calls[MOST];
-    char log[MOST * 100] = "", *end = log;
-    size_t count = drawn(MOST + 1);
-    bool has_times = drawn(2);
-    for (size_t i = 0; i < count; i++) {
-        calls[i] = random_call(has_times, i, calls);
-        end = line(end, &calls[i]);
-    }
-    fdb_audit_options options = {.margin = drawn(3), .complete = drawn(2), .start = drawn(3)};
-    fdb_fault by_log[2 * MOST], by_calls[2 * MOST];
-    uint64_t size = 77, again = 77;
-    uint8_t status = log_faults(log, &options, by_log, 2 * MOST, &size);
-    assert(status == FDB_OK || status == FDB_FAULT);
-    assert(calls_faults(calls, count, &options, by_calls, 2 * MOST, &again) == status);
-    assert(size == again && (status == FDB_OK) == (size == 0));
-    for (size_t i = 0; i < size; i++) assert(same_fault(&by_log[i], &by_calls[i]));
-    char text[4000];
-    fdb_refused refused;
-    options.all = true;
-    assert(log_text(log, &options, text, sizeof text, &size, &refused) == status);
-    size_t lines = 0;
-    for (size_t at = 0; at < size; at++) lines += text[at] == '\n';
-    assert(lines == (status == FDB_OK ? 1 : again));
-    *(status == FDB_OK ? &faultless : &faulty) += 1;
-}
-
-int main(int count, char **words) {
-    size_t logs = count > 1 ? strtoull(words[1], NULL, 10) : 5000;
-    state = count > 2 ? strtoull(words[2], NULL, 10) : 7;
-    assert(state != 0);
+int main(void) {
     a_stale_read();
     each_reason();
     no_fault();
     refusals();
-    for (size_t i = 0; i < logs; i++) log_agrees();
-    assert(faulty > logs / 10 && faultless > logs / 20);
     puts("ok");
     return 0;
 }

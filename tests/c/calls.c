@@ -97,15 +97,12 @@ static void chain_by_hand(void) {
     /* again: the same, not fresh */
     assert(fdb_chain_ask(&chain, &ask, &answer) == FDB_OK);
     assert(answer.version == 200 && !answer.fresh);
-    /* 30 microseconds later, and then 10,000,000, of which 5,000,000 count */
     ask = (fdb_ask){.num = 2, .processed = 1, .at = 80, .proxy = 63};
     assert(fdb_chain_ask(&chain, &ask, &answer) == FDB_OK);
     assert(answer.prev == 200 && answer.version == 230 && answer.ordinal == 1);
-    ask = (fdb_ask){.num = 1, .processed = 0, .at = 10000080, .proxy = 0};
-    assert(fdb_chain_ask(&chain, &ask, &answer) == FDB_OK);
-    assert(answer.prev == 230 && answer.version == 5000230);
+    assert(answer.num == 2 && answer.processed == 1 && answer.at == 80 && answer.proxy == 63);
+    ask.num = 1;
     /* the first is processed */
-    ask = (fdb_ask){.num = 1, .processed = 0, .at = 90, .proxy = 63};
     assert(fdb_chain_ask(&chain, &ask, &answer) == FDB_FORGOTTEN && answer.version == 0);
     ask.num = 9;
     assert(fdb_chain_ask(&chain, &ask, &answer) == FDB_EARLY && answer.num == 3);

@@ -128,41 +128,28 @@ static uint8_t borne(uint8_t status, uint64_t written, uint64_t size, uint64_t l
     return status == FDB_FAULT ? FDB_OK : status;
 }
 
-static uint8_t log_text_bears(long allowed) {
-    uint8_t text[1000] = {77};
-    uint64_t size = 77;
-    fdb_refused refused = {.line = 77};
-    left = allowed;
-    uint8_t status = fdb_audit_log_text(BYTES, &ALL, text, sizeof text, &size, &refused);
-    return borne(status, text[0], size, refused.line);
-}
-
-static uint8_t log_faults_bear(long allowed) {
+/* Each audit of the log in turn: its text or its faults, of bytes or of calls. */
+static uint8_t audit_bears(long allowed, bool of_calls, bool is_text) {
+    uint8_t text[1000] = {77}, status;
     fdb_fault faults[4] = {{.known = 77}};
     uint64_t size = 77;
     fdb_refused refused = {.line = 77};
     left = allowed;
-    uint8_t status = fdb_audit_log_faults(BYTES, &ALL, faults, 4, &size, &refused);
-    return borne(status, faults[0].known, size, refused.line);
+    if (of_calls && is_text)
+        status = fdb_audit_calls_text(CALLS, 4, &ALL, text, sizeof text, &size, &refused);
+    else if (of_calls)
+        status = fdb_audit_calls_faults(CALLS, 4, &ALL, faults, 4, &size, &refused);
+    else if (is_text)
+        status = fdb_audit_log_text(BYTES, &ALL, text, sizeof text, &size, &refused);
+    else
+        status = fdb_audit_log_faults(BYTES, &ALL, faults, 4, &size, &refused);
+    return borne(status, is_text ? text[0] : faults[0].known, size, refused.line);
 }
 
-static uint8_t calls_text_bears(long allowed) {
-    uint8_t text[1000] = {77};
-    uint64_t size = 77;
-    fdb_refused refused = {.line = 77};
-    left = allowed;
-    uint8_t status = fdb_audit_calls_text(CALLS, 4, &ALL, text, sizeof text, &size, &refused);
-    return borne(status, text[0], size, refused.line);
-}
-
-static uint8_t calls_faults_bear(long allowed) {
-    fdb_fault faults[4] = {{.known = 77}};
-    uint64_t size = 77;
-    fdb_refused refused = {.line = 77};
-    left = allowed;
-    uint8_t status = fdb_audit_calls_faults(CALLS, 4, &ALL, faults, 4, &size, &refused);
-    return borne(status, faults[0].known, size, refused.line);
-}
+static uint8_t log_text_bears(long allowed) { return audit_bears(allowed, false, true); }
+static uint8_t log_faults_bear(long allowed) { return audit_bears(allowed, false, false); }
+static uint8_t calls_text_bears(long allowed) { return audit_bears(allowed, true, true); }
+static uint8_t calls_faults_bear(long allowed) { return audit_bears(allowed, true, false); }
 
 static void sweep(uint8_t (*bears)(long allowed)) {
     for (long allowed = 0; bears(allowed) != FDB_OK; allowed++) {
