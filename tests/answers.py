@@ -8,7 +8,7 @@ from judge import Lawful, is_determined
 from model import expected
 from reader import HIGHEST, MOST_COMMANDS, MOST_ROUNDS, MOST_THROTTLES, script_of
 
-SMALL, SPOILT, LARGE_SECONDS = 300, 300, 5
+SMALL, SPOILT = 300, 300
 
 
 class Example:
@@ -190,14 +190,3 @@ def crowd_at_all_limits(size):
     }
     empty = written(rounds, **top, note="")
     return written(rounds, **top, note="a" * (size - len(empty)))
-
-
-def large_scripts(program):
-    """The most commands that a script may have, with and without the history, in a few seconds."""
-    for name, rounds, top in large():
-        given = written(rounds, **top)
-        lawful = Lawful(given)
-        yield name, lawful.fault_of(run([program], given, LARGE_SECONDS), history=False)
-        yield f"{name}, with the history", lawful.fault_of(
-            run([program, "--history"], given, LARGE_SECONDS)
-        )

@@ -8,6 +8,8 @@ from audit_model import Case, judged, options_of
 from audit_right import why_wrong
 from audit_search import fault_of_search, random_lines, random_words, text_of
 from harness import EXAMPLES, ROOT, Ran, fault_of, processor_time, read, run
+from judging import changed
+from model import text_of as text_of_lines
 from reader import DEEPEST
 
 PROGRAM = f"{ROOT}/crates/fdb_audit_cli/out/fdb_audit_cli"
@@ -23,9 +25,6 @@ ASKED = ([], ["--all", "--history"], ["--history"], ["--all"])
 # Lines of two calls, with times and without.
 TIMED = b'{"client":"a","read":1,"began":1,"ended":2}\n'
 UNTIMED = b'{"client":"a","read":1}\n'
-# Words of faults, and of turns, in whose place others are wrong.
-SPOILS = (("line", "its", True), ("known", "seen", True), (" others", " line 1", False),
-          (" shared", "", False))
 # The processor time that a log of 20 MB may take in seconds: some ten times what it does.
 LARGE, LARGE_SECONDS, CLIENTS = 250_000, 20, 1_000
 
@@ -77,32 +76,13 @@ def wrong_verdicts(_program):
     """What is written is refused with a line, a number or a word changed, left out or added."""
     for name, given, words, out in worked_cases():
         right = ended_with(out)
-        lines = out.decode().splitlines(keepends=True)
-        for what, changed in spoilt(lines):
-            wrong = why_wrong(given, words, right._replace(out="".join(changed).encode()))
-            yield f"{name}, {what}", None if wrong else "it is not refused"
-        for status in {OK, REFUSED, FAULTY, 2, 3, 5} - {right.status}:
-            wrong = why_wrong(given, words, right._replace(status=status))
-            yield f"{name}, status {status}", None if wrong else "it is not refused"
-
-
-def spoilt(lines):
-    """Names changes of some lines, each of which makes them wrong."""
-    for at, line in enumerate(lines):
-        before, after = lines[:at], lines[at + 1:]
-        yield f"without line {at}", before + after
-        yield f"with line {at} twice", [*before, line, line, *after]
-        yield f"line {at} with a space more", [*before, line.replace("\n", " \n"), *after]
-        words = line.split(" ")
-        for place, word in enumerate(words):
-            digits = word.strip("(),:\n")
-            if digits.isdecimal() and place > 1 and word[:1] != '"':
-                more = word.replace(digits, str(int(digits) + 1), 1)
-                changed = " ".join([*words[:place], more, *words[place + 1:]])
-                yield f"line {at}, {word.strip()} one more", [*before, changed, *after]
-        for old, new, of_fault in SPOILS:
-            if old in line and line.startswith("audit fault") == of_fault:
-                yield f"line {at}, {new} for {old}", [*before, line.replace(old, new, 1), *after]
+        texts = (text_of_lines(it) for it in changed(out.decode().splitlines()))
+        is_taken = lambda it: not why_wrong(given, words, right._replace(out=it))
+        taken = next(filter(is_taken, texts), None)
+        yield name, taken and f"{taken} is not refused"
+        others = {OK, REFUSED, FAULTY, 2, 3, 5} - {right.status}
+        taken = [it for it in others if not why_wrong(given, words, right._replace(status=it))]
+        yield f"{name}, status", f"{taken} are not refused" if taken else None
 
 
 def example_cases():

@@ -3,8 +3,9 @@ import subprocess
 
 from answers import MOST_COMMANDS, MOST_ROUNDS, crowd_at_all_limits, do, large
 from command_line import MOST_BYTES
-from harness import DONE, OUT_OF_MEMORY, READING_FAILED, Ran, done, fault_of, first_output
+from harness import OUT_OF_MEMORY, READING_FAILED, done, fault_of, first_output
 from harness import first_script, processor_time, refused, run, script, under, written
+from judge import Lawful
 from model import expected
 
 # What a pipe holds at most of bytes that nobody has taken.
@@ -106,16 +107,16 @@ def longest():
 
 
 def largest():
-    """Names scripts that are as large as may be in some way, with arguments, and how they end."""
-    whole, lawful = ["--history", "--proxies", "16"], Ran(DONE, None, b"")
-    yield "all its limits", crowd_at_all_limits(MOST_BYTES), whole, lawful
+    """Names scripts that are as large as may be in some way, with arguments, and how some end."""
+    whole = ["--history", "--proxies", "16"]
+    yield "all its limits", crowd_at_all_limits(MOST_BYTES), whole, None
     for name, given, ends in longest():
         yield name, given, [], ends
     crowds = [[do("grv", who) for who in range(64)]] * (MOST_COMMANDS // 64)
     for name, rounds, top in [
         *large(), ("reads of 64 clients in each round", crowds, {"clients": 64})
     ]:
-        yield f"commands: {name}", written(rounds, **top), whole, lawful
+        yield f"commands: {name}", written(rounds, **top), whole, None
 
 
 def work(program):
@@ -123,7 +124,8 @@ def work(program):
     for name, given, arguments, ends in largest():
         ran, spent = processor_time(lambda: run([program, *arguments], given))
         fault = f"it took {spent:.1f} s" if spent > WORK_SECONDS else None
-        yield name, fault_of(ran, ends) or fault
+        # (of some the judge says how they end)
+        yield name, (fault_of(ran, ends) if ends else Lawful(given, 16).fault_of(ran)) or fault
 
 
 def starved(program):
