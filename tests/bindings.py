@@ -84,7 +84,7 @@ def of_c(_program):
             case = f"{source} by {compiler} {' '.join(flags)}"
             yield case, fault_of_program(compiler, source, flags, wanted)
     if shutil.which("g++"):
-        words = ["g++", "-fsyntax-only", "-Wall", "-Werror", "-x", "c++", header.HEADER]
+        words = ["g++", "-fsyntax-only", "-Wall", "-Werror", "-x", "c++", f"{ROOT}/{header.HEADER}"]
         yield "the header by g++", fault_of(run(words), done(b""))
 
 

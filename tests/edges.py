@@ -22,16 +22,22 @@ ONE, TWO, BAD = one(GRV), [ASK, ASK], "[[5]]"
 
 def with_throttle(name, text, tag='"t"'):
     """Writes a script of one throttle, and a read of its tag or of another one."""
-    read = command("grv", at="5", tags=f"[{text if name == 'tag' else tag}]")
+    read = command("grv", at="5", tags=f"[{text or tag if name == 'tag' else tag}]")
     return script(one(read), throttles=f"[{throttle(**{name: text})}]")
 
 
 def with_command(do, name, text, clients="64"):
-    right = {"ask": {"at": "1"}, "reask": {"num": "1", "at": "1"}, "report": {"num": "2"}}
-    last = command(do, **{**right.get(do, {}), name: text})
+    last = command(do, **{**RIGHT.get(do, {}), name: text})
     return script(one(*TWO, last, command("grv", lock_aware="true")), clients=clients)
 
 
+# A right value of each required member of a command.
+RIGHT = {
+    "ask": {"at": "1"}, "reask": {"num": "1", "at": "1"}, "report": {"num": "2"},
+    "tell": {"to": "1"},
+}
+# Values of each kind. Where one is right for a member, it stands there.
+KINDS = ("-1", "-0", "1.0", "1.5", "1e3", str(ABOVE_64_BITS), '"1"', "null", "true", "[]", "{}")
 # Of each member of the top level: values that are right, and values that are not.
 TOP = {
     "epoch_end": ((0, 99), (100, 101, HIGHEST)),
@@ -41,10 +47,13 @@ TOP = {
     "batch": ((0, 100_000), (100_001, HIGHEST)),
     "room": ((1, 100_000), (0, 100_001, HIGHEST)),
     "elapsed": ((1, 10_000_000), (0, 10_000_001, HIGHEST)),
+    "throttles": (("[]",), ("[0]", "[null]", "[[]]", '["t"]')),
+    "rounds": (("[]", "[[]]"), ("[5]", "[{}]", '["x"]', "[[],{}]", "[[5],5]")),
 }
+REQUIRED = ("epoch_end", "recovery", "clients", "rounds")
 # The same of texts. A tag has 1 to 16 letters from ! to ~.
 TAGS = (
-    ('"t"', '"0123456789abcdef"', '"!~"', '"\\"\\\\\\/\\u0074"'),
+    ('"t"', '"1"', '"0123456789abcdef"', '"!~"', '"\\"\\\\\\/\\u0074"'),
     ('""', '"0123456789abcdefg"', '" "', '"a b"', '"\\u007f"', '"\x7f"', '"\\u0000"', '"\\n"',
      '"é"', '"éééééééé"', '"\\u0100"', '"😀"'),
 )
@@ -66,23 +75,20 @@ METADATA = (
         f"{DIGITS[:-1]}٣", f"{DIGITS[:-2]}٣", f"{DIGITS[:-3]}１", "é" * 10, f"{DIGITS[:-1]}\\u0661",
     ))),
 )
-NUMBER = ((0, HIGHEST), (ABOVE_64_BITS,))
+NUMBER, FLAG = ((0, HIGHEST), ()), (("true", "false"), ("0", '"true"', "[true]"))
 THROTTLES = {"priority": PRIORITIES, "tag": TAGS, "rate": NUMBER, "expires": NUMBER}
 COMMANDS = {
     "grv": {
         "at": NUMBER, "priority": PRIORITIES, "count": ((0, 1, 100_000, 100_001, HIGHEST), ()),
         "tags": (('["t","u","t","u","t"]', "[]"),
                  ('["t","t","t","t","t","t"]', '[["t"]]', *(f'["t",{it}]' for it in TAGS[1]))),
-        "lock_aware": (("true", "false"), ("0", '"true"', "null")),
-        "use_min": (("true", "false"), ("1", "[true]")), "client": ((0, 63), (64, HIGHEST)),
+        "lock_aware": FLAG, "use_min": FLAG, "client": ((0, 63), (64, HIGHEST)),
     },
     "ask": {"at": NUMBER, "processed": NUMBER},
-    "reask": {"num": ((0, 1, 2, 3, 4, HIGHEST), (ABOVE_64_BITS,)), "at": NUMBER,
-              "processed": NUMBER},
+    "reask": {"num": ((0, 1, 2, 3, 4, HIGHEST), ()), "at": NUMBER, "processed": NUMBER},
     "report": {
-        "num": ((0, 1, 2, 3, HIGHEST), (ABOVE_64_BITS,)), "metadata": METADATA,
-        "min_known": ((0, 1, 100, 101, 102, HIGHEST), (ABOVE_64_BITS,)),
-        "locked": (("true", "false"), ("0", "[]")),
+        "num": ((0, 1, 2, 3, HIGHEST), ()), "metadata": METADATA, "locked": FLAG,
+        "min_known": ((0, 1, 100, 101, 102, HIGHEST), ()),
     },
     "tell": {"to": ((1, 63), (0, 64, HIGHEST))},
 }
@@ -90,27 +96,30 @@ COMMANDS = {
 
 def bounds():
     """Each member with each of its values: a name, a script, and why it is refused, or None."""
-    for name, (right, wrong) in TOP.items():
-        yield from sides(name, (right, ()), lambda it: script(ONE, **{name: it}), None)
-        # (it comes before a wrong command)
-        yield from sides(name, ((), wrong), lambda it: script(BAD, **{name: it}), "BadLimit")
+    for name, both in TOP.items():
+        # (its fault comes before that of a wrong command)
+        put = lambda it, is_right: script(**{"rounds": ONE if is_right else BAD, name: it})
+        yield from sides(name, both, put, "BadLimit", name in REQUIRED)
     for name, both in THROTTLES.items():
-        put = lambda it: with_throttle(name, it)
-        yield from sides(f"a throttle's {name}", both, put, "BadLimit")
+        put = lambda it, _: with_throttle(name, it)
+        yield from sides(f"a throttle's {name}", both, put, "BadLimit", True)
     for do, own in COMMANDS.items():
         for name, both in own.items():
-            put = lambda it: with_command(do, name, it)
-            yield from sides(f"{do}, {name}", both, put, "BadField 0 2")
+            put = lambda it, _: with_command(do, name, it)
+            is_required = name == "client" or name in RIGHT.get(do, {})
+            yield from sides(f"{do}, {name}", both, put, "BadField 0 2", is_required)
     for clients in ("1", "2"):
         yield f"the first of {clients}", with_command("grv", "client", "0", clients), None
         yield f"beyond {clients}", with_command("grv", "client", clients, clients), "BadField 0 2"
         yield f"told beyond {clients}", with_command("tell", "to", clients, clients), "BadField 0 2"
 
 
-def sides(name, both, put, why):
-    right, wrong = both
-    yield from ((f"{name} {it}", put(str(it)), None) for it in right)
-    yield from ((f"{name} {it}", put(str(it)), why) for it in wrong)
+def sides(name, both, put, why, is_required):
+    right, wrong = ([str(it) for it in values] for values in both)
+    yield from ((f"{name} {it}", put(it, True), None) for it in right)
+    wrong += [it for it in KINDS if it not in right]
+    yield from ((f"{name} {it}", put(it, False), why) for it in wrong)
+    yield f"no {name}", put(None, not is_required), why if is_required else None
 
 
 # What stands in members of no meaning, or of one elsewhere.

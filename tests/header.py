@@ -3,13 +3,11 @@
 Nobody proves a header. So each exported function, each struct that crosses and each number of the
 crate is read from its source, spelled in C, and looked for in the header, in the same order.
 """
-import os
 import re
 
-from harness import ROOT
+from harness import files_below, text_of
 
-HEADER = f"{ROOT}/include/fdb_read_version.h"
-SOURCES = f"{ROOT}/crates/fdb_c/src"
+HEADER, SOURCES = "include/fdb_read_version.h", "crates/fdb_c/src"
 
 COMMENT = re.compile(r"/\*.*?\*/|//[^\n]*", re.DOTALL)
 EXPORT = re.compile(r'pub extern "C" fn (\w+)\(([^{]*?)\)(?: -> (\w+))?\s*(?:requires|ensures|\{)')
@@ -24,14 +22,12 @@ PLAIN = {"u64": "uint64_t", "u32": "uint32_t", "u8": "uint8_t", "bool": "bool", 
 OF_C_ALONE = {"FDB_SYSTEM", "FDB_DEFAULT", "FDB_BATCH"}
 
 
-def text_of(file):
-    with open(file, encoding="utf-8") as it:
-        return COMMENT.sub("", it.read())
+def without_comments(*files):
+    return "\n".join(COMMENT.sub("", text_of(it)) for it in files)
 
 
 def sources():
-    names = sorted(it for it in os.listdir(SOURCES) if it.endswith(".rt"))
-    return "\n".join(text_of(f"{SOURCES}/{name}") for name in names)
+    return without_comments(*files_below(SOURCES, ".rt"))
 
 
 def words(text):
@@ -74,7 +70,7 @@ def exported():
 def declared():
     return {
         name: words(f"{result} {name}({parameters})")
-        for result, name, parameters in OF_C.findall(text_of(HEADER))
+        for result, name, parameters in OF_C.findall(without_comments(HEADER))
     }
 
 
@@ -96,7 +92,7 @@ def structs_of_source():
 
 
 def structs_of_header():
-    found = STRUCT_OF_C.findall(text_of(HEADER))
+    found = STRUCT_OF_C.findall(without_comments(HEADER))
     return {name: [words(it) for it in body.split(";") if it.strip()] for name, body in found}
 
 
@@ -121,5 +117,5 @@ def agrees(_program):
     """The functions, the structs and the numbers of the header are the crate's."""
     yield from compared(exported(), declared())
     yield from compared(structs_of_source(), structs_of_header())
-    source, header = numbers(NUMBER, sources()), numbers(NUMBER_OF_C, text_of(HEADER))
+    source, header = numbers(NUMBER, sources()), numbers(NUMBER_OF_C, without_comments(HEADER))
     yield from compared(source, header)
