@@ -162,6 +162,9 @@ FIRST, SECOND, THIRD = (
 THREE, RANKED = reads("default", "default", "default"), reads("system", "batch")
 APART = [grv(0), ask(0), ask(1), grv(1)]
 LEFT = [grv(0), ask(0), grv(2), ask(2), ask(1), grv(1)]
+# Client 1 sees the report that client 0 made behind its read.
+SEEN = [grv(0), ask(0), ask(0), {"do": "report", "client": 0, "num": 2}, grv(1), grv(1)]
+RAISED_TO = "101 raised pos 1", "101 unlocked none pos 1"
 WAITING = [grv(0, "system"), grv(1, "batch", count=11)]
 OFTEN, LONG = [grv(0), grv(0), grv(1)], [grv(0), grv(0), grv(1, count=30)]
 # A round, further members of the script, the number of proxies, the replies, and whether a
@@ -177,12 +180,16 @@ QUEUES = (
     ("the one between those", THREE, {}, 2, [READ, FULL, READ], False),
     ("a batch read beside one of the system", RANKED, {}, 1, [READ, FULL], True),
     ("a read of the system beside a batch one", RANKED, {}, 1, [FULL, READ], False),
+    ("a read of the system beside a default one", reads("system", "default"), {}, 1, [FULL, READ],
+     False),
     ("a batch read that may not wait", reads("default", "batch"), {"batch": 0}, 1,
      [READ, FULL], False),
     ("a queue that a read has left", APART, {}, 1, [READ, FIRST, SECOND, FULL], False),
     ("a queue in which it may still wait", APART, {}, 1, [READ, SECOND, FIRST, FULL], True),
     ("a queue that both others have left", LEFT, {}, 1,
      [READ, FIRST, THIRD, FULL, FULL, SECOND], False),
+    ("a queue that a read before a report has left", SEEN, {}, 1,
+     [READ, FIRST, SECOND, *RAISED_TO, FULL], False),
     ("a read of the system beside one that waits", WAITING, {"normal": 1, "batch": 1}, 1,
      [FULL, READ], False),
     ("full once beside one read", OFTEN, {}, 1, [FULL, READ, READ], True),
