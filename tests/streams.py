@@ -1,5 +1,6 @@
 """Scripts that are as large as they may be, and input that never ends."""
 import subprocess
+import tempfile
 
 from answers import MOST_COMMANDS, MOST_ROUNDS, crowd_at_all_limits, do, large
 from command_line import MOST_BYTES
@@ -40,6 +41,13 @@ def sizes(program):
     ]
     for name, given, ends in cases:
         yield name, fault_of(run([program], given), ends)
+    with tempfile.NamedTemporaryFile() as file:
+        for more, ends in ((0, wanted), (1, READING_FAILED)):
+            with open(file.name, "wb") as it:
+                it.write(padded(MOST_BYTES + more))
+            ran = run([program, file.name])
+            yield f"a file of {more} bytes more than may be", fault_of(ran, ends)
+    yield "a file that never ends", fault_of(run([program, "/dev/zero"], first), READING_FAILED)
     yield "input that never ends", fault_of(under("< /dev/zero", program), READING_FAILED)
     yield "what is taken of input that never ends", endless(program)
     full = crowd_at_all_limits(MOST_BYTES)
