@@ -65,12 +65,6 @@ def sizes(_program):
             )
     yield "no bytes", fault_of(run([PROGRAM]), NO_LINES)
     yield "one line feed", fault_of(run([PROGRAM], b"\n"), refused_at(1, "NotJson"))
-    yield "carriage returns", fault_of(
-        run([PROGRAM], LINE.replace(b"\n", b"\r\n") * 5), read_lines(5)
-    )
-    yield "a blank line at the end", fault_of(
-        run([PROGRAM], LINE * 5 + b"\n"), refused_at(6, "NotJson")
-    )
     yield "zeros that never end", fault_of(
         under("< /dev/zero", PROGRAM), refused_at(1, "TooLong")
     )

@@ -173,18 +173,6 @@ ACCEPTED = [
     ("the most rounds", script("[" + ",".join(["[]"] * MOST_ROUNDS) + "]")),
     ("the most throttles", script(ONE, throttles=round_of(*[throttle()] * MOST_THROTTLES))),
 ]
-# What a hand calculation says that some of these print.
-HAND = {
-    script(ONE): "0 0 0 grv 100 unlocked none pos 0\naudit ok events 1 raised 0 versions 0\n",
-    with_throttle("tag", '"\\"\\\\\\/\\u0074"'):
-        '0 0 0 grv 100 unlocked none pos 0 limit "\\/t 5 6\n'
-        "audit ok events 1 raised 0 versions 0\n",
-    with_command("report", "metadata", '"aBcDeFAbCdEf01020304"'):
-        "0 0 0 ask prev 0 version 100 ordinal 0 fresh\n"
-        "0 0 1 ask prev 100 version 101 ordinal 1 fresh\n0 0 2 report 101 raised pos 1\n"
-        "0 0 3 grv 101 unlocked abcdefabcdef01020304 pos 1\n"
-        "audit ok events 2 raised 1 versions 2\n",
-}
 
 
 def accepted(program):
@@ -195,8 +183,5 @@ def accepted(program):
         is_known = bool(why) or wanted.status == DONE
         fault = fault_of(run([program], given), wanted)
         yield name, fault or (None if is_known else "the model refuses it")
-    for text, wanted in HAND.items():
-        ran = run([program], text.encode())
-        yield f"by hand: {text[:40]}", fault_of(ran, done(wanted.encode()))
     with open(f"{EXAMPLES}/first.json", "rb") as it:
         yield "a file as input", fault_of(run([program], stdin=it), done(first_output()))

@@ -368,7 +368,6 @@ def faults(_program):
 REFUSED_TEXTS = {
     "a word that is no command": ({5: "1 1 0 get 100 unlocked none pos 1"}, "BadLine 5"),
     "a misspelt reply": ({3: "0 0 2 report 200 rised pos 1"}, "BadLine 3"),
-    "a number with a zero in front": ({5: "1 1 00 grv 100 unlocked none pos 1"}, "BadLine 5"),
     "a refusal that there is not": ({5: "1 1 0 grv refused Closed"}, "BadLine 5"),
     "a client above 63": ({5: "1 64 0 grv 100 unlocked none pos 1"}, "BadLine 5"),
     "a tell to itself": ({4: "0 0 3 tell 0 pos 1"}, "BadLine 4"),
@@ -377,7 +376,6 @@ REFUSED_TEXTS = {
     "a reply behind the audit": ({7: "1 1 1 grv 200 unlocked none pos 1"}, "BadOrder 7"),
     "two audits": ({7: AUDITED.strip()}, "BadOrder 7"),
     "too many events": ({6: "audit ok events 3 raised 1 versions 2"}, "BadAudit 6"),
-    "too few versions": ({6: "audit ok events 2 raised 1 versions 1"}, "BadAudit 6"),
     "a history in place of the audit": ({6: HISTORY.split("\n")[0]}, "BadHistory 6"),
     "an event of another call": (
         {8: "history 1 client 1 call 0 read 100 unlocked none"}, "BadHistory 8"

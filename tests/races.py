@@ -87,10 +87,6 @@ WORKED = {
         [[*commit(0, 1), *commit(0, 2), *[do("grv", 1)] * 6]], {"clients": 2}
     ),
     "a report that locks": (LOCKS, {"clients": 3}),
-    "two rounds of three": (
-        [[it for who in range(3) for it in (*commit(who, num), do("grv", who))] for num in (1, 2)],
-        {"clients": 3},
-    ),
     "reads through a room of one": (
         [turns(8, 10, lambda who, _: do("grv", who))], {"clients": 8, "room": 1, "normal": 1}
     ),
@@ -151,7 +147,6 @@ def limits():
         [do("grv", priority="batch", count=11)]
     ], {**slow, "batch": 1}
     yield "10,000 reads of one transaction at a limit of one", 1, many(1), {"normal": 1}
-    yield "10,000 reads of 1,000 transactions at a limit of one", 1, many(1000), {"normal": 1}
     yield "10,000 reads of 100,000 transactions for which windows of a microsecond save", 1, many(
         100_000
     ), slow
