@@ -14,18 +14,13 @@ from edits import BESIDE, TRIED, crates, edits_in, pairs_of
 DOCUMENT = "docs/WRONG_BODIES.md"
 
 
-def file_of(edit):
-    """The file that an edit turns first: what it takes along is no turn."""
-    with open(edit, encoding="utf-8") as it:
-        pairs = list(pairs_of(it.read()))
-    return next(file for file, old, _new in pairs if not old.startswith("use "))
-
-
 def by_file(crate, folder):
-    """The names of a crate's edits in a folder, by the file that each turns."""
+    """The names of a crate's edits in a folder, by the file that each turns first."""
     found = {}
     for name, edit in edits_in(crate, folder)[0].items():
-        found.setdefault(file_of(edit).removeprefix("src/"), []).append(f"`{name}`")
+        with open(edit, encoding="utf-8") as it:
+            file, _old, _new = next(pairs_of(it.read()))
+        found.setdefault(file.removeprefix("src/"), []).append(f"`{name}`")
     return found
 
 
@@ -40,8 +35,8 @@ def lines():
     for crate in crates():
         tried, beside = by_file(crate, TRIED), by_file(crate, BESIDE)
         files = sorted({*tried, *beside})
-        if files:
-            told = [line_of(it, tried.get(it, []), beside.get(it, [])) for it in files]
+        told = [line_of(it, tried.get(it, []), beside.get(it, [])) for it in files]
+        if told:
             made += ["", f"## {crate}", "", *";\n".join(told).splitlines()]
     return made
 

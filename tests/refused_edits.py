@@ -9,7 +9,7 @@ went away, a loop may not end, or a limit stopped the prover. rt says of each ed
 an earlier run, the first thing that the prover said, cut at 160 characters; of code that is not
 covered it says nothing more than that it was refused.
 
-There is a line for each edit that shows nothing or has no line. The last line is 'N passed, M
+There is a line for each edit that was not refused for a goal. The last line is 'N passed, M
 failed'; the status is 1 where M > 0.
 """
 import re
@@ -21,12 +21,6 @@ from edits import TRIED, crates, edits_in
 
 LINE = re.compile(r"^rt: must-fail (\w+)/(\S+)\.edit: (.*)$", re.MULTILINE)
 REFUSED = "refused, as it must be"
-# How rt begins what it says of an edit that was not refused, and how that is said here.
-OTHERS = {
-    "NOT REFUSED": "LET THROUGH",
-    "BAD EDIT": "DOES NOT APPLY OR COMPILE",
-    "NOT TRIED": "NOT TRIED",
-}
 # A goal in the code to which the prover finds no proof.
 OPEN = r"note: src/\S+\.rt:\d+:\d+: (?:it is not proved that (?!the loop ends)|`search` found no)"
 # A goal whose proof is written down, and shows something else than the goal says now. Where a
@@ -39,33 +33,24 @@ FALSE = rf"\./proofs/\S+/Answers\.antt:\d+:\d+: error: `\S+`: (?:{OTHER})"
 SHOWS = re.compile(rf"{re.escape(REFUSED)}: (?:{OPEN}|{FALSE})")
 
 
-def verdict(said):
-    """Says what came of an edit, by what rt says behind its name: 'refused: ..' if that counts."""
-    if SHOWS.match(said):
-        return f"refused: {said.removeprefix(f'{REFUSED}: ')}"
-    if said.startswith(REFUSED):
-        return f"REFUSED FOR WHAT SHOWS NOTHING: {said.removeprefix(REFUSED).strip(': ')}"
-    word = next((it for it in OTHERS if said.startswith(it)), "")
-    return f"{OTHERS.get(word, 'UNKNOWN')}: {said.removeprefix(word).strip(': ')}"
+def counts(said):
+    """Whether an edit was refused for what it turns, by what rt says behind its name."""
+    return bool(SHOWS.match(said))
 
 
-def counts(found):
-    """Whether a verdict is that of an edit that was refused for what it turns."""
-    return found.startswith("refused: ")
-
-
-def verdicts(text):
-    """What came of each edit of which rt printed a line, by crate and name."""
-    return {(crate, name): verdict(said) for crate, name, said in LINE.findall(text)}
+def said_of_edits(text):
+    """What rt says of each edit of which it printed a line, by crate and name."""
+    return {(crate, name): said for crate, name, said in LINE.findall(text)}
 
 
 def main():
     with open(sys.argv[1], encoding="utf-8", errors="replace") as it:
-        found = verdicts(it.read())
+        said = said_of_edits(it.read())
     wanted = [(crate, name) for crate in crates() for name in edits_in(crate, TRIED)[0]]
-    faults = [it for it in wanted if not counts(found.get(it, ""))]
+    faults = [it for it in wanted if not counts(said.get(it, ""))]
     for crate, name in faults:
-        print(f"{crate}/{TRIED}/{name}: {found.get((crate, name), 'rt says nothing of it')}")
+        found = said.get((crate, name), "rt says nothing of it")
+        print(f"{crate}/{TRIED}/{name} NOT REFUSED FOR A GOAL: {found}")
     print(f"{len(wanted) - len(faults)} passed, {len(faults)} failed")
     return 1 if faults else 0
 
