@@ -6,55 +6,33 @@ from harness import DONE, REFUSED, ROOT, run
 
 PROGRAM = f"{ROOT}/crates/fdb_bench/out/fdb_bench"
 
-# a benchmark, and the clock that its time is of
-TIMED = [
-    ("waits", "processor"),
-    ("tokens", "processor"),
-    ("sequencer_of_four", "wall"),
-    ("reads_beside_of_two", "wall"),
-    ("reports_of_four", "wall"),
-]
-
 # arguments, and what standard error has to say
 REFUSALS = [
     (["window"], "there is no benchmark window"),
     ([""], "there is no benchmark "),
-    (["waits", "0"], "the size 0 is not 1 to 10000000"),
-    (["waits", "10000001"], "the size 10000001 is not 1 to 10000000"),
-    (["windows", "100001"], "the size 100001 is not 1 to 100000"),
-    (["replay"], "there is no benchmark replay"),
-    (["tokens", "1000001"], "the size 1000001 is not 1 to 1000000"),
+    (["waits", "0"], "the size 0 is not 1 to 4294967295"),
     (["waits", "-1"], 'the size "-1"'),
     (["waits", "4294967296"], 'the size "4294967296"'),
-    (["waits", "1e3"], 'the size "1e3"'),
-    (["waits", ""], 'the size ""'),
-    (["waits", "64", "64"], "more arguments than a benchmark and its size"),
+    (["queue", "100001"], "the configuration is out of range"),
+    (["reads", "64", "5"], "the threads 5 is not 1 to 4"),
+    (["waits", "64", "2"], "the threads 2 is not 1 to 1"),
+    (["waits", "64", "1", "1"], "more arguments than"),
 ]
 
 
-def refusal_fault(arguments, why):
-    """Returns how a run on arguments to be refused differs from what is wanted, or None."""
-    ran = run([PROGRAM, *arguments])
-    said = ran.err.decode()
-    if ran.status != REFUSED or ran.out or why not in said:
-        return f"status {ran.status}, {ran.out!r} and {said!r}"
-    return None
-
-
-def timed_fault(name, clock):
+def timed_fault(words, clock):
     """Returns what is wrong with two runs of a benchmark, or None.
 
     What it printed is the same in every schedule.
     """
-    first, again = (run([PROGRAM, name, "64"]) for _ in range(2))
-    if (first.status, again.status) != (DONE, DONE):
-        return f"status {first.status} and {again.status}"
-    if not re.fullmatch(rf"{name} 64 \d+\n", first.out.decode()) or first.out != again.out:
-        return f"it printed {first.out!r} and then {again.out!r}"
-    if not re.fullmatch(
-        rf"{name} 64: \d+ operations, \d+ ns of {clock} time, .*\n", first.err.decode()
-    ):
-        return f"it said {first.err!r}"
+    first, again = (run([PROGRAM, *words.split()]) for _ in range(2))
+    printed, said = re.escape(words), first.err.decode()
+    if (first.status, again.status) != (DONE, DONE) or first.out != again.out:
+        return f"status {first.status} and {again.status}, {first.out!r} and {again.out!r}"
+    if not re.fullmatch(rf"{printed} \d+\n", first.out.decode()):
+        return f"it printed {first.out!r}"
+    if not re.fullmatch(rf"{printed}: \d+ operations, \d+ ns of {clock} time\n", said):
+        return f"it said {said!r}"
     return None
 
 
@@ -63,7 +41,12 @@ def arguments(_program):
     if not os.access(PROGRAM, os.X_OK):
         yield "the program", f"{PROGRAM} is not there: rt ci builds it"
         return
-    for name, clock in TIMED:
-        yield f"the benchmark {name} of a size", timed_fault(name, clock)
+    for line in run([PROGRAM, "--list"]).out.decode().splitlines():
+        name, threads, *_ = line.split("\t")
+        words = f"{name} 64 {threads}"
+        clock = "wall" if int(threads) > 1 else "processor"
+        yield f"the benchmark {words}", timed_fault(words, clock)
     for given, why in REFUSALS:
-        yield f"the arguments {given}", refusal_fault(given, why)
+        ran = run([PROGRAM, *given])
+        is_so = ran.status == REFUSED and not ran.out and why.encode() in ran.err
+        yield f"the arguments {given}", None if is_so else f"it ended with {ran}"

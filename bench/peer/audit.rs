@@ -1,7 +1,56 @@
 //! The audit of the logs of a run.
 
+use crate::batches::GrvOpts;
 use crate::chain::{Issued, MAX_STEP, MAX_VERSION};
-use crate::history::{Call, CallAnswer, Event, GrvOpts, Input, Log, Record, Refusal};
+use crate::live::Record;
+use crate::queue::TagLimit;
+
+#[allow(dead_code)] // (no benchmark has a client that tells another)
+pub enum Input {
+    Grv(GrvOpts),
+    Ask { num: u64, processed: u64, at: u64 },
+    Report { num: u64, locked: bool, metadata: Option<[u8; 10]>, min_known: u64 },
+    Tell { to: u32 },
+    Learn { from: u32 },
+}
+
+#[allow(dead_code)]
+pub enum CallAnswer {
+    Version { rec: Record, limits: Vec<TagLimit>, locked_out: bool },
+    Answered(Issued),
+    Acked { rec: Record, raised: bool, changed: bool },
+    Told,
+    Refused(Refusal),
+}
+
+#[allow(dead_code)]
+#[derive(Clone, Copy, PartialEq, Eq)]
+pub enum Refusal {
+    Early { expected: u64 },
+    Forgotten,
+    Exhausted,
+    BadCount,
+    BatchThrottled,
+    Full,
+    ProxyClosed,
+    NotIssued,
+    Stranger,
+    MinAbove,
+}
+
+pub struct Call {
+    pub input: Input,
+    pub asked: u64,
+    pub position: u64,
+    pub answer: CallAnswer,
+}
+
+pub type Log = Vec<Call>;
+
+pub enum Event {
+    Report { client: u32, call: u64, rec: Record, raised: bool, changed: bool },
+    Read { client: u32, call: u64, rec: Record },
+}
 
 #[allow(dead_code)]
 #[derive(Debug)]
@@ -33,15 +82,13 @@ pub fn audit(start: Record, chain: &[Issued], logs: &[Log]) -> Result<Vec<Event>
 }
 
 fn first_out_of_order(logs: &[Log]) -> Option<(u32, u64)> {
-    for (client, log) in logs.iter().enumerate() {
+    for (client, log) in (0..).zip(logs) {
         let mut before = 0;
-        for (place, call) in log.iter().enumerate() {
+        for (place, call) in (0..).zip(log) {
             let is_change = matches!(call.answer, CallAnswer::Acked { changed: true, .. });
-            if call.asked < before
-                || call.position < call.asked
-                || is_change && call.position == call.asked
-            {
-                return Some((client as u32, place as u64));
+            let is_late = is_change && call.position == call.asked;
+            if call.asked < before || call.position < call.asked || is_late {
+                return Some((client, place));
             }
             before = call.position;
         }
@@ -50,12 +97,9 @@ fn first_out_of_order(logs: &[Log]) -> Option<(u32, u64)> {
 }
 
 fn first_call(logs: &[Log], is_fault: impl Fn(&Call) -> bool) -> Option<(u32, u64)> {
-    for (client, log) in logs.iter().enumerate() {
-        if let Some(place) = log.iter().position(&is_fault) {
-            return Some((client as u32, place as u64));
-        }
-    }
-    None
+    (0..).zip(logs).find_map(|(client, log)| {
+        log.iter().position(&is_fault).map(|place| (client, place as u64))
+    })
 }
 
 /// The register at each position that a call has reached.
@@ -64,26 +108,18 @@ fn registers_of(start: Record, logs: &[Log]) -> Result<Vec<Record>, AuditFault> 
     let mut greatest = 0;
     for call in logs.iter().flatten() {
         greatest = greatest.max(call.position);
-        if let CallAnswer::Acked {
-            rec, changed: true, ..
-        } = call.answer
-        {
+        if let CallAnswer::Acked { rec, changed: true, .. } = call.answer {
             changes.push((call.position, rec));
         }
     }
     changes.sort_unstable_by_key(|change| change.0);
     if let Some(pair) = changes.windows(2).find(|pair| pair[0].0 == pair[1].0) {
-        return Err(AuditFault::Clash {
-            position: pair[0].0,
-        });
+        return Err(AuditFault::Clash { position: pair[0].0 });
     }
-    let places = changes.iter().zip(1..);
-    let missing = places
-        .into_iter()
-        .find(|(change, position)| change.0 != *position);
-    let missing = missing.map_or(changes.len() as u64 + 1, |(_, position)| position);
-    if missing <= greatest {
-        return Err(AuditFault::Gap { position: missing });
+    let missing = (1..).zip(&changes).find(|(position, change)| change.0 != *position);
+    let position = missing.map_or(changes.len() as u64 + 1, |(position, _)| position);
+    if position <= greatest {
+        return Err(AuditFault::Gap { position });
     }
     let mut registers = Vec::with_capacity(changes.len() + 1);
     let mut current = start;
@@ -97,32 +133,26 @@ fn registers_of(start: Record, logs: &[Log]) -> Result<Vec<Record>, AuditFault> 
 
 fn is_wrong(registers: &[Record], call: &Call) -> bool {
     let at = |position: u64| registers[position as usize];
-    match &call.answer {
-        CallAnswer::Version { rec, .. } => *rec != at(call.position),
-        CallAnswer::Acked {
-            rec,
-            raised,
-            changed,
-        } => {
-            let met = at(call.position - u64::from(*changed));
-            *raised != met.raises(*rec) || *changed != met.changes(*rec)
+    match call.answer {
+        CallAnswer::Version { rec, .. } => rec != at(call.position),
+        CallAnswer::Acked { rec, raised, changed } => {
+            let met = at(call.position - u64::from(changed));
+            raised != met.raises(rec) || changed != met.changes(rec)
         }
         _ => false,
     }
 }
 
 fn is_low(registers: &[Record], call: &Call) -> bool {
-    match &call.answer {
-        CallAnswer::Answered(issued) => {
-            issued.fresh
-                && issued.ordinal != 0
-                && issued.version <= registers[call.asked as usize].version
-        }
-        _ => false,
-    }
+    let CallAnswer::Answered(issued) = call.answer else {
+        return false;
+    };
+    let seen = registers[call.asked as usize].version;
+    issued.fresh && issued.ordinal != 0 && issued.version <= seen
 }
 
-/// What a client has drawn: the places of its answers in the chain, by number, and how many are erased.
+/// What a client has drawn: the places of its answers in the chain, by number, and how many are
+/// erased.
 #[derive(Default)]
 struct Drawn {
     places: Vec<usize>,
@@ -131,11 +161,7 @@ struct Drawn {
 
 impl Drawn {
     fn kept(&self, num: u64) -> Option<usize> {
-        if num <= self.erased {
-            None
-        } else {
-            self.any(num)
-        }
+        if num <= self.erased { None } else { self.any(num) }
     }
 
     fn any(&self, num: u64) -> Option<usize> {
@@ -158,11 +184,11 @@ fn first_stray(chain: &[Issued], logs: &[Log]) -> Option<(u32, u64)> {
             None => without_log = Some(without_log.map_or(entry.proxy, |it| entry.proxy.min(it))),
         }
     }
-    for (client, log) in logs.iter().enumerate() {
+    for ((client, log), entries) in (0..).zip(logs).zip(entries) {
         let mut own = Drawn::default();
-        for (place, call) in log.iter().enumerate() {
-            if !is_borne_out(chain, client as u32, &own, call) {
-                return Some((client as u32, place as u64));
+        for (place, call) in (0..).zip(log) {
+            if !is_borne_out(chain, client, &own, call) {
+                return Some((client, place));
             }
             if let CallAnswer::Answered(issued) = &call.answer
                 && issued.fresh
@@ -170,48 +196,37 @@ fn first_stray(chain: &[Issued], logs: &[Log]) -> Option<(u32, u64)> {
                 own.keep(issued);
             }
         }
-        if own.places.len() < entries[client] {
-            return Some((client as u32, log.len() as u64));
+        if own.places.len() < entries {
+            return Some((client, log.len() as u64));
         }
     }
     without_log.map(|client| (client, 0))
 }
 
 fn is_borne_out(chain: &[Issued], client: u32, own: &Drawn, call: &Call) -> bool {
-    match &call.input {
-        Input::Grv(opts) => is_read(opts, &call.answer),
-        &Input::Ask { num, processed, at } => {
-            let ask = (num, processed, at);
-            is_commit_version(chain, client, own, ask, &call.answer)
+    match (&call.input, &call.answer) {
+        (Input::Grv(opts), CallAnswer::Version { rec, locked_out, .. }) => {
+            *locked_out == (rec.locked && !opts.lock_aware)
         }
-        &Input::Report {
-            num,
-            locked,
-            metadata,
-            min_known,
-        } => is_report(
-            chain,
-            own,
-            (num, locked, metadata, min_known),
-            &call.answer,
-        ),
-        Input::Tell { .. } | Input::Learn { .. } => matches!(call.answer, CallAnswer::Told),
-    }
-}
-
-fn is_read(opts: &GrvOpts, answer: &CallAnswer) -> bool {
-    match answer {
-        CallAnswer::Version {
-            rec, locked_out, ..
-        } => *locked_out == (rec.locked && !opts.lock_aware),
-        CallAnswer::Refused(cause) => matches!(
-            cause,
-            Refusal::BadCount
-                | Refusal::BatchThrottled
-                | Refusal::Full
-                | Refusal::ProxyClosed
-                | Refusal::Stranger
-        ),
+        (Input::Grv(_), CallAnswer::Refused(cause)) => {
+            use Refusal::{BadCount, BatchThrottled, Full, ProxyClosed, Stranger};
+            matches!(cause, BadCount | BatchThrottled | Full | ProxyClosed | Stranger)
+        }
+        (&Input::Ask { num, processed, at }, answer) => {
+            is_commit_version(chain, client, own, (num, processed, at), answer)
+        }
+        (&Input::Report { num, locked, metadata, min_known }, answer) => {
+            let drawn = own.any(num).and_then(|place| chain.get(place));
+            match (answer, drawn) {
+                (CallAnswer::Acked { rec, .. }, Some(&Issued { version, .. })) => {
+                    *rec == Record { version, locked, metadata, min_known }
+                }
+                (CallAnswer::Refused(Refusal::NotIssued), None) => true,
+                (CallAnswer::Refused(Refusal::MinAbove), Some(entry)) => entry.version < min_known,
+                _ => false,
+            }
+        }
+        (Input::Tell { .. } | Input::Learn { .. }, CallAnswer::Told) => true,
         _ => false,
     }
 }
@@ -224,18 +239,12 @@ fn is_commit_version(
     answer: &CallAnswer,
 ) -> bool {
     let expected = own.places.len() as u64 + 1;
-    match answer {
+    match *answer {
         CallAnswer::Answered(issued) => {
-            let Some(entry) = chain.get(issued.ordinal as usize) else {
-                return false;
-            };
+            let is = |entry: &Issued| issued == Issued { fresh: issued.fresh, ..*entry };
             if issued.proxy != client
                 || issued.num != num
-                || *issued
-                    != (Issued {
-                        fresh: issued.fresh,
-                        ..*entry
-                    })
+                || !chain.get(issued.ordinal as usize).is_some_and(is)
             {
                 return false;
             }
@@ -243,16 +252,10 @@ fn is_commit_version(
                 return issued.fresh && issued.processed == processed && issued.at == at;
             }
             let due = own.kept(num).and_then(|place| chain.get(place));
-            due.is_some_and(|due| {
-                *issued
-                    == Issued {
-                        fresh: false,
-                        ..*due
-                    }
-            })
+            !issued.fresh && due.is_some_and(is)
         }
         CallAnswer::Refused(Refusal::Early { expected: said }) => {
-            num > expected && *said == expected
+            num > expected && said == expected
         }
         CallAnswer::Refused(Refusal::Forgotten) => {
             num < expected && own.kept(num).is_none_or(|place| place >= chain.len())
@@ -260,28 +263,6 @@ fn is_commit_version(
         CallAnswer::Refused(Refusal::Exhausted) => {
             let is_near = |last: &Issued| last.version > MAX_VERSION - MAX_STEP;
             num == expected && chain.last().is_some_and(is_near)
-        }
-        _ => false,
-    }
-}
-
-fn is_report(
-    chain: &[Issued],
-    own: &Drawn,
-    (num, locked, metadata, min_known): (u64, bool, Option<[u8; 10]>, u64),
-    answer: &CallAnswer,
-) -> bool {
-    let drawn = own.any(num).and_then(|place| chain.get(place));
-    match answer {
-        CallAnswer::Acked { rec, .. } => {
-            drawn.is_some_and(|entry| entry.version == rec.version)
-                && rec.locked == locked
-                && rec.metadata == metadata
-                && rec.min_known == min_known
-        }
-        CallAnswer::Refused(Refusal::NotIssued) => drawn.is_none(),
-        CallAnswer::Refused(Refusal::MinAbove) => {
-            drawn.is_some_and(|entry| entry.version < min_known)
         }
         _ => false,
     }
@@ -296,26 +277,15 @@ fn explain(logs: &[Log]) -> Vec<Event> {
                 CallAnswer::Version { rec, .. } => {
                     events.push((it.position, Event::Read { client, call, rec }));
                 }
-                CallAnswer::Acked {
-                    rec,
-                    raised,
-                    changed,
-                } => {
-                    events.push((
-                        it.position,
-                        Event::Report {
-                            client,
-                            call,
-                            rec,
-                            raised,
-                            changed,
-                        },
-                    ));
+                CallAnswer::Acked { rec, raised, changed } => {
+                    let report = Event::Report { client, call, rec, raised, changed };
+                    events.push((it.position, report));
                 }
                 _ => {}
             }
         }
     }
-    events.sort_by_key(|(position, event)| (*position, !event.is_change()));
+    let is_change = |event: &Event| matches!(event, Event::Report { changed: true, .. });
+    events.sort_by_key(|(position, event)| (*position, !is_change(event)));
     events.into_iter().map(|(_, event)| event).collect()
 }

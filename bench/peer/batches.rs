@@ -1,19 +1,28 @@
-//! A GRV proxy, its desk and its batch server, as crates/fdb_proxy has them: what the benchmarks of that crate run.
+//! Requests for a read version and the batch server of a GRV proxy, as crates/fdb_proxy has them.
 
-use crate::history::Record;
-use crate::live::{LiveRecord, Seen};
+use crate::live::{LiveRecord, Record, Seen};
 use crate::queue::{GrvQueue, Priority, QueueError, Req, TagLimit};
-use std::mem;
 use std::sync::mpsc::SyncSender;
-use std::sync::{Condvar, Mutex};
 
+#[allow(dead_code)]
 pub struct GrvOpts {
     pub priority: Priority,
     pub count: u64,
     pub tags: Vec<Vec<u8>>,
+    pub lock_aware: bool,
     pub at: u64,
+    pub use_min: bool,
 }
 
+impl GrvOpts {
+    /// A read of which nothing is said.
+    pub fn plain() -> GrvOpts {
+        let (priority, tags) = (Priority::Default, Vec::new());
+        GrvOpts { priority, count: 1, tags, lock_aware: false, at: 0, use_min: false }
+    }
+}
+
+#[allow(dead_code)] // (the answers are handed back)
 pub struct Request {
     pub client: u32,
     pub serial: u64,
@@ -26,7 +35,7 @@ pub struct Request {
 #[allow(dead_code)]
 pub enum Answer {
     Reply(Reply),
-    Refused(Refused),
+    Refused(QueueError),
 }
 
 #[allow(dead_code)]
@@ -38,35 +47,6 @@ pub struct Reply {
     pub rec: Record,
     pub position: u64,
     pub limits: Vec<TagLimit>,
-}
-
-#[allow(dead_code)]
-pub struct Refused {
-    pub client: u32,
-    pub serial: u64,
-    pub asked: u64,
-    pub seen: Seen,
-    pub cause: Cause,
-}
-
-#[allow(dead_code)]
-pub enum Cause {
-    Queue(QueueError),
-    Closed,
-}
-
-impl Request {
-    fn refuse(self, cause: Cause) {
-        let refused = Refused {
-            client: self.client,
-            serial: self.serial,
-            asked: self.asked,
-            seen: self.seen,
-            cause,
-        };
-        // nobody may wait for it any more
-        let _ = self.reply.send(Answer::Refused(refused));
-    }
 }
 
 /// Answers all requests with one read.
@@ -96,84 +76,4 @@ pub fn serve_batch(
         })
     };
     requests.into_iter().map(reply_to).collect()
-}
-
-#[derive(Default)]
-struct Tray {
-    waiting: Vec<Req<Request>>,
-    closed: bool,
-}
-
-#[derive(Default)]
-pub struct Desk {
-    tray: Mutex<Tray>,
-    came: Condvar,
-}
-
-impl Desk {
-    /// Hands the request back where the desk is closed.
-    pub fn submit(&self, request: Req<Request>) -> Result<(), Req<Request>> {
-        let mut tray = self.tray.lock().expect("nobody panics");
-        if tray.closed {
-            return Err(request);
-        }
-        tray.waiting.push(request);
-        drop(tray);
-        self.came.notify_one();
-        Ok(())
-    }
-
-    /// Answers what waits, and whether the desk is closed.
-    fn take(&self, wait: bool) -> (Vec<Req<Request>>, bool) {
-        let tray = self.tray.lock().expect("nobody panics");
-        let is_bare = |tray: &mut Tray| wait && !tray.closed && tray.waiting.is_empty();
-        let mut tray = self.came.wait_while(tray, is_bare).expect("nobody panics");
-        (mem::take(&mut tray.waiting), tray.closed)
-    }
-
-    pub fn close(&self) {
-        self.tray.lock().expect("nobody panics").closed = true;
-        self.came.notify_all();
-    }
-}
-
-pub struct GrvProxy<'a> {
-    pub live: &'a LiveRecord,
-    pub desk: &'a Desk,
-    pub queue: GrvQueue<Request>,
-    pub elapsed: u64,
-    pub seen: Seen,
-}
-
-impl GrvProxy<'_> {
-    /// Serves the desk until it is closed.
-    pub fn run(mut self) {
-        loop {
-            let (requests, closed) = self.desk.take(self.queue.is_empty());
-            self.turn(requests);
-            if closed {
-                break;
-            }
-        }
-        while let Some(request) = self.queue.pop() {
-            request.payload.refuse(Cause::Closed);
-        }
-    }
-
-    /// Offers some requests, holds a window and answers.
-    fn turn(&mut self, requests: Vec<Req<Request>>) {
-        for request in requests {
-            match self.queue.offer(request) {
-                Ok(None) => {}
-                Ok(Some(out)) => out.payload.refuse(Cause::Queue(QueueError::Full)),
-                Err((cause, request)) => request.payload.refuse(Cause::Queue(cause)),
-            }
-        }
-        let started = self.queue.window(self.elapsed).expect("a time in range");
-        let senders: Vec<_> = started.iter().map(|it| it.payload.reply.clone()).collect();
-        let answers = serve_batch(self.live, &mut self.seen, &self.queue, started);
-        for (reply, answer) in senders.iter().zip(answers) {
-            let _ = reply.send(answer);
-        }
-    }
 }

@@ -4,7 +4,6 @@ use std::collections::VecDeque;
 
 pub const MAX_VERSION: u64 = i64::MAX as u64;
 pub const MAX_STEP: u64 = 5_000_000;
-const MAX_PROXIES: u32 = 64;
 
 #[derive(Clone, Copy)]
 pub struct Ask {
@@ -14,7 +13,7 @@ pub struct Ask {
     pub at: u64,
 }
 
-#[derive(Clone, Copy, PartialEq, Eq)]
+#[derive(Clone, Copy, Debug, PartialEq, Eq)]
 pub struct Issued {
     pub ordinal: u64,
     pub proxy: u32,
@@ -27,16 +26,16 @@ pub struct Issued {
 }
 
 #[derive(Clone, Copy, Debug, PartialEq, Eq)]
+#[allow(dead_code)]
 pub enum ChainError {
-    BadEpoch,
-    NoProxy,
     UnknownProxy,
     Early { expected: u64 },
     Forgotten,
     Exhausted,
 }
 
-/// The places in the chain of the answers that are kept for a proxy. Those up to number `erased` are gone.
+/// The places in the chain of the answers that are kept for a proxy. Those up to number `erased`
+/// are gone.
 #[derive(Default)]
 struct Replies {
     kept: VecDeque<usize>,
@@ -71,72 +70,43 @@ pub struct ChainCore {
 }
 
 impl ChainCore {
-    pub fn new(epoch_end: u64, recovery: u64, proxies: u32) -> Result<ChainCore, ChainError> {
-        if recovery <= epoch_end || recovery > MAX_VERSION {
-            return Err(ChainError::BadEpoch);
-        }
-        if proxies == 0 || proxies > MAX_PROXIES {
-            return Err(ChainError::NoProxy);
-        }
+    pub fn new(epoch_end: u64, recovery: u64, proxies: u32) -> ChainCore {
         let replies = (0..proxies).map(|_| Replies::default()).collect();
-        Ok(ChainCore {
-            epoch_end,
-            recovery,
-            answers: Vec::new(),
-            replies,
-        })
+        ChainCore { epoch_end, recovery, answers: Vec::new(), replies }
     }
 
     pub fn answers(&self) -> &[Issued] {
         &self.answers
     }
 
-    pub fn into_answers(self) -> Vec<Issued> {
-        self.answers
-    }
-
     // (as the crate has it)
     #[inline(always)]
     pub fn ask(&mut self, ask: Ask) -> Result<Issued, ChainError> {
-        let replies = self
-            .replies
-            .get_mut(ask.proxy as usize)
-            .ok_or(ChainError::UnknownProxy)?;
+        let replies = self.replies.get_mut(ask.proxy as usize).ok_or(ChainError::UnknownProxy)?;
         let expected = replies.latest() + 1;
         if ask.num > expected {
             return Err(ChainError::Early { expected });
         }
         if ask.num < expected {
             let place = replies.place_of(ask.num).ok_or(ChainError::Forgotten)?;
-            return Ok(Issued {
-                fresh: false,
-                ..self.answers[place]
-            });
+            return Ok(Issued { fresh: false, ..self.answers[place] });
         }
         let (prev, version) = match self.answers.last() {
             None => (self.epoch_end, self.recovery),
-            Some(last) => (last.version, last.version + step(last.at, ask.at)),
+            Some(last) => {
+                let step = ask.at.saturating_sub(last.at).clamp(1, MAX_STEP);
+                (last.version, last.version + step)
+            }
         };
         if version > MAX_VERSION {
             return Err(ChainError::Exhausted);
         }
         let place = self.answers.len();
-        let issued = Issued {
-            ordinal: place as u64,
-            proxy: ask.proxy,
-            num: ask.num,
-            processed: ask.processed,
-            prev,
-            version,
-            at: ask.at,
-            fresh: true,
-        };
+        let Ask { proxy, num, processed, at } = ask;
+        let ordinal = place as u64;
+        let issued = Issued { ordinal, proxy, num, processed, prev, version, at, fresh: true };
         replies.keep(place, ask.processed);
         self.answers.push(issued);
         Ok(issued)
     }
-}
-
-fn step(last_at: u64, at: u64) -> u64 {
-    at.saturating_sub(last_at).clamp(1, MAX_STEP)
 }

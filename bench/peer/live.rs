@@ -1,11 +1,36 @@
 //! The live committed version in a sequence lock, and tokens of what their holders have seen.
 
-use crate::history::Record;
 use std::sync::Mutex;
 use std::sync::atomic::{AtomicU64, Ordering, fence};
 
 const LOCKED: u64 = 1;
 const HAS_METADATA: u64 = 2;
+
+#[derive(Clone, Copy, PartialEq, Eq)]
+pub struct Record {
+    pub version: u64,
+    pub locked: bool,
+    pub metadata: Option<[u8; 10]>,
+    pub min_known: u64,
+}
+
+impl Record {
+    /// Before any report.
+    pub const START: Record = Record { version: 100, locked: false, metadata: None, min_known: 0 };
+
+    pub fn raises(self, reported: Record) -> bool {
+        reported.version > self.version
+    }
+
+    pub fn changes(self, reported: Record) -> bool {
+        self.raises(reported) || reported.min_known > self.min_known
+    }
+
+    pub fn after_report(self, reported: Record) -> Record {
+        let newest = if self.raises(reported) { reported } else { self };
+        Record { min_known: self.min_known.max(reported.min_known), ..newest }
+    }
+}
 
 /// A record, and the number of reports that had changed it by then.
 #[derive(Clone, Copy)]
@@ -16,19 +41,16 @@ pub struct Fetched {
 
 impl Fetched {
     fn to_words(self) -> [u64; 6] {
-        let locked = if self.rec.locked { LOCKED } else { 0 };
-        let (flags, metadata) = match self.rec.metadata {
-            None => (locked, [0; 10]),
-            Some(metadata) => (locked | HAS_METADATA, metadata),
-        };
-        let [a, b, c, d, e, f, g, h, i, j] = metadata;
+        let Record { version, locked, metadata, min_known } = self.rec;
+        let flags = u64::from(locked) * LOCKED | u64::from(metadata.is_some()) * HAS_METADATA;
+        let [a, b, c, d, e, f, g, h, i, j] = metadata.unwrap_or_default();
         [
             self.position,
-            self.rec.version,
+            version,
             flags,
             u64::from_be_bytes([a, b, c, d, e, f, g, h]),
             u64::from(u16::from_be_bytes([i, j])),
-            self.rec.min_known,
+            min_known,
         ]
     }
 
@@ -48,6 +70,7 @@ impl Fetched {
 
 /// Whether a report raised the live committed version, and whether it changed the record.
 #[derive(Clone, Copy)]
+#[allow(dead_code)]
 pub struct Ack {
     pub raised: bool,
     pub changed: bool,
@@ -97,9 +120,7 @@ impl LiveRecord {
     }
 
     pub fn split(&self, seen: &Seen) -> Seen {
-        Seen {
-            position: seen.position,
-        }
+        Seen { position: seen.position }
     }
 
     pub fn learn(&self, seen: &mut Seen, told: Seen) {

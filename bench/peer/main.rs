@@ -1,49 +1,44 @@
-//! The work of the crates once more, in plain Rust with std alone and without proofs: `peer NAME SIZE` runs a benchmark of
-//! crates/fdb_bench, and `peer replay [SCRIPT] [--proxies N] [--history]` is the program of crates/fdb_replay_cli.
+//! The work of crates/fdb_bench once more, in plain Rust with std alone and without proofs:
+//! `peer NAME SIZE THREADS` runs the benchmark of that name.
 
 mod audit;
 mod batches;
 mod benchmarks;
 mod chain;
-mod client;
-mod history;
-mod json;
 mod live;
 mod measuring;
-mod program;
-mod proxy;
 mod queue;
-mod replay;
-mod script;
-mod tally;
-mod text;
 
-use std::env;
-use std::process::ExitCode;
+use benchmarks::{FEW, MANY};
+use measuring::Measured;
 
-fn main() -> ExitCode {
-    let arguments: Vec<String> = env::args().skip(1).collect();
-    if let Some((name, others)) = arguments.split_first()
-        && name == "replay"
-    {
-        return program::run(others);
+fn main() {
+    let arguments: Vec<String> = std::env::args().skip(1).collect();
+    let [name, size, threads] = arguments.as_slice() else {
+        panic!("a benchmark, its size and its threads are wanted");
+    };
+    let (size, threads) = (size.parse().expect("a size"), threads.parse().expect("threads"));
+    let Measured { operations, nanos, clock, checksum } = run(name, size, threads);
+    println!("{name} {size} {threads} {}", checksum.0);
+    eprintln!("{name} {size} {threads}: {operations} operations, {nanos} ns of {clock} time");
+}
+
+fn run(name: &str, size: u32, threads: u32) -> Measured {
+    match name {
+        "fresh" => benchmarks::fresh(size, MANY, false),
+        "repeats" => benchmarks::repeats(size),
+        "processed" => benchmarks::fresh(size, FEW, true),
+        "queue" => benchmarks::mix(size),
+        "waits" => benchmarks::waits(size),
+        "throttles" => benchmarks::throttles(size),
+        "audit" => benchmarks::audits(size),
+        // a plain program has no tokens to keep
+        "sequencer" | "master" => benchmarks::asks(size, threads),
+        "reads" => benchmarks::reads(size, threads, false),
+        "reads_beside" => benchmarks::reads(size, threads, true),
+        "reports" => benchmarks::reports(size, threads),
+        "tokens" => benchmarks::tokens(size),
+        "batches" => benchmarks::batches(size),
+        _ => panic!("there is no benchmark {name}"),
     }
-    let [name, size] = arguments.as_slice() else {
-        eprintln!("peer: a benchmark and its size are wanted");
-        return ExitCode::FAILURE;
-    };
-    let Some(benchmark) = benchmarks::of_name(name) else {
-        eprintln!("peer: there is no benchmark {name}");
-        return ExitCode::FAILURE;
-    };
-    let Ok(size) = size.parse() else {
-        eprintln!("peer: {size} is no size");
-        return ExitCode::FAILURE;
-    };
-    let measured = benchmark(size);
-    println!("{name} {size} {}", measured.checksum.0);
-    let (operations, nanos, clock) = (measured.operations, measured.nanos, measured.clock);
-    let each = nanos as f64 / operations as f64;
-    eprintln!("{name} {size}: {operations} operations, {nanos} ns of {clock}, {each:.1} ns each");
-    ExitCode::SUCCESS
 }

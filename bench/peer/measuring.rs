@@ -1,7 +1,8 @@
-//! Checksums, numbers without a pattern, and the processor time of the process.
+//! Checksums, numbers without a pattern, times, and threads that work side by side.
 
-use crate::chain::{ChainError, Issued};
 use std::ffi::{c_int, c_long};
+use std::thread;
+use std::time::Instant;
 
 const FACTOR: u64 = 6_364_136_223_846_793_005;
 
@@ -12,20 +13,6 @@ impl Checksum {
     pub fn add(&mut self, word: u64) {
         self.0 = self.0.wrapping_mul(FACTOR).wrapping_add(word);
     }
-
-    pub fn add_answer(&mut self, answer: Result<Issued, ChainError>) {
-        self.add(match answer {
-            Ok(issued) => issued
-                .version
-                .wrapping_mul(3)
-                .wrapping_add(issued.prev)
-                .wrapping_add(u64::from(issued.fresh)),
-            Err(ChainError::Early { expected }) => expected,
-            Err(ChainError::Forgotten) => 1,
-            Err(ChainError::Exhausted) => 2,
-            Err(cause) => unreachable!("{cause:?}"),
-        });
-    }
 }
 
 pub struct Draws(u64);
@@ -33,12 +20,9 @@ pub struct Draws(u64);
 impl Draws {
     pub const START: Draws = Draws(1);
 
-    pub fn next_number(&mut self) -> u64 {
-        self.0 = self
-            .0
-            .wrapping_mul(FACTOR)
-            .wrapping_add(1_442_695_040_888_963_407);
-        self.0 >> 32
+    pub fn next_number(&mut self) -> u32 {
+        self.0 = self.0.wrapping_mul(FACTOR).wrapping_add(1_442_695_040_888_963_407);
+        (self.0 >> 32) as u32
     }
 }
 
@@ -60,12 +44,8 @@ impl Stopwatch {
     }
 
     pub fn measured(self, operations: u64, checksum: Checksum) -> Measured {
-        Measured {
-            operations,
-            nanos: processor_nanos() - self.0,
-            clock: "processor time",
-            checksum,
-        }
+        let nanos = processor_nanos() - self.0;
+        Measured { operations, nanos, clock: "processor", checksum }
     }
 }
 
@@ -84,12 +64,67 @@ unsafe extern "C" {
 const CLOCK_PROCESS_CPUTIME_ID: c_int = 2;
 
 fn processor_nanos() -> u64 {
-    let mut time = Timespec {
-        seconds: 0,
-        nanos: 0,
-    };
+    let mut time = Timespec { seconds: 0, nanos: 0 };
     // SAFETY: `time` is a timespec that may be written.
     let status = unsafe { clock_gettime(CLOCK_PROCESS_CPUTIME_ID, &mut time) };
     assert_eq!(status, 0, "the clock of processor time");
     time.seconds as u64 * 1_000_000_000 + time.nanos as u64
+}
+
+/// What came of the calls of threads, and from when to when they were made.
+#[derive(Clone, Copy, Default)]
+pub struct Tally {
+    pub calls: u64,
+    pub sum: u64,
+    pub marked: u64,
+    span: Option<(Instant, Instant)>,
+}
+
+impl Tally {
+    pub fn add(&mut self, answer: u64, marked: bool) {
+        self.calls += 1;
+        self.sum = self.sum.wrapping_add(answer);
+        self.marked += u64::from(marked);
+    }
+
+    pub fn since(mut self, begun: Instant) -> Tally {
+        self.span = Some((begun, Instant::now()));
+        self
+    }
+
+    fn with(self, other: Tally) -> Tally {
+        let span = match (self.span, other.span) {
+            (Some((begun, ended)), Some((first, last))) => {
+                Some((begun.min(first), ended.max(last)))
+            }
+            (span, None) | (None, span) => span,
+        };
+        Tally {
+            calls: self.calls + other.calls,
+            sum: self.sum.wrapping_add(other.sum),
+            marked: self.marked + other.marked,
+            span,
+        }
+    }
+
+    /// With a checksum over the number of calls, how many were marked, and one more word.
+    pub fn measured(self, word: u64) -> Measured {
+        let (begun, ended) = self.span.expect("a thread that worked");
+        let mut checksum = Checksum::default();
+        for word in [self.calls, self.marked, word] {
+            checksum.add(word);
+        }
+        let nanos = (ended - begun).as_nanos() as u64;
+        Measured { operations: self.calls, nanos, clock: "wall", checksum }
+    }
+}
+
+/// Does some work in so many threads, and answers what came of all of it.
+pub fn side_by_side(threads: u32, work: impl Fn(u32) -> Tally + Sync) -> Tally {
+    let work = &work;
+    thread::scope(|scope| {
+        let workers: Vec<_> = (0..threads).map(|place| scope.spawn(move || work(place))).collect();
+        let done = workers.into_iter().map(|worker| worker.join().expect("no panic"));
+        done.fold(Tally::default(), Tally::with)
+    })
 }

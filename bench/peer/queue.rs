@@ -71,13 +71,8 @@ impl<T> GrvQueue<T> {
         if !is_config {
             return Err(QueueError::BadConfig);
         }
-        Ok(GrvQueue {
-            config,
-            waiting: Default::default(),
-            throttles: Default::default(),
-            normal: 0,
-            batch: 0,
-        })
+        let (waiting, throttles) = Default::default();
+        Ok(GrvQueue { config, waiting, throttles, normal: 0, batch: 0 })
     }
 
     pub fn offer(&mut self, request: Req<T>) -> Result<Option<Req<T>>, (QueueError, Req<T>)> {
@@ -168,30 +163,12 @@ impl<T> GrvQueue<T> {
         for tag in tags {
             match throttles.get(tag) {
                 Some(&Limit { rate, expires }) if expires > at => {
-                    limits.push(TagLimit {
-                        tag: tag.clone(),
-                        rate,
-                        expires,
-                    });
+                    limits.push(TagLimit { tag: tag.clone(), rate, expires });
                 }
                 _ => {}
             }
         }
         limits
-    }
-
-    pub fn is_empty(&self) -> bool {
-        self.len() == 0
-    }
-
-    /// Takes out the first of the row, without a start.
-    pub fn pop(&mut self) -> Option<Req<T>> {
-        self.waiting.iter_mut().find_map(VecDeque::pop_front)
-    }
-
-    /// All that wait, in the order of the row.
-    pub fn into_requests(self) -> impl Iterator<Item = Req<T>> {
-        self.waiting.into_iter().flatten()
     }
 
     fn len(&self) -> usize {
@@ -213,7 +190,5 @@ fn most(limit: u64, budget: u64) -> u64 {
 /// The budget of a rate after a window.
 fn after(elapsed: u64, limit: u64, started: u64, budget: u64, is_idle: bool) -> u64 {
     let burst = if is_idle { IDLE_BURST } else { MAX_BURST };
-    (budget + elapsed * limit)
-        .saturating_sub(elapsed * started)
-        .min(burst * RATE_WINDOW)
+    (budget + elapsed * limit).saturating_sub(elapsed * started).min(burst * RATE_WINDOW)
 }

@@ -1,143 +1,87 @@
-//! Requests for commit versions: fresh ones, repeats, and a mix in which answers are processed.
+//! Requests for commit versions by one thread, in the names of several commit proxies.
 
-use crate::checksum::Checksum;
-use crate::draws::Draws;
-use crate::fault::Fault;
-use crate::measured::Measured;
-use crate::stopwatch::Stopwatch;
-use fdb_chain::{ChainCore, ChainError};
-use fdb_history::{Ask, Issued};
+use crate::measuring::{Checksum, Draws, Job, Measured, Stopwatch};
+use anyhow::Result;
+use fdb_chain::ChainCore;
+use fdb_history::{Ask, Record};
 use std::alloc::Global;
 use std::time::CpuClock;
 
-/// How many commit proxies ask, where there are many.
+/// The most commit proxies that a chain may have.
 pub(crate) const MANY: u32 = 64;
 
-const RECOVERY: u64 = 100;
+pub(crate) const FEW: u32 = 4;
 
-/// Fresh requests by so many commit proxies in turn.
-pub(crate) fn fresh(
-    clock: &impl CpuClock,
-    alloc: Global,
-    proxies: u32,
-    size: u32,
-) -> Result<Measured, Fault> {
-    let mut chain = empty_chain(alloc, proxies)?;
-    let watch = Stopwatch::start(clock);
-    match ask_fresh(&mut chain, proxies, size) {
-        Ok(checksum) => Ok(watch.measured(clock, u64::from(size), checksum)),
-        Err(fault) => Err(fault),
-    }
-}
-
-/// Repeats of numbers without a pattern, of a chain in which
-/// each of many proxies has its share of as many answers.
-pub(crate) fn repeats(clock: &impl CpuClock, alloc: Global, size: u32) -> Result<Measured, Fault> {
-    let mut chain = empty_chain(alloc, MANY)?;
-    time_repeats(clock, &mut chain, size)
-}
-
-/// Fills a chain, which is not timed, and repeats numbers drawn from those that it was asked.
-fn time_repeats(
-    clock: &impl CpuClock,
-    chain: &mut ChainCore,
-    size: u32,
-) -> Result<Measured, Fault> {
-    let mut checksum = ask_fresh(chain, MANY, size)?;
-    let mut draws = Draws::START;
-    let share = u64::from(size / MANY).max(1);
-    let watch = Stopwatch::start(clock);
-    for place in 0..size {
-        let ask = Ask {
-            proxy: place % MANY,
-            num: draws.next_number() % share + 1,
-            processed: 0,
-            at: moment(place),
-        };
-        checksum = asked(chain, ask, checksum)?;
-    }
-    Ok(watch.measured(clock, u64::from(size), checksum))
-}
-
-/// Three fresh requests and a repeat in turn, by many proxies
-/// of which each has processed all but its last few answers.
-pub(crate) fn processed(
-    clock: &impl CpuClock,
-    alloc: Global,
-    size: u32,
-) -> Result<Measured, Fault> {
-    let mut chain = empty_chain(alloc, MANY)?;
-    let mut checksum = Checksum::EMPTY;
-    let mut draws = Draws::START;
-    let watch = Stopwatch::start(clock);
-    for place in 0..size {
-        checksum = asked(&mut chain, mixed(&mut draws, place), checksum)?;
-    }
-    Ok(watch.measured(clock, u64::from(size), checksum))
-}
+/// The live record before any report. Its version is the first commit version.
+pub(crate) const START: Record = Record {
+    version: 100,
+    locked: false,
+    metadata: None,
+    min_known: 0,
+};
 
 /// A chain that nobody has asked yet, with so many commit proxies.
-pub(crate) fn empty_chain(alloc: Global, proxies: u32) -> Result<ChainCore, Fault> {
-    match ChainCore::new(alloc, 0, RECOVERY, proxies) {
-        Ok(chain) => Ok(chain),
-        Err(_) => Err(Fault::Chain),
-    }
+pub(crate) fn empty_chain(alloc: Global, proxies: u32) -> Result<ChainCore> {
+    Ok(ChainCore::new(alloc, 0, START.version, proxies)?)
 }
 
-/// Asks for a commit version, and adds what was answered.
-fn asked(chain: &mut ChainCore, ask: Ask, checksum: Checksum) -> Result<Checksum, Fault> {
-    match chain.ask(ask) {
-        Ok(issued) => Ok(checksum.with(issued_word(&issued))),
-        Err(ChainError::Early { expected }) => Ok(checksum.with(expected)),
-        Err(ChainError::Forgotten) => Ok(checksum.with(1)),
-        Err(ChainError::Exhausted) => Ok(checksum.with(2)),
-        Err(_) => Err(Fault::Chain),
-    }
+/// Fresh requests by so many proxies in turn, which process each answer at once or none.
+pub(crate) fn fresh(
+    clock: &impl CpuClock,
+    job: Job,
+    proxies: u32,
+    processes: bool,
+) -> Result<Measured> {
+    let mut chain = empty_chain(job.alloc, proxies)?;
+    let watch = Stopwatch::start(clock)?;
+    let checksum = ask_fresh(&mut chain, job.size, proxies, processes)?;
+    watch.measured(clock, u64::from(job.size), checksum)
 }
 
-fn issued_word(issued: &Issued) -> u64 {
-    issued
-        .version
-        .wrapping_mul(3)
-        .wrapping_add(issued.prev)
-        .wrapping_add(u64::from(issued.fresh))
-}
-
-/// Makes so many requests, each for the next number of its proxy.
-fn ask_fresh(chain: &mut ChainCore, proxies: u32, size: u32) -> Result<Checksum, Fault> {
-    let mut checksum = Checksum::EMPTY;
+fn ask_fresh(chain: &mut ChainCore, size: u32, proxies: u32, processes: bool) -> Result<Checksum> {
     let proxies = proxies.max(1);
+    let mut checksum = Checksum::EMPTY;
     for place in 0..size {
-        let ask = Ask {
-            proxy: place % proxies,
-            num: u64::from(place / proxies) + 1,
-            processed: 0,
-            at: moment(place),
-        };
-        checksum = asked(chain, ask, checksum)?;
+        let before = place / proxies;
+        let processed = if processes { before } else { 0 };
+        let who = place % proxies;
+        ask(chain, &mut checksum, place, who, before, processed)?;
     }
     Ok(checksum)
 }
 
-/// The request at a place of the mix. A repeat goes back by
-/// up to 15 numbers, of which the last 8 are kept.
-fn mixed(draws: &mut Draws, place: u32) -> Ask {
-    let turn = place / MANY;
-    let before = u64::from(turn / 4 * 3 + turn % 4);
-    let num = if turn % 4 == 3 {
-        before.saturating_sub(draws.next_number() % 16)
-    } else {
-        before + 1
-    };
-    Ask {
-        proxy: place % MANY,
-        num,
-        processed: num.saturating_sub(8),
-        at: moment(place),
+/// Repeats of numbers without a pattern, of a chain in which
+/// each of many proxies has its share of as many answers.
+pub(crate) fn repeats(clock: &impl CpuClock, job: Job) -> Result<Measured> {
+    let mut chain = empty_chain(job.alloc, MANY)?;
+    let mut checksum = ask_fresh(&mut chain, job.size, MANY, false)?;
+    let mut draws = Draws::START;
+    let share = (job.size / MANY).max(1);
+    let watch = Stopwatch::start(clock)?;
+    for place in 0..job.size {
+        let before = draws.next_number() % share;
+        ask(&mut chain, &mut checksum, place, place % MANY, before, 0)?;
     }
+    watch.measured(clock, u64::from(job.size), checksum)
 }
 
-/// The moment of a request in microseconds: one comes each three.
-fn moment(place: u32) -> u64 {
-    u64::from(place) * 3
+/// Asks for the number that comes after so many of the proxy, three microseconds
+/// after the place before, and adds the answer.
+fn ask(
+    chain: &mut ChainCore,
+    checksum: &mut Checksum,
+    place: u32,
+    proxy: u32,
+    before: u32,
+    processed: u32,
+) -> Result<()> {
+    let issued = chain.ask(Ask {
+        proxy,
+        num: u64::from(before) + 1,
+        processed: u64::from(processed),
+        at: u64::from(place) * 3,
+    })?;
+    let word = issued.version.wrapping_mul(3).wrapping_add(issued.prev);
+    checksum.add(word.wrapping_add(u64::from(issued.fresh)));
+    Ok(())
 }

@@ -1,240 +1,129 @@
-//! Audits of 64 logs of a run that is played before the watch starts.
+//! Audits of the logs of a run that is played before the watch starts.
 
-ghost use Rattle.std.specs.Prelude.{◌≤◌, length};
-
-use crate::asking::empty_chain;
-use crate::checksum::Checksum;
-use crate::fault::Fault;
-use crate::measured::Measured;
-use crate::stopwatch::Stopwatch;
+use crate::asking::{MANY, START, empty_chain};
+use crate::batching::plain_read;
+use crate::measuring::{Checksum, Job, Measured, Stopwatch};
+use anyhow::{Result, ensure};
 use fdb_chain::ChainCore;
 use fdb_history::{
-    Ask, Call, CallAnswer, ClientLog, Event, GrvOpts, Input, Issued, Priority, Record, Sequence,
-    audit,
+    Ask, Call, CallAnswer, ClientLog, Event, Input, Issued, Record, Sequence, audit,
 };
 use std::alloc::Global;
 use std::time::CpuClock;
 
-/// How many clients there are, and how many logs an audit may have.
-const CLIENTS: u32 = 64;
+/// How many times the same logs are audited.
+const AUDITS: u32 = 10;
 
-const RECOVERY: u64 = 100;
-
-/// How many times the same logs are audited, each of which counts as so many operations as there
-/// are calls.
-const AUDITS: u64 = 10;
-
-/// The record before any report, unlocked and with no minimum.
-const OPENING: Record = Record {
-    version: RECOVERY,
-    locked: false,
-    metadata: None,
-    min_known: 0,
-};
-
-/// Audits the logs of 64 clients with so many calls in all, a few times.
-pub(crate) fn audits(clock: &impl CpuClock, alloc: Global, size: u32) -> Result<Measured, Fault> {
-    let run = Run::of(alloc, size)?;
-    let watch = Stopwatch::start(clock);
-    match audit_often(alloc, run.chain.answers(), run.logs.as_slice()) {
-        Ok(checksum) => Ok(watch.measured(clock, u64::from(size).saturating_mul(AUDITS), checksum)),
-        Err(fault) => Err(fault),
-    }
-}
-
-/// Audits the same logs [`AUDITS`] times, and adds each history to one checksum.
-fn audit_often(alloc: Global, chain: &[Issued], logs: &[ClientLog]) -> Result<Checksum, Fault> {
-    if logs.len() > 64 {
-        return Err(Fault::Audit);
-    }
+/// Audits the logs of many clients with so many calls in all, a few times.
+pub(crate) fn audits(clock: &impl CpuClock, job: Job) -> Result<Measured> {
+    let mut chain = empty_chain(job.alloc, MANY)?;
+    let logs = played(job, &mut chain)?;
     let mut checksum = Checksum::EMPTY;
+    let watch = Stopwatch::start(clock)?;
     for _ in 0..AUDITS {
-        checksum = audit_once(alloc, chain, logs, checksum)?;
+        audit_once(job.alloc, chain.answers(), logs.as_slice(), &mut checksum)?;
     }
-    Ok(checksum)
+    let operations = u64::from(job.size / 3) * u64::from(3 * AUDITS);
+    watch.measured(clock, operations, checksum)
 }
 
-/// Audits the logs, and adds each event of the history to the checksum.
+/// Audits the logs, and adds each event of the history.
 fn audit_once(
     alloc: Global,
     chain: &[Issued],
     logs: &[ClientLog],
-    before: Checksum,
-) -> Result<Checksum, Fault>
-    requires { length logs.now ≤ 64 }
-{
-    match audit(alloc, OPENING, chain, logs) {
-        Ok(history) => Ok(with_events(before, history.events.as_slice())),
-        Err(_) => Err(Fault::Audit),
+    checksum: &mut Checksum,
+) -> Result<()> {
+    ensure!(logs.len() <= 64, "there are more than 64 logs");
+    let opening = Record {
+        version: 0,
+        ..START
+    };
+    let history = audit(alloc, opening, chain, logs)?;
+    for event in history.events.as_slice() {
+        checksum.add(event_word(event));
     }
+    Ok(())
 }
 
-fn with_events(before: Checksum, events: &[Event]) -> Checksum {
-    let mut checksum = before;
-    for event in events {
-        checksum = checksum.with(event_word(event));
-    }
-    checksum
-}
-
-/// What the checksum takes in of an event: client, call and version, and whether it raised the
-/// record.
+/// What is added of an event: client, call and version, and whether it raised the record.
 fn event_word(event: &Event) -> u64 {
-    match event {
+    let (client, call, rec, raised) = match event {
         Event::Report {
             client,
             call,
             rec,
             raised,
             ..
-        } => place_word(*client, *call, rec).wrapping_mul(31) ^ u64::from(*raised),
-        Event::Read { client, call, rec } => place_word(*client, *call, rec),
-    }
+        } => (*client, *call, rec, *raised),
+        Event::Read { client, call, rec } => (*client, *call, rec, false),
+    };
+    let word = rec.version.wrapping_mul(31).wrapping_add(call);
+    word.wrapping_mul(31).wrapping_add(u64::from(client)) ^ u64::from(raised)
 }
 
-fn place_word(client: u32, call: u64, rec: &Record) -> u64 {
-    rec.version
-        .wrapping_mul(31)
-        .wrapping_add(call)
-        .wrapping_mul(31)
-        .wrapping_add(u64::from(client))
-}
-
-/// A run: its chain, its live record, and the logs of its clients.
-#[derive(Drop)]
-struct Run {
-    chain: ChainCore,
-    live: Record,
-    /// How many reports have changed the live record.
-    position: u64,
-    logs: Vec<ClientLog>,
-}
-
-impl Run {
-    /// A run with so many calls: each client in turn draws a
-    /// version, raises the register with it and reads it.
-    fn of(alloc: Global, size: u32) -> Result<Run, Fault> {
-        let mut run = Run {
-            chain: empty_chain(alloc, CLIENTS)?,
-            live: OPENING,
-            position: 0,
-            logs: empty_logs(alloc)?,
-        };
-        match run.play_all(alloc, size) {
-            Ok(()) => Ok(run),
-            Err(fault) => Err(fault),
-        }
-    }
-
-    fn play_all(&mut self, alloc: Global, size: u32) -> Result<(), Fault> {
-        for place in 0..size {
-            self.play(alloc, place)?;
-        }
-        Ok(())
-    }
-
-    /// The call at a place: of three in a row one client asks, reports and reads.
-    fn play(&mut self, alloc: Global, place: u32) -> Result<(), Fault> {
-        let turn = place / 3;
-        let (client, num) = (turn % CLIENTS, u64::from(turn / CLIENTS) + 1);
-        match place % 3 {
-            0 => self.ask(client, num),
-            1 => self.report(client, num),
-            _ => self.read(alloc, client),
-        }
-    }
-
-    /// A client asks for a commit version, and keeps its last eight answers.
-    fn ask(&mut self, client: u32, num: u64) -> Result<(), Fault> {
-        let processed = num.saturating_sub(8);
-        let at = self.position.wrapping_mul(3);
-        let ask = Ask {
-            proxy: client,
-            num,
-            processed,
-            at,
-        };
-        match self.chain.ask(ask) {
-            Ok(issued) => self.log(
-                client,
-                Input::Ask { num, processed, at },
-                CallAnswer::Answered(issued),
-            ),
-            Err(_) => Err(Fault::Chain),
-        }
-    }
-
-    /// A client's report of the newest commit version, under its number.
-    fn report(&mut self, client: u32, num: u64) -> Result<(), Fault> {
-        let version = match self.chain.answers().last() {
-            Some(issued) => issued.version,
-            None => 0,
-        };
-        let rec = Record { version, ..OPENING };
-        let (raised, changed) = (self.live.raises(rec), self.live.changes(rec));
-        if changed {
-            self.live = self.live.after_report(rec);
-            self.position = self.position.saturating_add(1);
-        }
-        let input = Input::Report {
-            num,
-            locked: false,
-            metadata: None,
-            min_known: 0,
-        };
-        let answer = CallAnswer::Acked {
-            rec,
-            raised,
-            changed,
-        };
-        self.log(client, input, answer)
-    }
-
-    fn read(&mut self, alloc: Global, client: u32) -> Result<(), Fault> {
-        let input = Input::Grv(GrvOpts {
-            priority: Priority::Default,
-            count: 1,
-            tags: Sequence::new(alloc),
-            lock_aware: false,
-            at: 0,
-            use_min: false,
-        });
-        let answer = CallAnswer::Version {
-            rec: self.live,
-            limits: Sequence::new(alloc),
-            locked_out: false,
-        };
-        self.log(client, input, answer)
-    }
-
-    /// Adds to a client's log a call that was answered at the newest
-    /// position, and asked at the one that the log had come to.
-    fn log(&mut self, client: u32, input: Input, answer: CallAnswer) -> Result<(), Fault> {
-        let position = self.position;
-        let Some(log) = self.logs.get_mut(client as usize) else {
-            return Ok(());
-        };
-        let asked = match log.calls.as_slice().last() {
-            Some(last) => last.position,
-            None => 0,
-        };
-        Ok(
-            log.calls.push(Call {
-                input,
-                asked,
-                position,
-                answer,
-            })?,
-        )
-    }
-}
-
-fn empty_logs(alloc: Global) -> Result<Vec<ClientLog>, Fault> {
-    let mut logs = Vec::new(alloc);
-    for _ in 0..CLIENTS {
+/// The logs of a run with so many calls, whole turns of three.
+fn played(job: Job, chain: &mut ChainCore) -> Result<Vec<ClientLog>> {
+    let mut logs = Vec::new(job.alloc);
+    for _ in 0..MANY {
         logs.push(ClientLog {
-            calls: Sequence::new(alloc),
+            calls: Sequence::new(job.alloc),
         })?;
     }
+    for turn in 0..job.size / 3 {
+        if let Some(log) = logs.get_mut((turn % MANY) as usize) {
+            play(job.alloc, chain, turn, log)?;
+        }
+    }
     Ok(logs)
+}
+
+/// A client's turn: it asks for a commit version, keeping its last eight
+/// answers, reports the version, which raises the record, and reads it.
+fn play(alloc: Global, chain: &mut ChainCore, turn: u32, log: &mut ClientLog) -> Result<()> {
+    let (proxy, num) = (turn % MANY, u64::from(turn / MANY) + 1);
+    let (before, processed) = (u64::from(turn), num.saturating_sub(8));
+    let at = before * 3;
+    let issued = chain.ask(Ask {
+        proxy,
+        num,
+        processed,
+        at,
+    })?;
+    let rec = Record {
+        version: issued.version,
+        ..START
+    };
+    let ask = Input::Ask { num, processed, at };
+    add(log, before, ask, CallAnswer::Answered(issued))?;
+    let report = Input::Report {
+        num,
+        locked: false,
+        metadata: None,
+        min_known: 0,
+    };
+    let acked = CallAnswer::Acked {
+        rec,
+        raised: true,
+        changed: true,
+    };
+    add(log, before + 1, report, acked)?;
+    let found = CallAnswer::Version {
+        rec,
+        limits: Sequence::new(alloc),
+        locked_out: false,
+    };
+    add(log, before + 1, Input::Grv(plain_read(alloc)), found)
+}
+
+/// Adds a call that was answered at a position, and asked at the one that the log had come to.
+fn add(log: &mut ClientLog, position: u64, input: Input, answer: CallAnswer) -> Result<()> {
+    let asked = log.calls.as_slice().last().map_or(0, |last| last.position);
+    log.calls.push(Call {
+        input,
+        asked,
+        position,
+        answer,
+    })?;
+    Ok(())
 }

@@ -1,108 +1,111 @@
-//! Batches of requests, each served with one read.
+//! Batches of requests for a read version, each served with one read.
 
-use crate::checksum::Checksum;
-use crate::fault::Fault;
-use crate::measured::Measured;
-use crate::requesting::{Waiter, answer_word, queue, request};
-use crate::stopwatch::Stopwatch;
+use crate::measuring::{Checksum, Job, Measured, Stopwatch};
+use anyhow::{Result, anyhow};
+use crossbeam_channel::{Receiver, bounded};
+use fdb_history::{GrvOpts, Priority, Sequence};
 use fdb_live::{Live, LiveRecord, Seen};
 use fdb_proxy::{Answer, Request, serve_batch};
-use fdb_queue::{GrvQueue, Req};
+use fdb_queue::{GrvQueue, QueueConfig, Req};
 use std::alloc::Global;
 use std::sync::Wait;
 use std::time::CpuClock;
 
-/// How many requests are served in all, one batch more or less.
+/// How many requests batches have in all, one batch more or less.
 const REQUESTS: u32 = 20_000;
 
-type Batch<J> = Vec<Req<Request<J>>>;
+/// The rates and the room of the queue, the greatest that it may have.
+const MOST: u64 = 100_000;
+
+/// A default request for one transaction.
+pub(crate) fn plain_read(alloc: Global) -> GrvOpts {
+    GrvOpts {
+        priority: Priority::Default,
+        count: 1,
+        tags: Sequence::new(alloc),
+        lock_aware: false,
+        at: 0,
+        use_min: false,
+    }
+}
+
+/// A queue in which nobody waits for long.
+fn queue<J: Live>(alloc: Global) -> Result<GrvQueue<Request<J>>> {
+    let config = QueueConfig {
+        normal: MOST,
+        batch: MOST,
+        room: MOST,
+    };
+    Ok(GrvQueue::new(alloc, config)?)
+}
+
+/// What is added of an answer: version, position and serial, or 0 where it is no reply.
+fn answer_word<J: Live>(answer: &Answer<J>) -> u64 {
+    match answer {
+        Answer::Reply(reply) => {
+            let position = reply.position.wrapping_mul(31);
+            let word = reply.rec.version.wrapping_add(position);
+            word.wrapping_add(reply.serial.wrapping_mul(3))
+        }
+        Answer::Refused(_) => 0,
+    }
+}
 
 /// Serves batches of so many requests each, which were made before.
 pub(crate) fn batches<J: Live, R: CpuClock + Wait>(
     rt: &R,
-    alloc: Global,
+    job: Job,
     live: &LiveRecord<J>,
     seen: &mut Seen<J>,
-    size: u32,
-) -> Result<Measured, Fault> {
-    let times = (REQUESTS / size.max(1)).max(1);
-    let mut waiters = Vec::new(alloc);
-    let mut batches = Vec::new(alloc);
+) -> Result<Measured> {
+    let times = (REQUESTS / job.size.max(1)).max(1);
+    let queue = queue(job.alloc)?;
+    let mut waiters = Vec::new(job.alloc);
+    let mut batches = Vec::new(job.alloc);
     for _ in 0..times {
-        let mut batch = Vec::new(alloc);
-        fill(alloc, live, seen, size, &mut batch, &mut waiters)?;
-        batches.push(batch)?;
+        batches.push(batch(job, live, seen, &mut waiters)?)?;
     }
-    let operations = u64::from(times).saturating_mul(u64::from(size));
-    time_batches(rt, alloc, live, seen, batches, operations)
-}
-
-/// Adds so many requests to a batch, and where their answers come to a list.
-fn fill<J: Live>(
-    alloc: Global,
-    live: &LiveRecord<J>,
-    seen: &mut Seen<J>,
-    size: u32,
-    batch: &mut Batch<J>,
-    waiters: &mut Vec<Waiter<J>>,
-) -> Result<(), Fault> {
-    for serial in 0..size {
-        let (request, waiter) = request(alloc, live, seen, u64::from(serial))?;
-        waiters.push(waiter)?;
-        add(request, batch)?;
-    }
-    Ok(())
-}
-
-fn add<J: Live>(request: Request<J>, batch: &mut Batch<J>) -> Result<(), Fault> {
-    let request = Req {
-        priority: request.opts.priority,
-        count: request.opts.count,
-        payload: request,
-    };
-    batch.push(request)?;
-    Ok(())
-}
-
-/// Serves batches of so many requests in all, at a queue in which nothing waits.
-fn time_batches<J: Live, R: CpuClock + Wait>(
-    rt: &R,
-    alloc: Global,
-    live: &LiveRecord<J>,
-    seen: &mut Seen<J>,
-    batches: Vec<Batch<J>>,
-    operations: u64,
-) -> Result<Measured, Fault> {
-    let queue = queue(alloc)?;
-    let watch = Stopwatch::start(rt);
     let mut checksum = Checksum::EMPTY;
+    let watch = Stopwatch::start(rt)?;
     for batch in batches {
-        checksum = served(rt, alloc, live, seen, &queue, batch, checksum)?;
+        let Ok(answers) = serve_batch(rt, job.alloc, live, seen, &queue, batch) else {
+            return Err(anyhow!("out of memory"));
+        };
+        add(answers.as_slice(), &mut checksum);
     }
-    Ok(watch.measured(rt, operations, checksum))
+    watch.measured(rt, u64::from(times) * u64::from(job.size), checksum)
 }
 
-/// Serves a batch, and adds its answers.
-fn served<J: Live, R: Wait>(
-    rt: &R,
-    alloc: Global,
+/// A batch of requests by the client 0, whose answers would come to the waiters.
+fn batch<J: Live>(
+    job: Job,
     live: &LiveRecord<J>,
     seen: &mut Seen<J>,
-    queue: &GrvQueue<Request<J>>,
-    batch: Batch<J>,
-    checksum: Checksum,
-) -> Result<Checksum, Fault> {
-    match serve_batch(rt, alloc, live, seen, queue, batch) {
-        Ok(answers) => Ok(with_answers(checksum, answers.as_slice())),
-        Err(_) => Err(Fault::Memory),
+    waiters: &mut Vec<Receiver<Answer<J>>>,
+) -> Result<Vec<Req<Request<J>>>> {
+    let mut batch = Vec::new(job.alloc);
+    for serial in 0..job.size {
+        let (reply, waiter) = bounded(job.alloc, 1)?;
+        waiters.push(waiter)?;
+        let payload = Request {
+            client: 0,
+            serial: u64::from(serial),
+            asked: seen.position(),
+            seen: live.split(seen),
+            opts: plain_read(job.alloc),
+            reply,
+        };
+        batch.push(Req {
+            priority: Priority::Default,
+            count: 1,
+            payload,
+        })?;
     }
+    Ok(batch)
 }
 
-/// The checksum with some answers, of which one that is no reply counts as 0.
-fn with_answers<J: Live>(before: Checksum, answers: &[Answer<J>]) -> Checksum {
-    let mut checksum = before;
+fn add<J: Live>(answers: &[Answer<J>], checksum: &mut Checksum) {
     for answer in answers {
-        checksum = checksum.with(answer_word(answer).unwrap_or(0));
+        checksum.add(answer_word(answer));
     }
-    checksum
 }

@@ -1,182 +1,95 @@
-//! The benchmarks by their names, and the sizes that they may have.
+//! The table of the benchmarks.
 
-use crate::fault::Fault;
-use crate::load::Load;
-use crate::measured::Measured;
-use crate::team::Team;
-use crate::{asking, auditing, drawing, queueing, sequencing, serving, throttling};
-use anyhow::{Context, Result, ensure};
-use std::alloc::Global;
+use crate::measuring::{Job, Measured};
+use crate::serving::Load;
+use crate::{asking, auditing, committing, queueing, serving, throttling};
+use anyhow::Result;
 use std::sync::Wait;
 use std::thread::Threads;
 use std::time::{Clock, CpuClock};
 
-/// What is measured, and what its size counts.
+/// What is measured, and at which sizes.
 #[derive(Clone, Copy)]
-pub(crate) enum Benchmark {
-    /// Fresh requests for commit versions by one proxy. The size is how many there are.
-    FreshOfOne,
-    /// Fresh requests by 64 proxies. The size is how many there are.
-    FreshOfMany,
-    /// Repeats of kept numbers. The size is how many there are, and how many answers are kept.
+pub(crate) struct Benchmark {
+    pub(crate) name: &'static str,
+    /// The most threads that may do it side by side.
+    pub(crate) threads: u32,
+    /// The greatest size at which `bench/run` measures it; the command line may ask for more.
+    pub(crate) size: u32,
+    /// What its operations are, and what the size is where it is not their number.
+    pub(crate) about: &'static str,
+    work: Work,
+}
+
+#[derive(Clone, Copy)]
+enum Work {
+    Fresh,
     Repeats,
-    /// Requests and repeats by proxies that go on processing
-    /// answers. The size is how many there are.
     Processed,
-    /// Offers and windows at a queue that is nearly full. The size is its room.
-    Windows,
-    /// A flood that pushes out all that may be pushed out. The size is the room of the queue.
-    PushOuts,
-    /// Throttles that are set and looked up. The size is how many there are.
-    Throttles,
-    /// Questions how many windows a request waits. The size is how many there are.
+    Queue,
     Waits,
-    /// An audit of 64 logs. The size is the number of their calls.
+    Throttles,
     Audit,
-    /// Requests for commit versions by threads that share a
-    /// sequencer. The size is how many there are.
-    Sequencer(Team),
-    /// Requests for commit versions by threads that share a master, with tokens. The size is how many
-    /// there are.
-    Master(Team),
-    /// Calls on a live record. The load says what the size is.
+    Sequencer,
+    Master,
     Live(Load),
+}
+
+macro_rules! table {
+    ($($name:literal, $threads:literal, $size:literal, $work:expr => $about:literal;)*) => {
+        &[$(Benchmark { name: $name, threads: $threads, size: $size, about: $about, work: $work }),*]
+    };
 }
 
 impl Benchmark {
     /// Every benchmark once, in the order in which all are run.
-    pub(crate) const ALL: &'static [Benchmark] = &[
-        Benchmark::FreshOfOne,
-        Benchmark::FreshOfMany,
-        Benchmark::Repeats,
-        Benchmark::Processed,
-        Benchmark::Windows,
-        Benchmark::PushOuts,
-        Benchmark::Throttles,
-        Benchmark::Waits,
-        Benchmark::Audit,
-        Benchmark::Sequencer(Team::One),
-        Benchmark::Sequencer(Team::Two),
-        Benchmark::Sequencer(Team::Four),
-        Benchmark::Master(Team::One),
-        Benchmark::Master(Team::Two),
-        Benchmark::Master(Team::Four),
-        Benchmark::Live(Load::Reads(Team::One)),
-        Benchmark::Live(Load::Reads(Team::Two)),
-        Benchmark::Live(Load::Reads(Team::Four)),
-        Benchmark::Live(Load::ReadsBesideReports(Team::One)),
-        Benchmark::Live(Load::ReadsBesideReports(Team::Two)),
-        Benchmark::Live(Load::ReadsBesideReports(Team::Four)),
-        Benchmark::Live(Load::Reports(Team::One)),
-        Benchmark::Live(Load::Reports(Team::Two)),
-        Benchmark::Live(Load::Reports(Team::Four)),
-        Benchmark::Live(Load::Tokens),
-        Benchmark::Live(Load::Batches),
-        Benchmark::Live(Load::Proxies(Team::One)),
-        Benchmark::Live(Load::Proxies(Team::Two)),
-        Benchmark::Live(Load::Proxies(Team::Four)),
-    ];
-
-    /// The name under which the command line asks for it.
-    pub(crate) fn name(self) -> &'static str {
-        match self {
-            Benchmark::FreshOfOne => "fresh_of_one",
-            Benchmark::FreshOfMany => "fresh_of_many",
-            Benchmark::Repeats => "repeats",
-            Benchmark::Processed => "processed",
-            Benchmark::Windows => "windows",
-            Benchmark::PushOuts => "push_outs",
-            Benchmark::Throttles => "throttles",
-            Benchmark::Waits => "waits",
-            Benchmark::Audit => "audit",
-            Benchmark::Sequencer(Team::One) => "sequencer_of_one",
-            Benchmark::Sequencer(Team::Two) => "sequencer_of_two",
-            Benchmark::Sequencer(Team::Four) => "sequencer_of_four",
-            Benchmark::Master(Team::One) => "master_of_one",
-            Benchmark::Master(Team::Two) => "master_of_two",
-            Benchmark::Master(Team::Four) => "master_of_four",
-            Benchmark::Live(load) => load.name(),
-        }
-    }
+    pub(crate) const ALL: &'static [Benchmark] = table! {
+        "fresh", 1, 1_000_000, Work::Fresh => "fresh asks in turn by 64 proxies, which process none";
+        "repeats", 1, 1_000_000, Work::Repeats => "repeats without a pattern of as many kept answers";
+        "processed", 1, 1_000_000, Work::Processed => "fresh asks in turn by 4 proxies, which process all";
+        "queue", 1, 100_000, Work::Queue => "20 offers or windows for each place of the room; a tenth are windows";
+        "waits", 1, 1_000_000, Work::Waits => "questions how many windows the head of the row waits";
+        "throttles", 1, 10_000, Work::Throttles => "a throttle that is set for each tag, and 10 look-ups";
+        "audit", 1, 100_000, Work::Audit => "10 audits of so many calls, in the logs of 64 clients";
+        "sequencer", 4, 1_000_000, Work::Sequencer => "fresh asks of a sequencer, shared by the threads";
+        "master", 4, 1_000_000, Work::Master => "fresh asks of a master with tokens, shared by the threads";
+        "reads", 4, 100_000, Work::Live(Load::Reads) => "100 reads by each thread for each raise before";
+        "reads_beside", 4, 100_000, Work::Live(Load::ReadsBeside) => "the same, beside a thread that reports all the time";
+        "reports", 4, 1_000_000, Work::Live(Load::Reports) => "reports by each thread";
+        "tokens", 1, 1_000_000, Work::Live(Load::Tokens) => "a token's split, learn and meet, after as many raises";
+        "batches", 1, 10_000, Work::Live(Load::Batches) => "20,000 requests in batches of so many, each served by one read";
+    };
 
     /// The benchmark that an argument names, if there is one.
     pub(crate) fn of_name(name: &str) -> Option<Benchmark> {
         Self::ALL
             .iter()
             .copied()
-            .find(|benchmark| benchmark.name() == name)
-    }
-
-    /// The clock that its time is of: processor time, or wall time where threads work side by side.
-    pub(crate) fn clock_name(self) -> &'static str {
-        if self.is_shared() {
-            "wall time"
-        } else {
-            "processor time"
-        }
-    }
-
-    /// Whether threads do it side by side, so that wall time is what counts.
-    fn is_shared(self) -> bool {
-        match self {
-            Benchmark::Sequencer(_) | Benchmark::Master(_) => true,
-            Benchmark::Live(load) => load.is_shared(),
-            _ => false,
-        }
+            .find(|benchmark| benchmark.name == name)
     }
 
     /// A size at which it takes milliseconds at most.
     pub(crate) fn small_size(self) -> u32 {
-        match self {
-            Benchmark::Windows | Benchmark::PushOuts | Benchmark::Throttles | Benchmark::Live(_) =>
-                100,
-            Benchmark::Audit => 300,
-            _ => 1_000,
-        }
+        self.size / 1_000
     }
 
-    /// The greatest size that the command line may ask for.
-    fn greatest_size(self) -> u32 {
-        match self {
-            Benchmark::Windows | Benchmark::PushOuts | Benchmark::Throttles => 100_000,
-            Benchmark::Live(_) => 1_000_000,
-            _ => 10_000_000,
-        }
-    }
-
-    /// The size that an argument says, or why it may not be.
-    pub(crate) fn size_of(self, argument: &str) -> Result<u32> {
-        let size = argument
-            .parse::<u32>()
-            .context(format_args!("the size {argument:?}"))?;
-        let greatest = self.greatest_size();
-        ensure!(
-            size > 0 && size <= greatest,
-            "the size {size} is not 1 to {greatest}"
-        );
-        Ok(size)
-    }
-
-    /// Runs it at this size, and gives what it computed and took.
+    /// Runs it, and gives what it computed and took.
     pub(crate) fn run<R: Clock + CpuClock + Threads + Wait + Sync>(
         self,
         rt: &R,
-        alloc: Global,
-        size: u32,
-    ) -> Result<Measured, Fault> {
-        match self {
-            Benchmark::FreshOfOne => asking::fresh(rt, alloc, 1, size),
-            Benchmark::FreshOfMany => asking::fresh(rt, alloc, asking::MANY, size),
-            Benchmark::Repeats => asking::repeats(rt, alloc, size),
-            Benchmark::Processed => asking::processed(rt, alloc, size),
-            Benchmark::Windows => queueing::windows(rt, alloc, size),
-            Benchmark::PushOuts => queueing::push_outs(rt, alloc, size),
-            Benchmark::Throttles => throttling::throttles(rt, alloc, size),
-            Benchmark::Waits => queueing::waits(rt, alloc, size),
-            Benchmark::Audit => auditing::audits(rt, alloc, size),
-            Benchmark::Sequencer(team) => sequencing::asks(rt, alloc, team.threads(), size),
-            Benchmark::Master(team) => drawing::draws(rt, alloc, team.threads(), size),
-            Benchmark::Live(load) => serving::measure(rt, alloc, load, size),
+        job: Job,
+    ) -> Result<Measured> {
+        match self.work {
+            Work::Fresh => asking::fresh(rt, job, asking::MANY, false),
+            Work::Repeats => asking::repeats(rt, job),
+            Work::Processed => asking::fresh(rt, job, asking::FEW, true),
+            Work::Queue => queueing::mix(rt, job),
+            Work::Waits => queueing::waits(rt, job),
+            Work::Throttles => throttling::throttles(rt, job),
+            Work::Audit => auditing::audits(rt, job),
+            Work::Sequencer => committing::of_sequencer(rt, job),
+            Work::Master => committing::of_master(rt, job),
+            Work::Live(load) => serving::measure(rt, job, load),
         }
     }
 }

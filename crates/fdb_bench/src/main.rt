@@ -1,40 +1,26 @@
-//! Benchmarks of the crates below: `fdb_bench NAME [SIZE]`
-//! runs one, and `fdb_bench` runs each at a small size.
+//! Benchmarks of the crates below: `fdb_bench NAME [SIZE [THREADS]]` runs one, `fdb_bench` each at
+//! a small size, and `fdb_bench --list` lists them.
 //!
-//! For each run standard output has the benchmark, its size and the checksum of
-//! what was computed, which is the same every time; and standard error the number
-//! of operations and the time that they took: processor time, or for threads that
-//! work side by side wall time, from the first one's begin to the last one's end.
+//! For each run standard output has the benchmark, its size, its threads and the checksum of what
+//! was computed, which is the same every time; and standard error the number of operations and the
+//! nanoseconds that they took: of processor time, or where threads may work side by side of wall
+//! time, from the first one's begin to the last one's end.
 #![tactic(auto)]
 
 mod asking;
 mod auditing;
 mod batching;
 mod benchmark;
-mod checksum;
-mod drawing;
-mod draws;
-mod fault;
-mod load;
-mod measured;
-mod proxying;
+mod committing;
+mod measuring;
 mod queueing;
-mod reading;
-mod reporting;
-mod requesting;
-mod sequencing;
 mod serving;
-mod span;
-mod stopwatch;
-mod tally;
 mod team;
-mod telling;
 mod throttling;
-mod working;
 
-use anyhow::{Result, anyhow, ensure};
+use anyhow::{Context, Result, anyhow, ensure};
 use benchmark::Benchmark;
-use measured::{nanos, tenths};
+use measuring::Job;
 use std::alloc::Global;
 use std::env;
 use std::sync::Wait;
@@ -46,60 +32,86 @@ fn main(rt: HostRuntime) -> Result<()> {
     let Some(name) = arguments.next() else {
         return run_each(&rt, rt.alloc());
     };
+    if name.as_str() == "--list" {
+        return list(&rt);
+    }
     let Some(benchmark) = Benchmark::of_name(name.as_str()) else {
         return Err(anyhow!("there is no benchmark {name}"));
     };
     let size = match arguments.next() {
         None => benchmark.small_size(),
-        Some(size) => benchmark.size_of(size.as_str())?,
+        Some(said) => number("size", said.as_str(), u32::MAX)?,
+    };
+    let threads = match arguments.next() {
+        None => 1,
+        Some(said) => number("threads", said.as_str(), benchmark.threads)?,
     };
     ensure!(
         arguments.next().is_none(),
-        "more arguments than a benchmark and its size"
+        "more arguments than a benchmark, its size and its threads"
     );
-    run_one(&rt, rt.alloc(), benchmark, size)
+    run_one(&rt, rt.alloc(), benchmark, size, threads)
 }
 
-/// Runs each benchmark at its small size, until one of them fails.
+/// A number that an argument says, from 1 to the greatest, or why it may not be.
+fn number(what: &str, argument: &str, greatest: u32) -> Result<u32> {
+    let number = argument
+        .parse::<u32>()
+        .context(format_args!("the {what} {argument:?}"))?;
+    ensure!(
+        number > 0 && number <= greatest,
+        "the {what} {number} is not 1 to {greatest}"
+    );
+    Ok(number)
+}
+
+/// Prints a line for each benchmark, with tabs between: its name, the most threads that may do it,
+/// the greatest size at which it is measured, and what it is.
+fn list(rt: &impl Print) -> Result<()> {
+    for benchmark in Benchmark::ALL {
+        let (name, about) = (benchmark.name, benchmark.about);
+        println!(rt;
+            "{name}\t{}\t{}\t{about}",
+            benchmark.threads, benchmark.size
+        )?;
+    }
+    Ok(())
+}
+
+/// Runs each benchmark at its small size by as many threads as may be, until one of them fails.
 fn run_each<R>(rt: &R, alloc: Global) -> Result<()>
 where
     R: Print + Eprint + Clock + CpuClock + Threads + Wait + Sync,
 {
     for benchmark in Benchmark::ALL {
-        run_one(rt, alloc, *benchmark, benchmark.small_size())?;
+        let (size, threads) = (benchmark.small_size(), benchmark.threads);
+        run_one(rt, alloc, *benchmark, size, threads)?;
     }
     Ok(())
 }
 
 /// Runs a benchmark, and prints what it computed and what it took.
-fn run_one<R>(rt: &R, alloc: Global, benchmark: Benchmark, size: u32) -> Result<()>
+fn run_one<R>(rt: &R, alloc: Global, benchmark: Benchmark, size: u32, threads: u32) -> Result<()>
 where
     R: Print + Eprint + Clock + CpuClock + Threads + Wait + Sync,
 {
-    let measured = match benchmark.run(rt, alloc, size) {
-        Ok(measured) => measured,
-        Err(fault) => return Err(anyhow!(fault.line())),
+    let name = benchmark.name;
+    let job = Job {
+        alloc,
+        size,
+        threads,
     };
-    let Some(time) = measured.time else {
-        return Err(anyhow!("the clock failed"));
+    let clock = if benchmark.threads == 1 {
+        "processor"
+    } else {
+        "wall"
     };
-    println!(rt; "{} {size} {}", benchmark.name(), measured.checksum.value())?;
-    print_time(rt, benchmark, size, measured.operations, nanos(time))
-}
-
-/// Prints to standard error what a benchmark took, in nanoseconds, in all and for each operation.
-fn print_time(
-    rt: &impl Eprint,
-    benchmark: Benchmark,
-    size: u32,
-    operations: u64,
-    nanos: u64,
-) -> Result<()> {
-    let tenths = tenths(nanos, operations);
-    let (whole, tenth) = (tenths / 10, tenths % 10);
-    let (name, clock) = (benchmark.name(), benchmark.clock_name());
+    let measured = benchmark.run(rt, job)?;
+    println!(rt; "{name} {size} {threads} {}", measured.checksum.0)?;
     eprintln!(rt;
-        "{name} {size}: {operations} operations, {nanos} ns of {clock}, {whole}.{tenth} ns each"
+        "{name} {size} {threads}: {} operations, {} ns of {clock} time",
+        measured.operations,
+        measured.time.as_nanos()
     )?;
     Ok(())
 }

@@ -1,0 +1,149 @@
+//! Requests for commit versions by threads that share a sequencer or a master, each in the name of
+//! a commit proxy of its own. No time passes between them, so each gets the version after the last
+//! one, and together the threads get the same versions in every schedule.
+
+ghost use Rattle.std.specs.Prelude.{◌≡◌};
+
+use crate::asking::START;
+use crate::measuring::{Job, Measured};
+use crate::team::{Tally, Work, side_by_side};
+use anyhow::{Result, anyhow, ensure};
+use fdb_chain::{ChainCore, Sequencer};
+use fdb_history::{Ask, OpenGate, Service};
+use fdb_live::{Live, MAX_REPORTERS, Master, OpenedMaster, Token};
+use std::marker::Brand;
+use std::sync::Wait;
+use std::thread::Threads;
+use std::time::Clock;
+
+/// A service that stands for the one chain.
+struct One;
+
+impl Service for One {
+    ghost use Rattle.std.specs.Prelude.{None, false};
+
+    ghost epoch_end = { 0 };
+
+    ghost recovery = { 100 };
+
+    ghost start = { record { version = 100; locked = false; metadata = None; min_known = 0 } };
+
+    ghost reporters = { 1 };
+}
+
+/// A commit proxy's requests to a sequencer.
+#[derive(Clone, Copy)]
+struct Asker {
+    proxy: u32,
+    asks: u32,
+}
+
+impl Work<Sequencer<One>> for Asker {
+    fn work<R: Wait>(self, rt: &R, sequencer: &Sequencer<One>) -> Result<Tally> {
+        let mut tally = Tally::EMPTY;
+        for before in 0..self.asks {
+            let issued = sequencer.ask(rt, &OpenGate, after(self.proxy, before))?;
+            tally.add(issued.version, issued.fresh);
+        }
+        Ok(tally)
+    }
+}
+
+/// The request that a proxy makes after so many, all of which it has processed.
+fn after(proxy: u32, before: u32) -> Ask
+    ensures { result.proxy ≡ proxy }
+{
+    Ask {
+        proxy,
+        num: u64::from(before) + 1,
+        processed: u64::from(before),
+        at: 0,
+    }
+}
+
+/// Requests to a sequencer, shared by the threads.
+pub(crate) fn of_sequencer<R>(rt: &R, job: Job) -> Result<Measured>
+where
+    R: Clock + Threads + Wait + Sync,
+{
+    let asks = job.size / job.threads.max(1);
+    let mut askers = Vec::new(job.alloc);
+    for proxy in 0..job.threads {
+        askers.push(Asker { proxy, asks })?;
+    }
+    let core = ChainCore::new(job.alloc, 0, 100, job.threads)?;
+    let sequencer = Sequencer::<One>::new(core);
+    let all = side_by_side(rt, job.alloc, &sequencer, askers)?;
+    Ok(all.measured(all.sum))
+}
+
+/// A commit proxy's requests to a master, with its token.
+#[derive(Drop)]
+struct Drawer<J: Live> {
+    token: Token<J>,
+    asks: u32,
+}
+
+impl<J: Live + Send + Sync> Work<Master<J>> for Drawer<J> {
+    fn work<R: Wait>(self, rt: &R, master: &Master<J>) -> Result<Tally> {
+        let Drawer { mut token, asks } = self;
+        let mut tally = Tally::EMPTY;
+        for before in 0..asks {
+            draw(rt, master, &mut token, before, &mut tally)?;
+        }
+        Ok(tally)
+    }
+}
+
+fn draw<J: Live, R: Wait>(
+    rt: &R,
+    master: &Master<J>,
+    token: &mut Token<J>,
+    before: u32,
+    tally: &mut Tally,
+) -> Result<()> {
+    let Some(proxy) = token.number() else {
+        return Err(anyhow!("the token is nobody's"));
+    };
+    let issued = master.ask(rt, &OpenGate, token, after(proxy, before))?;
+    tally.add(issued.version, issued.fresh);
+    Ok(())
+}
+
+/// Requests to a master, shared by the threads.
+pub(crate) fn of_master<R>(rt: &R, job: Job) -> Result<Measured>
+where
+    R: Clock + Threads + Wait + Sync,
+{
+    let (proxies, recovery) = (job.threads, START.version);
+    ensure!(
+        proxies > 0 && proxies <= MAX_REPORTERS,
+        "{proxies} commit proxies"
+    );
+    let opened = Master::<Brand>::open(rt, job.alloc, 0, recovery, START, proxies)?;
+    draw_named::<Brand, R>(rt, job, opened)
+}
+
+/// The requests under a name that stands for the master.
+fn draw_named<J: Live + Send + Sync, R: Clock + Threads + Wait + Sync>(
+    rt: &R,
+    job: Job,
+    opened: OpenedMaster,
+) -> Result<Measured>
+    requires { opened ≡ record {
+      table = J.table;
+      start = J.start;
+      members = J.reporters;
+      epoch_end = J.epoch_end;
+      recovery = J.recovery;
+    } }
+{
+    let (master, tokens) = opened.parts::<J>()?;
+    let asks = job.size / job.threads.max(1);
+    let mut drawers = Vec::new(job.alloc);
+    for token in tokens {
+        drawers.push(Drawer { token, asks })?;
+    }
+    let all = side_by_side(rt, job.alloc, &master, drawers)?;
+    Ok(all.measured(all.sum))
+}
