@@ -1,74 +1,55 @@
 //! Commit versions that two threads draw from one master, each once it was told of the other's.
 
-ghost use Rattle.std.specs.Prelude.{◌<◌, ◌≡◌, IfOk, None};
+ghost use Rattle.std.specs.Prelude.{◌<◌, ◌≤◌, ◌≡◌, IfOk, None};
 ghost use Rattle.fdb_live.specs.Holding.{least_above};
 
+use crate::START;
 use anyhow::{Result, anyhow};
-use fdb_history::{Ask, OpenGate, Record};
-use fdb_live::{Live, Master, OpenedMaster, Token};
+use fdb_history::{Ask, OpenGate};
+use fdb_live::{Live, Master, OpenedMaster, Token, UnderMaster};
 use std::alloc::Global;
 use std::marker::Brand;
 use std::sync::Wait;
 use std::thread;
 use std::thread::Threads;
 
-/// The live committed version before any report, 100, which is the first commit version too.
-const START: Record = Record {
-    version: 100,
-    locked: false,
-    metadata: None,
-    min_known: 0,
-};
-
 /// Opens a master for two commit proxies, and has them draw under a name that stands for it.
 pub(crate) fn two_threads<R: Print + Threads + Wait + Sync>(rt: &R, alloc: Global) -> Result<()> {
     let opened = Master::<Brand>::open(rt, alloc, 0, START.version, START, 2)?;
-    draw_named::<Brand, R>(rt, opened)
+    opened.named(rt, TwoThreads)
 }
 
-/// Shares out a master and the tokens of its commit proxies, under a name that stands for it.
-fn draw_named<J: Live + Send + Sync, R: Print + Threads + Wait + Sync>(
-    rt: &R,
-    opened: OpenedMaster,
-) -> Result<()>
-    requires { opened ≡ record {
-      table = J.table;
-      start = J.start;
-      members = J.reporters;
-      epoch_end = J.epoch_end;
-      recovery = J.recovery;
-    } }
-{
-    let (master, mut tokens) = opened.parts::<J>()?;
-    draw_both(rt, &master, tokens.as_mut_slice())
-}
+/// Two commit proxies, to be run under a name that stands for their master.
+#[derive(Drop)]
+struct TwoThreads;
 
-/// Both draw at once, each in a thread of its own, and draw again once told of the other's.
-fn draw_both<J: Live + Send + Sync, R: Print + Threads + Wait + Sync>(
-    rt: &R,
-    master: &Master<J>,
-    tokens: &mut [Token<J>],
-) -> Result<()> {
-    if tokens.len() != 2 {
-        return Err(anyhow!("two commit proxies are wanted"));
+impl<R: Print + Threads + Wait + Sync> UnderMaster<R> for TwoThreads {
+    type Output = Result<()>;
+
+    /// Both draw at once, each in a thread of its own, and draw again once told of the other's.
+    fn run<J: Live + Send + Sync>(self, rt: &R, opened: OpenedMaster) -> Result<()> {
+        let (master, mut tokens) = opened.parts::<J>()?;
+        if tokens.len() != 2 {
+            return Err(anyhow!("two commit proxies are wanted"));
+        }
+        let (zero, one) = tokens.as_mut_slice().split_at_mut(1);
+        let (first, second) = thread::join(
+            rt,
+            || draw_and_tell(rt, &master, &mut zero[0]),
+            || draw_and_tell(rt, &master, &mut one[0]),
+        );
+        let (of_first, of_second) = (first?, second?);
+        let (by_first, by_second) = thread::join(
+            rt,
+            || draw_once_told(rt, &master, &mut zero[0], of_second),
+            || draw_once_told(rt, &master, &mut one[0], of_first),
+        );
+        println!(rt;
+            "the last of four versions is {}",
+            by_first?.1.max(by_second?.1)
+        )?;
+        Ok(())
     }
-    let (zero, one) = tokens.split_at_mut(1);
-    let (first, second) = thread::join(
-        rt,
-        || draw_and_tell(rt, master, &mut zero[0]),
-        || draw_and_tell(rt, master, &mut one[0]),
-    );
-    let (of_first, of_second) = (first?, second?);
-    let (by_first, by_second) = thread::join(
-        rt,
-        || draw_once_told(rt, master, &mut zero[0], of_second),
-        || draw_once_told(rt, master, &mut one[0], of_first),
-    );
-    println!(rt;
-        "the last of four versions is {}",
-        by_first?.1.max(by_second?.1)
-    )?;
-    Ok(())
 }
 
 /// What one thread hands to another: a version that it drew, and a token of what it has seen.
@@ -86,23 +67,9 @@ fn draw_and_tell<J: Live, R: Wait>(
     master: &Master<J>,
     token: &mut Token<J>,
 ) -> Result<Told<J>> {
-    let Some(proxy) = token.number() else {
-        return Err(anyhow!("the token is nobody's"));
-    };
-    let ask = Ask {
-        proxy,
-        num: 1,
-        processed: 0,
-        at: 0,
-    };
-    let issued = master.ask(rt, &OpenGate, token, ask)?;
-    if !issued.fresh {
-        return Err(anyhow!("the version was drawn before"));
-    }
-    Ok(Told {
-        version: issued.version,
-        token: master.split(token),
-    })
+    let version = draw(rt, master, token, 1)?;
+    let token = master.split(token);
+    Ok(Told { version, token })
 }
 
 /// Draws a version above the one that it was told of, and answers both.
@@ -119,18 +86,31 @@ fn draw_once_told<J: Live, R: Wait>(
         token: seen,
     } = told;
     master.learn(rt, token, seen);
+    Ok((version, draw(rt, master, token, 2)?))
+}
+
+/// Draws a version under this number, above all that its commit proxy has seen or was told of.
+fn draw<J: Live, R: Wait>(
+    rt: &R,
+    master: &Master<J>,
+    token: &mut Token<J>,
+    num: u64,
+) -> Result<u64>
+    ensures above { IfOk result (λ version. least_above token.old.answers ≤ version) }
+    ensures seen { IfOk result (λ version. version < least_above token.new.answers) }
+{
     let Some(proxy) = token.number() else {
         return Err(anyhow!("the token is nobody's"));
     };
     let ask = Ask {
         proxy,
-        num: 2,
-        processed: 1,
+        num,
+        processed: 0,
         at: 0,
     };
     let issued = master.ask(rt, &OpenGate, token, ask)?;
     if !issued.fresh {
         return Err(anyhow!("the version was drawn before"));
     }
-    Ok((version, issued.version))
+    Ok(issued.version)
 }
