@@ -26,30 +26,39 @@ struct TwoThreads;
 impl<R: Print + Threads + Wait + Sync> UnderMaster<R> for TwoThreads {
     type Output = Result<()>;
 
-    /// Both draw at once, each in a thread of its own, and draw again once told of the other's.
+    /// Shares out the master and the tokens of its commit proxies.
     fn run<J: Live + Send + Sync>(self, rt: &R, opened: OpenedMaster) -> Result<()> {
         let (master, mut tokens) = opened.parts::<J>()?;
-        if tokens.len() != 2 {
-            return Err(anyhow!("two commit proxies are wanted"));
-        }
-        let (zero, one) = tokens.as_mut_slice().split_at_mut(1);
-        let (first, second) = thread::join(
-            rt,
-            || draw_and_tell(rt, &master, &mut zero[0]),
-            || draw_and_tell(rt, &master, &mut one[0]),
-        );
-        let (of_first, of_second) = (first?, second?);
-        let (by_first, by_second) = thread::join(
-            rt,
-            || draw_once_told(rt, &master, &mut zero[0], of_second),
-            || draw_once_told(rt, &master, &mut one[0], of_first),
-        );
-        println!(rt;
-            "the last of four versions is {}",
-            by_first?.1.max(by_second?.1)
-        )?;
-        Ok(())
+        draw_both(rt, &master, tokens.as_mut_slice())
     }
+}
+
+/// Both draw at once, each in a thread of its own, and draw again once told of the other's.
+fn draw_both<J: Live + Send + Sync, R: Print + Threads + Wait + Sync>(
+    rt: &R,
+    master: &Master<J>,
+    tokens: &mut [Token<J>],
+) -> Result<()> {
+    if tokens.len() != 2 {
+        return Err(anyhow!("two commit proxies are wanted"));
+    }
+    let (zero, one) = tokens.split_at_mut(1);
+    let (first, second) = thread::join(
+        rt,
+        || draw_and_tell(rt, master, &mut zero[0]),
+        || draw_and_tell(rt, master, &mut one[0]),
+    );
+    let (of_first, of_second) = (first?, second?);
+    let (by_first, by_second) = thread::join(
+        rt,
+        || draw_once_told(rt, master, &mut zero[0], of_second),
+        || draw_once_told(rt, master, &mut one[0], of_first),
+    );
+    println!(rt;
+        "the last of four versions is {}",
+        by_first?.1.max(by_second?.1)
+    )?;
+    Ok(())
 }
 
 /// What one thread hands to another: a version that it drew, and a token of what it has seen.
@@ -90,12 +99,7 @@ fn draw_once_told<J: Live, R: Wait>(
 }
 
 /// Draws a version under this number, above all that its commit proxy has seen or was told of.
-fn draw<J: Live, R: Wait>(
-    rt: &R,
-    master: &Master<J>,
-    token: &mut Token<J>,
-    num: u64,
-) -> Result<u64>
+fn draw<J: Live, R: Wait>(rt: &R, master: &Master<J>, token: &mut Token<J>, num: u64) -> Result<u64>
     ensures above { IfOk result (λ version. least_above token.old.answers ≤ version) }
     ensures seen { IfOk result (λ version. version < least_above token.new.answers) }
 {

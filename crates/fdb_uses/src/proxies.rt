@@ -40,8 +40,12 @@ pub(crate) fn two_clients<R: Print + Threads + Wait + Sync>(
     rt: &R,
     alloc: Global,
 ) -> Result<SettledRun> {
-    let WorkloadOutcome { output, run, ends } =
-        run_workload(rt, alloc, config(), CommitAndRead { alloc })?;
+    let WorkloadOutcome { output, run, ends } = run_workload(
+        rt,
+        alloc,
+        config(),
+        CommitAndRead { alloc },
+    )?;
     output?;
     if !ends.all_served() {
         return Err(anyhow!("a GRV proxy ran out of memory"));
