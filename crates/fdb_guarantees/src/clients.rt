@@ -1,14 +1,13 @@
-//! What a client reads once it has read, reported or been told, and what two clients settle.
+//! What a client reads and draws once it has read, reported or been told.
 
-ghost use Rattle.std.specs.Prelude.{◌≡◌, ◌*◌, ◌<◌, ◌≤◌, ℕ, [], false, true, IfOk, Some};
-ghost use Rattle.fdb_history.specs.Faults.{IsFaultless};
+ghost use Rattle.std.specs.Prelude.{◌≡◌, ◌*◌, ◌<◌, ◌≤◌, ℕ, [], false, IfOk, Some};
 ghost use Rattle.fdb_history.specs.Strays.{issued_under};
 ghost use Rattle.fdb_live.specs.Holding.{least_above};
 ghost use Rattle.fdb_live.specs.Seen.{last_record};
 
-use fdb_client::{Client, ClientError, ReadVersion, settle};
-use fdb_history::{ClientLog, GrvOpts, Issued, MAX_VERSION, OpenGate};
-use fdb_live::{Ack, Live, Master, Seen};
+use fdb_client::{Client, ClientError, ReadVersion};
+use fdb_history::{GrvOpts, Issued, MAX_VERSION, OpenGate};
+use fdb_live::{Ack, Live};
 use fdb_proxy::Desk;
 use std::sync::Wait;
 
@@ -129,26 +128,4 @@ pub fn report_within<J: Live, R: Wait>(
         (λ ack. ack.position ≤ 2 * (last_record J.start client.new.changes).version) }
 {
     client.report(rt, &OpenGate, num, false, None, 0)
-}
-
-/// What two clients left, from whichever positions they began, is settled: no fault of the
-/// register's history stands in their logs.
-pub fn settle_both<J: Live, R: Wait>(
-    rt: &R,
-    master: &Master<J>,
-    first: &mut Seen<J>,
-    zero: Client<'_, J>,
-    one: Client<'_, J>,
-) -> [ClientLog; 2]
-    requires two { J.reporters ≡ 2 }
-    requires zero { zero.number ≡ 0 }
-    requires one { one.number ≡ 1 }
-    ensures { IsFaultless J.start result }
-{
-    let (log, token) = zero.finish();
-    let (other_log, other_token) = one.finish();
-    let logs = [log, other_log];
-    let mut tokens = [token, other_token];
-    settle(rt, master, first, &mut tokens, &logs);
-    logs
 }

@@ -6,7 +6,7 @@ ghost use Rattle.fdb_live.specs.Holding.{least_above};
 use crate::START;
 use anyhow::{Result, anyhow};
 use fdb_history::{Ask, OpenGate};
-use fdb_live::{Live, Master, OpenedMaster, Token, UnderMaster};
+use fdb_live::{Live, Master, OpenedMaster, Token};
 use std::alloc::Global;
 use std::marker::Brand;
 use std::sync::Wait;
@@ -16,21 +16,24 @@ use std::thread::Threads;
 /// Opens a master for two commit proxies, and has them draw under a name that stands for it.
 pub(crate) fn two_threads<R: Print + Threads + Wait + Sync>(rt: &R, alloc: Global) -> Result<()> {
     let opened = Master::<Brand>::open(rt, alloc, 0, START.version, START, 2)?;
-    opened.named(rt, TwoThreads)
+    draw_named::<Brand, R>(rt, opened)
 }
 
-/// Two commit proxies, to be run under a name that stands for their master.
-#[derive(Drop)]
-struct TwoThreads;
-
-impl<R: Print + Threads + Wait + Sync> UnderMaster<R> for TwoThreads {
-    type Output = Result<()>;
-
-    /// Shares out the master and the tokens of its commit proxies.
-    fn run<J: Live + Send + Sync>(self, rt: &R, opened: OpenedMaster) -> Result<()> {
-        let (master, mut tokens) = opened.parts::<J>()?;
-        draw_both(rt, &master, tokens.as_mut_slice())
-    }
+/// Shares out a master and the tokens of its commit proxies, under a name that stands for it.
+fn draw_named<J: Live + Send + Sync, R: Print + Threads + Wait + Sync>(
+    rt: &R,
+    opened: OpenedMaster,
+) -> Result<()>
+    requires { opened ≡ record {
+      table = J.table;
+      start = J.start;
+      members = J.reporters;
+      epoch_end = J.epoch_end;
+      recovery = J.recovery;
+    } }
+{
+    let (master, mut tokens) = opened.parts::<J>()?;
+    draw_both(rt, &master, tokens.as_mut_slice())
 }
 
 /// Both draw at once, each in a thread of its own, and draw again once told of the other's.

@@ -5,12 +5,10 @@ ghost use Rattle.fdb_client.specs.Cluster.{IsClusterConfig};
 use crate::START;
 use anyhow::{Result, anyhow};
 use fdb_client::{
-    Client, ClientError, Cluster, ClusterConfig, ReadVersion, SettledRun, Workload,
-    WorkloadOutcome, run_workload,
+    Client, Cluster, ClusterConfig, SettledRun, Workload, WorkloadOutcome, run_workload,
 };
 use fdb_history::{GrvOpts, OpenGate, Priority, Sequence};
 use fdb_live::Live;
-use fdb_proxy::Desk;
 use fdb_queue::QueueConfig;
 use std::alloc::Global;
 use std::sync::Wait;
@@ -84,8 +82,8 @@ impl<R: Print + Wait> Workload<R> for CommitAndRead {
         if let Err((cause, _told)) = reader.learn(rt, writer.number(), told) {
             return Err(anyhow!("{cause}"));
         }
-        let own = read(rt, self.alloc, cluster.desk(0), writer)?;
-        let other = read(rt, self.alloc, cluster.desk(1), reader)?;
+        let own = writer.read_version(rt, &OpenGate, cluster.desk(0), opts(self.alloc))?;
+        let other = reader.read_version(rt, &OpenGate, cluster.desk(1), opts(self.alloc))?;
         println!(rt;
             "committed: raised {}; read versions {} and {}",
             ack.raised, own.version, other.version
@@ -94,17 +92,7 @@ impl<R: Print + Wait> Workload<R> for CommitAndRead {
     }
 }
 
-/// Reads the read version for one transaction.
-pub(crate) fn read<J: Live, R: Wait>(
-    rt: &R,
-    alloc: Global,
-    desk: &Desk<J>,
-    client: &mut Client<'_, J>,
-) -> Result<ReadVersion, ClientError> {
-    client.read_version(rt, &OpenGate, desk, opts(alloc))
-}
-
-/// How that is asked for.
+/// How the read version of one transaction is asked for.
 pub(crate) fn opts(alloc: Global) -> GrvOpts {
     GrvOpts {
         priority: Priority::Default,

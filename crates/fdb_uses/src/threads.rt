@@ -3,13 +3,13 @@
 ghost use Rattle.std.specs.Prelude.{◌≡◌, IfOk};
 ghost use Rattle.fdb_history.specs.Linear.{IsLinear};
 
-use crate::proxies::{config, read};
+use crate::proxies::{config, opts};
 use anyhow::{Result, anyhow};
 use fdb_client::{
     Client, Cluster, ClusterParts, Finished, OpenedCluster, Served, SettledRun, clients_of,
     serve_while,
 };
-use fdb_history::History;
+use fdb_history::{History, OpenGate};
 use fdb_live::Live;
 use std::alloc::Global;
 use std::marker::Brand;
@@ -71,8 +71,8 @@ fn read_both<J: Live + Send + Sync, R: Print + Threads + Wait + Sync>(
     let (zero, one) = clients.as_mut_slice().split_at_mut(1);
     let (first, second) = thread::join(
         rt,
-        || read(rt, alloc, cluster.desk(0), &mut zero[0]),
-        || read(rt, alloc, cluster.desk(1), &mut one[0]),
+        || zero[0].read_version(rt, &OpenGate, cluster.desk(0), opts(alloc)),
+        || one[0].read_version(rt, &OpenGate, cluster.desk(1), opts(alloc)),
     );
     println!(rt; "read {} and {} at once", first?.version, second?.version)?;
     Ok(cluster.finish(alloc, clients)?)
