@@ -69,10 +69,11 @@ fn read_both<J: Live + Send + Sync, R: Print + Threads + Wait + Sync>(
         return Err(anyhow!("two clients are wanted"));
     }
     let (zero, one) = clients.as_mut_slice().split_at_mut(1);
+    let (zero, one) = (&mut zero[0], &mut one[0]);
     let (first, second) = thread::join(
         rt,
-        || zero[0].read_version(rt, &OpenGate, cluster.desk(0), opts(alloc)),
-        || one[0].read_version(rt, &OpenGate, cluster.desk(1), opts(alloc)),
+        || zero.read_version(rt, &OpenGate, cluster.desk(0), opts(alloc)),
+        || one.read_version(rt, &OpenGate, cluster.desk(1), opts(alloc)),
     );
     println!(rt; "read {} and {} at once", first?.version, second?.version)?;
     Ok(cluster.finish(alloc, clients)?)
