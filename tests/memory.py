@@ -187,8 +187,8 @@ def used(_program):
     Where a thread is refused to two who draw versions at once, they do so one after the other.
     """
     each, printed = lambda at: at + 1, read(f"{ROOT}/crates/fdb_uses/stdout")
-    # The last audit prints its fault, whichever that is.
-    starved = printed.replace(b"fault: Wrong 1 1\n", b"fault: want of memory\n")
+    # The audit of a stale read prints its fault, whichever that is.
+    starved = printed.replace(b"fault: Wrong 1 2\n", b"fault: want of memory\n")
     statuses = []
 
     def ended(ran):

@@ -1,18 +1,19 @@
-//! What a client reads once it has read, reported or been told, and what two clients settle.
+//! What a client reads and draws once it has read, reported or been told.
 
-ghost use Rattle.std.specs.Prelude.{◌≡◌, ◌*◌, ◌<◌, ◌≤◌, ℕ, [], false, true, IfOk, Some};
-ghost use Rattle.fdb_history.specs.Faults.{IsFaultless};
+ghost use Rattle.std.specs.Prelude.{◌≡◌, ◌*◌, ◌<◌, ◌≤◌, ℕ, [], false, IfOk, Some};
 ghost use Rattle.fdb_history.specs.Strays.{issued_under};
 ghost use Rattle.fdb_live.specs.Holding.{least_above};
 ghost use Rattle.fdb_live.specs.Seen.{last_record};
 
-use fdb_client::{Client, ClientError, ReadVersion, settle};
-use fdb_history::{ClientLog, GrvOpts, Issued, MAX_VERSION, OpenGate};
-use fdb_live::{Ack, Live, Master, Seen};
+use fdb_client::{Client, ClientError, ReadVersion};
+use fdb_history::{GrvOpts, Issued, MAX_VERSION, OpenGate};
+use fdb_live::{Ack, Live};
 use fdb_proxy::Desk;
 use std::sync::Wait;
 
-/// A client's reads never fall, but for one that asks for the minimum known committed version.
+/// A client's reads never fall, but for one that asks for the minimum known committed version. Each
+/// is within bounds: its version is one of its record's two, of which the minimum is not above the
+/// other, and its position not above twice that.
 pub fn read_twice<J: Live, R: Wait>(
     rt: &R,
     desk: &Desk<J>,
@@ -21,27 +22,15 @@ pub fn read_twice<J: Live, R: Wait>(
     second: GrvOpts,
 ) -> Result<(ReadVersion, ReadVersion), ClientError>
     requires { second.use_min ≡ false }
-    ensures { IfOk result (λ reads. reads.0.version ≤ reads.1.version) }
+    ensures rises { IfOk result (λ reads. reads.0.version ≤ reads.1.version) }
+    ensures least { IfOk result (λ reads. reads.0.rec.min_known ≤ reads.0.version) }
+    ensures most { IfOk result (λ reads. reads.0.version ≤ reads.0.rec.version) }
+    ensures greatest { IfOk result (λ reads. reads.0.version ≤ MAX_VERSION) }
+    ensures position { IfOk result (λ reads. reads.0.position ≤ 2 * reads.0.rec.version) }
 {
     let one = client.read_version(rt, &OpenGate, desk, first)?;
     let two = client.read_version(rt, &OpenGate, desk, second)?;
     Ok((one, two))
-}
-
-/// Who reported the version that it was issued under a number reads none below it.
-pub fn report_and_read<J: Live, R: Wait>(
-    rt: &R,
-    desk: &Desk<J>,
-    client: &mut Client<'_, J>,
-    num: u64,
-    opts: GrvOpts,
-) -> Result<ReadVersion, ClientError>
-    requires { opts.use_min ≡ false }
-    ensures { IfOk result (λ read. (version : ℕ)
-        → issued_under client.old.calls num ≡ Some version → version ≤ read.version) }
-{
-    client.report(rt, &OpenGate, num, false, None, 0)?;
-    client.read_version(rt, &OpenGate, desk, opts)
 }
 
 /// A new client that draws a version, reports it and reads gets none below it.
@@ -62,70 +51,48 @@ pub fn commit_and_read<J: Live, R: Wait>(
     Ok((issued, read))
 }
 
-/// A client commits, and its next commit version is above that.
-pub fn commit_and_ask<J: Live, R: Wait>(
-    rt: &R,
-    client: &mut Client<'_, J>,
-    first: u64,
-    second: u64,
-) -> Result<(u64, u64), ClientError>
-    ensures { IfOk result (λ versions. versions.0 < versions.1) }
-{
-    let one = client.ask(rt, &OpenGate, 0, first)?;
-    client.report(rt, &OpenGate, one.num, false, None, 0)?;
-    let two = client.ask(rt, &OpenGate, 0, second)?;
-    Ok((one.version, two.version))
-}
-
-/// Who was told draws a version above the one that the teller had drawn.
+/// Who was told draws a version above the one that the teller had drawn, and its next one is above
+/// that.
 pub fn ask_once_told<J: Live, R: Wait>(
     rt: &R,
     teller: &mut Client<'_, J>,
     learner: &mut Client<'_, J>,
     at: u64,
-) -> Result<(u64, u64), ClientError>
-    ensures { IfOk result (λ versions. versions.0 < versions.1) }
+) -> Result<(u64, u64, u64), ClientError>
+    ensures told { IfOk result (λ versions. versions.0 < versions.1) }
+    ensures next { IfOk result (λ versions. versions.1 < versions.2) }
 {
     let one = teller.ask(rt, &OpenGate, 0, at)?;
     tell(rt, teller, learner)?;
     let two = learner.ask(rt, &OpenGate, 0, at)?;
-    Ok((one.version, two.version))
+    learner.report(rt, &OpenGate, two.num, false, None, 0)?;
+    let three = learner.ask(rt, &OpenGate, 0, at)?;
+    Ok((one.version, two.version, three.version))
 }
 
-/// Who was told reads no older version than the teller had read.
+/// Who reported the version that it was issued under a number reads none below it, and who was told
+/// reads none below what the teller had reported or read.
 pub fn read_once_told<J: Live, R: Wait>(
     rt: &R,
     desk: &Desk<J>,
     teller: &mut Client<'_, J>,
     learner: &mut Client<'_, J>,
+    num: u64,
     first: GrvOpts,
     second: GrvOpts,
 ) -> Result<(ReadVersion, ReadVersion), ClientError>
     requires { second.use_min ≡ false }
-    ensures { IfOk result (λ reads. reads.0.version ≤ reads.1.version) }
+    ensures own { first.use_min ≡ false → IfOk result (λ reads. (version : ℕ)
+        → issued_under teller.old.calls num ≡ Some version → version ≤ reads.0.version) }
+    ensures reported { IfOk result (λ reads. (version : ℕ)
+        → issued_under teller.old.calls num ≡ Some version → version ≤ reads.1.version) }
+    ensures read { IfOk result (λ reads. reads.0.version ≤ reads.1.version) }
 {
+    teller.report(rt, &OpenGate, num, false, None, 0)?;
     let one = teller.read_version(rt, &OpenGate, desk, first)?;
     tell(rt, teller, learner)?;
     let two = learner.read_version(rt, &OpenGate, desk, second)?;
     Ok((one, two))
-}
-
-/// Who was told reads no version below one that the teller had reported.
-pub fn read_once_told_of_a_report<J: Live, R: Wait>(
-    rt: &R,
-    desk: &Desk<J>,
-    teller: &mut Client<'_, J>,
-    learner: &mut Client<'_, J>,
-    num: u64,
-    opts: GrvOpts,
-) -> Result<ReadVersion, ClientError>
-    requires { opts.use_min ≡ false }
-    ensures { IfOk result (λ read. (version : ℕ)
-        → issued_under teller.old.calls num ≡ Some version → version ≤ read.version) }
-{
-    teller.report(rt, &OpenGate, num, false, None, 0)?;
-    tell(rt, teller, learner)?;
-    learner.read_version(rt, &OpenGate, desk, opts)
 }
 
 /// One client tells another what it has seen, who has then seen no less.
@@ -147,23 +114,7 @@ pub fn tell<J: Live, R: Wait>(
     }
 }
 
-/// A read is within bounds: its version is one of its record's two, of which the minimum known
-/// committed one is not above the other, and its position not above twice that.
-pub fn read_within<J: Live, R: Wait>(
-    rt: &R,
-    desk: &Desk<J>,
-    client: &mut Client<'_, J>,
-    opts: GrvOpts,
-) -> Result<ReadVersion, ClientError>
-    ensures least { IfOk result (λ read. read.rec.min_known ≤ read.version) }
-    ensures most { IfOk result (λ read. read.version ≤ read.rec.version) }
-    ensures greatest { IfOk result (λ read. read.version ≤ MAX_VERSION) }
-    ensures position { IfOk result (λ read. read.position ≤ 2 * read.rec.version) }
-{
-    client.read_version(rt, &OpenGate, desk, opts)
-}
-
-/// An acknowledgement is within the same bounds, with the record that its client has then seen.
+/// An acknowledgement is within bounds, as a read is, with the record that its client has then seen.
 pub fn report_within<J: Live, R: Wait>(
     rt: &R,
     client: &mut Client<'_, J>,
@@ -177,26 +128,4 @@ pub fn report_within<J: Live, R: Wait>(
         (λ ack. ack.position ≤ 2 * (last_record J.start client.new.changes).version) }
 {
     client.report(rt, &OpenGate, num, false, None, 0)
-}
-
-/// What two clients left, from whichever positions they began, is settled: no fault of the
-/// register's history stands in their logs.
-pub fn settle_both<J: Live, R: Wait>(
-    rt: &R,
-    master: &Master<J>,
-    first: &mut Seen<J>,
-    zero: Client<'_, J>,
-    one: Client<'_, J>,
-) -> [ClientLog; 2]
-    requires two { J.reporters ≡ 2 }
-    requires zero { zero.number ≡ 0 }
-    requires one { one.number ≡ 1 }
-    ensures { IsFaultless J.start result }
-{
-    let (log, token) = zero.finish();
-    let (other_log, other_token) = one.finish();
-    let logs = [log, other_log];
-    let mut tokens = [token, other_token];
-    settle(rt, master, first, &mut tokens, &logs);
-    logs
 }

@@ -3,9 +3,8 @@
 //! proof of ours.
 #![tactic(auto)]
 
-pub mod chain;
 pub mod clients;
+pub mod lines;
 pub mod live;
 pub mod master;
 pub mod runs;
-pub mod scripts;

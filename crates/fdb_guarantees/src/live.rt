@@ -21,13 +21,18 @@ pub fn report_and_look<J: Live, R: Wait>(
     Ok(live.read(rt, seen))
 }
 
-/// Of two reads with one token the second is of no older version.
+/// Of two reads with one token the second is of no older version. A read is within bounds: its
+/// minimum known committed version is not above its version, and its position, the number of reports
+/// that changed the record, not above twice that.
 pub fn look_twice<J: Live, R: Wait>(
     rt: &R,
     live: &LiveRecord<J>,
     seen: &mut Seen<J>,
 ) -> (Fetched, Fetched)
-    ensures { result.0.rec.version ≤ result.1.rec.version }
+    ensures rises { result.0.rec.version ≤ result.1.rec.version }
+    ensures minimum { result.1.rec.min_known ≤ result.1.rec.version }
+    ensures greatest { result.1.rec.version ≤ MAX_VERSION }
+    ensures position { result.1.position ≤ 2 * result.1.rec.version }
 {
     let first = live.read(rt, seen);
     let second = live.read(rt, seen);
@@ -54,17 +59,10 @@ pub fn look_once_told<J: Live, R: Wait>(
     Ok((first, second))
 }
 
-/// A read is within bounds: its minimum known committed version is not above its version, and its
-/// position, the number of reports that changed the record, not above twice that.
-pub fn look_within<J: Live, R: Wait>(rt: &R, live: &LiveRecord<J>, seen: &mut Seen<J>) -> Fetched
-    ensures minimum { result.rec.min_known ≤ result.rec.version }
-    ensures greatest { result.rec.version ≤ MAX_VERSION }
-    ensures position { result.position ≤ 2 * result.rec.version }
-{
-    live.read(rt, seen)
-}
-
-/// An acknowledgement is within the same bounds, with the record that its reporter has then seen.
+/// An acknowledgement is within the same bounds, with the record that its reporter has then seen. Who
+/// reports a version above all that it has seen, and is told that this raised the record, has its
+/// next look begin from that version; where it is told that this changed the record, from one that
+/// is not below it.
 pub fn report_within<J: Live, R: Wait>(
     rt: &R,
     live: &LiveRecord<J>,
@@ -78,26 +76,13 @@ pub fn report_within<J: Live, R: Wait>(
         (λ _. (last_record J.start seen.new.changes).version ≤ MAX_VERSION) }
     ensures position { IfOk result
         (λ ack. ack.position ≤ 2 * (last_record J.start seen.new.changes).version) }
-{
-    live.report(rt, &OpenGate, 0, seen, rec)
-}
-
-/// Who reports a version above all that it has seen, and is told that this raised the record, has
-/// its next look begin from that version; where it is told that this changed the record, from one
-/// that is not below it.
-pub fn report_newer<J: Live, R: Wait>(
-    rt: &R,
-    live: &LiveRecord<J>,
-    seen: &mut Seen<J>,
-    rec: Record,
-) -> Result<Ack, LiveError>
-    requires mine { IsSome seen.old.reporter }
-    requires newer { (last_record J.start seen.old.changes).version < rec.version }
-    ensures raised { IfOk result (λ ack. ack.raised ≡ true
-        → (last_record J.start seen.new.changes).version ≡ rec.version) }
-    ensures changed { IfOk result (λ ack. ack.changed ≡ true
-        → rec.version ≤ (last_record J.start seen.new.changes).version) }
     ensures begins { IfOk result (λ ack. ack.position ≡ length seen.new.changes) }
+    ensures raised { (last_record J.start seen.old.changes).version < rec.version
+        → IfOk result (λ ack. ack.raised ≡ true
+        → (last_record J.start seen.new.changes).version ≡ rec.version) }
+    ensures changed { (last_record J.start seen.old.changes).version < rec.version
+        → IfOk result (λ ack. ack.changed ≡ true
+        → rec.version ≤ (last_record J.start seen.new.changes).version) }
 {
     live.report(rt, &OpenGate, 0, seen, rec)
 }

@@ -1,63 +1,11 @@
 //! Commit versions that are drawn with tokens.
 
-ghost use Rattle.std.specs.Prelude.{◌≡◌, ◌≢◌, ◌<◌, ◌≤◌, IfOk, IfSome, None, Some, true};
-ghost use Rattle.fdb_live.specs.Holding.{least_above};
+ghost use Rattle.std.specs.Prelude.{◌≡◌, ◌≢◌, ◌<◌, ◌≤◌, IfOk, IfSome, Some, true};
 
 use fdb_chain::ChainError;
 use fdb_history::{Ask, Issued, OpenGate, Record};
 use fdb_live::{Fetched, Live, Master, Token};
 use std::sync::Wait;
-
-/// What one thread hands to another: a version that it drew, and a token of what it has seen.
-#[derive(Drop)]
-pub struct Told<J: Live> {
-    pub version: u64,
-    pub token: Token<J>,
-    pub ghost nobodys: { token.number ≡ None },
-    pub ghost drawn: { version < least_above token.answers },
-}
-
-/// Draws a version, to be told to another thread.
-pub fn draw_and_tell<J: Live, R: Wait>(
-    rt: &R,
-    master: &Master<J>,
-    token: &mut Token<J>,
-    ask: Ask,
-) -> Option<Told<J>>
-    requires { token.old.number ≡ Some ask.proxy }
-{
-    let Ok(issued) = master.ask(rt, &OpenGate, token, ask) else {
-        return None;
-    };
-    if !issued.fresh {
-        return None;
-    }
-    let told = master.split(token);
-    Some(Told {
-        version: issued.version,
-        token: told,
-    })
-}
-
-/// A version that is drawn by who was told of another is above that one.
-pub fn draw_once_told<J: Live, R: Wait>(
-    rt: &R,
-    master: &Master<J>,
-    token: &mut Token<J>,
-    told: Told<J>,
-    ask: Ask,
-) -> Result<(u64, Issued), ChainError>
-    requires { token.old.number ≡ Some ask.proxy }
-    ensures { IfOk result (λ both. both.1.fresh ≡ true → both.0 < both.1.version) }
-{
-    let Told {
-        version,
-        token: seen,
-    } = told;
-    master.learn(rt, token, seen);
-    let issued = master.ask(rt, &OpenGate, token, ask)?;
-    Ok((version, issued))
-}
 
 /// A version that is drawn after a read is above the version that was read, unless it is the first
 /// one of all.
@@ -86,9 +34,7 @@ pub fn draw_and_report<J: Live, R: Wait>(
     requires { token.old.number ≡ Some ask.proxy }
     ensures { IfSome result (λ both. both.0 ≤ both.1.rec.version) }
 {
-    let Ok(issued) = master.ask(rt, &OpenGate, token, ask) else {
-        return None;
-    };
+    let issued = master.ask(rt, &OpenGate, token, ask).ok()?;
     if !issued.fresh {
         return None;
     }
@@ -98,10 +44,8 @@ pub fn draw_and_report<J: Live, R: Wait>(
         metadata: None,
         min_known: 0,
     };
-    match master.report(rt, &OpenGate, token, rec) {
-        Ok(_) => Some((issued.version, master.read(rt, token))),
-        Err(_) => None,
-    }
+    master.report(rt, &OpenGate, token, rec).ok()?;
+    Some((issued.version, master.read(rt, token)))
 }
 
 /// Two versions that two commit proxies draw, whenever each does, are different.
@@ -118,16 +62,11 @@ pub fn draw_two<J: Live, R: Wait>(
     requires proxies { ask.proxy ≢ other.proxy }
     ensures { IfSome result (λ both. both.0 ≢ both.1) }
 {
-    let Ok(one) = master.ask(rt, &OpenGate, first, ask) else {
+    let one = master.ask(rt, &OpenGate, first, ask).ok()?;
+    let two = master.ask(rt, &OpenGate, second, other).ok()?;
+    if !one.fresh || !two.fresh {
         return None;
-    };
-    let Ok(two) = master.ask(rt, &OpenGate, second, other) else {
-        return None;
-    };
-    if one.fresh && two.fresh {
-        master.distinct(rt, first, one, second, two);
-        Some((one.version, two.version))
-    } else {
-        None
     }
+    master.distinct(rt, first, one, second, two);
+    Some((one.version, two.version))
 }

@@ -1,24 +1,17 @@
 //! Commit versions that two threads draw from one master, each once it was told of the other's.
 
-ghost use Rattle.std.specs.Prelude.{◌<◌, ◌≡◌, IfOk, None};
+ghost use Rattle.std.specs.Prelude.{◌<◌, ◌≤◌, ◌≡◌, IfOk, None};
 ghost use Rattle.fdb_live.specs.Holding.{least_above};
 
+use crate::START;
 use anyhow::{Result, anyhow};
-use fdb_history::{Ask, OpenGate, Record};
+use fdb_history::{Ask, OpenGate};
 use fdb_live::{Live, Master, OpenedMaster, Token};
 use std::alloc::Global;
 use std::marker::Brand;
 use std::sync::Wait;
 use std::thread;
 use std::thread::Threads;
-
-/// The live committed version before any report, 100, which is the first commit version too.
-const START: Record = Record {
-    version: 100,
-    locked: false,
-    metadata: None,
-    min_known: 0,
-};
 
 /// Opens a master for two commit proxies, and has them draw under a name that stands for it.
 pub(crate) fn two_threads<R: Print + Threads + Wait + Sync>(rt: &R, alloc: Global) -> Result<()> {
@@ -86,23 +79,9 @@ fn draw_and_tell<J: Live, R: Wait>(
     master: &Master<J>,
     token: &mut Token<J>,
 ) -> Result<Told<J>> {
-    let Some(proxy) = token.number() else {
-        return Err(anyhow!("the token is nobody's"));
-    };
-    let ask = Ask {
-        proxy,
-        num: 1,
-        processed: 0,
-        at: 0,
-    };
-    let issued = master.ask(rt, &OpenGate, token, ask)?;
-    if !issued.fresh {
-        return Err(anyhow!("the version was drawn before"));
-    }
-    Ok(Told {
-        version: issued.version,
-        token: master.split(token),
-    })
+    let version = draw(rt, master, token, 1)?;
+    let token = master.split(token);
+    Ok(Told { version, token })
 }
 
 /// Draws a version above the one that it was told of, and answers both.
@@ -119,18 +98,26 @@ fn draw_once_told<J: Live, R: Wait>(
         token: seen,
     } = told;
     master.learn(rt, token, seen);
+    Ok((version, draw(rt, master, token, 2)?))
+}
+
+/// Draws a version under this number, above all that its commit proxy has seen or was told of.
+fn draw<J: Live, R: Wait>(rt: &R, master: &Master<J>, token: &mut Token<J>, num: u64) -> Result<u64>
+    ensures above { IfOk result (λ version. least_above token.old.answers ≤ version) }
+    ensures seen { IfOk result (λ version. version < least_above token.new.answers) }
+{
     let Some(proxy) = token.number() else {
         return Err(anyhow!("the token is nobody's"));
     };
     let ask = Ask {
         proxy,
-        num: 2,
-        processed: 1,
+        num,
+        processed: 0,
         at: 0,
     };
     let issued = master.ask(rt, &OpenGate, token, ask)?;
     if !issued.fresh {
         return Err(anyhow!("the version was drawn before"));
     }
-    Ok((version, issued.version))
+    Ok(issued.version)
 }

@@ -1,27 +1,24 @@
 //! Clients that read through GRV proxies, which serve in threads of their own.
 
+ghost use Rattle.fdb_client.specs.Cluster.{IsClusterConfig};
+
+use crate::START;
 use anyhow::{Result, anyhow};
-use fdb_client::{Client, Cluster, ClusterConfig, Workload, WorkloadOutcome, run_workload};
-use fdb_history::{GrvOpts, OpenGate, Priority, Record, Sequence};
+use fdb_client::{
+    Client, Cluster, ClusterConfig, SettledRun, Workload, WorkloadOutcome, run_workload,
+};
+use fdb_history::{GrvOpts, OpenGate, Priority, Sequence};
 use fdb_live::Live;
-use fdb_proxy::Desk;
 use fdb_queue::QueueConfig;
 use std::alloc::Global;
 use std::sync::Wait;
 use std::thread::Threads;
 
-/// The live committed version before any report, 100, which is the first commit version too.
-const START: Record = Record {
-    version: 100,
-    locked: false,
-    metadata: None,
-    min_known: 0,
-};
-
-/// Has two clients work at a cluster of two GRV proxies, and explains what they were answered by
-/// one history.
-pub(crate) fn two_clients<R: Print + Threads + Wait + Sync>(rt: &R, alloc: Global) -> Result<()> {
-    let config = ClusterConfig {
+/// A cluster of two clients and two GRV proxies.
+pub(crate) fn config() -> ClusterConfig<'static>
+    ensures { IsClusterConfig result }
+{
+    ClusterConfig {
         epoch_end: 0,
         start: START,
         clients: 2,
@@ -33,21 +30,27 @@ pub(crate) fn two_clients<R: Print + Threads + Wait + Sync>(rt: &R, alloc: Globa
         },
         throttles: &[],
         elapsed: 1_000_000,
-    };
+    }
+}
+
+/// Has two clients work at a cluster, and explains what they were answered by one history.
+pub(crate) fn two_clients<R: Print + Threads + Wait + Sync>(
+    rt: &R,
+    alloc: Global,
+) -> Result<SettledRun> {
     let WorkloadOutcome { output, run, ends } = run_workload(
         rt,
         alloc,
-        config,
+        config(),
         CommitAndRead { alloc },
     )?;
     output?;
     if !ends.all_served() {
         return Err(anyhow!("a GRV proxy ran out of memory"));
     }
-    println!(rt; "settled: {} change of the record", run.changes)?;
     let history = run.history(alloc)?;
     println!(rt; "explained by {} events", history.events.len())?;
-    Ok(())
+    Ok(run)
 }
 
 /// One client commits and tells the other, and both read.
@@ -59,7 +62,8 @@ struct CommitAndRead {
 impl<R: Print + Wait> Workload<R> for CommitAndRead {
     type Output = Result<()>;
 
-    /// Has the first client commit, and the second come to know of it.
+    /// The first draws two commit versions, and reports the second. Then each reads through a proxy
+    /// of its own, and none reads less than it has seen committed.
     fn start<J: Live>(
         self,
         rt: &R,
@@ -67,75 +71,35 @@ impl<R: Print + Wait> Workload<R> for CommitAndRead {
         clients: &mut [Client<'_, J>],
     ) -> Result<()> {
         if clients.len() != 2 {
-            return Err(anyhow!("not two clients"));
+            return Err(anyhow!("two clients are wanted"));
         }
-        let (writer, reader) = clients.split_at_mut(1);
-        commit_and_read(rt, self.alloc, cluster, &mut writer[0], &mut reader[0])
+        let (zero, one) = clients.split_at_mut(1);
+        let (writer, reader) = (&mut zero[0], &mut one[0]);
+        writer.ask(rt, &OpenGate, 0, 1_000)?;
+        writer.ask(rt, &OpenGate, 0, 3_000)?;
+        let ack = writer.report(rt, &OpenGate, 2, false, None, 0)?;
+        let told = writer.tell(reader.number())?;
+        if let Err((cause, _told)) = reader.learn(rt, writer.number(), told) {
+            return Err(anyhow!("{cause}"));
+        }
+        let own = writer.read_version(rt, &OpenGate, cluster.desk(0), opts(self.alloc))?;
+        let other = reader.read_version(rt, &OpenGate, cluster.desk(1), opts(self.alloc))?;
+        println!(rt;
+            "committed: raised {}; read versions {} and {}",
+            ack.raised, own.version, other.version
+        )?;
+        Ok(())
     }
 }
 
-/// Each client reads through a proxy of its own, and none reads less than it has seen committed.
-fn commit_and_read<J: Live, R: Print + Wait>(
-    rt: &R,
-    alloc: Global,
-    cluster: &Cluster<'_, J>,
-    writer: &mut Client<'_, J>,
-    reader: &mut Client<'_, J>,
-) -> Result<()> {
-    commit(rt, cluster, writer)?;
-    tell(rt, writer, reader)?;
-    read(rt, alloc, cluster.desk(0), writer)?;
-    read(rt, alloc, cluster.desk(1), reader)
-}
-
-/// Draws two commit versions, and reports the second one.
-fn commit<J: Live, R: Print + Wait>(
-    rt: &R,
-    cluster: &Cluster<'_, J>,
-    client: &mut Client<'_, J>,
-) -> Result<()> {
-    client.ask(rt, &OpenGate, 0, 1_000)?;
-    client.ask(rt, &OpenGate, 0, 3_000)?;
-    let ack = client.report(rt, &OpenGate, 2, false, None, 0)?;
-    println!(rt;
-        "committed: raised {}, position {}",
-        ack.raised, ack.position
-    )?;
-    Ok(())
-}
-
-/// Has one client tell another what it has seen, and that one learn it at once.
-fn tell<J: Live, R: Wait>(
-    rt: &R,
-    teller: &mut Client<'_, J>,
-    learner: &mut Client<'_, J>,
-) -> Result<()> {
-    let told = teller.tell(learner.number())?;
-    match learner.learn(rt, teller.number(), told) {
-        Ok(()) => Ok(()),
-        Err((cause, _)) => Err(anyhow!("{cause}")),
-    }
-}
-
-/// Reads the read version for one transaction, and tells version and position.
-fn read<J: Live, R: Print + Wait>(
-    rt: &R,
-    alloc: Global,
-    desk: &Desk<J>,
-    client: &mut Client<'_, J>,
-) -> Result<()> {
-    let opts = GrvOpts {
+/// How the read version of one transaction is asked for.
+pub(crate) fn opts(alloc: Global) -> GrvOpts {
+    GrvOpts {
         priority: Priority::Default,
         count: 1,
         tags: Sequence::new(alloc),
         lock_aware: false,
         at: 0,
         use_min: false,
-    };
-    let read = client.read_version(rt, &OpenGate, desk, opts)?;
-    println!(rt;
-        "read version {} at position {}",
-        read.version, read.position
-    )?;
-    Ok(())
+    }
 }

@@ -18,18 +18,15 @@ const CONFIG: QueueConfig = QueueConfig {
 /// The queue, of which each request has a name.
 type Queue = GrvQueue<&'static str>;
 
-/// A queue with two requests, and one window.
-pub(crate) fn one_window(rt: &impl Print, alloc: Global) -> Result<()> {
-    let mut queue = GrvQueue::new(alloc, CONFIG)?;
-    two_requests(rt, &mut queue)
-}
-
 /// Has two requests wait, of which one window starts the first. The second has more transactions
 /// than a window grants; the queue tells how many windows it still waits.
-fn two_requests(rt: &impl Print, queue: &mut Queue) -> Result<()> {
-    offer(queue, "first", 8)?;
-    offer(queue, "second", 30)?;
-    start(rt, queue)?;
+pub(crate) fn one_window(rt: &impl Print, alloc: Global) -> Result<()> {
+    let mut queue = GrvQueue::new(alloc, CONFIG)?;
+    offer(&mut queue, "first", 8)?;
+    offer(&mut queue, "second", 30)?;
+    for request in queue.window(ELAPSED)? {
+        println!(rt; "started the {} request", request.payload)?;
+    }
     if let Some(windows) = queue.waits(ELAPSED) {
         println!(rt; "the second request waits for {windows} windows more")?;
     }
@@ -47,12 +44,4 @@ fn offer(queue: &mut Queue, payload: &'static str, count: u64) -> Result<()> {
         Ok(_pushed_out) => Ok(()),
         Err((cause, _request)) => Err(anyhow!("{cause}")),
     }
-}
-
-/// Holds one window, and tells which requests it starts.
-fn start(rt: &impl Print, queue: &mut Queue) -> Result<()> {
-    for request in queue.window(ELAPSED)? {
-        println!(rt; "started the {} request", request.payload)?;
-    }
-    Ok(())
 }
