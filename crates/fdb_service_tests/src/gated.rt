@@ -203,21 +203,46 @@ const REPLIES: &str = "\
 audit ok events 10 raised 2 versions 3
 ";
 
+/// The first commit version is the greatest there is.
+const LAST: &str = r#"{"epoch_end":0,"recovery":9223372036854775807,"clients":64,"rounds":[[
+{"client":@,"do":"ask","at":1000},
+{"client":@,"do":"ask","at":3000},
+{"client":@,"do":"reask","num":2,"at":3000},
+{"client":@,"do":"reask","num":1,"at":3000},
+{"client":@,"do":"report","num":2},
+{"client":@,"do":"report","num":1},
+{"client":@,"do":"report","num":1,"min_known":9223372036854775807},
+{"client":@,"do":"grv","use_min":true}]]}"#;
+
+const LAST_REPLIES: &str = "\
+0 @ 0 ask prev 0 version 9223372036854775807 ordinal 0 fresh
+0 @ 1 ask refused Exhausted
+0 @ 2 reask refused Exhausted
+0 @ 3 reask prev 0 version 9223372036854775807 ordinal 0 kept
+0 @ 4 report refused NotIssued
+0 @ 5 report 9223372036854775807 not raised pos 0
+0 @ 6 report 9223372036854775807 min raised pos 1
+0 @ 7 grv 9223372036854775807 unlocked none min 9223372036854775807 used 9223372036854775807 pos 1
+audit ok events 3 raised 0 versions 1
+";
+
 /// Each request for a commit version passes a gate, and so does each report that the live record
 /// takes and each read: once, and under the client's own number.
 #[test]
 fn each_call_passes_its_gate(rt: HostRuntime) -> Result<(), Fail> {
     let alloc = rt.alloc();
     for client in [0, 8, 31, 63] {
-        let gate = Counting::new(client);
-        let script = filled(alloc, CALLS, u64::from(client))?;
-        let found = replayed(&rt, alloc, &script, 2, &gate)?;
-        gate.was_passed((7, 5, 6), &client)?;
-        same_text(
-            from_utf8(&found)?,
-            &filled(alloc, REPLIES, u64::from(client))?,
-            "replies",
-        )?;
+        for (calls, replies, passes) in [
+            (CALLS, REPLIES, (7, 5, 6)),
+            (LAST, LAST_REPLIES, (4, 2, 1)),
+        ] {
+            let gate = Counting::new(client);
+            let script = filled(alloc, calls, u64::from(client))?;
+            let found = replayed(&rt, alloc, &script, 2, &gate)?;
+            gate.was_passed(passes, &client)?;
+            let wanted = filled(alloc, replies, u64::from(client))?;
+            same_text(from_utf8(&found)?, &wanted, "replies")?;
+        }
     }
     Ok(())
 }

@@ -7,6 +7,7 @@ pub mod proxies;
 
 use crate::stand::{Case, play};
 use crate::workload::{Visits, ran};
+use fdb_checks::same;
 use fdb_client::WorkloadError;
 use std::alloc::Global;
 use std::sync::Wait;
@@ -84,34 +85,14 @@ fn a_proxy_bears_it(rt: HostRuntime) -> Result<(), Fail> {
     Ok(())
 }
 
-/// With few GRV proxies, with more than eight, and with the most.
 #[test]
 fn a_workload_bears_it(rt: HostRuntime) -> Result<(), Fail> {
     let alloc = rt.alloc();
-    for (clients, proxies) in [(2, 2), (1, 9), (1, 16)] {
-        let mut found = ran(
-            &rt,
-            alloc,
-            100,
-            (clients, proxies),
-            2,
-            Visits::new(alloc, 1),
-        );
-        if found == Err(WorkloadError::Memory) {
-            found = ran(
-                &rt,
-                alloc,
-                100,
-                (clients, proxies),
-                2,
-                Visits::new(alloc, 1),
-            );
-        }
-        if found != Ok(true) {
-            return Err(Fail::new("a workload that is made once more"));
-        }
+    let mut found = ran(&rt, alloc, 100, (2, 2), 2, Visits::new(alloc, 1));
+    if found == Err(WorkloadError::Memory) {
+        found = ran(&rt, alloc, 100, (2, 2), 2, Visits::new(alloc, 1));
     }
-    Ok(())
+    same(&found, &Ok(true), &"a workload that is made once more")
 }
 
 /// Passes also where every allocation is refused from one on: then what was begun ends out of

@@ -8,7 +8,7 @@ use fdb_checks::{same, tag};
 use fdb_client::{
     Client, ClientError, Cluster, ClusterConfig, SettledRun, Workload, WorkloadError, run_workload,
 };
-use fdb_history::{GrvOpts, MAX_VERSION, OpenGate, Priority, Record, Sequence, Tag};
+use fdb_history::{GrvOpts, MAX_VERSION, OpenGate, Priority, Record, Sequence, Tag, TagLimit};
 use fdb_live::Live;
 use fdb_queue::{QueueConfig, Throttle};
 use std::alloc::{AllocError, Global};
@@ -78,27 +78,42 @@ impl Visits {
     ) -> Result<bool, ClientError> {
         client.ask(rt, &OpenGate, 0, 0)?;
         client.report(rt, &OpenGate, 1, true, Some([8; 10]), 0)?;
-        let proxies = cluster.config().grv_proxies;
         let mut right = true;
-        for number in 0..=proxies {
+        for number in 0..=cluster.config().grv_proxies {
             for place in 0..self.reads {
-                let opts = self.opts(place)?;
-                let limited = opts.priority == Priority::Default;
-                let limits = if limited { self.tags } else { 0 };
-                let read = client.read_version(rt, &OpenGate, cluster.desk(number), opts);
-                let closed = self.closed == Some(if number < proxies { number } else { 0 });
-                right &= match read {
-                    Ok(read) => {
-                        let first = read.limits.as_slice().first();
-                        let rate = first.map_or((5, 5_000), |first| (first.rate, first.expires));
-                        !closed && read.limits.len() as u64 == limits && rate == (5, 5_000)
-                    }
-                    Err(ClientError::ProxyClosed) if closed => true,
-                    Err(cause) => return Err(cause),
-                };
+                right &= self.read_at(rt, cluster, client, number, place)?;
             }
         }
         Ok(right)
+    }
+
+    /// A read at a desk, of which the one after the last is the first.
+    fn read_at<J: Live, R: Wait>(
+        &self,
+        rt: &R,
+        cluster: &Cluster<'_, J>,
+        client: &mut Client<'_, J>,
+        number: u32,
+        place: u64,
+    ) -> Result<bool, ClientError> {
+        let opts = self.opts(place)?;
+        let limited = opts.priority == Priority::Default;
+        let again = number == cluster.config().grv_proxies;
+        let closed = self.closed == Some(if again { 0 } else { number });
+        match client.read_version(rt, &OpenGate, cluster.desk(number), opts) {
+            Ok(read) => Ok(!closed && self.is_limited(&read.limits, limited)),
+            Err(ClientError::ProxyClosed) if closed => Ok(true),
+            Err(cause) => Err(cause),
+        }
+    }
+
+    /// Whether each tag of a read has its limit, if they have any.
+    fn is_limited(&self, limits: &Sequence<TagLimit>, limited: bool) -> bool {
+        let wanted = if limited { self.tags } else { 0 };
+        let each = limits
+            .iter()
+            .all(|limit| limit.rate == 5 && limit.expires == 5_000);
+        each && limits.len() as u64 == wanted
     }
 
     /// A read that does not mind locks. Each is at the next priority, and every fifth one asks for

@@ -33,10 +33,7 @@ impl<J: Live> Asker<'_, J> {
     /// Has its turns, unless something is refused.
     fn works<R: Wait>(&mut self, rt: &R) -> Option<()> {
         for turn in 0..TURNS {
-            let num = self.client.ask(rt, &OpenGate, turn, 0).ok()?.num;
-            self.client.report(rt, &OpenGate, num, false, None, 0).ok()?;
-            let mut told = self.client.tell(0).ok()?;
-            let mut seen = self.service.master.seen(&mut told);
+            let mut seen = self.reports(rt, turn)?;
             let waiters = self
                 .asks(rt, &mut seen, turn.saturating_mul(REQUESTS))
                 .ok()?;
@@ -45,6 +42,14 @@ impl<J: Live> Asker<'_, J> {
             }
         }
         Some(())
+    }
+
+    /// Reports a version of its own. Answers what it has seen then.
+    fn reports<R: Wait>(&mut self, rt: &R, turn: u64) -> Option<Seen<J>> {
+        let num = self.client.ask(rt, &OpenGate, turn, 0).ok()?.num;
+        self.client.report(rt, &OpenGate, num, false, None, 0).ok()?;
+        let mut told = self.client.tell(0).ok()?;
+        Some(self.service.master.seen(&mut told))
     }
 
     /// Leaves requests of each priority at both desks in turn.
