@@ -14,7 +14,7 @@ ghost use Rattle.fdb_proxy.specs.Cause.{may_be_refused_for};
 use crate::client::calls::why;
 use crate::gated::counting::Counting;
 use crate::stand::{Service, Stand};
-use fdb_checks::{CaseError, Line, holds, tag};
+use fdb_checks::{CaseError, Line, tag};
 use fdb_client::{Client, ClientError, ReadVersion};
 use fdb_history::{GrvOpts, Priority, Sequence, Tag};
 use fdb_live::{Live, Seen};
@@ -22,6 +22,7 @@ use fdb_proxy::{Answer, Cause, Desk, Refused, Reply, Request};
 use fdb_queue::QueueError;
 use std::alloc::{AllocError, Global};
 use std::sync::Wait;
+use std::test::Fail;
 use std::thread;
 use std::thread::Threads;
 
@@ -69,9 +70,7 @@ fn told_apart(alloc: Global, flag: &str) -> Result<GrvOpts, AllocError> {
     })
 }
 
-/// A client's read, while a desk is served in another thread. It leaves one request there, under the
-/// number of the calls before it, and with what the client has seen and was told to ask. It passes
-/// the gate once where an answer came, and else not at all.
+/// A client's read at a desk that is served in this way.
 pub(crate) fn read<J: Live + Send + Sync, R: Threads + Wait + Sync>(
     rt: &R,
     stand: &mut Stand<'_, J>,
@@ -81,41 +80,52 @@ pub(crate) fn read<J: Live + Send + Sync, R: Threads + Wait + Sync>(
     let service = stand.service;
     let alloc = service.alloc;
     let opts = told_apart(alloc, line.next_word().unwrap_or_default())?;
-    let Stand {
-        clients,
-        served,
-        ..
-    } = stand;
-    let Some(client) = clients.get_mut(place) else {
+    let served = service.master.live().split(&mut stand.served);
+    let Some(client) = stand.clients.get_mut(place) else {
         return Err(CaseError::Failed(line.fail("no client")));
     };
-    let wanted = Wanted::of(client, &opts)?;
-    let gate = Counting::new(client.number());
-    let desk = Desk::new(alloc);
-    if way == "shut" {
-        desk.close(rt);
-    }
-    let (answered, found) = thread::scope(
-        thread::scope_env(),
-        rt,
-        |scope| -> Result<_, CaseError> {
-            let server = scope.spawn(|| serve(rt, service, &desk, served, &wanted, way))?;
-            let found = client.read_version(rt, &gate, &desk, opts);
-            desk.close(rt);
-            Ok((server.join(rt), found))
-        },
-    )?;
-    let Some(answered) = answered? else {
-        return Err(CaseError::Failed(line.fail("another request")));
-    };
-    gate.was_passed((0, 0, u64::from(answered)), &line.text)?;
-    match found {
+    match read_served(rt, service, served, client, way, opts)? {
         Ok(read) => Ok(Some(read_text(alloc, &read)?)),
         Err(ClientError::Memory) if way == "memory" => {
             Ok(Some(ClientError::Memory.to_string(alloc)?))
         }
         Err(cause) => why(alloc, cause),
     }
+}
+
+/// A client's read, while a desk is served in another thread. It leaves one request there, under the
+/// number of the calls before it, and with what the client has seen and was told to ask. It passes
+/// the gate once where an answer came, and else not at all.
+fn read_served<J: Live + Send + Sync, R: Threads + Wait + Sync>(
+    rt: &R,
+    service: &Service<J>,
+    served: Seen<J>,
+    client: &mut Client<'_, J>,
+    way: &str,
+    opts: GrvOpts,
+) -> Result<Result<ReadVersion, ClientError>, CaseError> {
+    let wanted = Wanted::of(client, &opts)?;
+    let gate = Counting::new(client.number());
+    let desk = Desk::new(service.alloc);
+    if way == "shut" {
+        desk.close(rt);
+    }
+    let (wanted, gate, desk) = (&wanted, &gate, &desk);
+    let (answered, found) = thread::scope(
+        thread::scope_env(),
+        rt,
+        |scope| -> Result<_, CaseError> {
+            let server = scope.spawn(move || serve(rt, service, desk, served, wanted, way))?;
+            let found = client.read_version(rt, gate, desk, opts);
+            desk.close(rt);
+            Ok((server.join(rt), found))
+        },
+    )?;
+    match answered? {
+        Some(answered) => gate.was_passed((0, 0, u64::from(answered)), &way)?,
+        None => return Err(CaseError::Failed(Fail::new("another request"))),
+    }
+    Ok(found)
 }
 
 fn read_text(alloc: Global, read: &ReadVersion) -> Result<String, AllocError> {
@@ -133,7 +143,7 @@ fn serve<J: Live, R: Wait>(
     rt: &R,
     service: &Service<J>,
     desk: &Desk<J>,
-    served: &mut Seen<J>,
+    mut served: Seen<J>,
     wanted: &Wanted,
     way: &str,
 ) -> Result<Option<bool>, AllocError> {
@@ -151,7 +161,7 @@ fn serve<J: Live, R: Wait>(
         _ => {}
     }
     let reply = request.reply.clone()?;
-    match answer_of(rt, service, served, request, way) {
+    match answer_of(rt, service, &mut served, request, way) {
         Some(answer) => Ok(Some(reply.send(rt, answer).is_ok())),
         None => Ok(Some(false)),
     }

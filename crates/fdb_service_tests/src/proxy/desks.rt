@@ -125,6 +125,15 @@ pub(crate) fn left<J: Live, R: Wait>(
     }
 }
 
+/// The first of two tokens, or the second.
+fn of_two<'t, J: Live>(
+    first: &'t mut Seen<J>,
+    second: &'t mut Seen<J>,
+    is_first: bool,
+) -> &'t mut Seen<J> {
+    if is_first { first } else { second }
+}
+
 /// Leaves a request: with what those who are `ahead` have seen, as the one that is left `later`, or
 /// for one who is `gone` and waits for no answer. Answers why the desk refuses it.
 fn leave<J: Live, R: Wait>(
@@ -134,12 +143,7 @@ fn leave<J: Live, R: Wait>(
     opts: GrvOpts,
     words: &str,
 ) -> Result<Result<(), ProxyError>, CaseError> {
-    let Stand { seen, ahead, .. } = stand;
-    let seen = if words.contains(" ahead") {
-        ahead
-    } else {
-        seen
-    };
+    let seen = of_two(&mut stand.ahead, &mut stand.seen, words.contains(" ahead"));
     let (request, waiter) = request_of(stand.service, seen, whom, opts, words)?;
     if words.contains(" later") {
         stand.later = Some(request);
