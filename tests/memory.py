@@ -61,8 +61,7 @@ READS = [[do("grv")] * 17]
 MOST_RUNS, MISSED, HANGS = 2_000, 3, 10
 # The tests that pass whichever single allocation is refused: of each crate those whose names match.
 BEARING = {
-    crate: r"^refused_memory::"
-    for crate in ("fdb_tests", "fdb_service_tests", "fdb_client_tests", "fdb_replay_tests")
+    crate: r"^refused_memory::" for crate in ("fdb_tests", "fdb_service_tests")
 }
 # Those of them that pass also where all are refused from any one on.
 WITHOUT = r"::without_memory$"
@@ -70,7 +69,7 @@ PASSED = done(b"\ntest result: ok\n")
 # What a test prints where one request alone was refused memory in its offer and all others had
 # their replies. How many such requests there have to be over a sweep: the queue grows twice.
 ALONE = re.compile(rb"request (\d+) alone was refused memory\n")
-OFTEN = {"refused_memory::proxies::a_proxy_bears_it": 2}
+OFTEN = {"refused_memory::a_proxy_bears_it": 2}
 # The library in use, and how it ends where it is refused what it can't do without.
 USES, FAILED = f"{ROOT}/crates/fdb_uses/out/fdb_uses", Ran(1, None, None)
 # What tests/refuse.c tells where it refuses the start of a thread.
@@ -153,8 +152,6 @@ def refused(program):
         ("two clients", ["--proxies", "2", "--history"], two, exactly(expected(two, True)), each),
         (ONE_PROXY, *of_crowd(1)),
         ("three clients that race for two proxies", *of_crowd(2)),
-        ("three clients that race for two proxies, again", *of_crowd(2)),
-        ("reads through 9 proxies", ["--proxies", "9"], reads, each_read, each),
         ("reads through 16 proxies", ["--proxies", "16"], reads, each_read, each),
         ("a large script", ["--history"], large, exactly(expected(large, True)), further),
         ("a file that arguments name", by_arguments, b"", exactly(expected(first, True)), each),

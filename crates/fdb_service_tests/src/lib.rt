@@ -1,12 +1,21 @@
-//! The tests of `fdb_live` and `fdb_proxy`, whose calls
-//! meet in threads. Without its tests this crate is empty.
+//! The tests of `fdb_proxy`, `fdb_client` and `fdb_replay`. Without its tests this crate is empty.
 #![tactic(auto)]
 
 #[cfg(test)]
 mod ample_memory;
 #[cfg(test)]
-mod live;
+mod client;
+#[cfg(test)]
+mod gated;
 #[cfg(test)]
 mod proxy;
 #[cfg(test)]
 mod refused_memory;
+#[cfg(test)]
+mod replay;
+#[cfg(test)]
+mod stand;
+#[cfg(test)]
+mod templates;
+#[cfg(test)]
+mod workload;

@@ -1,120 +1,202 @@
-//! Desks, the batch server and proxies. Each case is played
-//! on a live record that was opened with version 100.
-
-ghost use Rattle.std.specs.Prelude.{◌≡◌};
+//! The tests of desks, batches and proxies: texts first, and then clients in threads of their own.
 
 mod answers;
-mod crowd;
-mod late;
-mod lines;
-mod long;
-mod many;
-mod options;
-mod refused;
-mod rows;
-pub mod stand;
+pub mod crowd;
+pub mod desks;
+mod kinds;
+pub mod running;
 
-use crate::live::steps::unlocked;
-use crate::proxy::crowd::ask_all;
-use crate::proxy::late::come_late;
-use crate::proxy::lines::play_lines;
-use crate::proxy::long::answer_many;
-use crate::proxy::options::{Fate, close_each};
-use crate::proxy::refused::{run_refused, serve_refused};
-use crate::proxy::stand::Stand;
-use fdb_checks::CaseError;
-use fdb_live::{Live, LiveRecord, Opened};
-use std::alloc::Global;
-use std::marker::Brand;
-use std::sync::Wait;
-use std::sync::atomic::AtomicU64;
-use std::thread::Threads;
+use crate::proxy::kinds::{Fate, each_kind};
+use crate::stand::{Case, play, play_text};
+use crate::templates::filled;
+use std::test::Fail;
 
-/// How many reporters the record has, each of whom is a client in `crowd`.
-const REPORTERS: u32 = 4;
+/// Two requests, the second of a client that has seen a report and with a number above 2^32. Limits
+/// are by the priority and the moment of each. The proxy, which was told nothing, reads what was
+/// reported.
+const BATCHES: [&str; 2] = [
+    "
+ask 0 0 1000
+ask 0 0 3000
+ask 0 0 3100
+leave 1 0 0 default 1 0 0 => in
+report 0 2 0 => raised, changed at 1
+see => 1
+leave 1 1 4294967299 default 1 0 0 ahead => in
+serve => 2 2100 unlocked none at 1
+# one read serves all, and the tags of each have the limits of its own priority and moment
+leave 1 2 7 default 1 4999 2 u => in
+leave 1 2 8 default 1 5000 1 ahead => in
+leave 1 3 9 batch 1 4999 1 => in
+report 0 3 0 locked => raised, changed at 2
+serve => 1 2200 locked 08080808080808080808 at 2, 2 t 5 5000; 2 2200 locked 08080808080808080808 at 2
+leave 101 0 0 batch 101 0 0
+leave 64 1 0 system 10001 0 0
+serve => 165 2200 locked 08080808080808080808 at 2
+",
+    "
+serve =>
+leave 10001 0 4294967296 default 64 0 0
+serve => 10001 100 unlocked none at 0
+",
+];
 
-/// What a test does at a desk and with its proxy.
-#[derive(Clone, Copy)]
-pub(crate) enum Case<'a> {
-    /// The lines of a text, one after another.
-    Lines(&'a str),
-    /// Four clients ask two proxies, each in a thread of its own.
-    Crowd,
-    /// A system request comes while so many default ones wait in the queue.
-    Late {
-        waiting: u64,
-    },
-    /// The desk is closed while a request of each kind of options waits.
-    Closing(Fate),
-    /// One proxy answers so many requests, with a report before each batch of them.
-    Long(u64),
-    /// A batch is served that may be refused memory, once or from then on.
-    ServeRefused {
-        once: bool,
-    },
-    /// A proxy is run that may be refused memory, once or from then on, with a queue that has
-    /// had requests before or none. Its answers go over channels with room
-    /// for one, or over unbounded ones, to which a send needs memory. Where one request
-    /// alone was refused it, its number goes into the note, counted from 1.
-    RunRefused {
-        once: bool,
-        used: bool,
-        unbounded: bool,
-        alone: &'a AtomicU64,
-    },
-}
+/// A desk that is closed refuses, and what waits there has one window, in which a limit of 2 lets a
+/// system request of 1 and a default one of 1 start. A second window would start the default one of
+/// 2 too.
+const CLOSED: &str = "
+leave 1 0 0 default 1 0 0 => in
+leave 1 1 0 default 2 0 0 => in
+leave 1 0 1 system 1 0 0 => in
+close => ok
+leave 1 2 5 default 1 0 0 => the proxy's desk is closed
+run 2 1 9 => 1 100 unlocked none at 0; 1 closed; 1 100 unlocked none at 0
+leave 1 2 6 default 1 0 0 => the proxy's desk is closed
+# a proxy whose desk was closed before
+run 1 1 9 =>
+";
 
-/// Plays a case. It fails where memory is refused, and passes else.
-pub(crate) fn play<R: Threads + Wait + Sync>(
-    rt: &R,
-    alloc: Global,
-    case: Case<'_>,
-) -> Result<(), CaseError> {
-    match LiveRecord::<Brand>::open(rt, alloc, unlocked(100), REPORTERS) {
-        Ok(opened) => play_named::<Brand, R>(rt, alloc, opened, case),
-        Err(_) => Err(CaseError::Memory),
+/// A room of 1 for three priorities at once, the lowest first and the highest first.
+const ROOM_FOR_ONE: [&str; 2] = [
+    "
+leave 1 0 0 batch 1 0 0
+leave 1 1 0 default 1 0 0
+leave 1 2 0 system 1 0 0
+run 1 1 1 => 2 the queue is full; 1 100 unlocked none at 0
+",
+    "
+leave 1 0 0 system 1 0 0
+leave 1 1 0 default 1 0 0
+leave 1 2 0 batch 1 0 0
+close
+run 1 1 1 => 1 100 unlocked none at 0; 2 the queue is full
+",
+];
+
+/// Requests that the queue does not let in, for a count of 0 and a batch limit of 0, and one that
+/// it does.
+const NOT_LET_IN: &str = "
+leave 1 0 0 default 0 0 0
+leave 1 0 1 batch 1 0 0
+leave 1 0 2 default 1 4999 1
+run 1 0 1 => 1 the request's count is out of range; 1 batch requests are not let in; \
+1 100 unlocked none at 0, 1 t 5 5000
+";
+
+/// Several that are left at a desk that is closed, of each priority and of several counts, some
+/// with numbers above 2^32. One that the queue does not let in hears why, system requests start,
+/// and each that waits is closed.
+const LEFT: &str = "
+leave 1 0 4294967296 batch 1 0 0
+leave 1 1 4294967297 default 1 0 0
+leave 1 2 9 default 64 0 0
+leave 1 3 9 batch 2 0 0
+leave 1 0 4294967299 system 101 0 0
+leave 1 0 4 batch 10001 0 0
+leave 1 0 5 default 10001 0 0
+leave 1 0 6 batch 10011 0 0
+leave 1 0 4294967303 batch 10012 0 0
+leave 1 0 8 default 100000 0 0
+leave 1 0 9 system 100000 0 0
+close => ok
+run 10001 10001 99 => 4 closed; 1 100 unlocked none at 0; 3 closed; 1 the request's count is out of range; 1 closed; 1 100 unlocked none at 0
+";
+
+/// A window starts 10,000 requests and no more, and as many system requests as there is room for
+/// push out each that came before.
+const MANY: [&str; 2] = [
+    "
+leave 10001 0 0 system 1 0 0
+close
+run 1 1 100000 => 10000 100 unlocked none at 0; 1 closed
+",
+    "
+leave 101 0 0 batch 1 0 0
+leave 64 0 0 default 1 0 0
+leave 165 0 0 system 1 0 0
+close
+run 1 1 165 => 165 the queue is full; 165 100 unlocked none at 0
+",
+];
+
+/// One that started, one that is pushed out and one that is closed, none of which is waited for, and
+/// another.
+const GONE: &str = "
+leave 1 0 0 system 1 0 0 gone
+leave 1 0 1 default 3 0 0 gone
+leave 1 0 2 batch 1 0 0 gone
+leave 1 0 3 system 1 0 0
+close
+run 1 1 3 => 1 100 unlocked none at 0
+";
+
+#[test]
+fn batches(rt: HostRuntime) -> Result<(), Fail> {
+    for text in BATCHES {
+        play_text(&rt, rt.alloc(), text)?;
     }
+    Ok(())
 }
 
-/// Plays a case under the name of the service.
-fn play_named<J: Live + Send + Sync, R: Threads + Wait + Sync>(
-    rt: &R,
-    alloc: Global,
-    opened: Opened,
-    case: Case<'_>,
-) -> Result<(), CaseError>
-    requires { opened ≡ record { table = J.table; start = J.start; reporters = J.reporters } }
-{
-    let Ok((live, seen, reporters)) = opened.parts::<J>() else {
-        return Err(CaseError::Memory);
-    };
-    let mut stand = Stand::new(alloc, live, seen, reporters);
-    play_at(rt, &mut stand, case)
+#[test]
+fn whoever_waits_hears_what_comes_of_it(rt: HostRuntime) -> Result<(), Fail> {
+    for text in [CLOSED, NOT_LET_IN, LEFT, GONE] {
+        play_text(&rt, rt.alloc(), text)?;
+    }
+    for text in ROOM_FOR_ONE {
+        play_text(&rt, rt.alloc(), text)?;
+    }
+    for text in MANY {
+        play_text(&rt, rt.alloc(), text)?;
+    }
+    Ok(())
 }
 
-fn play_at<J: Live + Send + Sync, R: Threads + Wait + Sync>(
-    rt: &R,
-    stand: &mut Stand<J>,
-    case: Case<'_>,
-) -> Result<(), CaseError> {
-    match case {
-        Case::Lines(text) => play_lines(rt, stand, text),
-        Case::Crowd => ask_all(rt, stand),
-        Case::Late { waiting } => come_late(rt, stand, waiting),
-        Case::Closing(fate) => close_each(rt, stand, fate),
-        Case::Long(requests) => answer_many(rt, stand, requests),
-        Case::ServeRefused { once } => {
-            stand.once = once;
-            serve_refused(rt, stand)
-        }
-        Case::RunRefused {
-            once,
-            used,
-            unbounded,
-            alone,
-        } => {
-            stand.once = once;
-            run_refused(rt, stand, used, unbounded, alone)
+/// So many requests of one priority at a closed desk. One starts; of those that are let in the
+/// others are closed, and who is not let in hears that the queue is full.
+const FEW_AND_MANY: &str = "
+leave 1 0 0 default 100 0 0
+leave @ 0 1 default 100 0 0
+close
+run 100 1 100000 => 1 100 unlocked none at 0; @ closed
+";
+
+/// A system request that comes while so many default ones wait in the queue. The first three
+/// answers are handed over one by one, so that the proxy gets no further than the test has heard.
+const LATE: &str = "
+leave 3 0 0 default 1 4999 1 held
+leave @ 0 3 default 1 4999 2
+leave 1 1 0 system 1 0 0 later
+run 1 1 100000 hear 0 late hear 1 look => 3 100 unlocked none at 0, 1 t 5 5000; \
+@ 100 unlocked none at 0, 2 t 5 5000; 1 100 unlocked none at 0
+";
+
+#[test]
+fn a_request_that_comes_while_others_wait(rt: HostRuntime) -> Result<(), Fail> {
+    for waiting in [1, 64, 101, 10_001] {
+        for text in [FEW_AND_MANY, LATE] {
+            play_text(&rt, rt.alloc(), &filled(rt.alloc(), text, waiting)?)?;
         }
     }
+    Ok(())
+}
+
+#[test]
+fn a_desk_is_closed_while_each_kind_of_options_waits(rt: HostRuntime) -> Result<(), Fail> {
+    for fate in [
+        Fate::Start,
+        Fate::Starve,
+        Fate::NoBatch,
+        Fate::NoRoom,
+        Fate::Wait,
+    ] {
+        play_text(&rt, rt.alloc(), &each_kind(rt.alloc(), fate)?)?;
+    }
+    Ok(())
+}
+
+#[test]
+fn six_clients_and_two_proxies(rt: HostRuntime) -> Result<(), Fail> {
+    play(&rt, rt.alloc(), Case::Crowd, true)?;
+    Ok(())
 }

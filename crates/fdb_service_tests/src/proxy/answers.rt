@@ -1,130 +1,108 @@
-//! Answers as text: whom they answer, and then the record
-//! with its position and the limits, or why there is none.
+//! Answers as text: the record with its position and the limits, or why there is none, and first to
+//! whom, where that is another. Neighbours that say the same stand together, behind how many.
 
-use crate::proxy::stand::Waiter;
-use fdb_history::{Record, TagLimit};
+use crate::proxy::desks::Waiter;
+use fdb_history::TagLimit;
 use fdb_live::Live;
-use fdb_proxy::{Answer, Cause, Refused, Reply};
+use fdb_proxy::{Answer, Cause, Reply};
 use std::alloc::{AllocError, Global};
 use std::str::from_utf8;
-use std::sync::Wait;
 
-/// The answers that come, one for each that waits, in order.
-/// Where none comes, or a second one, it says so.
-pub(crate) fn awaited<J: Live, R: Wait>(
-    rt: &R,
-    alloc: Global,
-    waiters: &[Waiter<J>],
-) -> Result<String, AllocError> {
-    let mut text = String::new(alloc);
-    for waiter in waiters {
-        part(&mut text)?;
-        add_awaited(rt, alloc, &mut text, waiter)?;
-    }
-    Ok(text)
-}
-
-/// The answer that comes to one that waits.
-pub(crate) fn answer_to<J: Live, R: Wait>(
-    rt: &R,
+/// What one who waits has heard.
+pub(crate) fn answer_text<J: Live>(
     alloc: Global,
     waiter: &Waiter<J>,
+    again: bool,
 ) -> Result<String, AllocError> {
-    let mut text = String::new(alloc);
-    add_awaited(rt, alloc, &mut text, waiter)?;
-    Ok(text)
-}
-
-/// Adds the answer that comes, or `none` or `several` where it is not one.
-fn add_awaited<J: Live, R: Wait>(
-    rt: &R,
-    alloc: Global,
-    text: &mut String,
-    waiter: &Waiter<J>,
-) -> Result<(), AllocError> {
-    match waiter.recv(rt) {
-        Err(_) => text.push_str("none"),
-        Ok(_) if waiter.recv(rt).is_ok() => text.push_str("several"),
-        Ok(answer) => add_answer(alloc, text, &answer),
+    let (whom, text) = match &waiter.heard {
+        _ if again => return String::from_str(alloc, "several answers"),
+        None => return String::from_str(alloc, "no answer"),
+        Some(Answer::Reply(reply)) => {
+            (
+                (reply.client, reply.serial, reply.asked),
+                reply_text(alloc, reply)?,
+            )
+        }
+        Some(Answer::Refused(refused)) => {
+            let text = match refused.cause {
+                Cause::Queue(cause) => cause.to_string(alloc)?,
+                Cause::Closed => String::from_str(alloc, "closed")?,
+            };
+            ((refused.client, refused.serial, refused.asked), text)
+        }
+    };
+    if whom == waiter.own {
+        Ok(text)
+    } else {
+        format!(in alloc; "to {whom:?}: {text}")
     }
 }
 
-/// Answers in their order, with a semicolon between any two.
-pub(crate) fn answers_text<J: Live>(
-    alloc: Global,
-    answers: &[Answer<J>],
-) -> Result<String, AllocError> {
-    let mut text = String::new(alloc);
-    for answer in answers {
-        part(&mut text)?;
-        add_answer(alloc, &mut text, answer)?;
-    }
-    Ok(text)
-}
-
-/// Parts what comes from what stands before it, if something does.
-fn part(text: &mut String) -> Result<(), AllocError> {
-    text.push_str(if text.is_empty() { "" } else { "; " })
-}
-
-fn add_answer<J: Live>(
-    alloc: Global,
-    text: &mut String,
-    answer: &Answer<J>,
-) -> Result<(), AllocError> {
-    match answer {
-        Answer::Reply(reply) => add_reply(alloc, text, reply),
-        Answer::Refused(refused) => add_refused(alloc, text, refused),
+fn reply_text<J: Live>(alloc: Global, reply: &Reply<J>) -> Result<String, AllocError> {
+    let limits = reply.limits.as_slice();
+    match limits.first() {
+        None => format!(in alloc; "{} at {}", reply.rec, reply.position),
+        Some(first) => format!(in alloc;
+            "{} at {}, {} {}",
+            reply.rec,
+            reply.position,
+            limits.len(),
+            limit_text(alloc, first, limits)?
+        ),
     }
 }
 
-fn add_reply<J: Live>(
-    alloc: Global,
-    text: &mut String,
-    reply: &Reply<J>,
-) -> Result<(), AllocError> {
-    add_asker(alloc, text, reply.client, reply.serial, reply.asked)?;
-    add_record(alloc, text, reply.rec, reply.position)?;
-    for limit in &reply.limits {
-        add_limit(alloc, text, limit)?;
+/// The first of some limits, or that they are not all the same.
+fn limit_text(alloc: Global, first: &TagLimit, limits: &[TagLimit]) -> Result<String, AllocError> {
+    if limits.iter().any(|limit| limit != first) {
+        return String::from_str(alloc, "several");
     }
-    Ok(())
+    let tag = from_utf8(first.tag.as_slice()).unwrap_or("no text");
+    format!(in alloc; "{tag} {} {}", first.rate, first.expires)
 }
 
-fn add_record(
+/// What was said, the last of it so often in a row.
+#[derive(Drop)]
+pub(crate) struct Rows {
     alloc: Global,
-    text: &mut String,
-    rec: Record,
-    position: u64,
-) -> Result<(), AllocError> {
-    text.push_str(&format!(in alloc; "{rec} at {position}")?)
+    before: String,
+    last: String,
+    times: u64,
 }
 
-fn add_limit(alloc: Global, text: &mut String, limit: &TagLimit) -> Result<(), AllocError> {
-    let tag = from_utf8(limit.tag.as_slice()).unwrap_or("no text");
-    let (rate, expires) = (limit.rate, limit.expires);
-    text.push_str(&format!(in alloc; ", {tag} {rate} {expires}")?)
-}
-
-fn add_refused<J: Live>(
-    alloc: Global,
-    text: &mut String,
-    refused: &Refused<J>,
-) -> Result<(), AllocError> {
-    add_asker(alloc, text, refused.client, refused.serial, refused.asked)?;
-    match refused.cause {
-        Cause::Queue(cause) => text.push_str(&cause.to_string(alloc)?),
-        Cause::Closed => text.push_str("closed"),
+impl Rows {
+    pub(crate) fn new(alloc: Global) -> Rows {
+        Rows {
+            alloc,
+            before: String::new(alloc),
+            last: String::new(alloc),
+            times: 0,
+        }
     }
-}
 
-/// Adds whom an answer is for: the client, the serial number, and the position that it asked from.
-pub(crate) fn add_asker(
-    alloc: Global,
-    text: &mut String,
-    client: u32,
-    serial: u64,
-    asked: u64,
-) -> Result<(), AllocError> {
-    text.push_str(&format!(in alloc; "{client}/{serial} from {asked}: ")?)
+    /// Adds what was said next, to the row that goes on or as the first of another.
+    pub(crate) fn add(&mut self, said: String) -> Result<(), AllocError> {
+        if said != self.last {
+            self.ends()?;
+            self.last = said;
+        }
+        self.times = self.times.saturating_add(1);
+        Ok(())
+    }
+
+    fn ends(&mut self) -> Result<(), AllocError> {
+        if self.times > 0 {
+            let part = if self.before.is_empty() { "" } else { "; " };
+            let row = format!(in self.alloc; "{part}{} {}", self.times, self.last)?;
+            self.before.push_str(&row)?;
+            self.times = 0;
+        }
+        Ok(())
+    }
+
+    /// The whole of it.
+    pub(crate) fn ended(mut self) -> Result<String, AllocError> {
+        self.ends()?;
+        Ok(self.before)
+    }
 }

@@ -1,197 +1,153 @@
-//! Clients and proxies, each in a thread of its own.
+//! Clients and two proxies, each in a thread of its own.
 
-use crate::live::steps::report_at;
-use crate::proxy::stand::{Stand, Waiter, opts_of, queue_of, request_of, submit};
+use crate::proxy::desks::{Waiter, queue_of, request_of, submit};
+use crate::stand::{Service, Stand};
 use fdb_checks::{CaseError, holds, same};
-use fdb_history::{OpenGate, Priority};
-use fdb_live::{Live, LiveRecord, Seen};
+use fdb_client::Client;
+use fdb_history::{GrvOpts, OpenGate, Priority, Sequence};
+use fdb_live::{Live, Seen};
 use fdb_proxy::{Answer, Desk, GrvProxy};
-use std::alloc::{AllocError, Global};
+use std::alloc::AllocError;
 use std::sync::Wait;
-use std::test::Fail;
 use std::thread::Threads;
 use std::{mem, thread};
 
-/// How often each client reports and then asks.
-const TURNS: u64 = 100;
+/// How often each of six clients reports and then asks, and how often it asks before it hears. Each
+/// of two proxies has more than 2^16 requests, at which a counter of 16 bits would begin anew.
+const TURNS: u64 = 44;
 
-/// How many requests it leaves before it waits for their answers.
-const REQUESTS: u64 = 10;
+const REQUESTS: u64 = 500;
 
-/// Two desks, and the record that their proxies read.
+/// A client who asks at two desks, from the position that its own report has come to.
 #[derive(Drop)]
-struct Service<'a, J: Live> {
-    alloc: Global,
-    live: &'a LiveRecord<J>,
-    one: &'a Desk<J>,
+struct Asker<'a, J: Live> {
+    service: &'a Service<J>,
     other: &'a Desk<J>,
-}
-
-/// One that reports with its own token, and then asks from the position that this has come to.
-#[derive(Drop)]
-struct Client<J: Live> {
-    number: u32,
-    token: Seen<J>,
+    client: Client<'a, J>,
     /// How many of its requests were answered as they should be, and once.
     answered: u64,
-    /// Whether a report of its was refused, or memory.
     failed: bool,
 }
 
-impl<J: Live> Client<J> {
-    /// The client of a reporter's token, who has the reporter's number.
-    fn new(token: Seen<J>) -> Self {
-        Client {
-            number: token.reporter().unwrap_or(0),
-            token,
-            answered: 0,
-            failed: false,
-        }
-    }
-
-    /// Reports versions that no other client reports, and asks. It stops where memory is refused.
-    fn work<R: Wait>(&mut self, rt: &R, service: &Service<'_, J>) -> Result<(), AllocError> {
+impl<J: Live> Asker<'_, J> {
+    /// Has its turns, unless something is refused.
+    fn works<R: Wait>(&mut self, rt: &R) -> Option<()> {
         for turn in 0..TURNS {
-            let version = turn
-                .saturating_mul(4)
-                .saturating_add(u64::from(self.number) + 200);
-            let acked = report_at(rt, service.live, &OpenGate, &mut self.token, version);
-            self.failed |= !matches!(acked, Some(Ok(_)));
-            let first = turn.saturating_mul(REQUESTS);
-            let asked = self.token.position();
-            let waiters = self.ask(rt, service, first)?;
-            self.hear(rt, service, first, asked, waiters.as_slice());
+            let mut seen = self.reports(rt, turn)?;
+            let waiters = self
+                .asks(rt, &mut seen, turn.saturating_mul(REQUESTS))
+                .ok()?;
+            for waiter in &waiters {
+                self.hears(rt, waiter);
+            }
         }
-        Ok(())
+        Some(())
     }
 
-    /// Leaves requests at both desks in turn, with serial numbers from the first one on.
-    fn ask<R: Wait>(
+    /// Reports a version of its own. Answers what it has seen then.
+    fn reports<R: Wait>(&mut self, rt: &R, turn: u64) -> Option<Seen<J>> {
+        let num = self.client.ask(rt, &OpenGate, turn, 0).ok()?.num;
+        self.client.report(rt, &OpenGate, num, false, None, 0).ok()?;
+        let mut told = self.client.tell(0).ok()?;
+        Some(self.service.master.seen(&mut told))
+    }
+
+    /// Leaves requests of each priority at both desks in turn.
+    fn asks<R: Wait>(
         &mut self,
         rt: &R,
-        service: &Service<'_, J>,
+        seen: &mut Seen<J>,
         first: u64,
     ) -> Result<Vec<Waiter<J>>, AllocError> {
-        let mut waiters = Vec::new(service.alloc);
+        let mut waiters = Vec::new(self.service.alloc);
         for place in 0..REQUESTS {
-            waiters.push(self.ask_one(rt, service, first.saturating_add(place))?)?;
+            let whom = (self.client.number(), first.saturating_add(place));
+            let opts = self.opts(place);
+            let (request, waiter) = request_of(self.service, seen, whom, opts, "")?;
+            let desk = if place % 2 == 0 {
+                &self.service.desk
+            } else {
+                self.other
+            };
+            if submit(rt, desk, request).is_ok() {
+                waiters.push(waiter)?;
+            }
         }
         Ok(waiters)
     }
 
-    /// Leaves a request at one of the desks.
-    fn ask_one<R: Wait>(
-        &mut self,
-        rt: &R,
-        service: &Service<'_, J>,
-        serial: u64,
-    ) -> Result<Waiter<J>, AllocError> {
-        let (alloc, live) = (service.alloc, service.live);
-        let opts = opts_of(Priority::Default, 1, Vec::new(alloc), 0);
-        let (request, waiter) = request_of(
-            alloc,
-            live,
-            &mut self.token,
-            self.number,
-            serial,
-            opts,
-        )?;
-        let desk = if serial % 2 == 0 {
-            service.one
-        } else {
-            service.other
+    fn opts(&self, place: u64) -> GrvOpts {
+        let priority = match place % 3 {
+            0 => Priority::System,
+            1 => Priority::Default,
+            _ => Priority::Batch,
         };
-        match submit(rt, desk, request) {
-            Ok(()) => Ok(waiter),
-            Err(_) => Err(AllocError),
-        }
-    }
-
-    /// Waits for the answers to requests with such serial numbers and this asked position.
-    fn hear<R: Wait>(
-        &mut self,
-        rt: &R,
-        service: &Service<'_, J>,
-        first: u64,
-        asked: u64,
-        waiters: &[Waiter<J>],
-    ) {
-        let mut serial = first;
-        for waiter in waiters {
-            self.hear_one(rt, service, serial, asked, waiter);
-            serial = serial.saturating_add(1);
+        GrvOpts {
+            priority,
+            count: 1,
+            tags: Sequence::new(self.service.alloc),
+            lock_aware: false,
+            at: 0,
+            use_min: false,
         }
     }
 
     /// Waits for an answer, and until no second one may come.
-    fn hear_one<R: Wait>(
-        &mut self,
-        rt: &R,
-        service: &Service<'_, J>,
-        serial: u64,
-        asked: u64,
-        waiter: &Waiter<J>,
-    ) {
-        let Ok(Answer::Reply(reply)) = waiter.recv(rt) else {
-            return;
-        };
-        let own = (reply.client, reply.serial, reply.asked) == (self.number, serial, asked);
-        let once = waiter.recv(rt).is_err();
-        if own && once && reply.position >= asked {
-            self.answered = self.answered.saturating_add(1);
+    fn hears<R: Wait>(&mut self, rt: &R, waiter: &Waiter<J>) {
+        if let Ok(Answer::Reply(reply)) = waiter.receiver.recv(rt) {
+            let own = (reply.client, reply.serial, reply.asked) == waiter.own;
+            if own && waiter.receiver.recv(rt).is_err() {
+                self.answered = self.answered.saturating_add(1);
+            }
         }
-        service.live.learn(rt, &mut self.token, reply.seen);
     }
 }
 
-/// A client for each reporter's token, which the stand hands over.
-fn clients_of<J: Live>(stand: &mut Stand<J>) -> Result<Vec<Client<J>>, AllocError> {
-    let mut clients = Vec::new(stand.alloc);
-    for token in mem::replace(&mut stand.reporters, Vec::new(stand.alloc)) {
-        clients.push(Client::new(token))?;
-    }
-    Ok(clients)
-}
-
-/// Four clients ask two proxies, and each of their requests is answered.
+/// The clients ask two proxies, and each of their requests is answered.
 pub(crate) fn ask_all<J: Live + Send + Sync, R: Threads + Wait + Sync>(
     rt: &R,
-    stand: &mut Stand<J>,
+    stand: &mut Stand<'_, J>,
 ) -> Result<(), CaseError> {
-    let mut clients = clients_of(stand)?;
-    let token = stand.live.split(&mut stand.seen);
-    let other_token = stand.live.split(&mut stand.seen);
-    let service = Service {
-        alloc: stand.alloc,
-        live: &stand.live,
-        one: &stand.desk,
-        other: &stand.other,
-    };
-    let first = proxy_of(&service, service.one, token)?;
-    let second = proxy_of(&service, service.other, other_token)?;
+    let service = stand.service;
+    let (alloc, other) = (service.alloc, &Desk::new(service.alloc));
+    let mut askers = Vec::new(alloc);
+    for client in mem::replace(&mut stand.clients, Vec::new(alloc)) {
+        askers.push(Asker {
+            service,
+            other,
+            client,
+            answered: 0,
+            failed: false,
+        })?;
+    }
+    let first = proxy_at(service, &service.desk, &mut stand.served)?;
+    let second = proxy_at(service, other, &mut stand.served)?;
     let (ended, ()) = thread::join(
         rt,
         || run_both(rt, first, second),
-        || ask_side_by_side(rt, &service, clients.as_mut_slice()),
+        || ask_side_by_side(rt, service, other, askers.as_mut_slice()),
     );
     holds(ended, &"the proxies have memory")?;
-    are_answered(clients.as_slice())?;
+    for asker in &askers {
+        let found = (asker.answered, asker.failed);
+        same(&found, &(TURNS.saturating_mul(REQUESTS), false), &"answers")?;
+    }
     Ok(())
 }
 
 /// A proxy that lets 100,000 transactions start in each window.
-fn proxy_of<'a, J: Live>(
-    service: &Service<'a, J>,
+fn proxy_at<'a, J: Live>(
+    service: &'a Service<J>,
     desk: &'a Desk<J>,
-    token: Seen<J>,
+    seen: &mut Seen<J>,
 ) -> Result<GrvProxy<'a, J>, AllocError> {
-    let (alloc, live) = (service.alloc, service.live);
+    let (alloc, live) = (service.alloc, service.master.live());
     let queue = queue_of(alloc, 100_000, 100_000, 100_000)?;
-    Ok(GrvProxy::new(alloc, live, desk, queue, 10_000_000, token))
+    Ok(GrvProxy::new(alloc, live, desk, queue, 10_000_000, live.split(seen)))
 }
 
-/// Runs two proxies, each in a thread of its own, and answers
-/// whether both ended because their desks were closed.
+/// Runs two proxies, each in a thread of its own. Answers whether both ended as their desks were
+/// closed.
 fn run_both<J: Live + Send + Sync, R: Threads + Wait + Sync>(
     rt: &R,
     first: GrvProxy<'_, J>,
@@ -204,30 +160,20 @@ fn run_both<J: Live + Send + Sync, R: Threads + Wait + Sync>(
 /// Lets each client work in a thread of its own, and closes the desks.
 fn ask_side_by_side<J: Live + Send + Sync, R: Threads + Wait + Sync>(
     rt: &R,
-    service: &Service<'_, J>,
-    clients: &mut [Client<J>],
+    service: &Service<J>,
+    other: &Desk<J>,
+    askers: &mut [Asker<'_, J>],
 ) {
-    let threads = clients.len().max(1);
     thread::for_each_mut(
         rt,
-        clients,
-        threads,
-        &|_, client| {
-            if client.work(rt, service).is_err() {
-                client.failed = true;
+        askers,
+        6,
+        &|_, asker| {
+            if asker.works(rt).is_none() {
+                asker.failed = true;
             }
         },
     );
-    service.one.close(rt);
-    service.other.close(rt);
-}
-
-/// Checks that nothing was refused, and that each request was answered.
-fn are_answered<J: Live>(clients: &[Client<J>]) -> Result<(), Fail> {
-    let wanted = TURNS.saturating_mul(REQUESTS);
-    for client in clients {
-        holds(!client.failed, &"reports, and memory for a client")?;
-        same(&client.answered, &wanted, &client.number)?;
-    }
-    Ok(())
+    service.desk.close(rt);
+    other.close(rt);
 }

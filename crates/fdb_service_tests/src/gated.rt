@@ -1,0 +1,248 @@
+//! Replays whose threads are held at gates: that they run side by side, that a lock is held where
+//! its gate is passed, and that a read waits for none of them. No clause says these.
+
+mod alone;
+pub mod counting;
+mod crossing;
+mod side_by_side;
+
+use crate::gated::alone::Alone;
+use crate::gated::counting::Counting;
+use crate::gated::crossing::Crossing;
+use crate::gated::side_by_side::SideBySide;
+use crate::replay::calls::replays;
+use crate::templates::filled;
+use fdb_checks::{holds, same_text};
+use fdb_history::{Gate, Place};
+use fdb_replay::ReplayOpts;
+use std::alloc::Global;
+use std::str::from_utf8;
+use std::sync::Wait;
+use std::test::Fail;
+use std::thread::Threads;
+
+/// What a replay of a script through so many GRV proxies writes, whose threads pass a gate.
+fn replayed<R: Threads + Wait + Sync, G: Gate>(
+    rt: &R,
+    alloc: Global,
+    script: &str,
+    proxies: u32,
+    gate: &G,
+) -> Result<Vec<u8>, Fail> {
+    let opts = ReplayOpts {
+        proxies: proxies.clamp(1, 16),
+        with_history: false,
+    };
+    let mut out = Vec::new(alloc);
+    replays(rt, alloc, script, opts, gate, &mut out)?;
+    Ok(out)
+}
+
+/// Client 0 asks for a commit version and reports it, beside two reads of client 1; the same, once
+/// client 1 has raised the record, so that its reads come with what it has seen.
+const BESIDE_READS: [&str; 2] = [
+    r#"{"epoch_end":0,"recovery":100,"clients":2,"rounds":[[
+{"do":"ask","client":0,"at":1000},
+{"do":"report","client":0,"num":1},
+{"do":"grv","client":1},
+{"do":"grv","client":1}]]}"#,
+    r#"{"epoch_end":0,"recovery":100,"clients":2,"rounds":[[
+{"do":"ask","client":1,"at":1000},
+{"do":"ask","client":1,"at":2000},
+{"do":"report","client":1,"num":2}],[
+{"do":"ask","client":0,"at":3000,"processed":1},
+{"do":"report","client":0,"num":1,"min_known":50},
+{"do":"grv","client":1},
+{"do":"grv","client":1}]]}"#,
+];
+
+/// Client 0 asks and reports, beside a read and a report of client 1.
+const BESIDE_A_REPORT: &str = r#"{"epoch_end":0,"recovery":100,"clients":2,"rounds":[[
+{"do":"ask","client":1,"at":1000}],[
+{"do":"ask","client":0,"at":3000},
+{"do":"report","client":0,"num":1},
+{"do":"grv","client":1},
+{"do":"report","client":1,"num":1,"min_known":50}]]}"#;
+
+/// The same, beside a read and a request for a commit version.
+const BESIDE_AN_ASK: &str = r#"{"epoch_end":0,"recovery":100,"clients":2,"rounds":[[
+{"do":"ask","client":1,"at":1000}],[
+{"do":"ask","client":0,"at":3000},
+{"do":"report","client":0,"num":1},
+{"do":"grv","client":1},
+{"do":"ask","client":1,"at":4000,"processed":1}]]}"#;
+
+/// Two reads pass while another client holds the lock of the sequencer, or that of the reports. A
+/// report passes while another client holds the first, and a request for a commit version while it
+/// holds the second.
+#[test]
+fn each_lock_is_passed_by_other_calls(rt: HostRuntime) -> Result<(), Fail> {
+    let (sequencer, reports) = (Place::SequencerHeld, Place::ReportHeld);
+    for text in BESIDE_READS {
+        for at in [sequencer, reports] {
+            crosses(&rt, rt.alloc(), text, at, Place::ReadAnswered)?;
+        }
+    }
+    crosses(&rt, rt.alloc(), BESIDE_A_REPORT, sequencer, reports)?;
+    crosses(&rt, rt.alloc(), BESIDE_AN_ASK, reports, sequencer)
+}
+
+/// Replays a script through one GRV proxy and through two, with client 0 held in a lock while client
+/// 1 passes beside it.
+fn crosses<R: Threads + Wait + Sync>(
+    rt: &R,
+    alloc: Global,
+    script: &str,
+    at: Place,
+    beside: Place,
+) -> Result<(), Fail> {
+    for proxies in [1, 2] {
+        let gate = Crossing::new(at, beside);
+        replayed(rt, alloc, script, proxies, &gate)?;
+        holds(
+            gate.is_passed(),
+            &format_args!("{at:?} beside {beside:?}: somebody waited in vain"),
+        )?;
+    }
+    Ok(())
+}
+
+/// One round, in which two clients ask and report in turn, and then ask and report again, having
+/// processed something and with a minimum known committed version.
+const BOTH_REPORT: &str = r#"{"epoch_end":0,"recovery":100,"clients":2,"rounds":[[
+{"do":"grv","client":0},
+~,{"do":"ask","client":0,"at":#},{"do":"report","client":0,"num":#}~,
+~,{"do":"ask","client":1,"at":#},{"do":"report","client":1,"num":#}~,
+~,{"do":"ask","client":0,"at":#,"processed":#},{"do":"report","client":0,"num":#,"min_known":#}~,
+~,{"do":"ask","client":1,"at":#,"processed":#},{"do":"report","client":1,"num":#,"min_known":#}~
+]]}"#;
+
+/// Nobody is in a lock where another is.
+#[test]
+fn nobody_meets_another_in_a_lock(rt: HostRuntime) -> Result<(), Fail> {
+    let gate = Alone::new();
+    replayed(
+        &rt,
+        rt.alloc(),
+        &filled(rt.alloc(), BOTH_REPORT, 50)?,
+        2,
+        &gate,
+    )?;
+    holds(gate.is_kept(), &"two were in one lock")
+}
+
+/// More than 1,000 commands of each of two clients, and as many in a round as there may be.
+#[test]
+fn rounds_of_many_commands_run_side_by_side(rt: HostRuntime) -> Result<(), Fail> {
+    let alloc = rt.alloc();
+    let others = r#"{"do":"grv","client":0},~,{"do":"grv","client":#}~"#;
+    for (clients, times, proxies) in [(2, 1_001, 1), (2, 5_000, 2), (64, 156, 16)] {
+        let each = filled(alloc, others, clients - 1)?;
+        let script = format!(in alloc;
+            "{{\"epoch_end\":0,\"recovery\":100,\"clients\":{clients},\"rounds\":[[~,{each}~]]}}"
+        )?;
+        let gate = SideBySide::new(clients);
+        replayed(&rt, alloc, &filled(alloc, &script, times)?, proxies, &gate)?;
+        holds(gate.is_passed(times), &"side by side")?;
+    }
+    Ok(())
+}
+
+/// The calls of a client of 64: requests for commit versions that are fresh, repeated, forgotten and
+/// early, with something processed or not; reports that are refused, that raise the record or its
+/// minimum alone, or neither; and reads with each option, of which a lock turns one away and the
+/// queue another.
+const CALLS: &str = r#"{"epoch_end":0,"recovery":100,"clients":64,"rounds":[[
+{"client":@,"do":"ask","at":1000},
+{"client":@,"do":"ask","at":3000},
+{"client":@,"do":"ask","at":4000,"processed":1},
+{"client":@,"do":"reask","num":2,"at":4000},
+{"client":@,"do":"reask","num":2,"at":4000,"processed":1},
+{"client":@,"do":"reask","num":1,"at":4000},
+{"client":@,"do":"reask","num":9,"at":4000,"processed":1},
+{"client":@,"do":"report","num":9},
+{"client":@,"do":"report","num":9,"min_known":50},
+{"client":@,"do":"report","num":2},
+{"client":@,"do":"report","num":1,"locked":true},
+{"client":@,"do":"report","num":2,"min_known":50},
+{"client":@,"do":"report","num":2,"min_known":50,"metadata":"0102030405060708090a"},
+{"client":@,"do":"report","num":2,"min_known":9000},
+{"client":@,"do":"report","num":3,"min_known":60,"locked":true,"metadata":"0102030405060708090a"},
+{"client":@,"do":"grv"},
+{"client":@,"do":"grv","lock_aware":true},
+{"client":@,"do":"grv","lock_aware":true,"use_min":true},
+{"client":@,"do":"grv","lock_aware":true,"priority":"system","tags":["t"],"count":9},
+{"client":@,"do":"grv","lock_aware":true,"priority":"batch","at":9},
+{"client":@,"do":"grv","count":0},
+{"client":@,"do":"tell","to":1}]]}"#;
+
+/// What each is answered, as tests/model.py says too.
+const REPLIES: &str = "\
+0 @ 0 ask prev 0 version 100 ordinal 0 fresh
+0 @ 1 ask prev 100 version 2100 ordinal 1 fresh
+0 @ 2 ask prev 2100 version 3100 ordinal 2 fresh
+0 @ 3 reask prev 100 version 2100 ordinal 1 kept
+0 @ 4 reask prev 100 version 2100 ordinal 1 kept
+0 @ 5 reask refused Forgotten
+0 @ 6 reask refused Early 4
+0 @ 7 report refused NotIssued
+0 @ 8 report refused NotIssued
+0 @ 9 report 2100 raised pos 1
+0 @ 10 report 100 not raised pos 1
+0 @ 11 report 2100 min raised pos 2
+0 @ 12 report 2100 not raised pos 2
+0 @ 13 report refused MinAbove
+0 @ 14 report 3100 raised pos 3
+0 @ 15 grv refused Locked 3100 pos 3
+0 @ 16 grv 3100 locked 0102030405060708090a min 60 pos 3
+0 @ 17 grv 3100 locked 0102030405060708090a min 60 used 60 pos 3
+0 @ 18 grv 3100 locked 0102030405060708090a min 60 pos 3
+0 @ 19 grv 3100 locked 0102030405060708090a min 60 pos 3
+0 @ 20 grv refused BadCount
+0 @ 21 tell 1 pos 3
+audit ok events 10 raised 2 versions 3
+";
+
+/// The first commit version is the greatest there is.
+const LAST: &str = r#"{"epoch_end":0,"recovery":9223372036854775807,"clients":64,"rounds":[[
+{"client":@,"do":"ask","at":1000},
+{"client":@,"do":"ask","at":3000},
+{"client":@,"do":"reask","num":2,"at":3000},
+{"client":@,"do":"reask","num":1,"at":3000},
+{"client":@,"do":"report","num":2},
+{"client":@,"do":"report","num":1},
+{"client":@,"do":"report","num":1,"min_known":9223372036854775807},
+{"client":@,"do":"grv","use_min":true}]]}"#;
+
+const LAST_REPLIES: &str = "\
+0 @ 0 ask prev 0 version 9223372036854775807 ordinal 0 fresh
+0 @ 1 ask refused Exhausted
+0 @ 2 reask refused Exhausted
+0 @ 3 reask prev 0 version 9223372036854775807 ordinal 0 kept
+0 @ 4 report refused NotIssued
+0 @ 5 report 9223372036854775807 not raised pos 0
+0 @ 6 report 9223372036854775807 min raised pos 1
+0 @ 7 grv 9223372036854775807 unlocked none min 9223372036854775807 used 9223372036854775807 pos 1
+audit ok events 3 raised 0 versions 1
+";
+
+/// Each request for a commit version passes a gate, and so does each report that the live record
+/// takes and each read: once, and under the client's own number.
+#[test]
+fn each_call_passes_its_gate(rt: HostRuntime) -> Result<(), Fail> {
+    let alloc = rt.alloc();
+    for client in [0, 8, 31, 63] {
+        for (calls, replies, passes) in [
+            (CALLS, REPLIES, (7, 5, 6)),
+            (LAST, LAST_REPLIES, (4, 2, 1)),
+        ] {
+            let gate = Counting::new(client);
+            let script = filled(alloc, calls, u64::from(client))?;
+            let found = replayed(&rt, alloc, &script, 2, &gate)?;
+            gate.was_passed(passes, &client)?;
+            let wanted = filled(alloc, replies, u64::from(client))?;
+            same_text(from_utf8(&found)?, &wanted, "replies")?;
+        }
+    }
+    Ok(())
+}

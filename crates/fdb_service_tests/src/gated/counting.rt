@@ -1,0 +1,58 @@
+//! A gate that counts passes.
+
+use fdb_checks::same;
+use fdb_history::{Gate, Place};
+use std::fmt::Display;
+use std::sync::atomic::{AtomicU64, Ordering};
+use std::test::Fail;
+
+/// Counts how often a client passes at each place, and how often others do.
+#[derive(Drop)]
+pub(crate) struct Counting {
+    client: u32,
+    asks: AtomicU64,
+    reports: AtomicU64,
+    answers: AtomicU64,
+    others: AtomicU64,
+}
+
+impl Counting {
+    pub(crate) fn new(client: u32) -> Counting {
+        Counting {
+            client,
+            asks: AtomicU64::new(0),
+            reports: AtomicU64::new(0),
+            answers: AtomicU64::new(0),
+            others: AtomicU64::new(0),
+        }
+    }
+
+    /// Checks how often the client has passed with the sequencer's lock, with that of the reports,
+    /// and where an answer to a read has come, and that nobody else has passed.
+    pub(crate) fn was_passed(
+        &self,
+        wanted: (u64, u64, u64),
+        case: &impl Display,
+    ) -> Result<(), Fail> {
+        let asks = self.asks.load(Ordering::SeqCst);
+        let reports = self.reports.load(Ordering::SeqCst);
+        same(
+            &(asks, reports, self.answers.load(Ordering::SeqCst)),
+            &wanted,
+            case,
+        )?;
+        same(&self.others.load(Ordering::SeqCst), &0, case)
+    }
+}
+
+impl Gate for Counting {
+    fn pass(&self, place: Place, who: u32) {
+        let count = match place {
+            _ if who != self.client => &self.others,
+            Place::SequencerHeld => &self.asks,
+            Place::ReportHeld => &self.reports,
+            Place::ReadAnswered => &self.answers,
+        };
+        count.fetch_add(1, Ordering::SeqCst);
+    }
+}
