@@ -1,5 +1,5 @@
-//! The tests of `fdb_live` and `fdb_proxy`, whose calls
-//! meet in threads. Without its tests this crate is empty.
+//! The tests of `fdb_proxy`, whose calls meet in threads.
+//! Without its tests this crate is empty.
 #![tactic(auto)]
 
 #[cfg(test)]

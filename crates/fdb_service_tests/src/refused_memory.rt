@@ -2,5 +2,4 @@
 //! allocation is refused. `tests/run` refuses each in turn, so they ask for little
 //! memory of their own. What refuses is asked once more, and has changed nothing before.
 
-mod live_records;
 mod proxies;

@@ -1,6 +1,0 @@
-use Rattle.std.proofs.Common.{arith, rules}
-use Rattle.fdb_chain.specs.ChainCore.{IsEpoch}
-use Rattle.fdb_service_tests.proofs.ample_memory.masters.opened.Goals as goal
-
-pub open-requires-clause-epoch : goal.open-requires-clause-epoch
-open-requires-clause-epoch g c = record { above = search (arith, rules); in_range = search (arith, rules) }
