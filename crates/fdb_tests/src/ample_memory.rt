@@ -21,7 +21,6 @@ GrvOpts::clone | *tag 1;opts => @0 | 0 few many
 GrvOpts::clone | tag @0;opts => 1 | 0 few 15 16 17 many
 TagLimit::clone | limit @0 => @0 | 0 few 15 16 17 many
 Replies::of_each, Replies::keep_among | of_each @0;*keep @0 1 0;*kept @0 1 => @0 | 0 few 63 65 many
-Replies::keep_among | of_each 1;*keep 0 @1 @0;kept 0 @0 => @0 | 0
 Replies::keep_among | of_each 1;*keep 0 @1 @0,kept 0 @1 => @0 | 65538
 Replies::keep | of_each 1;*keep_own @0 0;*kept 0 @1 => @0 | 65538
 Replies::keep | of_each 1;*keep_own @0 @0,kept 0 @1 => @0 | 65538

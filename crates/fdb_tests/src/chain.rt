@@ -5,7 +5,7 @@
 //! proxies), and `behind` one for so many proxies behind a lock, of a service that begins with 100;
 //! - `ask` has the members of a request (the proxy, the number, what was processed, the moment): the
 //! ordinal, the version before, the version and the moment of the answer, and `fresh` or `kept`, or
-//! why there is none. Behind a lock it passes the gate, and another one comes that has to wait;
+//! why there is none;
 //! - `round` has a number and how many proxies: whether each is given a fresh version for it;
 //! - `patient` has nothing: from here on each request that is refused memory is made once more;
 //! - `stand` has nothing: how many answers stand, once the lock is gone.
@@ -56,7 +56,7 @@ pub(crate) struct Chain<'a, R> {
     patient: bool,
 }
 
-impl<'a, R: Threads + Wait + Sync> Chain<'a, R> {
+impl<'a, R: Wait> Chain<'a, R> {
     /// Nothing that could be asked yet.
     pub(crate) fn new(rt: &'a R, alloc: Global) -> Self {
         Chain {
@@ -110,21 +110,16 @@ impl<'a, R: Threads + Wait + Sync> Chain<'a, R> {
     }
 
     fn ask(&mut self, line: &mut Line<'_>) -> Result<String, CaseError> {
-        let ask = Ask {
-            proxy: line.who()?,
-            num: line.number()?,
-            processed: line.number()?,
-            at: line.number()?,
+        let ask = ask_of(line)?;
+        let found = match self.answer(ask) {
+            Err(ChainError::Memory) if self.patient => self.answer(ask),
+            found => found,
         };
-        let found = match &self.asked {
-            Asked::Behind(sequencer) if !self.patient => {
-                held(self.rt, sequencer, ask, line.text)?
-            }
-            _ => match self.answer(ask) {
-                Err(ChainError::Memory) if self.patient => self.answer(ask),
-                found => found,
-            },
-        };
+        self.told(found)
+    }
+
+    /// Some members of an answer, or why there is none.
+    fn told(&self, found: Result<Issued, ChainError>) -> Result<String, CaseError> {
         match found {
             Ok(issued) => Ok(issued_text(self.alloc, issued)?),
             Err(cause) => self.cause(cause),
@@ -159,7 +154,7 @@ impl<'a, R: Threads + Wait + Sync> Chain<'a, R> {
     }
 }
 
-impl<R: Threads + Wait + Sync> Player for Chain<'_, R> {
+impl<R: Wait> Player for Chain<'_, R> {
     fn called(&mut self, call: &str, line: &mut Line<'_>) -> Result<String, CaseError> {
         match call {
             "new" => self.open(line),
@@ -174,6 +169,56 @@ impl<R: Threads + Wait + Sync> Player for Chain<'_, R> {
             _ => Err(CaseError::Failed(line.fail("no call"))),
         }
     }
+}
+
+/// The members of a request.
+fn ask_of(line: &mut Line<'_>) -> Result<Ask, Fail> {
+    Ok(Ask {
+        proxy: line.who()?,
+        num: line.number()?,
+        processed: line.number()?,
+        at: line.number()?,
+    })
+}
+
+/// Plays a text in which each request passes the gate once, and another one comes that has to wait.
+fn play_held<R: Threads + Wait + Sync>(
+    chain: &mut Chain<'_, R>,
+    text: &str,
+) -> Result<(), CaseError> {
+    for line in text.lines() {
+        play_line(chain, line)?;
+    }
+    Ok(())
+}
+
+fn play_line<R: Threads + Wait + Sync>(
+    chain: &mut Chain<'_, R>,
+    line: &str,
+) -> Result<(), CaseError> {
+    for text in line.split(';') {
+        let mut line = Line::new(text);
+        let found = match line.next_word() {
+            None => continue,
+            Some("ask") => ask_held(chain, &mut line)?,
+            Some(call) => chain.called(call, &mut line)?,
+        };
+        line.wants(&found)?;
+    }
+    Ok(())
+}
+
+/// Asks a sequencer, with another one behind it.
+fn ask_held<R: Threads + Wait + Sync>(
+    chain: &mut Chain<'_, R>,
+    line: &mut Line<'_>,
+) -> Result<String, CaseError> {
+    let ask = ask_of(line)?;
+    let Asked::Behind(sequencer) = &chain.asked else {
+        return Err(CaseError::Failed(line.fail("no lock")));
+    };
+    let found = held(chain.rt, sequencer, ask, line.text)?;
+    chain.told(found)
 }
 
 /// Some members of an answer.

@@ -1,8 +1,8 @@
-//! The live record and its tokens. The players of these texts open a live record or a master, and
-//! call it: each line is a call, and behind `=>` what it is answered.
+//! The live record and its tokens. Each line of a text is a call, and behind `=>` what it is
+//! answered:
 //!
 //! - `open` has the first record and, behind `for`, how many reporters there are: how many have
-//! tokens; what is played on the record then stands in a text of its own (`holders`);
+//! tokens. What is done with these stands in texts of its own (`holders`);
 //! - `master` has a recovery version, how many commit proxies there are, and how often each asks:
 //! whether all answers are fresh.
 
@@ -15,34 +15,27 @@ mod master;
 mod rows;
 mod threads;
 
-use crate::audits::words::record;
-use fdb_checks::{CaseError, Line, Player, plays};
+use crate::audits::words::{plain, record};
+use fdb_checks::{CaseError, Line, Player};
 use fdb_history::Record;
 use fdb_live::{Live, LiveError, LiveRecord, Opened};
-use holders::Holders;
+use holders::{Holders, play};
 use std::alloc::Global;
 use std::marker::Brand;
 use std::sync::Wait;
 use std::test::Fail;
 use std::thread::Threads;
 
-/// What opens live records, and the text that is played on each.
+/// What opens live records and masters.
 #[derive(Drop)]
 pub(crate) struct Opener<'a, R> {
     rt: &'a R,
     alloc: Global,
-    text: &'a str,
 }
 
-impl<'a, R: Threads + Wait + Sync> Opener<'a, R> {
-    /// Nothing is played on what it opens.
+impl<'a, R: Wait> Opener<'a, R> {
     pub(crate) fn new(rt: &'a R, alloc: Global) -> Self {
-        Opener::playing(rt, alloc, "")
-    }
-
-    /// A text is played on what it opens.
-    pub(crate) fn playing(rt: &'a R, alloc: Global, text: &'a str) -> Self {
-        Opener { rt, alloc, text }
+        Opener { rt, alloc }
     }
 
     fn open(&self, line: &mut Line<'_>) -> Result<String, CaseError> {
@@ -51,16 +44,15 @@ impl<'a, R: Threads + Wait + Sync> Opener<'a, R> {
             "for" => line.who()?,
             _ => return Err(CaseError::Failed(line.fail("for how many?"))),
         };
-        match opened(self.rt, self.alloc, start, reporters, self.text) {
+        match opened(self.rt, self.alloc, start, reporters) {
             Ok(tokens) => Ok(tokens.to_string(self.alloc)?),
-            Err(Refused::By(LiveError::Memory)) => Err(CaseError::Memory),
-            Err(Refused::By(cause)) => Ok(cause.to_string(self.alloc)?),
-            Err(Refused::Ended(error)) => Err(error),
+            Err(LiveError::Memory) => Err(CaseError::Memory),
+            Err(cause) => Ok(cause.to_string(self.alloc)?),
         }
     }
 }
 
-impl<R: Threads + Wait + Sync> Player for Opener<'_, R> {
+impl<R: Wait> Player for Opener<'_, R> {
     fn called(&mut self, call: &str, line: &mut Line<'_>) -> Result<String, CaseError> {
         match call {
             "open" => self.open(line),
@@ -73,53 +65,63 @@ impl<R: Threads + Wait + Sync> Player for Opener<'_, R> {
     }
 }
 
-/// Why a live record was not opened, or why the text was not played to its end.
-enum Refused {
-    By(LiveError),
-    Ended(CaseError),
-}
-
-/// Opens a live record and plays a text on it. Answers how many tokens there are.
-fn opened<R: Threads + Wait + Sync>(
+/// Opens a live record. Answers how many tokens there are.
+fn opened<R: Wait>(
     rt: &R,
     alloc: Global,
     start: Record,
     reporters: u32,
-    text: &str,
-) -> Result<usize, Refused> {
+) -> Result<usize, LiveError> {
     if reporters == 0 || reporters > 64 {
-        let fail = Fail::new("no number of reporters");
-        return Err(Refused::Ended(CaseError::Failed(fail)));
+        return Ok(0);
     }
-    match LiveRecord::<Brand>::open(rt, alloc, start, reporters) {
-        Ok(opened) => played::<Brand, R>(rt, alloc, opened, text),
-        Err(cause) => Err(Refused::By(cause)),
+    parted::<Brand>(LiveRecord::<Brand>::open(rt, alloc, start, reporters)?)
+}
+
+/// How many reporters have tokens under the name of the service.
+fn parted<J: Live>(opened: Opened) -> Result<usize, LiveError>
+    requires { opened ≡ record { table = J.table; start = J.start; reporters = J.reporters } }
+{
+    let (_, _, tokens) = opened.parts::<J>()?;
+    Ok(tokens.len())
+}
+
+/// Plays a text on a live record that is opened with version 100 for so many reporters.
+pub(crate) fn played<R: Threads + Wait + Sync>(
+    rt: &R,
+    alloc: Global,
+    reporters: u32,
+    text: &str,
+) -> Result<(), CaseError> {
+    if reporters == 0 || reporters > 64 {
+        return Err(CaseError::Failed(Fail::new("no number of reporters")));
+    }
+    match LiveRecord::<Brand>::open(rt, alloc, plain(100), reporters) {
+        Ok(opened) => played_named::<Brand, R>(rt, alloc, opened, text),
+        Err(cause) => Err(refusal(cause)),
     }
 }
 
-/// Plays a text on a live record, under the name of the service.
-fn played<J: Live + Send + Sync, R: Threads + Wait + Sync>(
+/// That memory was refused, or a failure that says what else a live record was refused for.
+pub(crate) fn refusal(cause: LiveError) -> CaseError {
+    match cause {
+        LiveError::Memory => CaseError::Memory,
+        _ => CaseError::Failed(Fail::new(cause)),
+    }
+}
+
+/// The same under the name of the service.
+fn played_named<J: Live + Send + Sync, R: Threads + Wait + Sync>(
     rt: &R,
     alloc: Global,
     opened: Opened,
     text: &str,
-) -> Result<usize, Refused>
+) -> Result<(), CaseError>
     requires { opened ≡ record { table = J.table; start = J.start; reporters = J.reporters } }
 {
     let (live, first, tokens) = match opened.parts::<J>() {
         Ok(parts) => parts,
-        Err(cause) => return Err(Refused::By(cause)),
+        Err(cause) => return Err(refusal(cause)),
     };
-    let reporters = tokens.len();
-    if text.is_empty() {
-        return Ok(reporters);
-    }
-    let mut holders = match Holders::of(rt, alloc, live, first, tokens) {
-        Ok(holders) => holders,
-        Err(_) => return Err(Refused::Ended(CaseError::Memory)),
-    };
-    match plays(&mut holders, text) {
-        Ok(()) => Ok(reporters),
-        Err(error) => Err(Refused::Ended(error)),
-    }
+    play(&mut Holders::of(rt, alloc, live, first, tokens)?, text)
 }

@@ -15,7 +15,7 @@ fn shown(alloc: Global, read: &Result<NamedLog, ReadError>) -> Result<String, Al
         Err(error) => return format!(in alloc; "{error}"),
     };
     let mut text = String::new(alloc);
-    for client in 0..named.names.count() as u32 {
+    for client in 0..u32::try_from(named.names.count()).unwrap_or_default() {
         let name = named.names.name(client).unwrap_or("nobody");
         text.push_str(&format!(in alloc; "{name} ")?)?;
     }

@@ -1,8 +1,8 @@
 //! Requests for commit versions, by values worked out by hand, and two threads that ask at once.
 
-use crate::chain::{Chain, FromHundred};
+use crate::chain::{Chain, FromHundred, play_held};
 use fdb_chain::{ChainCore, ChainError, Sequencer};
-use fdb_checks::{cases, plays, plays_case, same};
+use fdb_checks::{cases, plays, plays_case, same, says};
 use fdb_history::{Ask, OpenGate};
 use std::alloc::Global;
 use std::sync::Wait;
@@ -58,13 +58,22 @@ fn requests_for_commit_versions(rt: HostRuntime) -> Result<(), Fail> {
     let mut chain = Chain::new(&rt, rt.alloc());
     plays(&mut chain, ROWS)?;
     plays(&mut chain, BOUNDS)?;
-    Ok(())
+    says(rt.alloc(), &ChainError::Memory, "want of memory")
 }
+
+/// Other proxies than the first.
+const OTHERS: &str = "
+behind 64 => ok
+ask 63 1 0 0 => 0 0 100 0 fresh; ask 1 1 0 0 => 1 100 101 0 fresh; ask 63 2 1 7 => 2 101 108 7 fresh
+ask 63 1 0 0 => the answer is not kept any more; ask 1 1 0 9 => 1 100 101 0 kept; stand => 3
+";
 
 #[test]
 fn requests_through_the_lock(rt: HostRuntime) -> Result<(), Fail> {
     let text = ROWS.replace(rt.alloc(), "new 0 100", "behind")?;
-    plays(&mut Chain::new(&rt, rt.alloc()), &text)?;
+    let mut chain = Chain::new(&rt, rt.alloc());
+    play_held(&mut chain, &text)?;
+    play_held(&mut chain, OTHERS)?;
     Ok(())
 }
 

@@ -3,9 +3,10 @@
 ghost use Rattle.std.specs.Prelude.{◌≡◌};
 
 use crate::audits::words::plain;
+use crate::live::refusal;
 use fdb_checks::{CaseError, holds, same};
 use fdb_history::OpenGate;
-use fdb_live::{Live, LiveError, LiveRecord, Opened, Seen};
+use fdb_live::{Live, LiveRecord, Opened, Seen};
 use std::alloc::Global;
 use std::marker::Brand;
 use std::sync::Wait;
@@ -22,14 +23,6 @@ pub(crate) fn gather_two<R: Wait>(
     match LiveRecord::<Brand>::open(rt, alloc, plain(100), 2) {
         Ok(opened) => gather_named::<Brand, R>(rt, opened, reported, position),
         Err(cause) => Err(refusal(cause)),
-    }
-}
-
-/// That memory was refused, or a failure that says what else a live record was refused for.
-fn refusal(cause: LiveError) -> CaseError {
-    match cause {
-        LiveError::Memory => CaseError::Memory,
-        _ => CaseError::Failed(Fail::new(cause)),
     }
 }
 

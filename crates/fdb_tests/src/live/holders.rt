@@ -14,7 +14,7 @@
 use crate::audits::words::record;
 use crate::live::held::{beside, report_held};
 use crate::live::threads::run_all;
-use fdb_checks::{CaseError, Line, Player};
+use fdb_checks::{CaseError, Line};
 use fdb_history::OpenGate;
 use fdb_live::{Ack, Live, LiveError, LiveRecord, Seen};
 use std::alloc::{AllocError, Global};
@@ -125,20 +125,51 @@ impl<'a, J: Live, R: Wait> Holders<'a, J, R> {
     }
 }
 
-impl<J: Live + Send + Sync, R: Threads + Wait + Sync> Player for Holders<'_, J, R> {
-    fn called(&mut self, call: &str, line: &mut Line<'_>) -> Result<String, CaseError> {
-        match call {
-            "read" => self.read(line.who()?),
-            "report" => self.report(line),
-            "held" => report_held(self, line),
-            "split" => self.split(line.who()?),
-            "learns" => self.learns(line.who()?, line.who()?),
-            "meets" => self.meets(line.who()?, line.who()?),
-            "at" => self.at(line.who()?),
-            "beside" => beside(self, line),
-            "threads" => run_all(self, line.number()?),
-            _ => Err(CaseError::Failed(line.fail("no call"))),
+/// Plays a text: its calls stand in lines or between semicolons.
+pub(crate) fn play<J: Live + Send + Sync, R: Threads + Wait + Sync>(
+    holders: &mut Holders<'_, J, R>,
+    text: &str,
+) -> Result<(), CaseError> {
+    for line in text.lines() {
+        play_line(holders, line)?;
+    }
+    Ok(())
+}
+
+fn play_line<J: Live + Send + Sync, R: Threads + Wait + Sync>(
+    holders: &mut Holders<'_, J, R>,
+    line: &str,
+) -> Result<(), CaseError> {
+    for text in line.split(';') {
+        let mut line = Line::new(text);
+        match line.next_word() {
+            None | Some("#") => {}
+            Some(call) => {
+                let found = called(holders, call, &mut line)?;
+                line.wants(&found)?;
+            }
         }
+    }
+    Ok(())
+}
+
+/// Makes a call, and answers the words that its line wants.
+fn called<J: Live + Send + Sync, R: Threads + Wait + Sync>(
+    holders: &mut Holders<'_, J, R>,
+    call: &str,
+    line: &mut Line<'_>,
+) -> Result<String, CaseError> {
+    match call {
+        "read" => holders.read(line.who()?),
+        "report" => holders.report(line),
+        "held" => report_held(holders, line),
+        "split" => holders.split(line.who()?),
+        "learns" => holders.learns(line.who()?, line.who()?),
+        "meets" => holders.meets(line.who()?, line.who()?),
+        "at" => holders.at(line.who()?),
+        "beside" => beside(holders, line),
+        "threads" => run_all(holders, line.number()?),
+        _ => Err(CaseError::Failed(line.fail("no call"))),
     }
 }
 

@@ -2,10 +2,9 @@
 
 ghost use Rattle.std.specs.Prelude.{◌≡◌};
 
-use crate::audits::words::plain;
 use fdb_chain::ChainError;
 use fdb_checks::CaseError;
-use fdb_history::{Ask, MAX_VERSION, OpenGate};
+use fdb_history::{Ask, MAX_VERSION, OpenGate, Record};
 use fdb_live::{Live, Master, OpenedMaster, Token};
 use std::alloc::Global;
 use std::marker::Brand;
@@ -24,7 +23,13 @@ pub(crate) fn asked<R: Wait>(
     if members == 0 || members > 64 || recovery == 0 || recovery > MAX_VERSION {
         return Err(CaseError::Failed(Fail::new("no master is of these")));
     }
-    match Master::<Brand>::open(rt, alloc, 0, recovery, plain(0), members) {
+    let start = Record {
+        version: 0,
+        locked: false,
+        metadata: None,
+        min_known: 0,
+    };
+    match Master::<Brand>::open(rt, alloc, 0, recovery, start, members) {
         Ok(opened) => asked_named::<Brand, R>(rt, alloc, opened, asks),
         Err(_) => Err(CaseError::Memory),
     }

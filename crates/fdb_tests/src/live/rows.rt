@@ -1,25 +1,13 @@
 //! Reads and reports, by values worked out by hand.
 
-use crate::live::Opener;
 use crate::live::gathered::gather_two;
+use crate::live::{Opener, played};
 use fdb_checks::{CaseError, plays, says};
 use fdb_live::LiveError;
 use std::alloc::Global;
 use std::sync::Wait;
 use std::test::Fail;
 use std::thread::Threads;
-
-/// Plays a text on a record that was opened with version 100.
-fn played<R: Threads + Wait + Sync>(
-    rt: &R,
-    alloc: Global,
-    open: &str,
-    text: &str,
-) -> Result<(), CaseError> {
-    plays(&mut Opener::playing(rt, alloc, text), open)
-}
-
-const TWO: &str = "open 100 unlocked none for 2 => 2";
 
 /// The reads and reports of two reporters and of the first token, which nobody tells anything.
 const WORKED: &str = "
@@ -67,7 +55,7 @@ const TEXTS: &[&str] = &[WORKED, CROSSWISE, MINIMUM];
 #[test]
 fn reads_and_reports(rt: HostRuntime) -> Result<(), Fail> {
     for text in TEXTS {
-        played(&rt, rt.alloc(), TWO, text)?;
+        played(&rt, rt.alloc(), 2, text)?;
     }
     Ok(())
 }
@@ -83,7 +71,7 @@ open 9223372036854775808 unlocked none min 9223372036854775809 for 2 => the vers
 
 #[test]
 fn versions_in_and_out_of_range(rt: HostRuntime) -> Result<(), Fail> {
-    played(&rt, rt.alloc(), OPENED, "")?;
+    plays(&mut Opener::new(&rt, rt.alloc()), OPENED)?;
     says(rt.alloc(), &LiveError::Memory, "want of memory")
 }
 
@@ -130,12 +118,7 @@ const WHO: [&str; 5] = [
 fn each_kind_of_report_passes_the_gate(rt: HostRuntime) -> Result<(), Fail> {
     for who in WHO {
         let text = KINDS.replace(rt.alloc(), "WHO", who)?;
-        played(
-            &rt,
-            rt.alloc(),
-            "open 100 unlocked none for 64 => 64",
-            &text,
-        )?;
+        played(&rt, rt.alloc(), 64, &text)?;
     }
     Ok(())
 }
@@ -167,7 +150,7 @@ fn calls_beside<R: Threads + Wait + Sync>(
                 _ => at,
             };
             let line = format!(in alloc; "{FIRST}beside {call} {one} {other} 300 => {wanted}")?;
-            played(rt, alloc, "open 100 unlocked none for 5 => 5", &line)?;
+            played(rt, alloc, 5, &line)?;
         }
     }
     Ok(())
@@ -183,18 +166,8 @@ fn no_call_but_a_report_waits_for_one(rt: HostRuntime) -> Result<(), Fail> {
 
 #[test]
 fn reporters_and_readers_in_threads(rt: HostRuntime) -> Result<(), Fail> {
-    played(
-        &rt,
-        rt.alloc(),
-        "open 100 unlocked none for 2 => 2",
-        "threads 1 => 2",
-    )?;
-    played(
-        &rt,
-        rt.alloc(),
-        "open 100 unlocked none for 8 => 8",
-        "threads 4 => 8",
-    )?;
+    played(&rt, rt.alloc(), 2, "threads 1 => 2")?;
+    played(&rt, rt.alloc(), 8, "threads 4 => 8")?;
     Ok(())
 }
 

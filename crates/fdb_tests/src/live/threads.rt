@@ -129,9 +129,9 @@ pub(crate) fn run_all<J: Live + Send + Sync, R: Threads + Wait + Sync>(
             worker.work(rt, live, &gate, reporters);
         },
     );
-    let numbers: u64 = (1..=reporters)
-        .map(|number| number.saturating_mul(TURNS))
-        .sum();
+    let numbers = reporters
+        .saturating_mul(reporters.saturating_add(1))
+        .saturating_mul(TURNS / 2);
     same(
         &gate.numbers.load(Ordering::SeqCst),
         &numbers,
@@ -139,7 +139,7 @@ pub(crate) fn run_all<J: Live + Send + Sync, R: Threads + Wait + Sync>(
     )?;
     holds(!gate.failed.load(Ordering::SeqCst), &"each passes alone")?;
     let raises = raises_of(&workers)?;
-    let mut first = holders.take(reporters as u32)?;
+    let mut first = holders.take(u32::try_from(reporters).unwrap_or_default())?;
     let fetched = holders.live.read(rt, &mut first);
     let greatest = TURNS.saturating_mul(reporters).saturating_add(100);
     same(&fetched.rec, &plain(greatest), &"the greatest")?;

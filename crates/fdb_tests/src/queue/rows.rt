@@ -1,7 +1,8 @@
 //! Offers, windows, throttles and how long requests wait, by values worked out by hand.
 
 use crate::queue::Queue;
-use fdb_checks::plays;
+use fdb_checks::{plays, says};
+use fdb_queue::QueueError;
 use std::test::Fail;
 
 /// Both rates hold a batch request, and a default one waits for what system requests have used up.
@@ -119,5 +120,5 @@ fn offers_windows_and_throttles(rt: HostRuntime) -> Result<(), Fail> {
     for text in TEXTS {
         plays(&mut queue, text)?;
     }
-    Ok(())
+    says(rt.alloc(), &QueueError::Memory, "want of memory")
 }
