@@ -97,7 +97,7 @@ pub(crate) fn played<R: Threads + Wait + Sync>(
         return Err(CaseError::Failed(Fail::new("no number of reporters")));
     }
     match LiveRecord::<Brand>::open(rt, alloc, plain(100), reporters) {
-        Ok(opened) => played_named::<Brand, R>(rt, alloc, opened, text),
+        Ok(opened) => played_named::<Brand, R>(rt, alloc, opened, Text { text }),
         Err(cause) => Err(refusal(cause)),
     }
 }
@@ -110,12 +110,18 @@ pub(crate) fn refusal(cause: LiveError) -> CaseError {
     }
 }
 
+/// A text that is played.
+#[derive(Clone, Copy)]
+struct Text<'a> {
+    text: &'a str,
+}
+
 /// The same under the name of the service.
 fn played_named<J: Live + Send + Sync, R: Threads + Wait + Sync>(
     rt: &R,
     alloc: Global,
     opened: Opened,
-    text: &str,
+    played: Text<'_>,
 ) -> Result<(), CaseError>
     requires { opened ≡ record { table = J.table; start = J.start; reporters = J.reporters } }
 {
@@ -123,5 +129,6 @@ fn played_named<J: Live + Send + Sync, R: Threads + Wait + Sync>(
         Ok(parts) => parts,
         Err(cause) => return Err(refusal(cause)),
     };
-    play(&mut Holders::of(rt, alloc, live, first, tokens)?, text)
+    let mut holders = Holders::of(rt, alloc, live, first, tokens)?;
+    play(&mut holders, played.text)
 }
