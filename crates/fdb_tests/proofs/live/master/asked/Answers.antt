@@ -1,5 +1,4 @@
 use Rattle.std.proofs.Common.{arith, rules}
-use Rattle.fdb_chain.specs.ChainCore.{IsEpoch}
 use Rattle.fdb_tests.proofs.live.master.asked.Goals as goal
 
 pub open-requires-clause-epoch : goal.open-requires-clause-epoch
