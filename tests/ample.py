@@ -30,7 +30,9 @@ FUNCTION = re.compile(r"^ *(pub )?fn (\w+)", re.MULTILINE)
 # What ends a function's signature.
 ENDS = re.compile(r"\n *(?:requires|ensures|ghost)\b|\{")
 DERIVED = re.compile(r"^#\[derive\(([^)]*)\)\]\npub (?:struct|enum) (\w+)", re.MULTILINE)
-LINE = re.compile(r"^([\w:]+(?:, [\w:]+)*) \| [^|\n]+ \| [\w ]+$", re.MULTILINE)
+# A line of a table, which may go on behind a backslash: calls, how they are made, and numbers.
+LINE = re.compile(r"^([\w:]+(?:, [\w:]+)*) \|(?:[^|\\\n]|\\\n)+\| [\w ]+$", re.MULTILINE)
+TABLES = re.compile(r"use fdb_checks::(?:\{[^}]*\bcases\b[^}]*\}|cases);")
 
 
 def sources(folder):
@@ -75,7 +77,7 @@ def tabled():
     """The calls in the tables of tests."""
     tables = [
         code for crate in crates() for code in sources(f"crates/{crate}/src")
-        if "use fdb_checks::cases;" in code
+        if TABLES.search(code)
     ]
     return {call for code in tables for names in LINE.findall(code) for call in names.split(", ")}
 

@@ -6,6 +6,7 @@ mod case_error;
 mod compare;
 mod holding;
 mod line;
+mod player;
 mod table;
 mod waiting;
 
@@ -13,5 +14,6 @@ pub use case_error::CaseError;
 pub use compare::{holds, same, same_text, says};
 pub use holding::HoldsFirst;
 pub use line::{Line, calls, tag};
+pub use player::{Player, bears, plays, plays_case};
 pub use table::{Case, cases};
 pub use waiting::{comes, stays_away};

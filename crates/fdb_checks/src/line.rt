@@ -1,7 +1,6 @@
-//! A line of a test's text, word by word. Where it is not what
-//! it should be, what reads it answers a failure that shows it.
+//! A line of a test's text, word by word. Where it is not what it should be, what reads it answers
+//! a failure that shows it. A word `@3` stands for the number of the line's place and 3.
 
-use crate::compare::same_text;
 use fdb_history::{Priority, Tag};
 use std::alloc::{AllocError, Global};
 use std::str::SplitWhitespace;
@@ -15,15 +14,23 @@ pub struct Line<'a> {
     words: SplitWhitespace<'a>,
     /// The next word, where it was looked at already.
     ahead: Option<&'a str>,
+    /// What `@0` stands for.
+    place: u64,
 }
 
 impl<'a> Line<'a> {
     /// A line of which no word is read.
     pub fn new(text: &'a str) -> Line<'a> {
+        Line::at(text, 0)
+    }
+
+    /// The same at a place, which is the number for `@0`.
+    pub fn at(text: &'a str, place: u64) -> Line<'a> {
         Line {
             text,
             words: text.split_whitespace(),
             ahead: None,
+            place,
         }
     }
 
@@ -45,9 +52,18 @@ impl<'a> Line<'a> {
 
     /// The next word, which has to be a whole number below 2^64.
     pub fn number(&mut self) -> Result<u64, Fail> {
-        match self.next_word().unwrap_or_default().parse() {
-            Ok(number) => Ok(number),
-            Err(_) => Err(self.fail("no number")),
+        let word = self.next_word().unwrap_or_default();
+        match self.value(word) {
+            Some(number) => Ok(number),
+            None => Err(self.fail("no number")),
+        }
+    }
+
+    /// The number that a word stands for.
+    fn value(&self, word: &str) -> Option<u64> {
+        match word.strip_prefix('@') {
+            Some(above) => self.place.checked_add(above.parse().ok()?),
+            None => word.parse().ok(),
         }
     }
 
@@ -64,7 +80,7 @@ impl<'a> Line<'a> {
 
     /// The next word as the number of a client or a proxy, which fits 32 bits.
     pub fn who(&mut self) -> Result<u32, Fail> {
-        match self.next_word().unwrap_or_default().parse() {
+        match u32::try_from(self.number()?) {
             Ok(who) => Ok(who),
             Err(_) => Err(self.fail("no client's number")),
         }
@@ -90,17 +106,37 @@ impl<'a> Line<'a> {
         }
     }
 
-    /// Compares what was found with what the line wants behind its `=>`.
+    /// Compares what was found, word by word, with what the line wants behind its `=>`. A line
+    /// without an arrow wants nothing.
     pub fn wants(&self, found: &str) -> Result<(), Fail> {
-        match self.text.split_once("=>") {
-            Some((_, wanted)) => same_text(found, wanted.trim(), self.text),
-            None => Err(self.fail("no arrow")),
+        let wanted = self.text.split_once("=>").map_or("", |parts| parts.1);
+        let mut words = wanted.split_whitespace();
+        for word in found.split_whitespace() {
+            if !self.stands_for(words.next().unwrap_or_default(), word) {
+                return Err(self.fail(found));
+            }
+        }
+        match words.next() {
+            None => Ok(()),
+            Some(_) => Err(self.fail(found)),
         }
     }
 
-    /// A failure for this reason, which shows the line.
+    /// Whether a word is another one, or stands for its number.
+    fn stands_for(&self, wanted: &str, word: &str) -> bool {
+        if !wanted.starts_with('@') {
+            return word == wanted;
+        }
+        match (self.value(wanted), word.parse::<u64>()) {
+            (Some(number), Ok(found)) => number == found,
+            _ => false,
+        }
+    }
+
+    /// A failure for this reason, which shows the line and its place.
     pub fn fail(&self, why: &str) -> Fail {
-        Fail::new(format_args!("{why}: {}", self.text))
+        let Line { text, place, .. } = self;
+        Fail::new(format_args!("{why}: {text} at {place}"))
     }
 }
 

@@ -1,102 +1,141 @@
 //! Calls with ample memory, none of which says that memory ran out. A contract may refuse for
 //! memory anywhere, so that nothing but a test shows that a call succeeds.
 //!
-//! Each line of a table has the calls that may be refused memory, what there is of something or how
-//! great it is, and the numbers of that at which the calls are to succeed and to be right. Where
-//! something is added one after another, a call is made at each number below the last one, too.
+//! Each line of a table has the calls that may be refused memory, lines in which they are made, as
+//! in the tests of their crates, and the numbers at which they are to succeed: `@0` stands for the
+//! number. What follows a star is done at each place below it, where `@0` stands for the place.
 
-mod audits;
-mod chains;
-mod lists;
-mod queues;
-mod throttles;
-mod windows;
-
-use fdb_checks::cases;
+use crate::audits::Audits;
+use crate::chain::Chain;
+use crate::lists::Lists;
+use crate::live::Opener;
+use crate::queue::Queue;
+use fdb_checks::{cases, plays_case};
 use std::test::Fail;
 
 /// Where `fdb_history` allocates beside the audit: lists, their copies, and the replies that are
 /// kept.
 const LISTS: &str = "
-Sequence::push | items | 65538
-Sequence::clone | items | 0 few many
-GrvOpts::clone | tags | 0 few many
-GrvOpts::clone | bytes of a tag | 0 few 15 16 17 many
-TagLimit::clone | bytes of a tag | 0 few 15 16 17 many
-Replies::of_each | commit proxies | 0 few 63 65 many
-Replies::keep | answers, none of which is processed | 65538
-Replies::keep | answers, of which the last is not processed | 65538
-Replies::keep_among | answers of one commit proxy | 65538
-Replies::keep_among | commit proxies | few 63 65 many
+Sequence::push, Sequence::clone | *push @0;list => @0 | 0 few many
+GrvOpts::clone | *tag 1;opts => @0 | 0 few many
+GrvOpts::clone | tag @0;opts => 1 | 0 few 15 16 17 many
+TagLimit::clone | limit @0 => @0 | 0 few 15 16 17 many
+Replies::of_each, Replies::keep_among | of_each @0;*keep @0 1 0;*kept @0 1 => @0 | 0 few 63 65 many
+Replies::keep_among | of_each 1;*keep 0 @1 @0,kept 0 @1 => @0 | 65538
+Replies::keep | of_each 1;*keep_own @0 0;*kept 0 @1 => @0 | 65538
+Replies::keep | of_each 1;*keep_own @0 @0,kept 0 @1 => @0 | 65538
 ";
 
-/// The audit, which finds an event for each read and each report.
+/// The audit, which finds an event for each read and each report: logs, reads, limits of a read,
+/// raises by one client and by several, raises of the minimum, repeats, tells and refusals.
 const AUDITS: &str = "
-audit, history_of | logs | 0 few 65 many
-audit, history_of | reads of one client | 0 few many
-audit, history_of | limits of a read | 0 few many
-audit, history_of | raises by one client | 0 few many
-audit, history_of | raises of the minimum | 0 few many
-audit, history_of | clients that raise | 0 few 65 many
-audit, history_of | repeats of a request | 0 few many
-audit, history_of | tells | 0 few many
-audit, history_of | refused reports | 0 few many
-audit, history_of | a start with a minimum as great | 0 few many 9223372036854775807
-audit, history_of | a start with a minimum of 0 | 0 few many 9223372036854775807
+audit, history_of | *log,reads 0 0 100;events => @0 again | 0 few 65 many
+audit, history_of | log;*reads 0 0 100;events => @0 again | 0 few many
+audit, history_of | log;limited 0 0 100 @0;events => 1 again | 0 few many
+audit, history_of | log;*entry @0 0 @1 0 @100 @101 0 fresh,draws @0 @0 0 @1 0 @100 @101 0 fresh,\
+raises @0 @1 @1 @101;events => @0 again | 0 few many
+audit, history_of | start 1000000 unlocked none;entry 0 0 1 0 99 1000000 0 fresh;log;\
+draws 0 0 0 1 0 99 1000000 0 fresh;*min_raises @0 @1 1 1000000 min @1;events => @0 again \
+| 0 few many
+audit, history_of | *log,entry @0 @0 1 0 @100 @101 0 fresh,draws 0 @0 @0 1 0 @100 @101 0 fresh,\
+raises 0 @1 1 @101;events => @0 again | 0 few 65 many
+audit, history_of | log;entry 0 0 1 0 99 100 0 fresh;draws 0 0 0 1 0 99 100 0 fresh;\
+*draws 0 0 0 1 0 99 100 0 kept;events => 0 again | 0 few many
+audit, history_of | log;*tells 0 1;events => 0 again | 0 few many
+audit, history_of | log;*reports @1 NotIssued;events => 0 again | 0 few many
+audit, history_of | start @0 unlocked none min @0;log;reads 0 0 @0 min @0;events => 1 again \
+| 0 few many 9223372036854775807
+audit, history_of | start @0 unlocked none;log;reads 0 0 @0;events => 1 again \
+| 0 few many 9223372036854775807
 ";
 
 /// `fdb_chain`: new chains, and requests for versions, alone and behind the sequencer's lock.
 const CHAINS: &str = "
-ChainCore::new | commit proxies | 1 2 5 6 63 64
-ChainCore::new, ChainCore::ask | a recovery version | few many 9223372036854775807
-ChainCore::ask | answers of one commit proxy | 65538
-ChainCore::ask | answers of 64 commit proxies | 65538
-ChainCore::ask | a moment | 0 few many 5000000 5000001 18446744073709551615
-Sequencer::ask | answers of one commit proxy | 65538
-Sequencer::ask | answers of 64 commit proxies | 65538
+ChainCore::new | new 99 100 @0 => ok;round 1 @0 => fresh;stand => @0 | 1 2 5 6 63 64
+ChainCore::new, ChainCore::ask | new 0 @0 64 => ok;ask 63 1 0 0 => 0 0 @0 0 fresh \
+| few many 9223372036854775807
+ChainCore::ask | new 99 100 1 => ok;*ask 0 @1 @0 0 => @0 @99 @100 0 fresh;stand => @0 | 65538
+ChainCore::ask | new 99 100 64 => ok;*round @1 64 => fresh | 1025
+ChainCore::ask | new 0 100 1 => ok;round 1 1 => fresh;ask 0 2 18446744073709551615 @0 \
+=> 1 100 @100 @0 fresh | few many 5000000
+ChainCore::ask | new 0 100 1 => ok;round 1 1 => fresh;ask 0 2 18446744073709551615 @0 \
+=> 1 100 5000100 @0 fresh | 5000001 18446744073709551615
+Sequencer::ask | behind 1 => ok;*round @1 1 => fresh;stand => @0 | 65538
+Sequencer::ask | behind 64 => ok;*round @1 64 => fresh | 1025
 ";
 
-/// `fdb_queue`: requests that are let in up to the greatest room, and those that they push out.
+/// `fdb_queue`: requests that push others out, counts, limits and windows.
 const QUEUES: &str = "
-GrvQueue::offer | system requests that wait | 100000
-GrvQueue::offer | default requests that wait | 100000
-GrvQueue::offer | batch requests that wait | 100000
-GrvQueue::offer | default requests that are pushed out | few many 99999 100000
-GrvQueue::offer | batch requests that are pushed out | few many 99999 100000
-GrvQueue::offer | a count | few many 99999 100000
-GrvQueue::offer | a batch limit | few many 99999 100000
+GrvQueue::offer | new 1 1 @0 => ok;*offer default 1 @0 => in;*offer system 1 @0 => out @0 \
+| few many 99999 100000
+GrvQueue::offer | new 1 1 @0 => ok;*offer batch 1 @0 => in;*offer default 1 @0 => out @0 \
+| few many 99999 100000
+GrvQueue::offer | new 1 @0 1 => ok;offer batch 1 0 => in | few many 99999 100000
+GrvQueue::window | new 100000 100000 100000 => ok;*offer batch 1 0 => in,offer default 1 0 => in,\
+offer system 1 0 => in;starts 1 => 10000 | 3334 10000 10001 33333
+GrvQueue::window | new 1 1 1 => ok;*offer system 1 @0 => in,starts 1 => 1 | 65538
+GrvQueue::window | new 1 1 1 => ok;offer default 1 0 => in;starts @0 => 1 \
+| few many 9999999 10000000
 ";
 
-/// `fdb_queue`: windows, each of which starts at most 10,000 requests.
-const WINDOWS: &str = "
-GrvQueue::window | system requests that wait | few 9999 10000 10001 20000 20001 many 99999 100000
-GrvQueue::window | default requests that wait | few 9999 10000 10001 20000 20001 many 99999 100000
-GrvQueue::window | batch requests that wait | few 9999 10000 10001 20000 20001 many 99999 100000
-GrvQueue::window | requests of each priority | few 3333 3334 10000 10001 33333
-GrvQueue::window | a count | few many 99999 100000
-GrvQueue::window | windows | 65538
-GrvQueue::window | a time | few many 9999999 10000000
+/// The same at each priority: requests that are let in and start, at most 10,000 in one window, and
+/// throttles that a queue is made with or is given later, and the limits by them.
+const PRIORITIES: &str = "
+GrvQueue::offer, GrvQueue::window | new 100000 100000 100000 => ok;*offer PRIORITY 1 @0 => in;\
+starts 1 => @0 | few 9999 10000
+GrvQueue::offer, GrvQueue::window | new 100000 100000 100000 => ok;*offer PRIORITY 1 @0 => in;\
+starts 1 => 10000 | 10001 20000 20001 many 99999 100000
+GrvQueue::offer, GrvQueue::window | new 100000 100000 1 => ok;offer PRIORITY @0 0 => in;\
+starts 1 => 1 | few many 99999 100000
+GrvQueue::with_throttles | *with PRIORITY nr @0 @0 9;made 1 1 1 => ok;\
+*tag nr @0,limits PRIORITY 8 => 1 @0 9 | 0 few 999 1000 1001 many
+GrvQueue::with_throttles | *with PRIORITY t @1 9;made 1 1 1 => ok;tag t;limits PRIORITY 8 => 1 @0 9 \
+| few 999 1000 1001 many
+GrvQueue::with_throttles | with PRIORITY t 5 9;made @0 1 1 => ok;tag t;limits PRIORITY 8 => 1 5 9 \
+| few many 99999 100000
+GrvQueue::with_throttles | with PRIORITY t 5 9;made 1 @0 1 => ok;tag t;limits PRIORITY 8 => 1 5 9 \
+| 0 few many 99999 100000
+GrvQueue::with_throttles | with PRIORITY t 5 9;made 1 1 @0 => ok;tag t;limits PRIORITY 8 => 1 5 9 \
+| few many 99999 100000
+GrvQueue::set_throttle | new 1 1 1 => ok;*throttle PRIORITY nr @0 @0 9 => ok;\
+*tag nr @0,limits PRIORITY 8 => 1 @0 9 | 65538
+GrvQueue::set_throttle | new 1 1 1 => ok;*throttle PRIORITY t @0 9 => ok,tag t,\
+limits PRIORITY 8 => 1 @0 9 | 65538
+GrvQueue::set_throttle, GrvQueue::with_throttles, Throttle::clone | with PRIORITY of @0 5 9;\
+copy => same;made 1 1 1 => ok;tag of @0;limits PRIORITY 8 => 1 5 9;\
+throttle PRIORITY of @0 6 8 => ok;tag of @0;limits PRIORITY 7 => 1 6 8 | 0 1 2 5 6 15 16
+GrvQueue::set_throttle, GrvQueue::with_throttles | with PRIORITY t @0 9;made 1 1 1 => ok;tag t;\
+limits PRIORITY 8 => 1 @0 9;throttle PRIORITY u @0 9 => ok;tag u;limits PRIORITY 8 => 1 @0 9 \
+| 0 few many 18446744073709551615
+GrvQueue::throttles | with PRIORITY t 5 9;made 1 1 1 => ok;*tag t;limits PRIORITY 8 => @0 5 9 \
+| few many
+GrvQueue::throttles | with PRIORITY t 5 @1;made 1 1 1 => ok;tag t;limits PRIORITY @0 => 1 5 @1 \
+| 0 few many 18446744073709551614
 ";
 
-/// `fdb_queue`: throttles that a queue is made with or is given later, and the limits by them.
-const THROTTLES: &str = "
-GrvQueue::with_throttles | throttles | 0 few 999 1000 1001 many
-GrvQueue::with_throttles | throttles of one tag | 0 few 999 1000 1001 many
-GrvQueue::with_throttles | a normal limit | few many 99999 100000
-GrvQueue::with_throttles | a batch limit | 0 few many 99999 100000
-GrvQueue::with_throttles | a capacity | few many 99999 100000
-GrvQueue::set_throttle | throttles | 65538
-GrvQueue::set_throttle | throttles of one tag | 65538
-GrvQueue::set_throttle, GrvQueue::with_throttles, Throttle::clone | bytes of a tag | 0 1 2 5 6 15 16
-GrvQueue::set_throttle, GrvQueue::with_throttles | a rate | 0 few many 18446744073709551615
-GrvQueue::throttles | tags, each with a limit | 0 few many
-GrvQueue::throttles | a moment before the last one | 0 few many 18446744073709551614
+/// `fdb_live`: live records that are opened, for up to 64 reporters and with versions up to the
+/// greatest, and masters that are opened, and asked with the tokens of up to 64 commit proxies.
+const RECORDS: &str = "
+LiveRecord::open, Opened::parts | open 100 unlocked none for @0 => @0 | 1 2 5 6 63 64
+LiveRecord::open, Opened::parts | open @0 unlocked none min @0 for 64 => 64 \
+| 0 few many 9223372036854775807
+LiveRecord::open, Opened::parts | open @1 unlocked none min @0 for 64 => 64 \
+| few many 9223372036854775806
+LiveRecord::open, Opened::parts | open @0 unlocked none for 64 => 64 \
+| 0 few many 9223372036854775807
+LiveRecord::open, Opened::parts | open @0 locked 0102030405060708090a for 64 => 64 \
+| 0 few many 9223372036854775807
+Master::open, OpenedMaster::parts, Master::ask | master 100 @0 1 => fresh | 1 2 5 6 63 64
+Master::open, OpenedMaster::parts, Master::ask | master @0 1 1 => fresh \
+| few many 9223372036854775807
+Master::ask | master 100 1 @0 => fresh | 0 few many
+Master::ask | master 100 64 @0 => fresh | 0 few
 ";
 
 #[test]
 fn lists_have_memory(rt: HostRuntime) -> Result<(), Fail> {
     for case in cases(rt.alloc(), LISTS)? {
-        case.came_to(lists::called(rt.alloc(), case.calls, case.number))?;
+        plays_case(&mut Lists::new(rt.alloc()), case)?;
     }
     Ok(())
 }
@@ -104,7 +143,7 @@ fn lists_have_memory(rt: HostRuntime) -> Result<(), Fail> {
 #[test]
 fn audits_have_memory(rt: HostRuntime) -> Result<(), Fail> {
     for case in cases(rt.alloc(), AUDITS)? {
-        case.came_to(audits::called(rt.alloc(), case.of, case.number))?;
+        plays_case(&mut Audits::new(rt.alloc()), case)?;
     }
     Ok(())
 }
@@ -112,8 +151,7 @@ fn audits_have_memory(rt: HostRuntime) -> Result<(), Fail> {
 #[test]
 fn chains_have_memory(rt: HostRuntime) -> Result<(), Fail> {
     for case in cases(rt.alloc(), CHAINS)? {
-        let found = chains::called(&rt, rt.alloc(), case.calls, case.number);
-        case.came_to(found)?;
+        plays_case(&mut Chain::new(&rt, rt.alloc()), case)?;
     }
     Ok(())
 }
@@ -121,23 +159,26 @@ fn chains_have_memory(rt: HostRuntime) -> Result<(), Fail> {
 #[test]
 fn queues_have_memory(rt: HostRuntime) -> Result<(), Fail> {
     for case in cases(rt.alloc(), QUEUES)? {
-        case.came_to(queues::called(rt.alloc(), case.calls, case.number))?;
+        plays_case(&mut Queue::new(rt.alloc())?, case)?;
     }
     Ok(())
 }
 
 #[test]
-fn windows_have_memory(rt: HostRuntime) -> Result<(), Fail> {
-    for case in cases(rt.alloc(), WINDOWS)? {
-        case.came_to(windows::called(rt.alloc(), case.calls, case.number))?;
+fn queues_have_memory_at_each_priority(rt: HostRuntime) -> Result<(), Fail> {
+    for priority in ["system", "default", "batch"] {
+        let table = PRIORITIES.replace(rt.alloc(), "PRIORITY", priority)?;
+        for case in cases(rt.alloc(), &table)? {
+            plays_case(&mut Queue::new(rt.alloc())?, case)?;
+        }
     }
     Ok(())
 }
 
 #[test]
-fn throttles_have_memory(rt: HostRuntime) -> Result<(), Fail> {
-    for case in cases(rt.alloc(), THROTTLES)? {
-        case.came_to(throttles::called(rt.alloc(), case.calls, case.number))?;
+fn records_have_memory(rt: HostRuntime) -> Result<(), Fail> {
+    for case in cases(rt.alloc(), RECORDS)? {
+        plays_case(&mut Opener::new(&rt, rt.alloc()), case)?;
     }
     Ok(())
 }

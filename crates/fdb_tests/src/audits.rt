@@ -1,165 +1,131 @@
-//! Audits. A text has items, which stand in lines of their own or between semicolons.
+//! Audits. Each line of a text adds something that is to be audited, or looks at it:
 //!
-//! `entry` is one of the chain (its ordinal, proxy, number, what was processed, the version
+//! - `start` has the record that the register begins with, which is 100 else;
+//! - `entry` is one of the chain (its ordinal, proxy, number, what was processed, the version
 //! before and its own, the moment, and `fresh` or `kept`), and `log` begins the log of the next
-//! client. `=>` audits all that, wants the fault that follows, or `ok`, and ends the case; before
-//! it, `event` wants an event of the history, or none at that place. Calls go to the last log:
-//!
-//! - `call` has the client's position before and after, the input and the answer;
-//! - `reads` has these positions and the version of a plain record that was read;
-//! - `raises`, `min_raises` and `stays` have these positions, and the number and the version of a
-//! report. Behind a version or a record may stand `min` and the minimum known committed version;
-//! - `draws` has the client's position, and the entry that
-//! was answered to a request with its members.
+//! client, to which the calls go from here on. They are told by their words (`words`);
+//! - `audit` wants a fault, or `ok`, and forgets all, as `clear` does;
+//! - `event` has a place in the history, and `events` how many there are and whether `history_of`
+//! finds the same, and `register` what the register is after them.
 
-mod faults;
-mod histories;
-mod strays;
-mod versions;
 pub mod words;
 
-use fdb_checks::{CaseError, Line, holds, same_text};
-use fdb_history::{AuditFault, ClientLog, Event, History, Issued, Record, Sequence, audit};
+use fdb_checks::{CaseError, Line, Player, plays};
+use fdb_history::{
+    AuditFault, ClientLog, Event, History, Issued, Record, Sequence, audit, history_of,
+    register_after,
+};
 use std::alloc::{AllocError, Global};
 use std::test::Fail;
 
-/// The record that every audit of the tests begins with.
-const START: Record = Record {
-    version: 100,
-    locked: false,
-    metadata: None,
-    min_known: 0,
-};
-
 /// A chain, and the logs to be audited with it, client 0's first.
 #[derive(Drop)]
-pub(crate) struct Case {
-    pub(crate) chain: Vec<Issued>,
-    pub(crate) logs: Vec<ClientLog>,
-}
-
-/// Plays the cases of a text, each of which begins with the same items.
-fn audits(alloc: Global, begin: &str, text: &str) -> Result<(), Fail> {
-    let mut case = begun(alloc, begin)?;
-    for line in text.lines() {
-        if plays(alloc, &mut case, line)? {
-            case = begun(alloc, begin)?;
-        }
-    }
-    holds(text.contains("=>"), &"a text with a case")
-}
-
-/// Plays the cases of some texts, which begin with nothing.
-fn audits_each(alloc: Global, texts: &[&str]) -> Result<(), Fail> {
-    for text in texts {
-        audits(alloc, "", text)?;
-    }
-    Ok(())
-}
-
-/// A case of these items, of which none ends it.
-pub(crate) fn begun(alloc: Global, begin: &str) -> Result<Case, CaseError> {
-    let mut case = Case {
-        chain: Vec::new(alloc),
-        logs: Vec::new(alloc),
-    };
-    for line in begin.lines() {
-        add_each(alloc, &mut case, line)?;
-    }
-    Ok(case)
-}
-
-/// Adds the items of a line, which stand between semicolons, to a case.
-fn add_each(alloc: Global, case: &mut Case, line: &str) -> Result<(), CaseError> {
-    for item in line.split(';') {
-        add(alloc, case, item)?;
-    }
-    Ok(())
-}
-
-/// Adds an item to a case, but for an empty one and for one that begins with `#`.
-fn add(alloc: Global, case: &mut Case, item: &str) -> Result<(), CaseError> {
-    let mut line = Line::new(item);
-    match line.next_word() {
-        None | Some("#") => {}
-        Some("entry") => case.chain.push(words::issued(&mut line)?)?,
-        Some("log") => case.logs.push(ClientLog {
-            calls: Sequence::new(alloc),
-        })?,
-        Some(kind) => add_call(alloc, case, kind, &mut line)?,
-    }
-    Ok(())
-}
-
-/// Adds a call to the last log, and fails where none has begun.
-fn add_call(
+pub(crate) struct Audits {
     alloc: Global,
-    case: &mut Case,
-    kind: &str,
-    line: &mut Line<'_>,
-) -> Result<(), CaseError> {
-    let Some(log) = case.logs.last_mut() else {
-        return Err(CaseError::Failed(line.fail("no log")));
-    };
-    log.calls.push(words::call(alloc, kind, line)?)?;
-    Ok(())
+    start: Record,
+    chain: Vec<Issued>,
+    logs: Vec<ClientLog>,
 }
 
-/// Plays the items of a line, and says whether it ended a case.
-fn plays(alloc: Global, case: &mut Case, text: &str) -> Result<bool, Fail> {
-    let mut ended = false;
-    for item in text.split(';') {
-        ended |= plays_item(alloc, case, text, item)?;
-    }
-    Ok(ended)
-}
-
-/// Plays an item of a line, and says whether it ends a case.
-fn plays_item(alloc: Global, case: &mut Case, text: &str, item: &str) -> Result<bool, Fail> {
-    let mut line = Line::new(item);
-    match line.next_word() {
-        Some("=>") => {
-            finds(alloc, case, text, item)?;
-            return Ok(true);
+impl Audits {
+    /// Nothing to be audited yet.
+    pub(crate) fn new(alloc: Global) -> Audits {
+        Audits {
+            alloc,
+            start: words::plain(100),
+            chain: Vec::new(alloc),
+            logs: Vec::new(alloc),
         }
-        Some("event") => explains(alloc, &audited(alloc, case)??, &mut line)?,
-        _ => add(alloc, case, item)?,
     }
-    Ok(false)
-}
 
-/// The audit of a case, which may have no more logs than an audit takes.
-pub(crate) fn audited(alloc: Global, case: &Case) -> Result<Result<History, AuditFault>, Fail> {
-    if case.logs.len() > 64 {
-        return Err(Fail::new("more logs than an audit takes"));
+    /// The history, or the fault. There may be no more logs than an audit takes.
+    fn audited(&self) -> Result<Result<History, AuditFault>, CaseError> {
+        if self.logs.len() > 100_000 {
+            return Err(CaseError::Failed(Fail::new("more logs than an audit takes")));
+        }
+        match audit(self.alloc, self.start, &self.chain, &self.logs) {
+            Err(AuditFault::Memory) => Err(CaseError::Memory),
+            found => Ok(found),
+        }
     }
-    Ok(audit(alloc, START, &case.chain, &case.logs))
-}
 
-/// Audits a case, and compares the fault with the item that ends the case.
-fn finds(alloc: Global, case: &Case, text: &str, item: &str) -> Result<(), Fail> {
-    let found = found_text(alloc, audited(alloc, case)?.err())?;
-    same_text(&found, item.trim(), text)
-}
+    /// The history of logs that have one.
+    fn history(&self) -> Result<History, CaseError> {
+        match self.audited()? {
+            Ok(history) => Ok(history),
+            Err(fault) => Err(CaseError::Failed(Fail::new(fault))),
+        }
+    }
 
-/// What an audit finds, as the item that ends a case.
-fn found_text(alloc: Global, found: Option<AuditFault>) -> Result<String, AllocError> {
-    match found {
-        None => String::from_str(alloc, "=> ok"),
-        Some(fault) => format!(in alloc; "=> {fault}"),
+    fn fault(&mut self) -> Result<String, CaseError> {
+        let found = self.audited()?.err();
+        *self = Audits::new(self.alloc);
+        match found {
+            None => Ok(String::from_str(self.alloc, "ok")?),
+            Some(fault) => Ok(fault.to_string(self.alloc)?),
+        }
+    }
+
+    /// How many events there are, and whether they are found again where no fault is looked for.
+    fn events(&self) -> Result<String, CaseError> {
+        let history = self.history()?;
+        let again = found_again(self.alloc, &self.logs)?;
+        let word = if again.events == history.events {
+            "again"
+        } else {
+            "others"
+        };
+        Ok(format!(in self.alloc; "{} {word}", history.events.len())?)
+    }
+
+    fn event(&self, place: u64) -> Result<String, CaseError> {
+        match self.history()?.events.as_slice().get(place as usize) {
+            None => Ok(String::from_str(self.alloc, "none")?),
+            Some(event) => Ok(event_text(self.alloc, event)?),
+        }
+    }
+
+    fn register(&self) -> Result<String, CaseError> {
+        let history = self.history()?;
+        let after = register_after(self.start, history.events.as_slice());
+        Ok(after.to_string(self.alloc)?)
+    }
+
+    /// Adds a call to the last log.
+    fn add(&mut self, kind: &str, line: &mut Line<'_>) -> Result<(), CaseError> {
+        let call = words::call(self.alloc, kind, line)?;
+        match self.logs.last_mut() {
+            Some(log) => Ok(log.calls.push(call)?),
+            None => Err(CaseError::Failed(line.fail("no log"))),
+        }
     }
 }
 
-/// Compares the event at the place that an item names, or `none` where the history has fewer.
-fn explains(alloc: Global, history: &History, line: &mut Line<'_>) -> Result<(), Fail> {
-    let place = line.number()?;
-    let event = history.events.as_slice().get(place as usize);
-    let shown = match event {
-        None => String::from_str(alloc, "none")?,
-        Some(event) => event_text(alloc, event)?,
-    };
-    let wanted = format!(in alloc; "event {place} {shown}")?;
-    same_text(line.text.trim(), &wanted, "an event")
+impl Player for Audits {
+    fn called(&mut self, call: &str, line: &mut Line<'_>) -> Result<String, CaseError> {
+        match call {
+            "start" => self.start = words::record(line)?,
+            "entry" => self.chain.push(words::issued(line)?)?,
+            "log" => self.logs.push(ClientLog {
+                calls: Sequence::new(self.alloc),
+            })?,
+            "clear" => *self = Audits::new(self.alloc),
+            "audit" => return self.fault(),
+            "events" => return self.events(),
+            "event" => return self.event(line.number()?),
+            "register" => return self.register(),
+            kind => self.add(kind, line)?,
+        }
+        Ok(String::new(self.alloc))
+    }
+}
+
+/// The history of logs, of which there may be no more than an audit takes.
+fn found_again(alloc: Global, logs: &[ClientLog]) -> Result<History, CaseError> {
+    if logs.len() > 100_000 {
+        return Err(CaseError::Failed(Fail::new("more logs than an audit takes")));
+    }
+    Ok(history_of(alloc, logs)?)
 }
 
 fn event_text(alloc: Global, event: &Event) -> Result<String, AllocError> {
@@ -171,14 +137,94 @@ fn event_text(alloc: Global, event: &Event) -> Result<String, AllocError> {
             rec,
             raised,
             changed,
-        } => {
-            let change = match (*raised, *changed) {
-                (true, true) => "raises",
-                (false, true) => "min_raises",
-                (false, false) => "stays",
-                (true, false) => "raises in place",
-            };
-            format!(in alloc; "report {client} {call} {rec} {change}")
-        }
+        } => format!(in alloc; "report {client} {call} {rec} {raised} {changed}"),
     }
+}
+
+/// Each event of logs that have a history, and none behind the last.
+const HISTORIES: &str = "
+event 0 => none; events => 0 again; audit => ok
+# one client
+entry 0 0 1 0 0 100 100 fresh; entry 1 0 2 0 100 2100 2100 fresh
+log; reads 0 0 100; draws 0 0 0 1 0 0 100 100 fresh; stays 0 0 1 100
+draws 0 1 0 2 0 100 2100 2100 fresh; raises 0 1 2 2100; reads 1 1 2100
+event 0 => read 0 0 100 unlocked none
+event 1 => report 0 2 100 unlocked none false false
+event 2 => report 0 4 2100 unlocked none true true
+event 3 => read 0 5 2100 unlocked none
+event 4 => none
+events => 4 again; register => 2100 unlocked none; audit => ok
+# client 1 raises twice, client 0 reads before, between and after, and client 2 has a report that
+# raises nothing
+entry 0 1 1 0 0 100 100 fresh; entry 1 1 2 0 100 200 200 fresh; entry 2 2 1 0 200 250 250 fresh
+entry 3 1 3 0 250 300 300 fresh
+log; reads 0 0 100; reads 0 2 300; reads 2 2 300
+log; draws 0 0 1 1 0 0 100 100 fresh; draws 0 1 1 2 0 100 200 200 fresh
+draws 0 3 1 3 0 250 300 300 fresh; raises 0 1 2 200; raises 1 2 3 300
+log; reads 0 1 200; draws 1 2 2 1 0 200 250 250 fresh; stays 1 2 1 250
+event 0 => read 0 0 100 unlocked none
+event 1 => report 1 3 200 unlocked none true true
+event 2 => read 2 0 200 unlocked none
+event 3 => report 1 4 300 unlocked none true true
+event 4 => read 0 1 300 unlocked none
+event 5 => read 0 2 300 unlocked none
+event 6 => report 2 2 250 unlocked none false false
+event 7 => none
+audit => ok
+# client 1 raises the minimum alone, then client 0 the version, and client 1 the minimum again
+entry 0 1 1 0 0 100 100 fresh; entry 1 0 1 0 100 200 200 fresh
+log; draws 0 1 0 1 0 100 200 200 fresh; reads 0 1 100 min 50; raises 1 2 1 200 min 20
+reads 2 3 200 min 60
+log; draws 0 0 1 1 0 0 100 100 fresh; min_raises 0 1 1 100 min 50; min_raises 1 3 1 100 min 60
+event 0 => report 1 1 100 unlocked none min 50 false true
+event 2 => report 0 2 200 unlocked none min 20 true true
+event 4 => read 0 3 200 unlocked none min 60
+events => 5 again; register => 200 unlocked none min 60; audit => ok
+";
+
+/// A fault of each kind, the first of two kinds, and clients and positions that are great.
+const FAULTS: &str = "
+log; reads 0 1 100; reads 0 0 100; audit => Order 0 1
+log; raises 0 0 1 200; audit => Order 0 0
+log; reads 0 0 100; log; reads 18446744073709551615 0 100; audit => Order 1 0
+log; raises 0 1 1 200; log; raises 0 1 1 200; audit => Clash 1
+log; raises 0 18446744073709551615 1 200; log; raises 0 1 1 200
+log; raises 0 18446744073709551615 1 200; audit => Clash 18446744073709551615
+log; raises 0 2 1 200; log; reads 0 2 200; audit => Gap 1
+log; raises 0 1 1 200; log; reads 0 18446744073709551615 100; audit => Gap 2
+log; reads 0 0 300; audit => Wrong 0 0
+log; raises 0 1 1 100; audit => Wrong 0 0
+log; raises 0 1 1 200; reads 1 1 100; audit => Wrong 0 1
+log; stays 0 0 1 100 min 1; audit => Wrong 0 0
+log; reads 0 0 99; asks 1 Early 2; audit => Wrong 0 0
+# client 0 raises with a version that was issued to client 1
+entry 0 1 1 0 0 100 100 fresh; entry 1 1 2 0 100 2100 2100 fresh; log; raises 0 1 1 2100
+log; draws 0 0 1 1 0 0 100 100 fresh; draws 0 1 1 2 0 100 2100 2100 fresh; audit => Stray 0 0
+log; asks 1 Early 2; audit => Stray 0 0
+log; asks 0 Forgotten; audit => ok
+log; reports 1 NotIssued; audit => ok
+log; reports 1 Stranger; audit => Stray 0 0
+log; tells 0 0; tells 0 4294967295; audit => ok
+entry 0 0 1 0 0 100 100 fresh; log; audit => Stray 0 0
+entry 0 4294967295 1 0 0 100 100 fresh; log; reads 0 0 100; log; audit => Stray 4294967295 0
+# client 0 raises the register to 2100, and client 1 asks once it has seen that, or before
+entry 0 0 1 0 0 100 100 fresh; entry 1 1 1 0 100 2050 2050 fresh; entry 2 0 2 0 2050 2100 2100 fresh
+log; draws 0 0 0 1 0 0 100 100 fresh; draws 0 2 0 2 0 2050 2100 2100 fresh; raises 0 1 2 2100
+log; reads 0 1 2100; draws 1 1 1 1 0 100 2050 2050 fresh; audit => NotAbove 1 1
+entry 0 0 1 0 0 100 100 fresh; entry 1 1 1 0 100 2050 2050 fresh; entry 2 0 2 0 2050 2100 2100 fresh
+log; draws 0 0 0 1 0 0 100 100 fresh; draws 0 2 0 2 0 2050 2100 2100 fresh; raises 0 1 2 2100
+log; reads 0 0 100; draws 0 1 1 1 0 100 2050 2050 fresh; audit => ok
+# the greatest version is 9223372036854775807, and the greatest step 5000000
+entry 0 0 1 0 0 9223372036849775807 0 fresh; log; draws 0 0 0 1 0 0 9223372036849775807 0 fresh
+asks 2 Exhausted; audit => Stray 0 1
+entry 0 0 1 0 0 9223372036849775808 0 fresh; log; draws 0 0 0 1 0 0 9223372036849775808 0 fresh
+asks 2 Exhausted; audit => ok
+";
+
+#[test]
+fn histories_and_faults(rt: HostRuntime) -> Result<(), Fail> {
+    let mut audits = Audits::new(rt.alloc());
+    plays(&mut audits, HISTORIES)?;
+    plays(&mut audits, FAULTS)?;
+    Ok(())
 }

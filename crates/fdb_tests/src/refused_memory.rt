@@ -1,11 +1,111 @@
-//! Calls that are refused memory: each of these tests passes also where any one
-//! allocation is refused. `tests/run` refuses each in turn, so they ask for little
-//! memory of their own. What refuses is asked once more, and has changed nothing before.
+//! Calls that are refused memory, and that no program makes which is itself refused each allocation
+//! in turn: each of these tests passes also where any one allocation is refused. `tests/run` refuses
+//! each, so they ask for little memory of their own.
 
-mod audits;
-mod chains;
-mod queues;
-mod records;
-mod scripts;
-mod sequencers;
-mod throttles;
+use crate::audits::Audits;
+use crate::chain::Chain;
+use crate::lists::{LISTS, Lists};
+use crate::live::gathered::gather_two;
+use crate::live::{Opener, played};
+use crate::queue::Queue;
+use fdb_checks::bears;
+use std::test::Fail;
+
+/// The first client has raised the register twice, and the second has read it and then draws a
+/// version that is above, and one that is that of the first raise.
+const AUDITS: &str = "
+clear
+entry 0 0 1 0 0 200 200 fresh; entry 1 0 2 0 200 300 300 fresh
+entry 2 1 1 0 300 350 350 fresh; entry 3 1 2 0 350 200 200 fresh
+log; draws 0 0 0 1 0 0 200 200 fresh; draws 0 1 0 2 0 200 300 300 fresh; raises 0 1 1 200
+raises 1 2 2 300
+log; reads 0 1 200; draws 1 2 1 1 0 300 350 350 fresh; draws 1 3 1 2 0 350 200 200 fresh
+audit => NotAbove 1 2
+entry 0 0 1 0 0 200 200 fresh; entry 1 0 2 0 200 300 300 fresh
+log; draws 0 0 0 1 0 0 200 200 fresh; draws 0 1 0 2 0 200 300 300 fresh; raises 0 1 1 200
+raises 1 2 2 300; log; reads 0 1 200
+event 1 => read 1 0 200 unlocked none; events => 3 again; audit => ok
+";
+
+#[test]
+fn an_audit_bears_it(rt: HostRuntime) -> Result<(), Fail> {
+    bears(&mut Audits::new(rt.alloc()), AUDITS)
+}
+
+#[test]
+fn lists_bear_it(rt: HostRuntime) -> Result<(), Fail> {
+    bears(&mut Lists::new(rt.alloc()), LISTS)
+}
+
+/// Requests behind a lock. One that is refused memory is made once more, and has drawn no version:
+/// each is one above the one before, since no time passes.
+const CHAIN: &str = "
+behind 2 => ok; patient
+ask 0 1 0 0 => 0 0 100 0 fresh; ask 0 2 1 0 => 1 100 101 0 fresh; ask 1 1 0 0 => 2 101 102 0 fresh
+ask 0 2 1 0 => 1 100 101 0 kept; ask 0 3 2 0 => 3 102 103 0 fresh; ask 0 4 3 0 => 4 103 104 0 fresh
+ask 0 5 4 0 => 5 104 105 0 fresh; ask 0 6 5 0 => 6 105 106 0 fresh; ask 0 7 6 0 => 7 106 107 0 fresh
+ask 0 8 7 0 => 8 107 108 0 fresh; ask 0 9 8 0 => 9 108 109 0 fresh; ask 1 2 0 0 => 10 109 110 0 fresh
+ask 1 1 0 0 => 2 101 102 0 kept; ask 0 8 8 0 => the answer is not kept any more; stand => 11
+";
+
+#[test]
+fn a_sequencer_bears_it(rt: HostRuntime) -> Result<(), Fail> {
+    bears(&mut Chain::new(&rt, rt.alloc()), CHAIN)
+}
+
+/// Requests of each priority, of which a window starts some, and throttles that are set, so that
+/// each list grows more than once.
+const QUEUE: &str = "
+new 3 2 6 => ok
+offer batch 1 0 => in; offer batch 1 1 => in; offer default 1 2 => in; offer default 1 3 => in
+offer system 1 4 => in; offer system 1 5 => in; offer system 1 6 => out 0; window 1 => 4 5 6 | 0 0
+lengths => 0 2 1
+throttle batch a 1 9 => ok; throttle batch b 2 9 => ok; throttle batch c 3 9 => ok
+throttle batch d 4 9 => ok; throttle batch e 5 9 => ok; throttle batch f 6 9 => ok
+throttle batch g 7 9 => ok; throttle batch a 8 9 => ok; throttle system b 9 9 => ok
+tag a; tag b; tag c; tag d; tag e; tag f; tag g; tag a; tag h; limits batch 8 => 8 8 9
+with batch a 4 9; with batch b 6 9; copy => same; made 1 1 1 => ok; tag b; limits batch 8 => 1 6 9
+";
+
+#[test]
+fn a_queue_bears_it(rt: HostRuntime) -> Result<(), Fail> {
+    bears(&mut Queue::new(rt.alloc())?, QUEUE)
+}
+
+/// Calls of two reporters on the record.
+const RECORD: &str = "
+report 0 200 unlocked none => raised at 1; split 0 => nobody at 1
+report 1 300 unlocked none => raised at 2; learns 0 3 => 0 at 1; learns 3 1 => nobody at 2
+read 2 => 300 unlocked none at 2; meets 0 1 => 0 at 1
+";
+
+#[test]
+fn a_live_record_bears_it(rt: HostRuntime) -> Result<(), Fail> {
+    if let Err(error) = played(&rt, rt.alloc(), 2, RECORD) {
+        error.was_refusal()?;
+        played(&rt, rt.alloc(), 2, RECORD)?;
+    }
+    bears(&mut Opener::new(&rt, rt.alloc()), "master 100 2 3 => fresh")
+}
+
+/// What all have seen is gathered without memory.
+#[test]
+fn gathering_bears_it(rt: HostRuntime) -> Result<(), Fail> {
+    for (reported, position) in [((200, 150), 1), ((200, 300), 2)] {
+        if let Err(error) = gather_two(&rt, rt.alloc(), reported, position) {
+            error.was_refusal()?;
+            gather_two(&rt, rt.alloc(), reported, position)?;
+        }
+    }
+    Ok(())
+}
+
+/// Passes also where every allocation is refused from one on: then the record or its tokens are not
+/// to be had, or all calls on them answer as ever.
+#[test]
+fn without_memory(rt: HostRuntime) -> Result<(), Fail> {
+    if let Err(error) = gather_two(&rt, rt.alloc(), (200, 300), 2) {
+        error.was_refusal()?;
+    }
+    Ok(())
+}

@@ -1,49 +1,78 @@
-//! Calls, their inputs and their answers, and what an audit finds, from words.
+//! Calls, by words:
+//!
+//! - `reads` has the client's position before and after, and the version that was read, and
+//! `limited` how many limits besides, of the tag `t`;
+//! - `raises`, `min_raises` and `stays` have these positions, and the number and the version of a
+//! report. Behind a version may stand `min` and the minimum known committed version;
+//! - `draws` has the client's position, and the entry that was answered to a request with its
+//! members; `asks` and `reports` a number and a refusal; `tells` a position and another client.
 
-use fdb_checks::Line;
+use crate::queue::tag_of_bytes;
+use fdb_checks::{CaseError, Line, says};
 use fdb_history::{
     AuditFault, Call, CallAnswer, GrvOpts, Input, Issued, Priority, Record, Refusal, Sequence,
+    TagLimit,
 };
 use hex::FromHex;
 use std::alloc::Global;
 use std::test::Fail;
 
 /// A call of a kind, by the rest of its words.
-pub(crate) fn call(alloc: Global, kind: &str, line: &mut Line<'_>) -> Result<Call, Fail> {
-    Ok(match kind {
-        "draws" => drawn(line)?,
-        "reads" => Call {
-            asked: line.number()?,
-            position: line.number()?,
-            input: grv(alloc, false),
-            answer: version(alloc, plain_record(line)?, false),
+pub(crate) fn call(alloc: Global, kind: &str, line: &mut Line<'_>) -> Result<Call, CaseError> {
+    match kind {
+        "reads" => read(alloc, line, false),
+        "limited" => read(alloc, line, true),
+        "raises" => Ok(reported(line, true, true)?),
+        "min_raises" => Ok(reported(line, false, true)?),
+        "stays" => Ok(reported(line, false, false)?),
+        "draws" => Ok(drawn(line)?),
+        "asks" => Ok(refused_ask(line)?),
+        "reports" => Ok(refused_report(line)?),
+        "tells" => Ok(told(line)?),
+        _ => Err(CaseError::Failed(line.fail("no item"))),
+    }
+}
+
+/// A read of a plain record at default priority.
+fn read(alloc: Global, line: &mut Line<'_>, limited: bool) -> Result<Call, CaseError> {
+    let (asked, position) = (line.number()?, line.number()?);
+    let rec = plain_record(line)?;
+    let count = if limited { line.number()? } else { 0 };
+    let opts = GrvOpts {
+        priority: Priority::Default,
+        count: 1,
+        tags: Sequence::new(alloc),
+        lock_aware: false,
+        at: 0,
+        use_min: false,
+    };
+    Ok(Call {
+        input: Input::Grv(opts),
+        asked,
+        position,
+        answer: CallAnswer::Version {
+            rec,
+            limits: limits(alloc, count)?,
+            locked_out: false,
         },
-        "raises" => reported(line, true, true)?,
-        "min_raises" => reported(line, false, true)?,
-        "stays" => reported(line, false, false)?,
-        "call" => Call {
-            asked: line.number()?,
-            position: line.number()?,
-            input: input(alloc, line)?,
-            answer: answer(alloc, line)?,
-        },
-        _ => return Err(line.fail("no item")),
     })
 }
 
-/// A request with the members of its answer.
-fn drawn(line: &mut Line<'_>) -> Result<Call, Fail> {
-    let asked = line.number()?;
-    let issued = issued(line)?;
-    Ok(Call {
-        asked,
-        position: asked,
-        input: Input::Ask {
-            num: issued.num,
-            processed: issued.processed,
-            at: issued.at,
-        },
-        answer: CallAnswer::Answered(issued),
+/// So many limits of a tag.
+fn limits(alloc: Global, count: u64) -> Result<Sequence<TagLimit>, CaseError> {
+    let mut limits = Sequence::new(alloc);
+    for _ in 0..count {
+        limits.push(limit_of(alloc, 1)?)?;
+    }
+    Ok(limits)
+}
+
+/// A limit of a tag of so many bytes.
+pub(crate) fn limit_of(alloc: Global, bytes: u64) -> Result<TagLimit, CaseError> {
+    Ok(TagLimit {
+        tag: tag_of_bytes(alloc, bytes)?,
+        rate: 5,
+        expires: 5_000,
     })
 }
 
@@ -52,14 +81,9 @@ fn reported(line: &mut Line<'_>, raised: bool, changed: bool) -> Result<Call, Fa
     let (asked, position, num) = (line.number()?, line.number()?, line.number()?);
     let rec = plain_record(line)?;
     Ok(Call {
+        input: report(num, rec.min_known),
         asked,
         position,
-        input: Input::Report {
-            num,
-            locked: rec.locked,
-            metadata: rec.metadata,
-            min_known: rec.min_known,
-        },
         answer: CallAnswer::Acked {
             rec,
             raised,
@@ -68,12 +92,72 @@ fn reported(line: &mut Line<'_>, raised: bool, changed: bool) -> Result<Call, Fa
     })
 }
 
+fn report(num: u64, min_known: u64) -> Input {
+    Input::Report {
+        num,
+        locked: false,
+        metadata: None,
+        min_known,
+    }
+}
+
+/// A request with the members of its answer.
+fn drawn(line: &mut Line<'_>) -> Result<Call, Fail> {
+    let asked = line.number()?;
+    let issued = issued(line)?;
+    let input = Input::Ask {
+        num: issued.num,
+        processed: issued.processed,
+        at: issued.at,
+    };
+    Ok(Call {
+        input,
+        asked,
+        position: asked,
+        answer: CallAnswer::Answered(issued),
+    })
+}
+
+fn refused_ask(line: &mut Line<'_>) -> Result<Call, Fail> {
+    let input = Input::Ask {
+        num: line.number()?,
+        processed: 0,
+        at: 0,
+    };
+    Ok(at_start(input, CallAnswer::Refused(refusal(line)?)))
+}
+
+fn refused_report(line: &mut Line<'_>) -> Result<Call, Fail> {
+    let num = line.number()?;
+    Ok(at_start(report(num, 0), CallAnswer::Refused(refusal(line)?)))
+}
+
+fn told(line: &mut Line<'_>) -> Result<Call, Fail> {
+    let asked = line.number()?;
+    Ok(Call {
+        input: Input::Tell { to: line.who()? },
+        asked,
+        position: asked,
+        answer: CallAnswer::Told,
+    })
+}
+
+/// A call of a client that has seen nothing.
+fn at_start(input: Input, answer: CallAnswer) -> Call {
+    Call {
+        input,
+        asked: 0,
+        position: 0,
+        answer,
+    }
+}
+
 /// A record with no lock and no metadata version, and with a minimum where the line tells one.
 fn plain_record(line: &mut Line<'_>) -> Result<Record, Fail> {
-    let rec = plain(line.number()?);
+    let version = line.number()?;
     Ok(Record {
         min_known: line.number_behind("min")?,
-        ..rec
+        ..plain(version)
     })
 }
 
@@ -87,98 +171,14 @@ pub(crate) fn plain(version: u64) -> Record {
     }
 }
 
-fn input(alloc: Global, line: &mut Line<'_>) -> Result<Input, Fail> {
-    Ok(match line.word()? {
-        "grv" => grv(alloc, false),
-        "grv_aware" => grv(alloc, true),
-        "ask" => Input::Ask {
-            num: line.number()?,
-            processed: line.number()?,
-            at: line.number()?,
-        },
-        "report" => Input::Report {
-            num: line.number()?,
-            locked: line.is("locked", "unlocked")?,
-            metadata: metadata(line)?,
-            min_known: line.number_behind("min")?,
-        },
-        "tell" => Input::Tell { to: line.who()? },
-        "learn" => Input::Learn { from: line.who()? },
-        _ => return Err(line.fail("no input")),
-    })
-}
-
-fn grv(alloc: Global, lock_aware: bool) -> Input {
-    Input::Grv(GrvOpts {
-        priority: Priority::Default,
-        count: 1,
-        tags: Sequence::new(alloc),
-        lock_aware,
-        at: 0,
-        use_min: false,
-    })
-}
-
-fn answer(alloc: Global, line: &mut Line<'_>) -> Result<CallAnswer, Fail> {
-    Ok(match line.word()? {
-        "read" => version(alloc, record(line)?, false),
-        "turned_away" => version(alloc, record(line)?, true),
-        "issued" => CallAnswer::Answered(issued(line)?),
-        "acked" => acked(line)?,
-        "told" => CallAnswer::Told,
-        "refused" => CallAnswer::Refused(refusal(line)?),
-        _ => return Err(line.fail("no answer")),
-    })
-}
-
-fn acked(line: &mut Line<'_>) -> Result<CallAnswer, Fail> {
-    let rec = record(line)?;
-    let (raised, changed) = flags(line)?;
-    Ok(CallAnswer::Acked {
-        rec,
-        raised,
-        changed,
-    })
-}
-
-/// Whether a report says that it raised the register, and that it changed it. No report that is
-/// answered rightly is `raised_in_place`.
-pub(crate) fn flags(line: &mut Line<'_>) -> Result<(bool, bool), Fail> {
-    Ok(match line.word()? {
-        "raised" => (true, true),
-        "min_raised" => (false, true),
-        "unraised" => (false, false),
-        "raised_in_place" => (true, false),
-        _ => return Err(line.fail("no flags")),
-    })
-}
-
-fn version(alloc: Global, rec: Record, locked_out: bool) -> CallAnswer {
-    CallAnswer::Version {
-        rec,
-        limits: Sequence::new(alloc),
-        locked_out,
-    }
-}
-
 /// A record: its version, `locked` or `unlocked`, its metadata version in hex or `none`, and
 /// perhaps `min` and its minimum.
 pub(crate) fn record(line: &mut Line<'_>) -> Result<Record, Fail> {
     Ok(Record {
         version: line.number()?,
         locked: line.is("locked", "unlocked")?,
-        metadata: metadata(line)?,
+        metadata: <[u8; 10]>::from_hex(line.word()?).ok(),
         min_known: line.number_behind("min")?,
-    })
-}
-
-fn metadata(line: &mut Line<'_>) -> Result<Option<[u8; 10]>, Fail> {
-    Ok(match line.word()? {
-        "none" => None,
-        digits => match <[u8; 10]>::from_hex(digits) {
-            Ok(bytes) => Some(bytes),
-            Err(_) => return Err(line.fail("no metadata")),
-        },
     })
 }
 
@@ -197,7 +197,7 @@ pub(crate) fn issued(line: &mut Line<'_>) -> Result<Issued, Fail> {
 }
 
 /// A refusal by the name of its variant, and behind `Early` the number that was due.
-pub(crate) fn refusal(line: &mut Line<'_>) -> Result<Refusal, Fail> {
+fn refusal(line: &mut Line<'_>) -> Result<Refusal, Fail> {
     Ok(match line.word()? {
         "Early" => Refusal::Early {
             expected: line.number()?,
@@ -217,32 +217,15 @@ pub(crate) fn refusal(line: &mut Line<'_>) -> Result<Refusal, Fail> {
     })
 }
 
-/// A fault of an audit by the name of its variant, with the position, or with the client and its
-/// call. No words stand for `Memory`.
-pub(crate) fn fault(line: &mut Line<'_>) -> Result<AuditFault, Fail> {
-    Ok(match line.word()? {
-        "Clash" => AuditFault::Clash {
-            position: line.number()?,
-        },
-        "Gap" => AuditFault::Gap {
-            position: line.number()?,
-        },
-        "Order" => AuditFault::Order {
-            client: line.who()?,
-            call: line.number()?,
-        },
-        "Wrong" => AuditFault::Wrong {
-            client: line.who()?,
-            call: line.number()?,
-        },
-        "Stray" => AuditFault::Stray {
-            client: line.who()?,
-            call: line.number()?,
-        },
-        "NotAbove" => AuditFault::NotAbove {
-            client: line.who()?,
-            call: line.number()?,
-        },
-        _ => return Err(line.fail("no fault")),
-    })
+/// Each refusal, as the words that it is read from.
+const REFUSALS: &str = "Early 3;Forgotten;UnknownProxy;Exhausted;BadCount;BatchThrottled;Full;\
+ProxyClosed;NotIssued;Stranger;TooLarge;MinAbove";
+
+#[test]
+fn refusals_as_text(rt: HostRuntime) -> Result<(), Fail> {
+    for text in REFUSALS.split(';') {
+        let refusal = refusal(&mut Line::new(text))?;
+        says(rt.alloc(), &refusal, text)?;
+    }
+    says(rt.alloc(), &AuditFault::Memory, "want of memory")
 }

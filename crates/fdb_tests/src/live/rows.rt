@@ -1,0 +1,180 @@
+//! Reads and reports, by values worked out by hand.
+
+use crate::live::gathered::gather_two;
+use crate::live::{Opener, played};
+use fdb_checks::{CaseError, plays, says};
+use fdb_live::LiveError;
+use std::alloc::Global;
+use std::sync::Wait;
+use std::test::Fail;
+use std::thread::Threads;
+
+/// The reads and reports of two reporters and of the first token, which nobody tells anything.
+const WORKED: &str = "
+at 0 => 0 at 0; at 1 => 1 at 0; at 2 => nobody at 0
+read 0 => 100 unlocked none at 0
+report 0 9223372036854775808 unlocked none => the version is out of range
+read 0 => 100 unlocked none at 0
+report 0 200 unlocked none => raised at 1; report 0 200 unlocked none => same at 1
+read 2 => 200 unlocked none at 1
+report 1 150 unlocked none => same at 1; report 1 300 unlocked none => raised at 2
+# its token has seen a version as great, and nothing of the raise since
+at 0 => 0 at 1; report 0 200 unlocked none => same at 2
+";
+
+/// Each of two reporters raises the record and learns what the other has seen, and keeps its number.
+const CROSSWISE: &str = "
+report 0 200 unlocked none => raised at 1; split 0 => nobody at 1
+report 1 300 unlocked none => raised at 2; at 0 => 0 at 1; at 1 => 1 at 2
+split 1 => nobody at 2
+learns 0 4 => 0 at 2; learns 1 3 => 1 at 2; at 3 => nobody at 1
+# told of less
+learns 0 3 => 0 at 2; meets 0 1 => 0 at 2; meets 3 0 => nobody at 1; at 1 => 1 at 2
+report 0 400 unlocked none => raised at 3; at 2 => nobody at 0; learns 2 0 => nobody at 3
+";
+
+/// The minimum known committed version: the greatest that was reported.
+const MINIMUM: &str = "
+report 0 200 unlocked none min 50 => raised at 1; read 1 => 200 unlocked none min 50 at 1
+report 1 200 unlocked none min 150 => changed at 2; read 0 => 200 unlocked none min 150 at 2
+report 0 180 unlocked none min 120 => same at 2
+report 1 200 locked 0102030405060708090a min 150 => same at 2
+report 1 190 locked 0102030405060708090a min 180 => changed at 3
+read 0 => 200 unlocked none min 180 at 3
+report 0 300 locked 0102030405060708090a min 10 => raised at 4
+read 1 => 300 locked 0102030405060708090a min 180 at 4
+report 0 250 unlocked none min 251 => the minimum known committed version is above the version
+report 1 9223372036854775808 unlocked none min 9223372036854775809 => the version is out of range
+read 2 => 300 locked 0102030405060708090a min 180 at 4
+report 1 9223372036854775807 unlocked none min 9223372036854775807 => raised at 5
+read 0 => 9223372036854775807 unlocked none min 9223372036854775807 at 5
+";
+
+const TEXTS: &[&str] = &[WORKED, CROSSWISE, MINIMUM];
+
+#[test]
+fn reads_and_reports(rt: HostRuntime) -> Result<(), Fail> {
+    for text in TEXTS {
+        played(&rt, rt.alloc(), 2, text)?;
+    }
+    Ok(())
+}
+
+/// What a record is opened with, at each bound and one beyond it.
+const OPENED: &str = "
+open 0 unlocked none for 2 => 2; open 9223372036854775807 unlocked none for 2 => 2
+open 9223372036854775808 unlocked none for 2 => the version is out of range
+open 100 unlocked none min 100 for 2 => 2
+open 100 unlocked none min 101 for 2 => the minimum known committed version is above the version
+open 9223372036854775808 unlocked none min 9223372036854775809 for 2 => the version is out of range
+";
+
+#[test]
+fn versions_in_and_out_of_range(rt: HostRuntime) -> Result<(), Fail> {
+    plays(&mut Opener::new(&rt, rt.alloc()), OPENED)?;
+    says(rt.alloc(), &LiveError::Memory, "want of memory")
+}
+
+/// Reports of each kind by a first one, who passes the gate under a number, with a second one behind
+/// it: those that raise the version, that raise the minimum alone, that do neither, and that are
+/// refused.
+const KINDS: &str = "
+held WHO 200 unlocked none => raised at 1
+held WHO 201 locked none => raised at 2
+held WHO 202 unlocked 00000000000000000000 => raised at 3
+held WHO 203 locked 0102030405060708090a => raised at 4
+held WHO 204 unlocked none min 1 => raised at 5
+held WHO 205 locked none min 1 => raised at 6
+held WHO 206 unlocked 0102030405060708090a min 2 => raised at 7
+held WHO 207 locked 00000000000000000000 min 3 => raised at 8
+held WHO 207 unlocked none min 4 => changed at 9
+held WHO 150 locked none min 5 => changed at 10
+held WHO 150 unlocked 0102030405060708090a min 6 => changed at 11
+held WHO 150 locked 00000000000000000000 min 150 => changed at 12
+held WHO 207 unlocked none => same at 12
+held WHO 150 locked none => same at 12
+held WHO 207 unlocked 0102030405060708090a min 150 => same at 12
+held WHO 150 locked 00000000000000000000 min 3 => same at 12
+held WHO 208 unlocked none min 209 => the minimum known committed version is above the version
+held WHO 150 locked 0102030405060708090a min 151 \
+=> the minimum known committed version is above the version
+held WHO 9223372036854775808 unlocked none => the version is out of range
+held WHO 9223372036854775808 locked none min 9223372036854775809 => the version is out of range
+held WHO 208 locked 0102030405060708090a min 208 => raised at 13
+held WHO 9223372036854775807 unlocked none min 9223372036854775807 => raised at 14
+";
+
+/// The token of the first, the number under which it passes, and the tokens of the second and of a
+/// reader.
+const WHO: [&str; 5] = [
+    "0 0 8 64",
+    "8 8 31 64",
+    "31 31 63 64",
+    "63 63 0 64",
+    "8 4294967295 0 64",
+];
+
+#[test]
+fn each_kind_of_report_passes_the_gate(rt: HostRuntime) -> Result<(), Fail> {
+    for who in WHO {
+        let text = KINDS.replace(rt.alloc(), "WHO", who)?;
+        played(&rt, rt.alloc(), 64, &text)?;
+    }
+    Ok(())
+}
+
+/// Reporter 0 reports, and some read that: of the first token (5) four are split off (6 to 9).
+const FIRST: &str = "report 0 200 unlocked none => raised at 1
+split 5 => nobody at 0; split 5 => nobody at 0; split 5 => nobody at 0; split 5 => nobody at 0
+read 7 => 200 unlocked none at 1; read 9 => 200 unlocked none at 1
+read 2 => 200 unlocked none at 1; read 4 => 200 unlocked none at 1
+";
+
+/// The tokens that a call is then made with, and their positions: nobody's and a reporter's.
+const ONE: [(u32, u64); 4] = [(6, 0), (7, 1), (1, 0), (2, 1)];
+
+const OTHER: [(u32, u64); 4] = [(8, 0), (9, 1), (3, 0), (4, 1)];
+
+/// Makes a call with each two of these tokens while reporter 0 reports once more. It sees nothing of
+/// that.
+fn calls_beside<R: Threads + Wait + Sync>(
+    rt: &R,
+    alloc: Global,
+    call: &str,
+) -> Result<(), CaseError> {
+    for (one, at) in ONE {
+        for (other, place) in OTHER {
+            let wanted = match call {
+                "read" => 1,
+                "learn" => at.max(place),
+                _ => at,
+            };
+            let line = format!(in alloc; "{FIRST}beside {call} {one} {other} 300 => {wanted}")?;
+            played(rt, alloc, 5, &line)?;
+        }
+    }
+    Ok(())
+}
+
+#[test]
+fn no_call_but_a_report_waits_for_one(rt: HostRuntime) -> Result<(), Fail> {
+    for call in ["read", "split", "learn", "meet"] {
+        calls_beside(&rt, rt.alloc(), call)?;
+    }
+    Ok(())
+}
+
+#[test]
+fn reporters_and_readers_in_threads(rt: HostRuntime) -> Result<(), Fail> {
+    played(&rt, rt.alloc(), 2, "threads 1 => 2")?;
+    played(&rt, rt.alloc(), 8, "threads 4 => 8")?;
+    Ok(())
+}
+
+/// Of two reporters the second raises nothing, and then raises what the first has not seen.
+#[test]
+fn all_that_was_seen_is_gathered(rt: HostRuntime) -> Result<(), Fail> {
+    gather_two(&rt, rt.alloc(), (200, 150), 1)?;
+    gather_two(&rt, rt.alloc(), (200, 300), 2)?;
+    Ok(())
+}
