@@ -199,7 +199,7 @@ pub(crate) fn ran<R: Threads + Wait + Sync>(
         throttles: &throttles,
         elapsed: 10_000_000,
     };
-    let reads = visits.reads * (grv_proxies + 1);
+    let reads = visits.reads.saturating_mul(grv_proxies.saturating_add(1));
     let closes = visits.closed.is_some();
     let ran = run_workload(rt, alloc, config, visits)?;
     match ran.output {

@@ -19,24 +19,45 @@ pub(crate) fn called<R: Threads + Wait + Sync + Files>(
     match of {
         "events" => printed(alloc, number, 0),
         "versions" => printed(alloc, 1, number),
-        "GRV proxies" => is_played(rt, alloc, &script_with(alloc, of, 17).ok()?, number as u32),
-        _ => is_played(rt, alloc, &script_with(alloc, of, number).ok()?, 2),
+        "GRV proxies" => is_played(rt, alloc, of, 17, u32::try_from(number).ok()?),
+        _ => is_played(rt, alloc, of, number, 2),
     }
 }
 
-/// Whether the text of a run with so many GRV proxies is what the program writes.
+/// Whether the text of a run of such a script with so many GRV proxies is what the program writes.
 fn is_played<R: Threads + Wait + Sync + Files>(
+    rt: &R,
+    alloc: Global,
+    of: &str,
+    number: u64,
+    proxies: u32,
+) -> Option<bool> {
+    let script = script_with(alloc, of, number).ok()?;
+    let wanted = played(rt, alloc, &script, proxies)?;
+    let written = driven(rt, alloc, &script, proxies)?;
+    Some(written == wanted)
+}
+
+/// The text of a run with so many GRV proxies.
+fn played<R: Threads + Wait + Sync>(
     rt: &R,
     alloc: Global,
     text: &str,
     proxies: u32,
-) -> Option<bool> {
-    if !(1..=16).contains(&proxies) {
-        return Some(false);
-    }
+) -> Option<Vec<u8>> {
+    let proxies = proxies.clamp(1, 16);
     let script = read_script(alloc, text.as_bytes()).ok()?;
     let outcome = outcome_of(rt, alloc, &script, proxies).ok()?;
-    let wanted = text_of(alloc, &script, &outcome).ok()?;
+    text_of(alloc, &script, &outcome).ok()
+}
+
+/// What the program writes, which ends well.
+fn driven<R: Threads + Wait + Sync + Files>(
+    rt: &R,
+    alloc: Global,
+    text: &str,
+    proxies: u32,
+) -> Option<Vec<u8>> {
     let (mut out, mut err) = (Vec::new(alloc), Vec::new(alloc));
     let mut arguments = Vec::new(alloc);
     arguments
@@ -47,7 +68,7 @@ fn is_played<R: Threads + Wait + Sync + Files>(
         .ok()?;
     let mut input = text.as_bytes();
     let status = drives(rt, alloc, Ok(arguments), &mut input, &mut out, &mut err);
-    Some(status == 0 && err.is_empty() && out == wanted)
+    (status == 0 && err.is_empty()).then_some(out)
 }
 
 /// A history of so many events, and the verdict on it for so many versions.
