@@ -8,6 +8,8 @@ import os
 from harness import ROOT
 
 TRIED, BESIDE = "must-fail", "wrong-bodies"
+# The most lines of an edit: one that takes more turns more than one thing.
+MOST_LINES = 12
 
 
 def crates():
@@ -44,6 +46,8 @@ def fault_of_edit(crate, edit):
     """Returns why an edit does not apply to its crate, or None."""
     with open(edit, encoding="utf-8") as it:
         text = it.read()
+    if text.count("\n") > MOST_LINES:
+        return f"it has more than {MOST_LINES} lines"
     pairs, left = list(pairs_of(text)), {}
     for file, old, new in pairs:
         path = f"{ROOT}/crates/{crate}/{file}"
