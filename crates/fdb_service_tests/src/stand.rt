@@ -1,6 +1,8 @@
 //! A service with its clients, who play the lines of a text, each of which is a call. What stands
 //! behind `=>`, if it does, is what comes of the call.
 
+ghost use Rattle.std.specs.Prelude.{◌≡◌};
+
 pub mod lines;
 
 use crate::proxy::crowd::ask_all;
@@ -10,7 +12,7 @@ use crate::stand::lines::play_lines;
 use fdb_checks::CaseError;
 use fdb_client::{Client, clients_of};
 use fdb_history::Record;
-use fdb_live::{Fetched, Live, Master, OpenedMaster, Seen, Token, UnderMaster};
+use fdb_live::{Fetched, Live, Master, OpenedMaster, Seen, Token};
 use fdb_proxy::{Desk, Request};
 use fdb_queue::Req;
 use std::alloc::Global;
@@ -74,7 +76,7 @@ pub(crate) struct Stand<'a, J: Live> {
 
 impl<'a, J: Live> Stand<'a, J> {
     /// The last of some clients gives the tokens of those who are none.
-    fn new(service: &'a Service<J>, mut clients: Vec<Client<'a, J>>) -> Option<Self> {
+    fn new(service: &'a Service<J>, mut clients: Vec<Client<'a, J>>, once: bool) -> Option<Self> {
         let (_, mut token) = clients.pop()?.finish();
         let master = &service.master;
         Some(Stand {
@@ -88,7 +90,7 @@ impl<'a, J: Live> Stand<'a, J> {
             waiters: Vec::new(service.alloc),
             later: None,
             back: None,
-            once: true,
+            once,
         })
     }
 
@@ -105,35 +107,36 @@ impl<'a, J: Live> Stand<'a, J> {
     }
 }
 
-/// A case at a service that was opened.
-#[derive(Clone, Copy)]
-struct AtService<'t> {
+/// Plays a case under the name of the service.
+fn play_named<J: Live + Send + Sync, R: Threads + Wait + Sync>(
+    rt: &R,
     alloc: Global,
-    case: Case<'t>,
+    opened: OpenedMaster,
+    case: Case<'_>,
     once: bool,
-}
-
-impl<R: Threads + Wait + Sync> UnderMaster<R> for AtService<'_> {
-    type Output = Result<(), CaseError>;
-
-    fn run<J: Live + Send + Sync>(self, rt: &R, opened: OpenedMaster) -> Result<(), CaseError> {
-        let alloc = self.alloc;
-        let (master, tokens) = opened.parts::<J>()?;
-        if tokens.len() > 64 {
-            return Err(CaseError::Failed(Fail::new("64 tokens at most")));
-        }
-        let service = Service {
-            alloc,
-            master,
-            desk: Desk::new(alloc),
-        };
-        let clients = clients_of(alloc, &service.master, tokens)?;
-        let Some(mut stand) = Stand::new(&service, clients) else {
-            return Err(CaseError::Failed(Fail::new("no client")));
-        };
-        stand.once = self.once;
-        play_at(rt, &mut stand, self.case)
+) -> Result<(), CaseError>
+    requires { opened ≡ record {
+      table = J.table;
+      start = J.start;
+      members = J.reporters;
+      epoch_end = J.epoch_end;
+      recovery = J.recovery;
+    } }
+{
+    let (master, tokens) = opened.parts::<J>()?;
+    if tokens.len() > 64 {
+        return Err(CaseError::Failed(Fail::new("64 tokens at most")));
     }
+    let service = Service {
+        alloc,
+        master,
+        desk: Desk::new(alloc),
+    };
+    let clients = clients_of(alloc, &service.master, tokens)?;
+    let Some(mut stand) = Stand::new(&service, clients, once) else {
+        return Err(CaseError::Failed(Fail::new("no client")));
+    };
+    play_at(rt, &mut stand, case)
 }
 
 fn play_at<J: Live + Send + Sync, R: Threads + Wait + Sync>(
@@ -167,7 +170,7 @@ pub(crate) fn play<R: Threads + Wait + Sync>(
         min_known: 0,
     };
     let opened = Master::<Brand>::open(rt, alloc, 0, 100, start, CLIENTS + 1)?;
-    opened.named(rt, AtService { alloc, case, once })
+    play_named::<Brand, R>(rt, alloc, opened, case, once)
 }
 
 /// Plays the lines of a text, with ample memory.
