@@ -36,6 +36,10 @@ EVENTS = (
     ("a commit", commit(), COMMIT, (0, 1, 0, 0, 0, 0)),
     ("no machine", without(read_version(), "Machine"),
      READ.replace('"client":"10.0.0.1:4500",', ""), (1, 0, 0, 0, 0, 0)),
+    ("a machine that is no text", read_version(Machine=5),
+     READ.replace('"client":"10.0.0.1:4500",', ""), (1, 0, 0, 0, 0, 0)),
+    ("a machine with bytes that are no UTF-8", json.dumps(read_version(Machine="?")).replace(
+        '"?"', '"\udcff"'), READ.replace("10.0.0.1:4500", "\\ufffd"), (1, 0, 0, 0, 0, 0)),
     ("numbers that are no texts", read_version(ReadVersion=100, Latency=0.00123), READ,
      (1, 0, 0, 0, 0, 0)),
     # 2.0000001 s is 2,000,000.1 us, and began 0.5 s before: 1,500,000.1.
@@ -52,6 +56,7 @@ EVENTS = (
     ("a read without a version", read_version(ReadVersion="-1"), None, FAULTY),
     ("too great a version", read_version(ReadVersion=str(2**63)), None, FAULTY),
     ("no version", without(commit(), "CommitVersion"), None, FAULTY),
+    ("a version without end", json.dumps(commit(CommitVersion=float("inf"))), None, FAULTY),
     ("no latency", without(commit(), "Latency"), None, FAULTY),
     ("a latency below 0", commit(Latency="-1"), None, FAULTY),
     ("a latency of more than the time", commit(Time="1", Latency="1.5"), None, FAULTY),
@@ -59,6 +64,7 @@ EVENTS = (
     ("a list for a time", commit(Time=["1"]), None, FAULTY),
     ("a line that was cut", json.dumps(commit())[:90], None, (0, 0, 0, 0, 0, 1)),
     ("a line that is no object", "[1]", None, (0, 0, 0, 0, 0, 1)),
+    ("lists in lists without end", "[" * 100_000, None, (0, 0, 0, 0, 0, 1)),
     ("an empty line", "", None, (0, 0, 0, 0, 0, 0)),
 )
 
@@ -85,22 +91,26 @@ def text_of(event):
     return event if isinstance(event, str) else json.dumps(event)
 
 
+def bytes_of(event):
+    return text_of(event).encode(errors="surrogateescape")
+
+
 def traces_of_foundationdb(_program):
     """Each kind of event alone, all in one, and all in two files, of which one has no last end."""
     lines, counts = [], [0] * 6
     for name, event, line, count in EVENTS:
         wanted = [line] if line else []
-        yield name, fault_of_tool(run([TOOL], text_of(event).encode()), wanted, count)
+        yield name, fault_of_tool(run([TOOL], bytes_of(event)), wanted, count)
         lines += wanted
         counts = [a + b for a, b in zip(counts, count)]
     texts = [text_of(event) for _, event, _, _ in EVENTS]
-    yield "all at once", fault_of_tool(run([TOOL], "\n".join(texts).encode()), lines, counts)
+    yield "all at once", fault_of_tool(run([TOOL], bytes_of("\n".join(texts))), lines, counts)
     yield "the example", fault_of_tool(run([TOOL, f"{EXAMPLES}/logs/trace.json"], b""), read(
         f"{EXAMPLES}/logs/trace.jsonl").decode().splitlines(), (2, 1, 0, 0, 0, 0))
     with tempfile.TemporaryDirectory() as folder:
         names = [f"{folder}/trace.{part}.json" for part in (1, 2)]
         for name, part in zip(names, (texts[:5], texts[5:])):
-            with open(name, "w", encoding="utf-8") as file:
+            with open(name, "w", encoding="utf-8", errors="surrogateescape") as file:
                 file.write("\n".join(part))
         yield "two files", fault_of_tool(run([TOOL, *names], b""), lines, counts)
         missing = f"{folder}/none.json"

@@ -18,6 +18,8 @@ OF_C = re.compile(r"\b(\w+) (fdb_\w+)\(([^)]*)\);")
 STRUCT_OF_C = re.compile(r"typedef struct (fdb_\w+) \{(.*?)\} \1;", re.DOTALL)
 NUMBER_OF_C = re.compile(r"\b(FDB_\w+) = (\d+)")
 PLAIN = {"u64": "uint64_t", "u32": "uint32_t", "u8": "uint8_t", "bool": "bool", None: "void"}
+# What stands before a name of the package for Python in that of the header, by its class.
+PREFIXES = {"FaultKind": "FAULT_", "Reason": "REASON_", "Means": "MEANS_"}
 # Numbers of C alone: a priority is an enum of the library's.
 OF_C_ALONE = {"FDB_SYSTEM", "FDB_DEFAULT", "FDB_BATCH"}
 
@@ -119,3 +121,32 @@ def agrees(_program):
     yield from compared(structs_of_source(), structs_of_header())
     source, header = numbers(NUMBER, sources()), numbers(NUMBER_OF_C, without_comments(HEADER))
     yield from compared(source, header)
+    yield from packages()
+
+
+def packages():
+    """The numbers of the package for Python, and the priorities of that for Rust, are the header's.
+
+    And what tools/bindings builds anew after an edit is each crate that the library stands on.
+    """
+    header = dict(NUMBER_OF_C.findall(without_comments(HEADER)))
+    python = "\n".join(map(text_of, files_below("bindings/python/src", ".py")))
+    for kind, body in re.findall(r"class (\w+)\(Named\):(.*?)(?=\n\S|\Z)", python, re.DOTALL):
+        for name, number in re.findall(r"^    ([A-Z_]+) = (\d+)$", body, re.MULTILINE):
+            in_c = f"FDB_{PREFIXES.get(kind, '')}{name}"
+            yield f"{kind}.{name} of Python", None if header.get(in_c) == number else in_c
+    source = text_of("bindings/rust/src/grv_queue.rs")
+    rust = re.findall(r"^    (\w+) = (\d+),$", source, re.MULTILINE)
+    given = {(f"FDB_{name.upper()}", number) for name, number in rust}
+    fault = None if given == {(it, header.get(it)) for it in OF_C_ALONE} else f"{rust}"
+    yield "the priorities of Rust", fault
+    own = dict(line.split(": ", 1) for line in text_of("crates.txt").splitlines() if ": " in line)
+    needed, found = {"fdb_c"}, set()
+    while needed:
+        found |= needed
+        below = [own.get(it, own.get(f"{it} staticlib", "")).split() for it in found]
+        more = set(sum(below, []))
+        needed = {it for it in more if it.startswith("fdb_")} - found
+    named = re.search(r"crates/fdb_\{(.*?)\}", text_of("tools/bindings"))[1].split(",")
+    fault = found ^ {f"fdb_{it}" for it in named}
+    yield "crates in tools/bindings", f"{fault}" if fault else None

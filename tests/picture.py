@@ -235,6 +235,9 @@ def pages(_program):
         yield name, text_fault(text, drawing) or page_fault(drawing)
     for name in HAND:
         yield name, page_fault(drawing_by_hand(name))
+        tagged = with_tags(drawing_by_hand(name))
+        tags = page_of.page(tagged).count("<b>")
+        yield f"{name}, with tags", page_fault(tagged) or differing("tags", tags, 0)
     log = drawing_by_hand("each fault of a log")
     links = [f"#fault-{at}" for at in range(1, len(log.faults) + 1)]
     yield "a link to each fault", differing("links", Page(page_of.page(log)).links, links)
@@ -247,6 +250,17 @@ def pages(_program):
     beside = pictured(text.rpartition("audit")[0].encode(), "--fault", "Order 1 1")
     wanted = page_of.page(drawn(text)).encode()
     yield "a fault beside a text", fault_of(beside, Ran(DONE, wanted, b""))
+
+
+def with_tags(drawing):
+    """The drawing with what looks like a tag behind each text that a file or a client can name."""
+    tag = "<b>&amp;</b>"
+    tagged = lambda it, *names: it._replace(**{name: getattr(it, name) + tag for name in names})
+    lists = {it: getattr(drawing, it) for it in ("account", "notes", "about", "lanes")}
+    return tagged(drawing, "heading")._replace(
+        faults=[tagged(it, "title", "means", "reason") for it in drawing.faults],
+        **{name: [it + tag for it in texts] for name, texts in lists.items()},
+    )
 
 
 def page_fault(drawing):
@@ -290,6 +304,10 @@ def text_fault(text, drawing):
     found = (len(drawing.lanes), len(kinds), len(drawing.arrows),
              kinds.count("raised") + kinds.count("min raised"))
     untold = [it for it in drawing.bars if it.label.split()[-1] not in it.words]
+    begins = {it.left + drawings.FREE for it in drawing.bands}
+    late = [it for it in drawing.bars if it.kind in run_drawing.CHANGES and it.left not in begins]
+    if late:
+        return f"a report is not the first at the position that it made: {late[0]}"
     return differing("lanes, calls, arrows, raises", found, wanted) or (
         f"its label is not in its words: {untold[0]}" if untold else order_fault(drawing, set()))
 
@@ -701,7 +719,13 @@ ANSWERS = (
     (["found", " Line  4"], [{"call": 3}]),
     (["found", "line"], []),
     (["zoomed", {"from": 20, "to": 30}, 0.5, 22], {"from": 21, "to": 26}),
+    (["markup", [{"tag": "text", "x": 4, "words": '<b>&"', "text": "</g>&amp;"},
+                 {"tag": "bar", "class": '"', "call": 3, "words": "</title>"}]],
+     '<text x="4"><title>&lt;b&gt;&amp;&quot;</title>&lt;/g&gt;&amp;amp;</text>'
+     '<rect class="&quot;" data-call="3" role="img"><title>&lt;/title&gt;</title></rect>'),
 )
+# Two reports that made one position.
+CLASH = "0 0 0 report 200 raised pos 1\n0 1 0 report 300 raised pos 1\nClash 1"
 
 
 def scenes(_program):
@@ -725,6 +749,25 @@ def scenes(_program):
             is_first = kinds.index("path") < kinds.index("label")
             yield f"{name}: no line goes over a label", None if is_first else "one does"
     yield from views_of(drawing_by_hand("a log"), drawing_by_hand("a run"))
+    yield "both calls of a clash", differing("calls", drawn(CLASH).faults[0].faulty, [0, 1])
+    yield from marked(drawn(CLASH))
+    yield from marked(drawing_by_hand("each fault of a log"))
+
+
+def marked(drawing):
+    """Each call of a fault is marked where it is looked at, and those of all in the overview."""
+    columns, count = page_of.columns_of(drawing), len(drawing.faults)
+    whole = {"lanes": [*range(len(drawing.lanes))], "few": False, "height": 5_000,
+             "from": columns["from"], "to": columns["to"]}
+    views = [view(drawing, 900, fault=at, **whole) for at in range(count)]
+    asked = [*(["scene", it] for it in views), ["overview", views[0], 44]]
+    (((*found, overview), _),) = scenes_of((drawing, asked))
+    for fault, scene in zip(drawing.faults, found):
+        faulty = [it["call"] for it in scene["shapes"] if "faulty" in it["class"].split()]
+        yield f"calls at {fault.said}", differing("calls", sorted(faulty), sorted(fault.faulty))
+    wanted = len({drawing.bars[it].left for fault in drawing.faults for it in fault.faulty})
+    marks = sum(it["d"].count("M") for it in overview if it["class"] == "mark")
+    yield f"marks of {count} faults", differing("marks", marks, wanted)
 
 
 def views_of(log, run_of):
