@@ -113,11 +113,7 @@ fn script_with(alloc: Global, of: &str, number: u64) -> Result<String, AllocErro
         "tells in a round" => ("2", "", r#"[~,{"do":"tell","client":0,"to":1}~]"#),
         "rounds" | "GRV proxies" => ("1", "", r#"~,[{"do":"grv","client":0}]~"#),
         "rounds without a command" => ("1", "", "~,[]~"),
-        "clients" => (
-            "@",
-            "",
-            r#"[{"do":"grv","client":0}~,{"do":"grv","client":0}~]"#,
-        ),
+        "clients" => ("@", "", r#"[~,{"do":"grv","client":0}~]"#),
         "throttles" => ("1", THROTTLES, READ),
         "tags of a read" => (
             "1",
