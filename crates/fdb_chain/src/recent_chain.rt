@@ -5,7 +5,7 @@ ghost use Rattle.std.specs.Prelude.{IsSome, IfSome, Some, OnOk, OnErr, IfOk, IfE
 ghost use Rattle.std.specs.Option.{ForSome};
 ghost use Rattle.fdb_history.specs.Issuing.{Chain, answer_to, kept_answer, with_answer};
 ghost use Rattle.fdb_history.specs.Chain.{IsChain, prev_after};
-ghost use Rattle.fdb_chain.specs.ChainCore.{IsAnswer, IsEpoch, IsFor, IsProxyCount, MayRefuse};
+ghost use Rattle.fdb_chain.specs.ChainCore.{IsAnswer, IsEpoch, IsFor, IsOf, IsProxyCount, MayRefuse};
 ghost use Rattle.fdb_chain.specs.ChainCore.{new_chain};
 ghost use Rattle.fdb_chain.specs.Recent.{IsStateOf, answer_under, latest_num, next_ordinal, own_of};
 ghost use Rattle.fdb_chain.specs.private.Recent.{IsNextOf, answer_of, fresh_of, next_of, state_after};
@@ -132,7 +132,7 @@ impl RecentChain {
     /// The chain stands for one.
     pub fn stands_for(&self)
         ensures chain { (chain : Chain) × IsStateOf self.now chain
-            × IsChain self.now.epoch_end self.now.recovery chain.answers }
+            × IsOf self.now.epoch_end self.now.recovery chain }
         ensures epoch { IsEpoch self.now.epoch_end self.now.recovery }
         ensures proxies { IsProxyCount (length self.now.proxies) }
     {
@@ -140,7 +140,7 @@ impl RecentChain {
     }
 
     /// What a request is to be answered; a fresh answer is not kept yet.
-    fn answer_to(&self, ask: Ask) -> Result<Issued, ChainError>
+    pub(crate) fn answer_to(&self, ask: Ask) -> Result<Issued, ChainError>
         ensures answer { IsAnswer (answer_of self.now ask) result }
         ensures next { IfOk result (λ issued. issued.fresh ≡ true → IsNextOf self.now issued) }
         ensures request { IfOk result (IsFor ask) }
@@ -224,7 +224,7 @@ impl RecentChain {
     }
 
     /// Keeps the next answer. Where memory is refused, nothing has changed.
-    fn append(&mut self, answer: Issued) -> Result<(), AllocError>
+    pub(crate) fn append(&mut self, answer: Issued) -> Result<(), AllocError>
         requires { IsNextOf self.old answer }
         ensures ok { OnOk result (self.new ≡ state_after self.old answer) }
         ensures err { OnErr result (self.new ≡ self.old) }

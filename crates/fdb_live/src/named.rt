@@ -21,6 +21,7 @@ pub trait UnderName<R> {
     /// Does it, with what was opened for the service.
     fn run<J: Live + Send + Sync>(self, rt: &R, opened: Opened) -> Self::Output
         requires takes { takes self opened }
+        requires chained { J.chained ≡ is_some opened.epoch }
         requires opened { opened ≡ record {
           table = J.table;
           start = J.start;
@@ -48,6 +49,7 @@ fn run_under<J: Live + Send + Sync, R, U: UnderName<R>>(
     uses: U,
 ) -> U::Output
     requires takes { U.takes uses opened }
+    requires chained { J.chained ≡ is_some opened.epoch }
     requires opened { opened ≡ record {
       table = J.table;
       start = J.start;

@@ -10,7 +10,7 @@ use crate::stand::lines::play_lines;
 use fdb_checks::CaseError;
 use fdb_client::{Client, clients_of};
 use fdb_history::Record;
-use fdb_live::{Fetched, Live, Master, OpenedMaster, Seen, Token, UnderMaster};
+use fdb_live::{Epoch, Fetched, Live, LiveRecord, Master, Opened, Seen, UnderName};
 use fdb_proxy::{Desk, Request};
 use fdb_queue::Req;
 use std::alloc::Global;
@@ -55,7 +55,7 @@ pub(crate) struct Stand<'a, J: Live> {
     pub(crate) service: &'a Service<J>,
     pub(crate) clients: Vec<Client<'a, J>>,
     /// What was told and not learnt yet.
-    pub(crate) told: Option<Token<J>>,
+    pub(crate) told: Option<Seen<J>>,
     /// What those have seen who leave requests on the desk: nothing, or what they read last.
     pub(crate) seen: Seen<J>,
     pub(crate) ahead: Seen<J>,
@@ -76,15 +76,15 @@ impl<'a, J: Live> Stand<'a, J> {
     /// The last of some clients gives the tokens of those who are none.
     fn new(service: &'a Service<J>, mut clients: Vec<Client<'a, J>>) -> Option<Self> {
         let (_, mut token) = clients.pop()?.finish();
-        let master = &service.master;
+        let live = service.master.record();
         Some(Stand {
             service,
             clients,
             told: None,
-            seen: master.seen(&mut token),
-            ahead: master.seen(&mut token),
-            served: master.seen(&mut token),
-            witness: master.seen(&mut token),
+            seen: live.split(&mut token),
+            ahead: live.split(&mut token),
+            served: live.split(&mut token),
+            witness: live.split(&mut token),
             waiters: Vec::new(service.alloc),
             later: None,
             back: None,
@@ -100,7 +100,7 @@ impl<'a, J: Live> Stand<'a, J> {
             calls = calls.saturating_add(client.calls().len());
             positions = positions.saturating_add(client.position());
         }
-        let live = self.service.master.live();
+        let live = self.service.master.record();
         (calls, positions, live.read(rt, &mut self.witness))
     }
 }
@@ -113,12 +113,16 @@ struct AtService<'t> {
     once: bool,
 }
 
-impl<R: Threads + Wait + Sync> UnderMaster<R> for AtService<'_> {
+impl<R: Threads + Wait + Sync> UnderName<R> for AtService<'_> {
+    ghost use Rattle.std.specs.Prelude.{◌≡◌, is_some, true};
+
     type Output = Result<(), CaseError>;
 
-    fn run<J: Live + Send + Sync>(self, rt: &R, opened: OpenedMaster) -> Result<(), CaseError> {
+    ghost takes = { λ _ opened. is_some opened.epoch ≡ true };
+
+    fn run<J: Live + Send + Sync>(self, rt: &R, opened: Opened) -> Result<(), CaseError> {
         let alloc = self.alloc;
-        let (master, tokens) = opened.parts::<J>()?;
+        let (master, _, tokens) = opened.master::<J>()?;
         if tokens.len() > 64 {
             return Err(CaseError::Failed(Fail::new("64 tokens at most")));
         }
@@ -166,7 +170,11 @@ pub(crate) fn play<R: Threads + Wait + Sync>(
         metadata: None,
         min_known: 0,
     };
-    let opened = Master::<Brand>::open(rt, alloc, 0, 100, start, CLIENTS + 1)?;
+    let epoch = Epoch {
+        before: 0,
+        recovery: 100,
+    };
+    let opened = LiveRecord::<Brand>::open(rt, alloc, start, CLIENTS + 1, Some(epoch))?;
     opened.named(rt, AtService { alloc, case, once })
 }
 
