@@ -21,7 +21,6 @@ OF_MEMORY = re.compile(
 # The clause by which a call is not refused memory, though the type of its errors has one for it.
 NOT_REFUSED = {
     "GrvQueue::new": "bad_config", "LiveRecord::report": "no_memory",
-    "Master::report": "nothing_else",
 }
 # The call that answers a status.
 BY_STATUS = {"drive"}

@@ -33,7 +33,7 @@ SAID = (
     (FORMATS, "the line has more than {MAX_LINE_BYTES:,} bytes"),
     (FORMATS, "there are {MAX_LINES:,} lines above"),
     (README, "0 to {MAX_VERSION:,}."),
-    (README, "A `ChainCore`: 1 to {MAX_PROXIES} commit proxies."),
+    (README, "A `RecentChain`: 1 to {MAX_PROXIES} commit proxies."),
     (README, "A `LiveRecord` is opened for 1 to {MAX_REPORTERS} reporters"),
     (README, "room for 1 to {MAX_ROOM:,} requests; a normal limit of 1 to {MAX_RATE:,}"),
     (README, "a batch limit of 0 to {MAX_RATE:,} transactions"),

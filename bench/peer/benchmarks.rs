@@ -2,7 +2,7 @@
 
 use crate::audit::{Call, CallAnswer, Event, Input, Log, audit};
 use crate::batches::{Answer, GrvOpts, Request, serve_batch};
-use crate::chain::{Ask, ChainCore};
+use crate::chain::{Ask, Chain, Issued};
 use crate::live::{LiveRecord, Record, Seen};
 use crate::measuring::{Checksum, Draws, Measured, Stopwatch, Tally, side_by_side};
 use crate::queue::{GrvQueue, Priority, QueueConfig, Req};
@@ -30,13 +30,13 @@ const AUDITS: u32 = 10;
 // Requests for commit versions, by one thread or by several that share a chain behind a lock.
 
 pub fn fresh(size: u32, proxies: u32, processes: bool) -> Measured {
-    let mut chain = ChainCore::new(0, RECOVERY, proxies);
+    let mut chain = Chain::new(0, RECOVERY, proxies);
     let watch = Stopwatch::start();
     let checksum = ask_fresh(&mut chain, size, proxies, processes);
     watch.measured(size.into(), checksum)
 }
 
-fn ask_fresh(chain: &mut ChainCore, size: u32, proxies: u32, processes: bool) -> Checksum {
+fn ask_fresh(chain: &mut Chain, size: u32, proxies: u32, processes: bool) -> Checksum {
     let mut checksum = Checksum::default();
     for place in 0..size {
         let before = place / proxies;
@@ -47,7 +47,7 @@ fn ask_fresh(chain: &mut ChainCore, size: u32, proxies: u32, processes: bool) ->
 }
 
 pub fn repeats(size: u32) -> Measured {
-    let mut chain = ChainCore::new(0, RECOVERY, MANY);
+    let mut chain = Chain::new(0, RECOVERY, MANY);
     let mut checksum = ask_fresh(&mut chain, size, MANY, false);
     let mut draws = Draws::START;
     let share = (size / MANY).max(1);
@@ -61,7 +61,7 @@ pub fn repeats(size: u32) -> Measured {
 
 #[inline(always)]
 fn ask(
-    chain: &mut ChainCore,
+    chain: &mut Chain,
     checksum: &mut Checksum,
     place: u32,
     proxy: u32,
@@ -76,12 +76,12 @@ fn ask(
 }
 
 pub fn asks(size: u32, threads: u32) -> Measured {
-    let sequencer = Mutex::new(ChainCore::new(0, RECOVERY, threads));
+    let sequencer = Mutex::new(Chain::new(0, RECOVERY, threads));
     let all = side_by_side(threads, |proxy| ask_in_turn(&sequencer, proxy, size / threads));
     all.measured(all.sum)
 }
 
-fn ask_in_turn(sequencer: &Mutex<ChainCore>, proxy: u32, asks: u32) -> Tally {
+fn ask_in_turn(sequencer: &Mutex<Chain>, proxy: u32, asks: u32) -> Tally {
     let begun = Instant::now();
     let mut tally = Tally::default();
     for before in 0..u64::from(asks) {
@@ -350,16 +350,15 @@ fn answer_word(answer: &Answer) -> u64 {
 // Audits of the logs of many clients.
 
 pub fn audits(size: u32) -> Measured {
-    let mut chain = ChainCore::new(0, RECOVERY, MANY);
+    let mut chain = Chain::new(0, RECOVERY, MANY);
     let mut logs: Vec<Log> = (0..MANY).map(|_| Vec::new()).collect();
-    for turn in 0..size / 3 {
-        play(&mut chain, turn, &mut logs[(turn % MANY) as usize]);
-    }
+    let answers: Vec<Issued> =
+        (0..size / 3).map(|turn| play(&mut chain, turn, &mut logs[(turn % MANY) as usize])).collect();
     let opening = Record { version: 0, ..Record::START };
     let mut checksum = Checksum::default();
     let watch = Stopwatch::start();
     for _ in 0..AUDITS {
-        let events = audit(opening, chain.answers(), &logs).expect("logs without a fault");
+        let events = audit(opening, &answers, &logs).expect("logs without a fault");
         for event in events {
             checksum.add(event_word(&event));
         }
@@ -377,7 +376,7 @@ fn event_word(event: &Event) -> u64 {
 }
 
 /// A client asks for a commit version, reports it, which raises the record, and reads it.
-fn play(chain: &mut ChainCore, turn: u32, log: &mut Log) {
+fn play(chain: &mut Chain, turn: u32, log: &mut Log) -> Issued {
     let (proxy, num) = (turn % MANY, u64::from(turn / MANY) + 1);
     let (processed, at) = (num.saturating_sub(8), u64::from(turn) * 3);
     let issued = chain.ask(Ask { proxy, num, processed, at }).expect("a fresh request");
@@ -388,6 +387,7 @@ fn play(chain: &mut ChainCore, turn: u32, log: &mut Log) {
     add(log, turn + 1, report, CallAnswer::Acked { rec, raised: true, changed: true });
     let found = CallAnswer::Version { rec, limits: Vec::new(), locked_out: false };
     add(log, turn + 1, Input::Grv(GrvOpts::plain()), found);
+    issued
 }
 
 fn add(log: &mut Log, position: u32, input: Input, answer: CallAnswer) {

@@ -34,11 +34,10 @@ pub enum ChainError {
     Exhausted,
 }
 
-/// The places in the chain of the answers that are kept for a proxy. Those up to number `erased`
-/// are gone.
+/// The answers that are kept for a proxy. Those up to number `erased` are gone.
 #[derive(Default)]
 struct Replies {
-    kept: VecDeque<usize>,
+    kept: VecDeque<Issued>,
     erased: u64,
 }
 
@@ -47,36 +46,32 @@ impl Replies {
         self.erased + self.kept.len() as u64
     }
 
-    fn place_of(&self, num: u64) -> Option<usize> {
+    fn reply(&self, num: u64) -> Option<Issued> {
         if num <= self.erased {
             return None;
         }
         self.kept.get((num - self.erased - 1) as usize).copied()
     }
 
-    fn keep(&mut self, place: usize, processed: u64) {
-        while self.erased < processed && self.kept.pop_front().is_some() {
+    fn keep(&mut self, issued: Issued) {
+        while self.erased < issued.processed && self.kept.pop_front().is_some() {
             self.erased += 1;
         }
-        self.kept.push_back(place);
+        self.kept.push_back(issued);
     }
 }
 
-pub struct ChainCore {
+pub struct Chain {
     epoch_end: u64,
     recovery: u64,
-    answers: Vec<Issued>,
+    last: Option<Issued>,
     replies: Vec<Replies>,
 }
 
-impl ChainCore {
-    pub fn new(epoch_end: u64, recovery: u64, proxies: u32) -> ChainCore {
+impl Chain {
+    pub fn new(epoch_end: u64, recovery: u64, proxies: u32) -> Chain {
         let replies = (0..proxies).map(|_| Replies::default()).collect();
-        ChainCore { epoch_end, recovery, answers: Vec::new(), replies }
-    }
-
-    pub fn answers(&self) -> &[Issued] {
-        &self.answers
+        Chain { epoch_end, recovery, last: None, replies }
     }
 
     // (as the crate has it)
@@ -88,25 +83,23 @@ impl ChainCore {
             return Err(ChainError::Early { expected });
         }
         if ask.num < expected {
-            let place = replies.place_of(ask.num).ok_or(ChainError::Forgotten)?;
-            return Ok(Issued { fresh: false, ..self.answers[place] });
+            let kept = replies.reply(ask.num).ok_or(ChainError::Forgotten)?;
+            return Ok(Issued { fresh: false, ..kept });
         }
-        let (prev, version) = match self.answers.last() {
-            None => (self.epoch_end, self.recovery),
+        let (ordinal, prev, version) = match self.last {
+            None => (0, self.epoch_end, self.recovery),
             Some(last) => {
                 let step = ask.at.saturating_sub(last.at).clamp(1, MAX_STEP);
-                (last.version, last.version + step)
+                (last.ordinal + 1, last.version, last.version + step)
             }
         };
         if version > MAX_VERSION {
             return Err(ChainError::Exhausted);
         }
-        let place = self.answers.len();
         let Ask { proxy, num, processed, at } = ask;
-        let ordinal = place as u64;
         let issued = Issued { ordinal, proxy, num, processed, prev, version, at, fresh: true };
-        replies.keep(place, ask.processed);
-        self.answers.push(issued);
+        replies.keep(issued);
+        self.last = Some(issued);
         Ok(issued)
     }
 }

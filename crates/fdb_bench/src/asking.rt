@@ -2,7 +2,7 @@
 
 use crate::measuring::{Checksum, Draws, Job, Measured, Stopwatch};
 use anyhow::Result;
-use fdb_chain::ChainCore;
+use fdb_chain::RecentChain;
 use fdb_history::{Ask, Record};
 use std::alloc::Global;
 use std::time::CpuClock;
@@ -21,8 +21,8 @@ pub(crate) const START: Record = Record {
 };
 
 /// A chain that nobody has asked yet, with so many commit proxies.
-pub(crate) fn empty_chain(alloc: Global, proxies: u32) -> Result<ChainCore> {
-    Ok(ChainCore::new(alloc, 0, START.version, proxies)?)
+fn empty_chain(alloc: Global, proxies: u32) -> Result<RecentChain> {
+    Ok(RecentChain::new(alloc, 0, START.version, proxies)?)
 }
 
 /// Fresh requests by so many proxies in turn, which process each answer at once or none.
@@ -38,7 +38,12 @@ pub(crate) fn fresh(
     watch.measured(clock, u64::from(job.size), checksum)
 }
 
-fn ask_fresh(chain: &mut ChainCore, size: u32, proxies: u32, processes: bool) -> Result<Checksum> {
+fn ask_fresh(
+    chain: &mut RecentChain,
+    size: u32,
+    proxies: u32,
+    processes: bool,
+) -> Result<Checksum> {
     let proxies = proxies.max(1);
     let mut checksum = Checksum::EMPTY;
     for place in 0..size {
@@ -68,7 +73,7 @@ pub(crate) fn repeats(clock: &impl CpuClock, job: Job) -> Result<Measured> {
 /// Asks for the number that comes after so many of the proxy, three microseconds
 /// after the place before, and adds the answer.
 fn ask(
-    chain: &mut ChainCore,
+    chain: &mut RecentChain,
     checksum: &mut Checksum,
     place: u32,
     proxy: u32,

@@ -1,6 +1,6 @@
 //! Audits of the logs of a run that is played before the watch starts.
 
-use crate::asking::{MANY, START, empty_chain};
+use crate::asking::{MANY, START};
 use crate::batching::plain_read;
 use crate::measuring::{Checksum, Job, Measured, Stopwatch};
 use anyhow::{Result, ensure};
@@ -16,7 +16,7 @@ const AUDITS: u32 = 10;
 
 /// Audits the logs of many clients with so many calls in all, a few times.
 pub(crate) fn audits(clock: &impl CpuClock, job: Job) -> Result<Measured> {
-    let mut chain = empty_chain(job.alloc, MANY)?;
+    let mut chain = ChainCore::new(job.alloc, 0, START.version, MANY)?;
     let logs = played(job, &mut chain)?;
     let mut checksum = Checksum::EMPTY;
     let watch = Stopwatch::start(clock)?;

@@ -2,15 +2,16 @@
 //! a commit proxy of its own. No time passes between them, so each gets the version after the last
 //! one, and together the threads get the same versions in every schedule.
 
-ghost use Rattle.std.specs.Prelude.{◌≡◌};
+ghost use Rattle.std.specs.Prelude.{◌≡◌, true};
+ghost use Rattle.fdb_live.specs.Seen.{epoch_of};
 
 use crate::asking::START;
 use crate::measuring::{Job, Measured};
 use crate::team::{Tally, Work, side_by_side};
 use anyhow::{Result, anyhow, ensure};
-use fdb_chain::{ChainCore, Sequencer};
+use fdb_chain::{RecentChain, Sequencer};
 use fdb_history::{Ask, OpenGate, Service};
-use fdb_live::{Live, MAX_REPORTERS, Master, OpenedMaster, Token};
+use fdb_live::{Epoch, Live, LiveRecord, MAX_REPORTERS, Master, Opened, Seen};
 use std::marker::Brand;
 use std::sync::Wait;
 use std::thread::Threads;
@@ -71,7 +72,7 @@ where
     for proxy in 0..job.threads {
         askers.push(Asker { proxy, asks })?;
     }
-    let core = ChainCore::new(job.alloc, 0, 100, job.threads)?;
+    let core = RecentChain::new(job.alloc, 0, 100, job.threads)?;
     let sequencer = Sequencer::<One>::new(core);
     let all = side_by_side(rt, job.alloc, &sequencer, askers)?;
     Ok(all.measured(all.sum))
@@ -80,7 +81,7 @@ where
 /// A commit proxy's requests to a master, with its token.
 #[derive(Drop)]
 struct Drawer<J: Live> {
-    token: Token<J>,
+    token: Seen<J>,
     asks: u32,
 }
 
@@ -98,11 +99,11 @@ impl<J: Live + Send + Sync> Work<Master<J>> for Drawer<J> {
 fn draw<J: Live, R: Wait>(
     rt: &R,
     master: &Master<J>,
-    token: &mut Token<J>,
+    token: &mut Seen<J>,
     before: u32,
     tally: &mut Tally,
 ) -> Result<()> {
-    let Some(proxy) = token.number() else {
+    let Some(proxy) = token.reporter() else {
         return Err(anyhow!("the token is nobody's"));
     };
     let issued = master.ask(rt, &OpenGate, token, after(proxy, before))?;
@@ -115,12 +116,16 @@ pub(crate) fn of_master<R>(rt: &R, job: Job) -> Result<Measured>
 where
     R: Clock + Threads + Wait + Sync,
 {
-    let (proxies, recovery) = (job.threads, START.version);
+    let proxies = job.threads;
     ensure!(
         proxies > 0 && proxies <= MAX_REPORTERS,
         "{proxies} commit proxies"
     );
-    let opened = Master::<Brand>::open(rt, job.alloc, 0, recovery, START, proxies)?;
+    let epoch = Epoch {
+        before: 0,
+        recovery: START.version,
+    };
+    let opened = LiveRecord::<Brand>::open(rt, job.alloc, START, proxies, Some(epoch))?;
     draw_named::<Brand, R>(rt, job, opened)
 }
 
@@ -128,17 +133,17 @@ where
 fn draw_named<J: Live + Send + Sync, R: Clock + Threads + Wait + Sync>(
     rt: &R,
     job: Job,
-    opened: OpenedMaster,
+    opened: Opened,
 ) -> Result<Measured>
-    requires { opened ≡ record {
+    requires chained { J.chained ≡ true }
+    requires opened { opened ≡ record {
       table = J.table;
       start = J.start;
-      members = J.reporters;
-      epoch_end = J.epoch_end;
-      recovery = J.recovery;
+      reporters = J.reporters;
+      epoch = epoch_of J.chained J.epoch_end J.recovery;
     } }
 {
-    let (master, tokens) = opened.parts::<J>()?;
+    let (master, _, tokens) = opened.master::<J>()?;
     let asks = job.size / job.threads.max(1);
     let mut drawers = Vec::new(job.alloc);
     for token in tokens {

@@ -1,6 +1,7 @@
 //! A live record under a name, and what is measured at it: reads, reports and tokens.
 
-ghost use Rattle.std.specs.Prelude.{◌≡◌};
+ghost use Rattle.std.specs.Prelude.{◌≡◌, false};
+ghost use Rattle.fdb_live.specs.Seen.{epoch_of};
 
 use crate::asking::START;
 use crate::batching::batches;
@@ -43,7 +44,7 @@ pub(crate) fn measure<R>(rt: &R, job: Job, load: Load) -> Result<Measured>
 where
     R: Clock + CpuClock + Threads + Wait + Sync,
 {
-    let opened = LiveRecord::<Brand>::open(rt, job.alloc, START, REPORTERS)?;
+    let opened = LiveRecord::<Brand>::open(rt, job.alloc, START, REPORTERS, None)?;
     measure_named::<Brand, R>(rt, job, load, opened)
 }
 
@@ -54,7 +55,13 @@ fn measure_named<J: Live + Send + Sync, R: Clock + CpuClock + Threads + Wait + S
     load: Load,
     opened: Opened,
 ) -> Result<Measured>
-    requires { opened ≡ record { table = J.table; start = J.start; reporters = J.reporters } }
+    requires bare { J.chained ≡ false }
+    requires opened { opened ≡ record {
+      table = J.table;
+      start = J.start;
+      reporters = J.reporters;
+      epoch = epoch_of J.chained J.epoch_end J.recovery;
+    } }
 {
     let (live, reader, reporters) = opened.parts::<J>()?;
     let shared = Shared {
@@ -71,7 +78,10 @@ fn measure_named<J: Live + Send + Sync, R: Clock + CpuClock + Threads + Wait + S
         Load::ReadsBeside => served.reads(rt, job, true),
         Load::Reports => served.reports(rt, job),
         Load::Tokens => served.tokens(rt, job),
-        Load::Batches => batches(rt, job, &served.shared.live, &mut served.reader),
+        Load::Batches => {
+            let shared = &served.shared;
+            batches(rt, job, &shared.live, &mut served.reader)
+        }
     }
 }
 
@@ -80,6 +90,7 @@ fn measure_named<J: Live + Send + Sync, R: Clock + CpuClock + Threads + Wait + S
 struct Shared<J: Live> {
     live: LiveRecord<J>,
     reading: AtomicU64,
+    ghost bare: { J.chained ≡ false },
 }
 
 /// A live record and what threads share beside it, and the tokens that nobody works with.
@@ -101,7 +112,8 @@ impl<J: Live + Send + Sync> Served<J> {
         let reads = u64::from(job.size).saturating_mul(READS_PER_RAISE);
         let mut holders = Vec::new(job.alloc);
         for _ in 0..job.threads {
-            let token = self.shared.live.split(&mut self.reader);
+            let shared = &self.shared;
+            let token = shared.live.split(&mut self.reader);
             let role = Role::Reads { reads };
             holders.push(Holder { token, role })?;
         }
@@ -131,7 +143,8 @@ impl<J: Live + Send + Sync> Served<J> {
             holders.push(self.reporter(role)?)?;
         }
         let mut all = side_by_side(rt, job.alloc, &self.shared, holders)?;
-        let last = self.shared.live.read(rt, &mut self.reader);
+        let shared = &self.shared;
+        let last = shared.live.read(rt, &mut self.reader);
         all.marked = u64::from(all.marked == last.position);
         Ok(all.measured(last.rec.version))
     }
@@ -140,7 +153,8 @@ impl<J: Live + Send + Sync> Served<J> {
     /// is split off the first one, learned by the second, and met.
     fn tokens<R: CpuClock + Wait>(&mut self, rt: &R, job: Job) -> Result<Measured> {
         self.raise(rt, job.size)?;
-        let (live, hearer) = (&self.shared.live, &mut self.reader);
+        let shared = &self.shared;
+        let (live, hearer) = (&shared.live, &mut self.reader);
         let Some(teller) = self.reporters.last_mut() else {
             return Err(anyhow!("there is no reporter"));
         };
@@ -161,7 +175,7 @@ impl<J: Live + Send + Sync> Served<J> {
         let Some(token) = self.reporters.first_mut() else {
             return Err(anyhow!("there is no reporter"));
         };
-        report_in_turn(rt, &self.shared.live, token, FIRST, 1, raises)?;
+        report_in_turn(rt, &self.shared, token, FIRST, 1, raises)?;
         Ok(())
     }
 
@@ -201,7 +215,7 @@ impl<J: Live + Send + Sync> Work<Shared<J>> for Holder<J> {
                 first,
                 step,
                 reports,
-            } => report_in_turn(rt, &shared.live, &mut token, first, step, reports),
+            } => report_in_turn(rt, shared, &mut token, first, step, reports),
             Role::ReportsBeside { first } => report_beside(rt, shared, &mut token, first),
         }
     }
@@ -237,7 +251,7 @@ fn record_word(rec: Record) -> u64 {
 /// is greater by so much. A report is marked that raises the record.
 fn report_in_turn<J: Live, R: Wait>(
     rt: &R,
-    live: &LiveRecord<J>,
+    shared: &Shared<J>,
     seen: &mut Seen<J>,
     first: u64,
     step: u64,
@@ -246,7 +260,7 @@ fn report_in_turn<J: Live, R: Wait>(
     let mut tally = Tally::EMPTY;
     let mut version = first;
     for _ in 0..reports {
-        let raised = report(rt, live, seen, version)?;
+        let raised = report(rt, shared, seen, version)?;
         tally.add(version, raised);
         version = version.wrapping_add(step);
     }
@@ -264,7 +278,7 @@ fn report_beside<J: Live, R: Wait>(
         if shared.reading.load(Ordering::SeqCst) == 0 {
             break;
         }
-        report(rt, &shared.live, seen, first.wrapping_add(place))?;
+        report(rt, shared, seen, first.wrapping_add(place))?;
     }
     Ok(Tally::EMPTY)
 }
@@ -272,7 +286,7 @@ fn report_beside<J: Live, R: Wait>(
 /// Reports a version, and answers whether it raised the record.
 fn report<J: Live, R: Wait>(
     rt: &R,
-    live: &LiveRecord<J>,
+    shared: &Shared<J>,
     seen: &mut Seen<J>,
     version: u64,
 ) -> Result<bool> {
@@ -280,5 +294,5 @@ fn report<J: Live, R: Wait>(
         return Err(anyhow!("the token is nobody's"));
     };
     let rec = Record { version, ..START };
-    Ok(live.report(rt, &OpenGate, who, seen, rec)?.raised)
+    Ok(shared.live.report(rt, &OpenGate, who, seen, rec)?.raised)
 }

@@ -1,13 +1,19 @@
--- What C is told of a chain's answers.
-use Rattle.std.specs.Prelude.{ℕ, false, List, [], ◌∷◌, Result, Ok, Err}
+-- Which chain a handle stands for, and what C is told of its answers.
+use Rattle.std.specs.Prelude.{ℕ, false, List, [], ◌∷◌, Option, None, Some, Result, Ok, Err}
 use Rattle.fdb_history.specs.Issuing.{Chain, answer_to, chain_after}
 use Rattle.fdb_history.specs.declared.chain.Ask.{Ask}
 use Rattle.fdb_history.specs.declared.chain.Issued.{Issued}
 use Rattle.fdb_history.specs.declared.log.Refusal.{Refusal}
 use Rattle.fdb_history.specs.declared.log.Refusal.TheVariants as refusal
+use Rattle.fdb_chain.specs.Recent.{Recent, IsStateOf}
 use Rattle.fdb_c.specs.declared.chain.FdbAsk.{FdbAsk}
 use Rattle.fdb_c.specs.declared.chain.FdbAnswer.{FdbAnswer}
 use Rattle.fdb_c.specs.declared.status.TheConstants.{FDB_OK, FDB_UNKNOWN_PROXY, FDB_EARLY, FDB_FORGOTTEN, FDB_EXHAUSTED, FDB_MEMORY}
+
+-- What a handle has is kept of a chain; one without stands for none.
+abbrev pub StandsFor : Option Recent → Chain → Type 0
+StandsFor None chain = ⊥
+StandsFor (Some state) chain = IsStateOf state chain
 
 -- A request, as the library sees it.
 abbrev pub ask_of : FdbAsk → Ask

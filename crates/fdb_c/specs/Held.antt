@@ -3,8 +3,8 @@ use Rattle.std.specs.Prelude.{ℕ, Option, None, Some}
 use Rattle.std.specs.Global.{Global}
 use Rattle.std.specs.Box.Ownership.{box_owns}
 use Rattle.std_heap.specs.contracts.GlobalAllocator.TheImpl.{ghosts}
-use Rattle.fdb_history.specs.Issuing.{Chain}
-use Rattle.fdb_chain.specs.contracts.chain_core.ChainCore as chain
+use Rattle.fdb_chain.specs.Recent.{Recent}
+use Rattle.fdb_chain.specs.contracts.recent_chain.RecentChain as chain
 use Rattle.fdb_queue.specs.Queue.{Queue}
 use Rattle.fdb_queue.specs.contracts.queue.GrvQueue as queue
 use denote.Builtin.{u64}
@@ -16,7 +16,7 @@ abbrev pub heap : Global
 heap = record { memory = record { seal = tt } }
 
 -- A handle with a chain owns the chain and the right to free its block; one without owns nothing.
-abbrev pub chain_held : Ptr → Option Chain → Fml
+abbrev pub chain_held : Ptr → Option Recent → Fml
 chain_held at None = ftrue
 chain_held at (Some it) = box_owns (ghosts.dealloc_token heap) chain.the_row at it
 

@@ -3,8 +3,9 @@
 ghost use Rattle.std.specs.Prelude.{◌≡◌, ◌+◌, ◌<◌, ◌≤◌, ◌⊎◌, ◌↔◌, ◌++◌, length, drop, IfSome};
 ghost use Rattle.std.specs.Prelude.{IsNone, IsSome, IsOkAnd, IfOk, Ok, OnOk, true};
 ghost use Rattle.std.specs.Bool.{OnTrue};
-ghost use Rattle.fdb_history.specs.Issuing.{answer_to, chain_after};
+ghost use Rattle.fdb_history.specs.Issuing.{Chain, answer_to, chain_after};
 ghost use Rattle.fdb_chain.specs.ChainCore.{IsEpoch, IsProxyCount, new_chain};
+ghost use Rattle.fdb_chain.specs.Recent.{IsStateOf};
 ghost use Rattle.fdb_history.specs.declared.register.TheConstants.{MAX_VERSION};
 ghost use Rattle.fdb_chain.specs.declared.chain_core.TheConstants.{MAX_PROXIES};
 ghost use Rattle.fdb_c.specs.Chain.{ask_of, refused, told, told_each};
@@ -13,7 +14,7 @@ use crate::status::{
     FDB_BAD_EPOCH, FDB_EARLY, FDB_EXHAUSTED, FDB_FORGOTTEN, FDB_MEMORY, FDB_NO_PROXY, FDB_OK,
     FDB_ROOM, FDB_UNKNOWN_PROXY,
 };
-use fdb_chain::{ChainCore, ChainError};
+use fdb_chain::{ChainError, RecentChain};
 use fdb_history::{Ask, Issued};
 use std::alloc::Global;
 
@@ -91,14 +92,15 @@ fn told(issued: Issued) -> FdbAnswer
 }
 
 /// Answers one request, unless memory is refused.
-pub(crate) fn step(core: &mut ChainCore, ask: FdbAsk) -> Option<FdbAnswer>
-    ensures answer { IfSome result (λ answer. answer ≡ told (answer_to core.old (ask_of ask))) }
-    ensures after { IfSome result
-        (λ _. core.new ≡ chain_after core.old (answer_to core.old (ask_of ask))) }
+pub(crate) fn step(core: &mut RecentChain, ask: FdbAsk) -> Option<FdbAnswer>
+    ensures answer { IfSome result (λ answer. (chain : Chain) → IsStateOf core.old chain
+        → answer ≡ told (answer_to chain (ask_of ask))) }
+    ensures after { IfSome result (λ _. (chain : Chain) → IsStateOf core.old chain
+        → IsStateOf core.new (chain_after chain (answer_to chain (ask_of ask)))) }
     ensures not_memory { IfSome result (λ answer. answer.status ≡ FDB_MEMORY → ⊥) }
     ensures memory { IsNone result → core.new ≡ core.old }
-    ensures due { IsNone result
-        → IsOkAnd (answer_to core.old (ask_of ask)) (λ issued. issued.fresh ≡ true) }
+    ensures due { IsNone result → (chain : Chain) → IsStateOf core.old chain
+        → IsOkAnd (answer_to chain (ask_of ask)) (λ issued. issued.fresh ≡ true) }
 {
     let asked = Ask {
         proxy: ask.proxy,
@@ -117,10 +119,10 @@ pub(crate) fn step(core: &mut ChainCore, ask: FdbAsk) -> Option<FdbAnswer>
 }
 
 /// Answers each request in its turn, unless memory is refused.
-fn answer_each(core: &mut ChainCore, asks: &[FdbAsk], answers: &mut [FdbAnswer]) -> bool
+fn answer_each(core: &mut RecentChain, asks: &[FdbAsk], answers: &mut [FdbAnswer]) -> bool
     requires { length asks.now ≤ length answers.old }
-    ensures answers { OnTrue result
-        (answers.new ≡ told_each core.old asks.now ++ drop (length asks.now) answers.old) }
+    ensures answers { OnTrue result ((chain : Chain) → IsStateOf core.old chain
+        → answers.new ≡ told_each chain asks.now ++ drop (length asks.now) answers.old) }
 {
     for (place, ask) in asks.iter().enumerate() {
         let Some(answer) = step(core, *ask) else {
@@ -156,7 +158,7 @@ pub extern "C" fn fdb_chain_answers(
     if answers.len() < asks.len() {
         return FDB_ROOM;
     }
-    match ChainCore::new(alloc, epoch_end, recovery, proxies) {
+    match RecentChain::new(alloc, epoch_end, recovery, proxies) {
         Ok(mut core) => {
             if answer_each(&mut core, asks, answers) {
                 FDB_OK

@@ -1,18 +1,18 @@
 //! The chain by its handle.
 
 ghost use Rattle.std.specs.Prelude.{◌≡◌, ◌<◌, ◌≤◌, ◌⊎◌, ◌↔◌, None, Some, true, IsNone, IsSome};
-ghost use Rattle.std.specs.Prelude.{IfSome, IsOkAnd};
-ghost use Rattle.fdb_history.specs.Issuing.{answer_to, chain_after};
+ghost use Rattle.std.specs.Prelude.{IsOkAnd};
+ghost use Rattle.fdb_history.specs.Issuing.{Chain, answer_to, chain_after};
 ghost use Rattle.fdb_history.specs.declared.register.TheConstants.{MAX_VERSION};
 ghost use Rattle.fdb_chain.specs.ChainCore.{IsEpoch, new_chain};
 ghost use Rattle.fdb_chain.specs.declared.chain_core.TheConstants.{MAX_PROXIES};
-ghost use Rattle.fdb_c.specs.Chain.{ask_of, told};
+ghost use Rattle.fdb_c.specs.Chain.{StandsFor, ask_of, told};
 
 use crate::chain::{FdbAnswer, FdbAsk, step};
 use crate::chain_handle::FdbChain;
 use crate::parts::Parts;
 use crate::status::{FDB_BAD_EPOCH, FDB_MEMORY, FDB_NO_PROXY, FDB_OK};
-use fdb_chain::{ChainCore, ChainError};
+use fdb_chain::{ChainError, RecentChain};
 use std::alloc::Global;
 use std::mem;
 
@@ -26,14 +26,15 @@ pub extern "C" fn fdb_chain_new(
     chain: &mut FdbChain,
 ) -> u8
     requires { IsNone chain.old.chain }
-    ensures ok { (result ≡ FDB_OK) → chain.new.chain ≡ Some (new_chain epoch_end recovery proxies) }
+    ensures ok { (result ≡ FDB_OK)
+        → StandsFor chain.new.chain (new_chain epoch_end recovery proxies) }
     ensures refused { (result ≡ FDB_OK → ⊥) → chain.new.chain ≡ None }
     ensures bad_epoch { (result ≡ FDB_BAD_EPOCH)
         ↔ ((recovery ≤ epoch_end) ⊎ (MAX_VERSION < recovery)) }
     ensures no_proxy { (result ≡ FDB_NO_PROXY)
         ↔ (IsEpoch epoch_end recovery × ((proxies ≡ 0) ⊎ (MAX_PROXIES < proxies))) }
 {
-    match ChainCore::new(alloc, epoch_end, recovery, proxies) {
+    match RecentChain::new(alloc, epoch_end, recovery, proxies) {
         Ok(core) => match Box::new(alloc, core) {
             Ok(core) => {
                 mem::replace(chain, FdbChain::of(Parts::of(core))).gone();
@@ -56,16 +57,17 @@ pub extern "C" fn fdb_chain_ask(
     answer: &mut FdbAnswer,
 ) -> u8
     requires { IsSome chain.old.chain }
-    ensures answer { (result ≡ FDB_MEMORY → ⊥) → IfSome chain.old.chain
-        (λ before. answer.new ≡ told (answer_to before (ask_of ask.now))) }
+    ensures answer { (result ≡ FDB_MEMORY → ⊥) → (before : Chain)
+        → StandsFor chain.old.chain before
+        → answer.new ≡ told (answer_to before (ask_of ask.now)) }
     ensures status { (result ≡ FDB_MEMORY → ⊥) → result ≡ answer.new.status }
-    ensures after { (result ≡ FDB_MEMORY → ⊥) → IfSome chain.old.chain
-        (λ before. chain.new.chain
-        ≡ Some (chain_after before (answer_to before (ask_of ask.now)))) }
+    ensures after { (result ≡ FDB_MEMORY → ⊥) → (before : Chain)
+        → StandsFor chain.old.chain before
+        → StandsFor chain.new.chain (chain_after before (answer_to before (ask_of ask.now))) }
     ensures memory { (result ≡ FDB_MEMORY)
         → (chain.new.chain ≡ chain.old.chain) × (answer.new ≡ answer.old) }
-    ensures due { (result ≡ FDB_MEMORY) → IfSome chain.old.chain
-        (λ before. IsOkAnd (answer_to before (ask_of ask.now)) (λ issued. issued.fresh ≡ true)) }
+    ensures due { (result ≡ FDB_MEMORY) → (before : Chain) → StandsFor chain.old.chain before
+        → IsOkAnd (answer_to before (ask_of ask.now)) (λ issued. issued.fresh ≡ true) }
     ensures held { IsSome chain.new.chain }
 {
     let held = mem::replace(chain, FdbChain::none());

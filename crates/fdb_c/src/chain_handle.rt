@@ -1,10 +1,10 @@
 //! A chain, as C holds it.
 
 ghost use Rattle.std.specs.Prelude.{◌≡◌, Option, None, Some, IsNone, IsSome};
-ghost use Rattle.fdb_history.specs.Issuing.{Chain};
+ghost use Rattle.fdb_chain.specs.Recent.{Recent};
 
 use crate::parts::Parts;
-use fdb_chain::ChainCore;
+use fdb_chain::RecentChain;
 use std::alloc::Global;
 use std::marker::Model;
 use std::ptr;
@@ -14,7 +14,7 @@ use std::ptr;
 #[repr(C)]
 pub struct FdbChain {
     at: *mut u8,
-    ghost chain: { Option Chain },
+    ghost chain: { Option Recent },
 }
 
 impl Model for FdbChain {
@@ -34,7 +34,7 @@ impl FdbChain {
     }
 
     /// This chain.
-    pub(crate) fn of(parts: Parts<ChainCore, Global>) -> FdbChain
+    pub(crate) fn of(parts: Parts<RecentChain, Global>) -> FdbChain
         ensures { result.chain ≡ Some parts.value }
     {
         let Parts { ptr, alloc: _ } = parts;
@@ -42,13 +42,13 @@ impl FdbChain {
     }
 
     /// The chain.
-    pub(crate) fn into_parts(self, alloc: Global) -> Parts<ChainCore, Global>
+    pub(crate) fn into_parts(self, alloc: Global) -> Parts<RecentChain, Global>
         requires { IsSome self.chain }
         ensures { Some result.value ≡ self.chain }
     {
         let FdbChain { at } = self;
         Parts {
-            ptr: at as *mut ChainCore,
+            ptr: at as *mut RecentChain,
             alloc,
         }
     }

@@ -23,9 +23,10 @@ use Rattle.fdb_history.specs.declared.log.Input.TheVariants as input
 use Rattle.fdb_history.specs.declared.register.Record.{Record}
 use Rattle.fdb_history.specs.declared.register.TheConstants.{MAX_VERSION}
 use Rattle.fdb_chain.specs.declared.error.ChainError.{ChainError}
-use Rattle.fdb_live.specs.Holding.{Holding, IsAsked, answers_to, own_answers, versions}
+use Rattle.fdb_live.specs.Holding.{IsAsked, answers_to, own_answers, versions}
+use Rattle.fdb_live.specs.Seen.{Sight}
 use Rattle.fdb_client.proofs.Chains.{answers_to-append, prefix_trans, version_stays}
-use Rattle.fdb_client.specs.Account.{Account, Logs, drawn_in, holding}
+use Rattle.fdb_client.specs.Account.{Account, Logs, drawn_in, sight}
 use Rattle.fdb_live.specs.declared.ack.Ack.{Ack}
 use Rattle.fdb_client.specs.Agreeing.{Agrees, AgreesWithChain, AreJustified}
 use Rattle.fdb_client.specs.Calls.{Asks, IsReadAnswer, IsReportAnswer, Reads, Reports, request_of}
@@ -40,7 +41,7 @@ use Rattle.fdb_client.proofs.Justified.{justified_after, justified_read, justifi
 
 -- Where a call was logged whose answer, if it is fresh, became the client's own, and which is justified, its calls agree.
 pub chain_logged : (epoch_end recovery : ℕ) (input : Input) (answer : CallAnswer) (before after : Account) → AgreesWithChain epoch_end recovery before → Logs before input answer after
-    → own_answers (holding after) ≡ own_answers (holding before) ++ drawn_in answer
+    → own_answers (sight after) ≡ own_answers (sight before) ++ drawn_in answer
     → ((issued : Issued) → answer ≡ Answered issued → Contains (versions after.answers) issued.version)
     → ((chain : List Issued) → IsChain epoch_end recovery chain → IsPrefix after.answers chain → is_justified chain before.number before.calls (record { input = input; asked = length before.changes; position = length after.changes; answer = answer }) ≡ true)
     → AgreesWithChain epoch_end recovery after
@@ -62,7 +63,7 @@ pub chain_quiet : (epoch_end recovery : ℕ) (input : Input) (answer : CallAnswe
 chain_quiet epoch_end recovery input answer before after none agrees logged justified =
     let not_drawn : drawn_in answer ≡ [] = ap (filter (λ (issued : Issued). issued.fresh)) none in
     chain_logged epoch_end recovery input answer before after agrees logged
-    (logged.not_drawn not_drawn ∙ (sym (append-nil (own_answers (holding before))) ∙ ap (λ l. own_answers (holding before) ++ l) (sym not_drawn)))
+    (logged.not_drawn not_drawn ∙ (sym (append-nil (own_answers (sight before))) ∙ ap (λ l. own_answers (sight before) ++ l) (sym not_drawn)))
     (λ issued is. absurd (cc (none, ap answer_in is)))
     (λ chain one begins. justified chain)
 
@@ -100,7 +101,7 @@ chain_asked law epoch_end recovery reporters start num processed at before after
     let given : issuing.Chain = record { epoch_end = epoch_end; recovery = recovery; proxies = reporters; answers = asks.by_then } in
     let ask : Ask = request_of before num processed at in
     let told : (issued : Issued) → asks.answer ≡ Answered issued → (issued.proxy ≡ before.number) × Contains (versions after.answers) issued.version = λ issued is. issued_is issued (subst (λ (a : CallAnswer). AskReturns a result) is asks.returned) in
-    let own : answers_to before.number after.answers ≡ own_answers (holding before) ++ drawn_in asks.answer =
+    let own : answers_to before.number after.answers ≡ own_answers (sight before) ++ drawn_in asks.answer =
     ap (answers_to before.number) asks.now ∙ (answers_to-append before.number asks.by_then (drawn_in asks.answer) ∙ ap (λ (p : List Issued × List Issued). p.0 ++ p.1) (λ i. (asks.own i, of_client before.number asks.answer (λ issued is. (told issued is).0) i))) in
     let mine : fresh_answers before.calls ≡ answers_to before.number asks.by_then = sym agrees.own ∙ sym asks.own in
     let now : after.answers ≡ (chain_after given (answer_to given ask)).answers = asks.now ∙ (ap (λ (a : CallAnswer). asks.by_then ++ drawn_in a) asks.answered ∙ seen_after given (answer_to given ask)) in
@@ -112,7 +113,7 @@ chain_asked law epoch_end recovery reporters start num processed at before after
     (law given ask before.calls chain (length before.changes) (length after.changes) below epoch.in_range mine one (subst (λ l. IsPrefix l chain) now begins)))
 
 -- who has seen more answers, none of which is its own, agrees as before
-pub chain_more : (epoch_end recovery : ℕ) (before after : Account) → after.number ≡ before.number → after.calls ≡ before.calls → IsPrefix before.answers after.answers → own_answers (holding after) ≡ own_answers (holding before)
+pub chain_more : (epoch_end recovery : ℕ) (before after : Account) → after.number ≡ before.number → after.calls ≡ before.calls → IsPrefix before.answers after.answers → own_answers (sight after) ≡ own_answers (sight before)
     → AgreesWithChain epoch_end recovery before → AgreesWithChain epoch_end recovery after
 chain_more epoch_end recovery before after number calls more own agrees = record {
   own = own ∙ (agrees.own ∙ ap fresh_answers (sym calls));
@@ -183,7 +184,7 @@ module _ (epoch_end recovery : ℕ) (start : Record) (before after : Account) (a
 
 -- a call that changed nothing of the record and by which a client saw no change of it, as it is logged
 logs_still : (asked : Input) (answer : CallAnswer) (before after : Account) → answer_changes answer ≡ false → position_after_calls before.begun before.calls ≡ length before.changes → after.number ≡ before.number → after.begun ≡ before.begun → after.changes ≡ before.changes
-    → IsPrefix before.answers after.answers → (drawn_in answer ≡ [] → own_answers (holding after) ≡ own_answers (holding before))
+    → IsPrefix before.answers after.answers → (drawn_in answer ≡ [] → own_answers (sight after) ≡ own_answers (sight before))
     → after.calls ≡ before.calls ++ record { input = asked; asked = length before.changes; position = length before.changes; answer = answer } ∷ []
     → Logs before asked answer after
 logs_still asked answer before after still come_to number begun changes more not_drawn calls = record {
@@ -193,7 +194,7 @@ logs_still asked answer before after still come_to number begun changes more not
   come_to = come_to;
   extends = ([], append-nil before.changes ∙ sym changes);
   stays = λ _. changes;
-  own = λ _. ap (λ (p : ℕ × List Change). own_positions (record { reporter = Some p.0; changes = p.1 })) (λ i. (number i, changes i));
+  own = λ _. ap (λ (p : ℕ × List Change). own_positions (record { reporter = Some p.0; changes = p.1; answers = [] })) (λ i. (number i, changes i));
   changed = λ is. absurd (cc (is, still));
   answers = more;
   not_drawn = not_drawn;
@@ -211,8 +212,8 @@ pub same_issued : {one other : Issued} → Path (Result Issued ClientError) (Ok 
 same_issued is = cc is
 
 -- a client that asked with its token
-module _ (begun : issuing.Chain) (start : Record) (number begun_at num processed at : ℕ) (calls now_calls : List Call) (old new : Holding)
-    (whose : old.number ≡ Some number) (come_to : position_after_calls begun_at calls ≡ length old.changes) (stays : new.number ≡ old.number) (same : new.changes ≡ old.changes) (more : IsPrefix old.answers new.answers) where
+module _ (begun : issuing.Chain) (start : Record) (number begun_at num processed at : ℕ) (calls now_calls : List Call) (old new : Sight)
+    (whose : old.reporter ≡ Some number) (come_to : position_after_calls begun_at calls ≡ length old.changes) (stays : new.reporter ≡ old.reporter) (same : new.changes ≡ old.changes) (more : IsPrefix old.answers new.answers) where
   abbrev before : Account
   before = record { number = number; begun = begun_at; calls = calls; answers = old.answers; changes = old.changes }
 

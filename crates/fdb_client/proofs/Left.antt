@@ -4,7 +4,7 @@ use Rattle.std.specs.List.{AllByRecursion, slice_get}
 use Rattle.std.specs.Prelude.{nat_lt}
 use Rattle.std.proofs.lemmas.Bool.Decides.{nat_tests}
 use Rattle.std.proofs.lemmas.Option.{slice_get-map}
-use Rattle.fdb_client.specs.Account.{Account, holding}
+use Rattle.fdb_client.specs.Account.{Account, sight}
 use Rattle.fdb_client.specs.Agreeing.{Agrees, AgreesWithChain}
 use Rattle.fdb_client.specs.Settling.{AllAgree, AllAgreeWithChain, HaveNumbers, logs_of}
 use Rattle.fdb_history.specs.Log.{calls_of}
@@ -12,7 +12,7 @@ use Rattle.fdb_history.specs.declared.log.Call.{Call}
 use Rattle.fdb_history.specs.declared.log.ClientLog.{ClientLog}
 use Rattle.fdb_history.specs.declared.register.Record.{Record}
 use Rattle.fdb_history.specs.declared.chain.Issued.{Issued}
-use Rattle.fdb_live.specs.Holding.{AreNumbered}
+use Rattle.fdb_live.specs.Gathering.{AreNumbered}
 use Rattle.fdb_live.specs.declared.change.Change.{Change}
 
 -- a client's calls agree with its token, as those of one that began before any change
@@ -39,10 +39,10 @@ pub one_more : {X : Type 0} (P : X → Type 0) (xs : List X) (x : X) → AllByRe
 one_more P [] x all one = (one, tt)
 one_more P (y ∷ xs) x all one = (all.0, one_more P xs x all.1 one)
 
-pub are_numbered : (clients : List Account) → HaveNumbers clients → AreNumbered (map holding clients)
+pub are_numbered : (clients : List Account) → HaveNumbers clients → AreNumbered (map sight clients)
 are_numbered clients have k token is =
-    let own = at_map holding clients k token is in
-    sym (ap (λ one. one.number) own.2) ∙ ap Some (have k own.0 own.1)
+    let own = at_map sight clients k token is in
+    sym (ap (λ one. one.reporter) own.2) ∙ ap Some (have k own.0 own.1)
 
 said : (start : Record) (client : Account) (number : ℕ) (calls : List Call) (answers : List Issued) (changes : List Change) → client.number ≡ number → client.calls ≡ calls → client.answers ≡ answers → client.changes ≡ changes
     → Agrees start (record client { begun = 0 }) → Agrees start (record { number = number; begun = 0; calls = calls; answers = answers; changes = changes })
@@ -56,15 +56,15 @@ module _ (epoch_end recovery : ℕ) (start : Record) (clients : List Account) (h
   calls_are : (k : ℕ) (client : Account) → slice_get clients k ≡ Some client → client.calls ≡ calls_of (logs_of clients) k
   calls_are k client is = sym (rw (slice_get-map {B = ClientLog} (λ (client : Account). record { calls = client.calls }) clients k, is) refl)
 
-  pub all_agree : AllAgree start (logs_of clients) (map holding clients)
+  pub all_agree : AllAgree start (logs_of clients) (map sight clients)
   all_agree k token is =
-      let own = at_map holding clients k token is in
+      let own = at_map sight clients k token is in
       said start own.0 k (calls_of (logs_of clients) k) token.answers token.changes (have k own.0 own.1) (calls_are k own.0 own.1) (ap (λ one. one.answers) own.2) (ap (λ one. one.changes) own.2)
       (at_each (MaySettle epoch_end recovery start) clients k own.0 all own.1).0
 
-  pub all_agree_with_chain : AllAgreeWithChain epoch_end recovery (logs_of clients) (map holding clients)
+  pub all_agree_with_chain : AllAgreeWithChain epoch_end recovery (logs_of clients) (map sight clients)
   all_agree_with_chain k token is =
-      let own = at_map holding clients k token is in
+      let own = at_map sight clients k token is in
       said_of_chain epoch_end recovery own.0 k (calls_of (logs_of clients) k) token.answers token.changes (have k own.0 own.1) (calls_are k own.0 own.1) (ap (λ one. one.answers) own.2) (ap (λ one. one.changes) own.2)
       (at_each (MaySettle epoch_end recovery start) clients k own.0 all own.1).1
 

@@ -13,3 +13,5 @@ pub mod Left
 pub mod Justified
 pub mod Chained
 pub mod Strays
+pub mod Placing
+pub mod Reported

@@ -21,8 +21,10 @@ use Rattle.fdb_history.specs.declared.log.CallAnswer.{CallAnswer}
 use Rattle.fdb_history.specs.declared.log.CallAnswer.TheVariants.{Version, Acked, Answered, Told, Refused}
 use Rattle.fdb_history.specs.declared.log.ClientLog.{ClientLog}
 use Rattle.fdb_history.specs.declared.register.Record.{Record}
-use Rattle.fdb_live.specs.Holding.{AreNumbered, Holding, IsToldAll}
-use Rattle.fdb_live.specs.Seen.{changed_by, last_record, own_among}
+use Rattle.fdb_live.specs.Gathering.{AreNumbered}
+use Rattle.fdb_client.specs.Settling.{IsToldAll}
+use Rattle.fdb_live.specs.Holding.{own_answers}
+use Rattle.fdb_live.specs.Seen.{Sight, changed_by, last_record, own_among, own_positions}
 use Rattle.fdb_live.specs.declared.change.Change.{Change}
 use Rattle.fdb_client.specs.Account.{Account}
 use Rattle.fdb_client.specs.Agreeing.{Agrees, AgreesAt, IsMade, changed_positions, record_at}
@@ -422,21 +424,21 @@ module _ (start : Record) (logs : List ClientLog) (log : List Change) (settled :
 
 -- ---- tokens that were brought together
 
-module _ (start : Record) (reporters : ℕ) (logs : List ClientLog) (old new : List Holding) (log : List Change) (logs_count : length logs ≡ reporters)
-    (told : (k : ℕ) (token : Holding) → slice_get old k ≡ Some token → IsToldAll log token k new) where
+module _ (start : Record) (reporters : ℕ) (logs : List ClientLog) (old new : List Sight) (log : List Change) (logs_count : length logs ≡ reporters)
+    (told : (k : ℕ) (token : Sight) → slice_get old k ≡ Some token → IsToldAll log token k new) where
   -- what agrees with the tokens before agrees with the list that all of them have then
   pub settled_by : length old ≡ reporters → AreNumbered old → AllAgree start logs old → All (λ r. r.reporter < reporters) log
-      → ((k : ℕ) (token : Holding) → slice_get old k ≡ Some token → IsPrefix token.changes log)
+      → ((k : ℕ) (token : Sight) → slice_get old k ≡ Some token → IsPrefix token.changes log)
       → AreSettled start logs log
   settled_by old_count numbered agree by extends = record {
     by = subst (λ n. All (λ r. r.reporter < n) log) (sym logs_count) by;
     each = λ k within. settled k (omega (arith, logs_count)) (take_more old k (omega (arith, logs_count, old_count)));
   }
     where
-      settled : (k : ℕ) → k < reporters → (token : Holding) × (slice_get old k ≡ Some token) × (take (suc k) old ≡ take k old ++ token ∷ []) → Agrees start (account_of k (calls_of logs k) log)
+      settled : (k : ℕ) → k < reporters → (token : Sight) × (slice_get old k ≡ Some token) × (take (suc k) old ≡ take k old ++ token ∷ []) → Agrees start (account_of k (calls_of logs k) log)
       settled k within (token, at, _) =
           let all = told k token at in
-          let whose : token.number ≡ Some k = numbered k token at in
+          let whose : token.reporter ≡ Some k = numbered k token at in
           let same : changed_by k 1 log ≡ changed_by k 1 token.changes =
           sym (ap (λ (p : Option ℕ × List Change). own_among p.0 p.1) (λ i. ((all.number ∙ whose) i, all.seen i))) ∙ (all.own_changes ∙ ap (λ who. own_among who token.changes) whose) in
           agrees_more start k (calls_of logs k) token.changes log (whatever start k (calls_of logs k) token.answers [] token.changes (agree k token at)) (extends k token at) same
@@ -448,5 +450,24 @@ module _ (start : Record) (reporters : ℕ) (logs : List ClientLog) (old new : L
       let (was, before, _) = take_more old k (omega (arith, old_count)) in
       let all = told k was before in
       let is : all.now ≡ token = same_Some all.now token (sym all.at ∙ at) in
-      subst (λ (seen : List Change). Agrees start (record { number = k; begun = 0; calls = calls_of logs k; answers = token.answers; changes = seen })) (sym all.seen ∙ ap (λ (t : Holding). t.changes) is)
+      subst (λ (seen : List Change). Agrees start (record { number = k; begun = 0; calls = calls_of logs k; answers = token.answers; changes = seen })) (sym all.seen ∙ ap (λ (t : Sight). t.changes) is)
       (whatever start k (calls_of logs k) [] token.answers log (settled.each k (omega (arith, logs_count))))
+
+-- what the gathering says of each token
+pub told_all : (reporters : ℕ) (first : Sight) (old new : List Sight) → length old ≡ reporters → AreNumbered old
+    → ((k : ℕ) → k < reporters → slice_get new k ≡ Some (record first { reporter = Some k }))
+    → ((k : ℕ) (token : Sight) → slice_get old k ≡ Some token → IsPrefix token.answers first.answers)
+    → ((k : ℕ) (token other : Sight) → slice_get old k ≡ Some token → slice_get new k ≡ Some other → own_positions other ≡ own_positions token)
+    → ((k : ℕ) (token other : Sight) → slice_get old k ≡ Some token → slice_get new k ≡ Some other → own_answers other ≡ own_answers token)
+    → (k : ℕ) (token : Sight) → slice_get old k ≡ Some token → IsToldAll first.changes token k new
+told_all reporters first old new count numbered list answers own own_drawn k token is =
+    let at = list k (omega (arith, count, slice_get_within old k token is)) in
+    record {
+      now = record first { reporter = Some k };
+      at = at;
+      number = sym (numbered k token is);
+      seen = refl;
+      answers = answers k token is;
+      own_answers = own_drawn k token (record first { reporter = Some k }) is at;
+      own_changes = own k token (record first { reporter = Some k }) is at;
+    }

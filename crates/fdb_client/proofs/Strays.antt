@@ -13,7 +13,8 @@ use Rattle.fdb_history.specs.Strays.{HasUndrawn, IsStray, NotJustified, is_justi
 use Rattle.fdb_history.specs.declared.chain.Issued.{Issued}
 use Rattle.fdb_history.specs.declared.log.Call.{Call}
 use Rattle.fdb_history.specs.declared.log.ClientLog.{ClientLog}
-use Rattle.fdb_live.specs.Holding.{Holding, answers_to}
+use Rattle.fdb_live.specs.Holding.{answers_to}
+use Rattle.fdb_live.specs.Seen.{Sight}
 use Rattle.fdb_client.specs.Agreeing.{AreJustified}
 use Rattle.fdb_client.specs.Settling.{AllAgreeWithChain}
 use Rattle.fdb_client.proofs.Justified.{same_answer, same_number}
@@ -64,11 +65,11 @@ asked_at P xs place x all at = subst P (get_or_from_slice_get xs place x x at) (
 abbrev pub EachIsNext : Type 0
 EachIsNext = (epoch_end recovery : ℕ) (answers : List Issued) (place : ℕ) (answer : Issued) → IsChain epoch_end recovery answers → slice_get answers place ≡ Some answer → IsNext epoch_end recovery (take place answers) answer
 
-module _ (each_is_next : EachIsNext) (epoch_end recovery reporters : ℕ) (logs : List ClientLog) (tokens : List Holding) (chain : List Issued)
+module _ (each_is_next : EachIsNext) (epoch_end recovery reporters : ℕ) (logs : List ClientLog) (tokens : List Sight) (chain : List Issued)
     (logs_count : length logs ≡ reporters) (count : length tokens ≡ reporters) (agree : AllAgreeWithChain epoch_end recovery logs tokens)
     (one : IsChain epoch_end recovery chain) (asked : All (λ answer. answer.proxy < reporters) chain)
-    (begins : (k : ℕ) (token : Holding) → slice_get tokens k ≡ Some token → IsPrefix token.answers chain)
-    (own : (k : ℕ) (token : Holding) → slice_get tokens k ≡ Some token → answers_to k chain ≡ answers_to k token.answers) where
+    (begins : (k : ℕ) (token : Sight) → slice_get tokens k ≡ Some token → IsPrefix token.answers chain)
+    (own : (k : ℕ) (token : Sight) → slice_get tokens k ≡ Some token → answers_to k chain ≡ answers_to k token.answers) where
   no_unjustified : (client place : ℕ) → NotJustified chain logs client place → ⊥
   no_unjustified client place (call, is, not) =
       let (token, at, _) = take_more tokens client (omega (arith, logs_count, count, inside logs client place call is)) in

@@ -8,7 +8,7 @@ use Rattle.fdb_history.specs.declared.log.Call.{Call}
 use Rattle.fdb_history.specs.declared.log.CallAnswer.{CallAnswer}
 use Rattle.fdb_history.specs.declared.log.Input.{Input}
 use Rattle.fdb_history.specs.declared.log.Input.TheVariants.{Learn}
-use Rattle.fdb_live.specs.Holding.{Holding, own_answers}
+use Rattle.fdb_live.specs.Holding.{own_answers}
 use Rattle.fdb_live.specs.Seen.{Sight, own_positions}
 use Rattle.fdb_live.specs.declared.change.Change.{Change}
 
@@ -21,18 +21,14 @@ pub record Account : Type 0 where
   pub answers : List Issued
   pub changes : List Change
 
--- what a client's token proves that it has seen, as the commit proxy of its number
-abbrev pub holding : Account → Holding
-holding account =
-    record {
-      number = Some account.number;
-      answers = account.answers;
-      changes = account.changes;
-    }
-
--- the changes among that, as the reporter of its number
+-- what a client's token proves that it has seen, as the commit proxy and the reporter of its number
 abbrev pub sight : Account → Sight
-sight account = record { reporter = Some account.number; changes = account.changes }
+sight account =
+    record {
+      reporter = Some account.number;
+      changes = account.changes;
+      answers = account.answers;
+    }
 
 -- a client that has called nobody yet
 abbrev pub new_account : ℕ → List Issued → List Change → Account
@@ -82,4 +78,4 @@ pub record Logs (before : Account) (input : Input) (answer : CallAnswer) (after 
       → own_positions (sight after) ≡ own_positions (sight before) ++ length after.changes ∷ []
   pub answers : IsPrefix before.answers after.answers
   pub not_drawn : drawn_in answer ≡ []
-      → own_answers (holding after) ≡ own_answers (holding before)
+      → own_answers (sight after) ≡ own_answers (sight before)

@@ -18,7 +18,7 @@ use Rattle.fdb_history.specs.declared.register.Record.{Record}
 use Rattle.fdb_live.specs.Holding.{own_answers, versions}
 use Rattle.fdb_live.specs.Seen.{last_record, own_positions}
 use Rattle.fdb_live.specs.declared.change.Change.{Change}
-use Rattle.fdb_client.specs.Account.{Account, holding, sight}
+use Rattle.fdb_client.specs.Account.{Account, sight}
 
 -- the live record at a position of a list of changes
 abbrev pub record_at : Record → List Change → ℕ → Record
@@ -64,7 +64,7 @@ AreJustified chain client before (call ∷ calls) =
 -- drawn for its calls; each version that it may report is one of theirs; and each of its calls is
 -- justified, by whatever chain goes on from them.
 pub record AgreesWithChain (epoch_end recovery : ℕ) (account : Account) : Type 0 where
-  pub own : own_answers (holding account) ≡ fresh_answers account.calls
+  pub own : own_answers (sight account) ≡ fresh_answers account.calls
   pub drawn : (num version : ℕ) → issued_under account.calls num ≡ Some version
       → Contains (versions account.answers) version
   pub justified : (chain : List Issued) → IsChain epoch_end recovery chain

@@ -16,11 +16,12 @@ use Rattle.fdb_history.specs.declared.log.Input.TheVariants as input
 use Rattle.fdb_history.specs.declared.log.Refusal.{Refusal}
 use Rattle.fdb_history.specs.declared.log.Refusal.TheVariants as refusal
 use Rattle.fdb_history.specs.declared.register.Record.{Record}
-use Rattle.fdb_live.specs.Holding.{Holding, answers_to, own_answers}
+use Rattle.fdb_live.specs.Holding.{answers_to, own_answers}
+use Rattle.fdb_live.specs.Seen.{Sight}
 use Rattle.fdb_live.specs.Seen.{IsBounded, IsNotBehind, IsChangedBy, IsNotChangedBy, IsRecord, last_record, longer}
 use Rattle.fdb_live.specs.declared.ack.Ack.{Ack}
 use Rattle.fdb_live.specs.declared.change.Change.{Change}
-use Rattle.fdb_client.specs.Account.{Account, Logs, drawn_in, holding, sight}
+use Rattle.fdb_client.specs.Account.{Account, Logs, drawn_in, sight}
 use Rattle.fdb_client.specs.Returned.{ReadReturns, AskReturns, ReportReturns}
 use Rattle.fdb_client.specs.declared.error.ClientError.{ClientError}
 use Rattle.fdb_client.specs.declared.read.ReadVersion.{ReadVersion}
@@ -73,7 +74,7 @@ pub record Asks (begun : definition.Chain) (start : Record) (num processed at : 
   pub logged : Logs before (input.Ask num processed at) answer after
   pub by_then : List Issued
   pub seen : IsPrefix before.answers by_then
-  pub own : answers_to before.number by_then ≡ own_answers (holding before)
+  pub own : answers_to before.number by_then ≡ own_answers (sight before)
   pub answered : answer ≡ logged_as (definition.answer_to (record begun { answers = by_then })
       (request_of before num processed at))
   pub now : after.answers ≡ by_then ++ drawn_in answer
@@ -117,7 +118,7 @@ Tells to before after = Logs before (input.Tell to) Told after
 
 -- A learn was logged, and the client has then seen the longer of its own lists and those that it was
 -- told.
-pub record Learns (from : ℕ) (told : Holding) (before after : Account) : Type 0 where
+pub record Learns (from : ℕ) (told : Sight) (before after : Account) : Type 0 where
   pub logged : Logs before (input.Learn from) Told after
   pub seen : after.changes ≡ longer before.changes told.changes
   pub knows : IsPrefix told.changes after.changes

@@ -2,7 +2,7 @@
 use Rattle.std.specs.Prelude.{◌<◌, ◌≤◌, IsTrue}
 use Rattle.std.specs.List.{list_all}
 use Rattle.fdb_chain.specs.ChainCore.{IsEpoch, IsProxyCount}
-use Rattle.fdb_live.specs.Holding.{Founding}
+use Rattle.fdb_live.specs.Seen.{Origin}
 use Rattle.fdb_queue.specs.Config.{IsConfig, IsElapsed}
 use Rattle.fdb_queue.specs.Throttles.{is_throttle}
 use Rattle.fdb_client.specs.declared.cluster.ClusterConfig.{ClusterConfig}
@@ -22,5 +22,5 @@ pub record IsClusterConfig (config : ClusterConfig) : Type 0 where
 
 -- A cluster that was opened: what its master was opened with, and what it is made with.
 pub record Opening : Type 0 where
-  pub founding : Founding
+  pub founding : Origin
   pub config : ClusterConfig

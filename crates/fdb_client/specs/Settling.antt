@@ -3,12 +3,15 @@ use Rattle.std.specs.Prelude.{◌≡◌, ℕ, ◌<◌, [], Some, List, length, m
 use Rattle.fdb_history.specs.Log.{calls_of}
 use Rattle.fdb_history.specs.declared.log.ClientLog.{ClientLog}
 use Rattle.fdb_history.specs.declared.register.Record.{Record}
-use Rattle.fdb_live.specs.Holding.{Holding}
+use mathlib.Core.List.{IsPrefix}
+use Rattle.fdb_live.specs.Holding.{own_answers}
+use Rattle.fdb_live.specs.Seen.{Sight, own_positions}
+use Rattle.fdb_live.specs.declared.change.Change.{Change}
 use Rattle.fdb_client.specs.Account.{Account, new_account}
 use Rattle.fdb_client.specs.Agreeing.{Agrees, AgreesWithChain}
 
 -- The client at a place, by its log and its token, as one that began before any change.
-abbrev pub account_at : List ClientLog → ℕ → Holding → Account
+abbrev pub account_at : List ClientLog → ℕ → Sight → Account
 account_at logs k token =
     record {
       number = k;
@@ -19,15 +22,15 @@ account_at logs k token =
     }
 
 -- Each log agrees with the token at its place.
-abbrev pub AllAgree : Record → List ClientLog → List Holding → Type 0
+abbrev pub AllAgree : Record → List ClientLog → List Sight → Type 0
 AllAgree start logs tokens =
-    (k : ℕ) (token : Holding) → slice_get tokens k ≡ Some token
+    (k : ℕ) (token : Sight) → slice_get tokens k ≡ Some token
     → Agrees start (account_at logs k token)
 
 -- Each log agrees with the answers that the token at its place proves.
-abbrev pub AllAgreeWithChain : ℕ → ℕ → List ClientLog → List Holding → Type 0
+abbrev pub AllAgreeWithChain : ℕ → ℕ → List ClientLog → List Sight → Type 0
 AllAgreeWithChain epoch_end recovery logs tokens =
-    (k : ℕ) (token : Holding) → slice_get tokens k ≡ Some token
+    (k : ℕ) (token : Sight) → slice_get tokens k ≡ Some token
     → AgreesWithChain epoch_end recovery (account_at logs k token)
 
 -- the logs of some clients: of each its calls, in the same order
@@ -48,3 +51,15 @@ pub record AreAllInPlace (number : ℕ) (clients : List Account) : Type 0 where
 pub record AreNew (number : ℕ) (clients : List Account) : Type 0 where
   pub count : length clients ≡ number
   pub each : (k : ℕ) → k < number → slice_get clients k ≡ Some (new_account k [] [])
+
+-- What stands at a place among some tokens is what this one has become once its holder has seen all
+-- of these changes: it has lost no answer, and what is its own is as before.
+pub record IsToldAll (changes : List Change) (old : Sight) (k : ℕ) (tokens : List Sight)
+    : Type 0 where
+  pub now : Sight
+  pub at : slice_get tokens k ≡ Some now
+  pub number : now.reporter ≡ old.reporter
+  pub seen : now.changes ≡ changes
+  pub answers : IsPrefix old.answers now.answers
+  pub own_answers : own_answers now ≡ own_answers old
+  pub own_changes : own_positions now ≡ own_positions old

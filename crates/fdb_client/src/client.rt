@@ -3,7 +3,7 @@
 ghost use Rattle.std.specs.Prelude.{◌≡◌, ◌≢◌, ◌+◌, ◌<◌, ◌≤◌, ◌⊎◌, ℕ, [], length, slice_get, true};
 ghost use mathlib.Core.List.{IsPrefix};
 ghost use Rattle.std.specs.Prelude.{Contains, IfOk, IfErr, OnOk, OnErr, None, Some};
-ghost use Rattle.fdb_client.specs.Account.{Account, IsSameClient, holding, new_account};
+ghost use Rattle.fdb_client.specs.Account.{Account, IsSameClient, new_account, sight};
 ghost use Rattle.fdb_client.specs.Agreeing.{Agrees, AgreesWithChain};
 ghost use Rattle.fdb_client.specs.Calls.{Asks, IsReadOf, Learns, Reads, Reports, Tells};
 ghost use Rattle.fdb_client.specs.Calls.{next_number, request_of};
@@ -14,7 +14,7 @@ ghost use Rattle.fdb_history.specs.Issuing.{answer_to};
 ghost use Rattle.fdb_history.specs.Log.{position_after_calls};
 ghost use Rattle.fdb_history.specs.Strays.{issued_under, logged_as};
 ghost use Rattle.fdb_history.specs.declared.chain.Issued.{Issued};
-ghost use Rattle.fdb_live.specs.Holding.{chain_of, least_above, own_answers, sight_of};
+ghost use Rattle.fdb_live.specs.Holding.{chain_of, least_above, own_answers};
 ghost use Rattle.fdb_live.specs.Seen.{IsBounded, IsNotBehind, last_record, own_positions};
 
 use crate::error::ClientError;
@@ -25,7 +25,7 @@ use crate::{exchange, reply};
 use fdb_history::{
     Ask, Call, CallAnswer, ClientLog, Gate, GrvOpts, Input, Issued, Record, Sequence, laws,
 };
-use fdb_live::{Ack, Live, LiveError, Master, Token};
+use fdb_live::{Ack, Live, LiveError, Master, Seen};
 use fdb_proxy::Desk;
 use std::alloc::Global;
 use std::marker::Model;
@@ -44,7 +44,7 @@ pub struct Client<'a, J: Live> {
     alloc: Global,
     id: u32,
     master: &'a Master<J>,
-    token: Token<J>,
+    token: Seen<J>,
     begun: u64,
     journal: Journal,
 }
@@ -65,7 +65,7 @@ impl<'a, J: Live> Model for Client<'a, J> {
       changes = client.token.changes;
     } };
 
-    ghost invariant = { λ client. (client.token.number ≡ Some client.id)
+    ghost invariant = { λ client. (client.token.reporter ≡ Some client.id)
         × (position_after_calls client.begun client.journal.calls.items
         ≡ length client.token.changes)
         × Agrees J.start (record {
@@ -87,10 +87,10 @@ impl<'a, J: Live> Model for Client<'a, J> {
 impl<'a, J: Live> Client<'a, J> {
     /// A client that has called nobody yet, with the token of the commit proxy of its number. Takes
     /// no memory.
-    pub fn new(alloc: Global, id: u32, master: &'a Master<J>, token: Token<J>) -> Self
-        requires number { token.number ≡ Some id }
+    pub fn new(alloc: Global, id: u32, master: &'a Master<J>, token: Seen<J>) -> Self
+        requires number { token.reporter ≡ Some id }
         requires drew_none { own_answers token ≡ [] }
-        requires owns_none { own_positions (sight_of token) ≡ [] }
+        requires owns_none { own_positions token ≡ [] }
         ensures { result ≡ new_account id token.answers token.changes }
     {
         let begun = token.position();
@@ -165,7 +165,7 @@ impl<'a, J: Live> Client<'a, J> {
         let logged = opts.clone()?;
         let (reply, answers) = crossbeam_channel::bounded(self.alloc, 1)?;
         let own = RequestId::next(self.id, &self.journal, &self.token);
-        let told = self.master.seen(&mut self.token);
+        let told = self.master.record().split(&mut self.token);
         let request = own.request(told, opts, reply);
         let answer = exchange::answer_to(rt, gate, desk, request, answers);
         match answer.and_then(|answer| exchange::reply_to(own, answer)) {
@@ -342,7 +342,11 @@ impl<'a, J: Live> Client<'a, J> {
             metadata,
             min_known,
         };
-        match self.master.report(rt, gate, &mut self.token, rec) {
+        match self
+            .master
+            .record()
+            .report(rt, gate, self.id, &mut self.token, rec)
+        {
             Ok(ack) => {
                 self.journal.add(Call {
                     input,
@@ -368,16 +372,16 @@ impl<'a, J: Live> Client<'a, J> {
     /// A token that has seen what the client has, for another client to learn.
     ///
     /// It is refused for memory alone, and waits for nobody.
-    pub fn tell(&mut self, to: u32) -> Result<Token<J>, ClientError>
+    pub fn tell(&mut self, to: u32) -> Result<Seen<J>, ClientError>
         ensures logged { OnOk result (Tells to self.old self.new) }
-        ensures given { IfOk result (λ told. told ≡ record (holding self.old) { number = None }) }
-        ensures stays { holding self.new ≡ holding self.old }
+        ensures given { IfOk result (λ told. told ≡ record (sight self.old) { reporter = None }) }
+        ensures stays { sight self.new ≡ sight self.old }
         ensures memory { IfErr result (λ cause. cause ≡ ClientError.Memory) }
         ensures unchanged { OnErr result (self.new ≡ self.old) }
         ensures client { IsSameClient self.old self.new }
     {
         self.journal.reserve()?;
-        let told = self.master.split(&mut self.token);
+        let told = self.master.record().split(&mut self.token);
         let position = self.token.position();
         self.journal.add(Call {
             input: Input::Tell { to },
@@ -395,9 +399,9 @@ impl<'a, J: Live> Client<'a, J> {
         &mut self,
         rt: &R,
         from: u32,
-        told: Token<J>,
-    ) -> Result<(), (ClientError, Token<J>)>
-        requires { told.number ≡ None }
+        told: Seen<J>,
+    ) -> Result<(), (ClientError, Seen<J>)>
+        requires { told.reporter ≡ None }
         ensures logged { OnOk result (Learns from told self.old self.new) }
         ensures never_falls { IsNotBehind
             (last_record J.start self.old.changes)
@@ -417,7 +421,7 @@ impl<'a, J: Live> Client<'a, J> {
             return Err((ClientError::Memory, told));
         }
         let asked = self.token.position();
-        self.master.learn(rt, &mut self.token, told);
+        self.master.record().learn(rt, &mut self.token, told);
         self.journal.add(Call {
             input: Input::Learn { from },
             asked,
@@ -429,9 +433,9 @@ impl<'a, J: Live> Client<'a, J> {
 
     /// The log and the token, which agree with one another, from whichever position the client began
     /// as from the first one: so they may be settled. Takes no memory.
-    pub fn finish(self) -> (ClientLog, Token<J>)
+    pub fn finish(self) -> (ClientLog, Seen<J>)
         ensures log { result.0 ≡ record { calls = self.entry.calls } }
-        ensures token { result.1 ≡ holding self.entry }
+        ensures token { result.1 ≡ sight self.entry }
         ensures come_to { position_after_calls self.entry.begun self.entry.calls
             ≡ length self.entry.changes }
         ensures agrees { Agrees J.start self.entry }

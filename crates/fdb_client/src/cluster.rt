@@ -96,7 +96,7 @@ impl<'c, J: Live> Cluster<'c, J> {
     pub fn live(&self) -> &LiveRecord<J>
         ensures { result.now ≡ self.now.master.live }
     {
-        self.master.live()
+        self.master.record()
     }
 
     /// The desk of the GRV proxy with this number. They are numbered from 0, and beyond the last

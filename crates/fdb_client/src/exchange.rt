@@ -8,7 +8,7 @@ use crate::error::ClientError;
 use crate::journal::Journal;
 use crossbeam_channel::{Receiver, Sender};
 use fdb_history::{Gate, GrvOpts, Place};
-use fdb_live::{Live, Seen, Token};
+use fdb_live::{Live, Seen};
 use fdb_proxy::{Answer, Desk, Reply, Request};
 use fdb_queue::Req;
 use std::sync::Wait;
@@ -25,7 +25,7 @@ pub(crate) struct RequestId {
 
 impl RequestId {
     /// The id of a client's next request: the number of the request is the length of its log.
-    pub(crate) fn next<J: Live>(client: u32, journal: &Journal, token: &Token<J>) -> RequestId
+    pub(crate) fn next<J: Live>(client: u32, journal: &Journal, token: &Seen<J>) -> RequestId
         ensures client { result.client ≡ client }
         ensures serial { result.serial ≡ length journal.now.calls.items }
         ensures asked { result.asked ≡ length token.now.changes }

@@ -6,7 +6,7 @@ ghost use Rattle.fdb_client.specs.Settling.{AreAllInPlace, HaveNumbers, logs_of}
 use crate::client::Client;
 use crate::cluster::Cluster;
 use fdb_history::ClientLog;
-use fdb_live::{Live, Token};
+use fdb_live::{Live, Seen};
 use std::alloc::{AllocError, Global};
 use std::marker::Model;
 use thiserror::Error;
@@ -19,14 +19,14 @@ use thiserror::Error;
 #[derive(Drop)]
 pub struct Finished<J: Live> {
     pub(crate) logs: Vec<ClientLog>,
-    pub(crate) tokens: Vec<Token<J>>,
+    pub(crate) tokens: Vec<Seen<J>>,
 }
 
 impl<J: Live> Model for Finished<J> {
     ghost use Rattle.std.specs.Prelude.{◌≡◌, List, length};
     ghost use Rattle.fdb_client.specs.Settling.{AllAgree, AllAgreeWithChain};
     ghost use Rattle.fdb_history.specs.declared.log.ClientLog.{ClientLog};
-    ghost use Rattle.fdb_live.specs.Holding.{AreNumbered};
+    ghost use Rattle.fdb_live.specs.Gathering.{AreNumbered};
 
     ghost Value = { List ClientLog };
 

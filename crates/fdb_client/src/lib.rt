@@ -14,6 +14,7 @@ mod error;
 mod exchange;
 mod finishing;
 mod journal;
+mod merging;
 mod opening;
 mod read;
 mod reply;

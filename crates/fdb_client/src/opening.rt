@@ -1,10 +1,11 @@
 //! A cluster whose master was opened, before it has a name.
 
-ghost use Rattle.std.specs.Prelude.{◌≡◌, ◌<◌, ℕ, [], IfOk, None, Some, slice_get, vec_len};
+ghost use Rattle.std.specs.Prelude.{◌≡◌, ◌<◌, ℕ, [], IfOk, None, Some, slice_get, true, vec_len};
 ghost use Rattle.fdb_client.specs.Cluster.{IsClusterConfig};
+ghost use Rattle.fdb_live.specs.Seen.{epoch_from, epoch_of};
 
 use crate::cluster::{Cluster, ClusterConfig};
-use fdb_live::{Live, Master, OpenedMaster, Seen, Token};
+use fdb_live::{Epoch, Live, LiveRecord, Master, Opened, Seen};
 use std::alloc::{AllocError, Global};
 use std::marker::{Brand, Model};
 use std::sync::Wait;
@@ -15,11 +16,12 @@ use std::sync::Wait;
 #[derive(Drop)]
 pub struct OpenedCluster<'c> {
     config: ClusterConfig<'c>,
-    opened: OpenedMaster,
+    opened: Opened,
 }
 
 impl<'c> Model for OpenedCluster<'c> {
-    ghost use Rattle.std.specs.Prelude.{◌≡◌};
+    ghost use Rattle.std.specs.Prelude.{◌≡◌, Some};
+    ghost use Rattle.fdb_live.specs.Seen.{epoch_from};
     ghost use Rattle.fdb_client.specs.Cluster.{IsClusterConfig, Opening};
 
     ghost Value = { Opening };
@@ -28,9 +30,8 @@ impl<'c> Model for OpenedCluster<'c> {
 
     ghost invariant = { λ o. IsClusterConfig o.config
         × (o.opened.start ≡ o.config.start)
-        × (o.opened.members ≡ o.config.clients)
-        × (o.opened.epoch_end ≡ o.config.epoch_end)
-        × (o.opened.recovery ≡ o.config.start.version) };
+        × (o.opened.reporters ≡ o.config.clients)
+        × (o.opened.epoch ≡ Some (epoch_from o.config.epoch_end o.config.start.version)) };
 }
 
 /// A cluster that nobody has called yet, and its tokens, none of which has seen a change.
@@ -41,7 +42,7 @@ pub struct ClusterParts<'c, J: Live> {
     /// A token of the live record: for the GRV proxies, and to settle with.
     pub first: Seen<J>,
     /// The token of each client, at the place of its number.
-    pub tokens: Vec<Token<J>>,
+    pub tokens: Vec<Seen<J>>,
 }
 
 impl<'c> ClusterConfig<'c> {
@@ -50,21 +51,19 @@ impl<'c> ClusterConfig<'c> {
         requires { IsClusterConfig self }
         ensures config { IfOk result (λ opened. opened.config ≡ self.entry) }
         ensures start { IfOk result (λ opened. opened.founding.start ≡ self.entry.start) }
-        ensures clients { IfOk result (λ opened. opened.founding.members ≡ self.entry.clients) }
-        ensures epoch_end { IfOk result
-            (λ opened. opened.founding.epoch_end ≡ self.entry.epoch_end) }
-        ensures recovery { IfOk result
-            (λ opened. opened.founding.recovery ≡ self.entry.start.version) }
+        ensures clients { IfOk result (λ opened. opened.founding.reporters ≡ self.entry.clients) }
+        ensures epoch { IfOk result (λ opened. opened.founding.epoch
+            ≡ Some (epoch_from self.entry.epoch_end self.entry.start.version)) }
     {
-        let (epoch_end, start) = (self.epoch_end, self.start);
-        let opened = Master::<Brand>::open(
-            rt,
-            alloc,
-            epoch_end,
-            start.version,
-            start,
-            self.clients,
-        )?;
+        let (before, start) = (self.epoch_end, self.start);
+        let epoch = Epoch {
+            before,
+            recovery: start.version,
+        };
+        let Ok(opened) = LiveRecord::<Brand>::open(rt, alloc, start, self.clients, Some(epoch))
+        else {
+            return Err(AllocError);
+        };
         Ok(OpenedCluster {
             config: self,
             opened,
@@ -76,24 +75,25 @@ impl<'c> OpenedCluster<'c> {
     /// The cluster under a name that stands for it, with its tokens. It is refused for memory alone;
     /// the cluster is then given up.
     pub fn parts<J: Live>(self, alloc: Global) -> Result<ClusterParts<'c, J>, AllocError>
-        requires { self.founding ≡ record {
+        requires chained { J.chained ≡ true }
+        requires opened { self.founding ≡ record {
           table = J.table;
           start = J.start;
-          members = J.reporters;
-          epoch_end = J.epoch_end;
-          recovery = J.recovery;
+          reporters = J.reporters;
+          epoch = epoch_of J.chained J.epoch_end J.recovery;
         } }
         ensures config { IfOk result (λ parts. parts.cluster.config ≡ self.entry.config) }
         ensures first { IfOk result
-            (λ parts. parts.first ≡ record { reporter = None; changes = [] }) }
+            (λ parts. parts.first ≡ record { reporter = None; changes = []; answers = [] }) }
         ensures count { IfOk result (λ parts. vec_len parts.tokens ≡ J.reporters) }
         ensures tokens { IfOk result (λ parts. (k : ℕ) → k < J.reporters
             → slice_get parts.tokens.items k
-            ≡ Some (record { number = Some k; answers = []; changes = [] })) }
+            ≡ Some (record { reporter = Some k; changes = []; answers = [] })) }
     {
         let OpenedCluster { config, opened } = self;
-        let (master, mut tokens) = opened.parts::<J>()?;
-        let first = master.seen(&mut tokens[0]);
+        let Ok((master, first, tokens)) = opened.master::<J>() else {
+            return Err(AllocError);
+        };
         let cluster = Cluster::new(alloc, master, config)?;
         Ok(ClusterParts {
             cluster,

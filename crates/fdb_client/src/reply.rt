@@ -6,7 +6,7 @@ ghost use Rattle.fdb_client.specs.Calls.{IsReadOf, Reads};
 ghost use Rattle.fdb_client.specs.Returned.{ReadReturns};
 ghost use Rattle.fdb_client.specs.private.Exchange.{answer_of};
 ghost use Rattle.fdb_history.specs.Log.{position_after_calls};
-ghost use Rattle.fdb_live.specs.Holding.{least_above, own_answers, sight_of};
+ghost use Rattle.fdb_live.specs.Holding.{least_above, own_answers};
 ghost use Rattle.fdb_live.specs.Seen.{IsBounded, IsNotBehind, last_record, own_positions};
 ghost use mathlib.Core.List.{IsPrefix};
 
@@ -14,7 +14,7 @@ use crate::error::ClientError;
 use crate::journal::Journal;
 use crate::read::ReadVersion;
 use fdb_history::{Call, CallAnswer, GrvOpts, Input};
-use fdb_live::{Live, Master, Seen, Token};
+use fdb_live::{Live, Master, Seen};
 use fdb_proxy::Reply;
 use std::alloc::AllocError;
 use std::sync::Wait;
@@ -25,7 +25,7 @@ use std::sync::Wait;
 pub(crate) fn take_reply<J: Live, R: Wait>(
     rt: &R,
     master: &Master<J>,
-    token: &mut Token<J>,
+    token: &mut Seen<J>,
     journal: &mut Journal,
     opts: GrvOpts,
     reply: Reply<J>,
@@ -42,7 +42,7 @@ pub(crate) fn take_reply<J: Live, R: Wait>(
     ensures returned { result ≢ Err ClientError.Memory
         → ReadReturns opts reply.position (answer_of reply opts) result }
     ensures logged { result ≢ Err ClientError.Memory → (number begun : ℕ)
-        → token.old.number ≡ Some number
+        → token.old.reporter ≡ Some number
         → position_after_calls begun journal.old.calls.items ≡ length token.old.changes
         → Reads J.start opts
         (record {
@@ -68,7 +68,7 @@ pub(crate) fn take_reply<J: Live, R: Wait>(
     ensures come_to { result ≢ Err ClientError.Memory
         → (begun : ℕ) → position_after_calls begun journal.new.calls.items
         ≡ length token.new.changes }
-    ensures number { token.new.number ≡ token.old.number }
+    ensures number { token.new.reporter ≡ token.old.reporter }
     ensures token { result ≡ Err ClientError.Memory → token.new ≡ token.old }
     ensures calls { result ≡ Err ClientError.Memory
         → journal.new.calls.items ≡ journal.old.calls.items }
@@ -100,17 +100,17 @@ pub(crate) fn take_reply<J: Live, R: Wait>(
 
 /// Learns what a reply has seen, which is no less.
 #[tactic(auto, using(crate::proofs::Longer::longer_of_no_less))]
-fn hear<J: Live, R: Wait>(rt: &R, master: &Master<J>, token: &mut Token<J>, told: Seen<J>)
+fn hear<J: Live, R: Wait>(rt: &R, master: &Master<J>, token: &mut Seen<J>, told: Seen<J>)
     requires unnumbered { told.reporter ≡ None }
     requires no_less { length token.old.changes ≤ length told.changes }
-    ensures number { token.new.number ≡ token.old.number }
+    ensures number { token.new.reporter ≡ token.old.reporter }
     ensures changes { token.new.changes ≡ told.changes }
     ensures extends { IsPrefix token.old.changes token.new.changes }
     ensures answers { IsPrefix token.old.answers token.new.answers }
     ensures least { least_above token.old.answers ≤ least_above token.new.answers }
     ensures own { own_answers token.new ≡ own_answers token.old }
-    ensures own_changes { own_positions (sight_of token.new)
-        ≡ own_positions (sight_of token.old) }
+    ensures own_changes { own_positions token.new
+        ≡ own_positions token.old }
     ensures never_falls { IsNotBehind
         (last_record J.start token.old.changes)
         (last_record J.start token.new.changes) }
@@ -118,7 +118,7 @@ fn hear<J: Live, R: Wait>(rt: &R, master: &Master<J>, token: &mut Token<J>, told
         (length token.new.changes)
         (last_record J.start token.new.changes) }
 {
-    master.hear(rt, token, told);
+    master.record().learn(rt, token, told);
 }
 
 /// What a read returns for its reply. It takes memory for a copy of the limits alone.

@@ -1,6 +1,7 @@
 //! A run of a cluster, whose logs its clients' tokens have settled.
 
 ghost use Rattle.std.specs.Prelude.{◌≡◌, ◌≤◌, IfOk, length};
+ghost use Rattle.fdb_client.specs.Merging.{chain_in};
 ghost use Rattle.fdb_history.specs.Audit.{Low};
 ghost use Rattle.fdb_history.specs.Chain.{IsChain};
 ghost use Rattle.fdb_history.specs.Explained.{explained};
@@ -12,6 +13,7 @@ ghost use Rattle.fdb_live.specs.declared.opened.TheConstants.{MAX_REPORTERS};
 
 use crate::cluster::Cluster;
 use crate::finishing::Finished;
+use crate::merging::chain_of;
 use crate::settling::{Closed, close};
 use fdb_history::{ClientLog, History, Issued, Record, history_of};
 use fdb_live::{Live, Seen};
@@ -28,18 +30,30 @@ pub struct SettledRun {
     pub start: Record,
     /// The log of each client, at the place of its number.
     pub logs: Vec<ClientLog>,
-    /// The commit versions that were drawn, each above the one before.
-    pub chain: Vec<Issued>,
+    /// How many commit versions were drawn.
+    pub drawn: u64,
     /// How many reports changed the record: the position that the run came to.
     pub changes: u64,
     pub ghost few: { length logs.items ≤ MAX_REPORTERS },
     pub ghost faultless: { IsFaultless start logs.items },
-    pub ghost justified: { Nowhere (IsStray chain.items logs.items) },
+    pub ghost justified: { Nowhere (IsStray (chain_in drawn logs.items) logs.items) },
     pub ghost above: { Nowhere (Low start logs.items) },
     pub ghost counted: { changes ≡ length (changes_in logs.items) },
 }
 
 impl SettledRun {
+    /// The commit versions that were drawn, each above the one before, as the logs tell them.
+    ///
+    /// It takes time in proportion to the calls, and memory for the chain, in one piece.
+    pub fn chain(&self, alloc: Global) -> Result<Vec<Issued>, AllocError>
+        ensures value { IfOk result
+            (λ chain. chain.items ≡ chain_in self.now.drawn self.now.logs.items) }
+        ensures justified { IfOk result
+            (λ chain. Nowhere (IsStray chain.items self.now.logs.items)) }
+    {
+        chain_of(alloc, &self.logs, self.drawn)
+    }
+
     /// The history that explains all answered reads and reports, in the fixed order.
     ///
     /// It takes time in proportion to the calls, up to a sort of the reads and reports by position.
@@ -71,7 +85,8 @@ impl<'c, J: Live> Cluster<'c, J> {
         ensures logs { result.logs.items ≡ finished }
         ensures count { length result.logs.items ≡ J.reporters }
         ensures minima { HaveMinimaWithin result.logs.items }
-        ensures one_chain { IsChain J.epoch_end J.recovery result.chain.items }
+        ensures one_chain { IsChain J.epoch_end J.recovery
+            (chain_in result.drawn result.logs.items) }
     {
         let Finished { logs, mut tokens } = finished;
         let Cluster {
@@ -79,12 +94,12 @@ impl<'c, J: Live> Cluster<'c, J> {
             master,
             desks: _,
         } = self;
-        let Closed { chain, changes } = close(rt, master, &mut first, &mut tokens, &logs);
+        let Closed { drawn, changes } = close(rt, master, &mut first, &mut tokens, &logs);
         SettledRun {
             epoch_end: config.epoch_end,
             start: config.start,
             logs,
-            chain,
+            drawn,
             changes,
         }
     }

@@ -2,16 +2,19 @@
 
 ghost use Rattle.std.specs.Prelude.{◌≡◌, ℕ, Some, length, slice_get};
 ghost use mathlib.Core.List.{IsPrefix};
+ghost use Rattle.fdb_client.specs.Merging.{chain_in};
 ghost use Rattle.fdb_client.specs.Settling.{AllAgree, AllAgreeWithChain};
 ghost use Rattle.fdb_history.specs.Audit.{Low};
 ghost use Rattle.fdb_history.specs.Faults.{IsFaultless, Nowhere, changes_in};
 ghost use Rattle.fdb_history.specs.Chain.{IsChain};
 ghost use Rattle.fdb_history.specs.Laws.{HaveMinimaWithin};
 ghost use Rattle.fdb_history.specs.Strays.{IsStray};
-ghost use Rattle.fdb_live.specs.Holding.{AreNumbered, Holding, IsToldAll};
+ghost use Rattle.fdb_live.specs.Gathering.{AreNumbered};
+ghost use Rattle.fdb_client.specs.Settling.{IsToldAll};
+ghost use Rattle.fdb_live.specs.Seen.{Sight};
 
-use fdb_history::{ClientLog, Issued, laws};
-use fdb_live::{Live, Master, Seen, Token};
+use fdb_history::{ClientLog, laws};
+use fdb_live::{Live, Master, Seen};
 use std::sync::Wait;
 
 /// Brings together what all clients of a service have seen, each by the token that it left beside
@@ -27,7 +30,7 @@ pub fn settle<J: Live, R: Wait>(
     rt: &R,
     master: &Master<J>,
     first: &mut Seen<J>,
-    tokens: &mut [Token<J>],
+    tokens: &mut [Seen<J>],
     logs: &[ClientLog],
 ) -> u64
     requires count { length tokens.old ≡ J.reporters }
@@ -42,29 +45,30 @@ pub fn settle<J: Live, R: Wait>(
     ensures extends { IsPrefix first.old.changes first.new.changes }
     ensures reporter { first.new.reporter ≡ first.old.reporter }
     ensures count { length tokens.new ≡ J.reporters }
-    ensures each { (k : ℕ) (token : Holding) → slice_get tokens.old k ≡ Some token
+    ensures each { (k : ℕ) (token : Sight) → slice_get tokens.old k ≡ Some token
         → IsToldAll first.new.changes token k tokens.new }
     ensures numbered { AreNumbered tokens.new }
     ensures agree { AllAgree J.start logs.now tokens.new }
 {
-    master.gather(rt, first, tokens)
+    master.record().gather(rt, first, tokens)
 }
 
 /// What a service has come to, once nobody calls any more.
 #[derive(Drop)]
 pub(crate) struct Closed {
-    /// The chain of commit versions.
-    pub(crate) chain: Vec<Issued>,
+    /// How many commit versions were drawn.
+    pub(crate) drawn: u64,
     /// How many reports changed the record.
     pub(crate) changes: u64,
 }
 
-/// Settles the logs of all clients, and gives up the service: no answer is stray in these logs.
+/// Settles the logs of all clients, and gives up the service: by the chain that these logs tell, no
+/// answer of theirs is stray.
 pub(crate) fn close<J: Live, R: Wait>(
     rt: &R,
     master: Master<J>,
     first: &mut Seen<J>,
-    tokens: &mut [Token<J>],
+    tokens: &mut [Seen<J>],
     logs: &[ClientLog],
 ) -> Closed
     requires count { length tokens.old ≡ J.reporters }
@@ -76,12 +80,12 @@ pub(crate) fn close<J: Live, R: Wait>(
     ensures faultless { IsFaultless J.start logs.now }
     ensures minima { HaveMinimaWithin logs.now }
     ensures above { Nowhere (Low J.start logs.now) }
-    ensures justified { Nowhere (IsStray result.chain.items logs.now) }
-    ensures one_chain { IsChain J.epoch_end J.recovery result.chain.items }
+    ensures justified { Nowhere (IsStray (chain_in result.drawn logs.now) logs.now) }
+    ensures one_chain { IsChain J.epoch_end J.recovery (chain_in result.drawn logs.now) }
 {
     // The check learns here that each answer of a chain stands at its ordinal.
     laws::each_is_next();
     let changes = settle(rt, &master, first, tokens, logs);
-    let chain = master.close(rt, tokens).into_answers();
-    Closed { chain, changes }
+    let drawn = master.close(rt, tokens);
+    Closed { drawn, changes }
 }

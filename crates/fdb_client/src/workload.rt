@@ -1,11 +1,13 @@
 //! Calls that a user writes, at a cluster of a master and GRV proxies.
 
-ghost use Rattle.std.specs.Prelude.{◌≡◌, ◌<◌, ◌≤◌, ℕ, [], IfOk, Some, ⊤, slice_get, vec_len};
+ghost use Rattle.std.specs.Prelude.{◌≡◌, ◌<◌, ◌≤◌, ℕ, [], IfOk, Some, ⊤, slice_get, true, vec_len};
 ghost use Rattle.fdb_client.specs.Account.{new_account};
 ghost use Rattle.fdb_client.specs.Cluster.{IsClusterConfig};
+ghost use Rattle.fdb_client.specs.Merging.{chain_in};
 ghost use Rattle.fdb_client.specs.Settling.{AreNew};
 ghost use Rattle.fdb_history.specs.Chain.{IsChain};
 ghost use Rattle.fdb_history.specs.Laws.{HaveMinimaWithin};
+ghost use Rattle.fdb_live.specs.Seen.{epoch_of};
 ghost use Rattle.fdb_live.specs.declared.opened.TheConstants.{MAX_REPORTERS};
 
 use crate::client::Client;
@@ -14,7 +16,7 @@ use crate::finishing::{FinishError, Finished};
 use crate::opening::{ClusterParts, OpenedCluster};
 use crate::serving::{Ends, Served, serve_while};
 use crate::settled_run::SettledRun;
-use fdb_live::{Live, Master, Token};
+use fdb_live::{Live, Master, Seen};
 use std::alloc::{AllocError, Global};
 use std::marker::Brand;
 use std::sync::Wait;
@@ -103,8 +105,8 @@ pub fn run_workload<R: Threads + Wait + Sync, W: Workload<R> + Drop>(
     ensures start { IfOk result (λ ran. ran.run.start ≡ config.entry.start) }
     ensures logs { IfOk result (λ ran. vec_len ran.run.logs ≡ config.entry.clients) }
     ensures minima { IfOk result (λ ran. HaveMinimaWithin ran.run.logs.items) }
-    ensures one_chain { IfOk result (λ ran.
-        IsChain config.entry.epoch_end config.entry.start.version ran.run.chain.items) }
+    ensures one_chain { IfOk result (λ ran. IsChain config.entry.epoch_end
+        config.entry.start.version (chain_in ran.run.drawn ran.run.logs.items)) }
 {
     let opened = config.open(rt, alloc)?;
     run_named::<Brand, R, W>(rt, alloc, opened, workload)
@@ -117,20 +119,20 @@ fn run_named<J: Live + Send + Sync, R: Threads + Wait + Sync, W: Workload<R> + D
     opened: OpenedCluster<'_>,
     workload: W,
 ) -> Result<WorkloadOutcome<W::Output>, WorkloadError>
-    requires { opened.founding ≡ record {
+    requires chained { J.chained ≡ true }
+    requires opened { opened.founding ≡ record {
       table = J.table;
       start = J.start;
-      members = J.reporters;
-      epoch_end = J.epoch_end;
-      recovery = J.recovery;
+      reporters = J.reporters;
+      epoch = epoch_of J.chained J.epoch_end J.recovery;
     } }
     ensures gives { IfOk result (λ ran. W.gives workload ran.output) }
     ensures epoch_end { IfOk result (λ ran. ran.run.epoch_end ≡ opened.entry.config.epoch_end) }
     ensures start { IfOk result (λ ran. ran.run.start ≡ opened.entry.founding.start) }
-    ensures logs { IfOk result (λ ran. vec_len ran.run.logs ≡ opened.entry.founding.members) }
+    ensures logs { IfOk result (λ ran. vec_len ran.run.logs ≡ opened.entry.founding.reporters) }
     ensures minima { IfOk result (λ ran. HaveMinimaWithin ran.run.logs.items) }
     ensures one_chain { IfOk result (λ ran.
-        IsChain J.epoch_end J.recovery ran.run.chain.items) }
+        IsChain J.epoch_end J.recovery (chain_in ran.run.drawn ran.run.logs.items)) }
 {
     let ClusterParts {
         cluster,
@@ -178,12 +180,12 @@ fn played<J: Live, R, W: Workload<R>>(
 pub fn clients_of<'a, J: Live>(
     alloc: Global,
     master: &'a Master<J>,
-    tokens: Vec<Token<J>>,
+    tokens: Vec<Seen<J>>,
 ) -> Result<Vec<Client<'a, J>>, AllocError>
     requires few { vec_len tokens ≤ MAX_REPORTERS }
     requires tokens { (k : ℕ) → k < vec_len tokens
         → slice_get tokens.items k
-        ≡ Some (record { number = Some k; answers = []; changes = [] }) }
+        ≡ Some (record { reporter = Some k; changes = []; answers = [] }) }
     ensures count { IfOk result (λ clients. vec_len clients ≡ vec_len tokens) }
     ensures new { IfOk result (λ clients. (k : ℕ) → k < vec_len clients
         → slice_get clients.items k ≡ Some (new_account k [] [])) }
@@ -202,9 +204,9 @@ fn new_client<J: Live>(
     alloc: Global,
     number: u32,
     master: &Master<J>,
-    token: Token<J>,
+    token: Seen<J>,
 ) -> Client<'_, J>
-    requires { token ≡ record { number = Some number; answers = []; changes = [] } }
+    requires { token ≡ record { reporter = Some number; changes = []; answers = [] } }
     ensures { result ≡ new_account number [] [] }
 {
     Client::new(alloc, number, master, token)

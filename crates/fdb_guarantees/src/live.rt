@@ -1,6 +1,6 @@
 //! Reads and reports of the live record with no client between, by tokens alone.
 
-ghost use Rattle.std.specs.Prelude.{◌≡◌, ◌*◌, ◌<◌, ◌≤◌, IfOk, IsSome, length, true};
+ghost use Rattle.std.specs.Prelude.{◌≡◌, ◌*◌, ◌<◌, ◌≤◌, IfOk, IsSome, length, false, true};
 ghost use Rattle.fdb_live.specs.Seen.{last_record};
 
 use fdb_history::{MAX_VERSION, OpenGate, Record};
@@ -14,7 +14,8 @@ pub fn report_and_look<J: Live, R: Wait>(
     seen: &mut Seen<J>,
     rec: Record,
 ) -> Result<Fetched, LiveError>
-    requires { IsSome seen.old.reporter }
+    requires mine { IsSome seen.old.reporter }
+    requires bare { J.chained ≡ false }
     ensures { IfOk result (λ read. rec.version ≤ read.rec.version) }
 {
     live.report(rt, &OpenGate, 0, seen, rec)?;
@@ -47,7 +48,8 @@ pub fn look_once_told<J: Live, R: Wait>(
     learner: &mut Seen<J>,
     rec: Record,
 ) -> Result<(Fetched, Fetched), LiveError>
-    requires { IsSome teller.old.reporter }
+    requires mine { IsSome teller.old.reporter }
+    requires bare { J.chained ≡ false }
     ensures reported { IfOk result (λ reads. rec.version ≤ reads.1.rec.version) }
     ensures read { IfOk result (λ reads. reads.0.rec.version ≤ reads.1.rec.version) }
 {
@@ -69,7 +71,8 @@ pub fn report_within<J: Live, R: Wait>(
     seen: &mut Seen<J>,
     rec: Record,
 ) -> Result<Ack, LiveError>
-    requires { IsSome seen.old.reporter }
+    requires mine { IsSome seen.old.reporter }
+    requires bare { J.chained ≡ false }
     ensures minimum { IfOk result (λ _. (last_record J.start seen.new.changes).min_known
         ≤ (last_record J.start seen.new.changes).version) }
     ensures greatest { IfOk result

@@ -2,6 +2,7 @@
 
 ghost use Rattle.std.specs.Prelude.{◌≡◌, ◌+◌, ◌*◌, ◌<◌, ◌≤◌, ℕ, IfOk, Some, slice_get, take};
 ghost use Rattle.fdb_client.specs.Cluster.{IsClusterConfig};
+ghost use Rattle.fdb_client.specs.Merging.{chain_in};
 ghost use Rattle.fdb_client.specs.declared.cluster.TheConstants.{MAX_GRV_PROXIES};
 ghost use Rattle.fdb_history.specs.Event.{positions_from, register_after};
 ghost use Rattle.fdb_history.specs.Faults.{Nowhere};
@@ -28,8 +29,8 @@ pub fn run_whole<R: Threads + Wait + Sync, W: Workload<R> + Drop>(
     requires { IsClusterConfig config }
     ensures linear { IfOk result (λ left. IfOk left.1 (λ history.
         IsLinear config.entry.start left.0.run.logs.items history.events)) }
-    ensures justified { IfOk result
-        (λ left. Nowhere (IsStray left.0.run.chain.items left.0.run.logs.items)) }
+    ensures justified { IfOk result (λ left. Nowhere (IsStray
+        (chain_in left.0.run.drawn left.0.run.logs.items) left.0.run.logs.items)) }
 {
     let ran = run_workload(rt, alloc, config, workload)?;
     let history = ran.run.history(alloc);

@@ -13,8 +13,8 @@ use Rattle.fdb_history.specs.Register.{after_report, raises}
 use Rattle.fdb_history.specs.declared.chain.Issued.{Issued}
 use Rattle.fdb_history.specs.declared.register.Record.{Record}
 use Rattle.fdb_chain.specs.declared.error.ChainError.{ChainError}
-use Rattle.fdb_live.specs.Holding.{AreDrawn, Holding, IsDrawn, above_last, least_above, versions}
-use Rattle.fdb_live.specs.Seen.{last_record}
+use Rattle.fdb_live.specs.Holding.{AreDrawn, IsDrawn, above_last, least_above, versions}
+use Rattle.fdb_live.specs.Seen.{Sight, last_record}
 use Rattle.fdb_live.specs.declared.change.Change.{Change}
 use Rattle.fdb_live.proofs.Drawn.{all_begins, chain_begins}
 use Rattle.fdb_live.proofs.Prefixes.{prefix_length}
@@ -33,7 +33,7 @@ last_above before issued rise k d lt =
     let up = rise k (length before) d (omega arith) (omega arith) in
     subst (λ (p : Issued × Issued). p.0.version < p.1.version) (λ i. (get_or_append_left before (issued ∷ []) d k lt i, get_or-append_seam before issued [] d i)) up
 
-module _ (law : Law) (epoch_end recovery : ℕ) (old new : Holding) (chain : IsChain epoch_end recovery new.answers) where
+module _ (law : Law) (epoch_end recovery : ℕ) (old new : Sight) (chain : IsChain epoch_end recovery new.answers) where
   above_before : (issued : Issued) (d : IsDrawn epoch_end recovery issued old new) → All (λ earlier. earlier.version < issued.version) d.before
   above_before issued d = last_above d.before issued (subst Rise d.last (law epoch_end recovery new.answers chain))
 
@@ -112,12 +112,12 @@ least_within (x ∷ xs) v all =
     let below = all (length (x ∷ xs) - 1) x (omega arith) in
     omega arith
 
-pub least_before : (law : Law) (epoch_end recovery : ℕ) (result : Result Issued ChainError) (old new : Holding) → IsChain epoch_end recovery new.answers → IfOk result (λ issued. issued.fresh ≡ true → IsDrawn epoch_end recovery issued old new)
+pub least_before : (law : Law) (epoch_end recovery : ℕ) (result : Result Issued ChainError) (old new : Sight) → IsChain epoch_end recovery new.answers → IfOk result (λ issued. issued.fresh ≡ true → IsDrawn epoch_end recovery issued old new)
     → IfOk result (λ issued. issued.fresh ≡ true → least_above old.answers ≤ issued.version)
 least_before law epoch_end recovery (Ok issued) old new chain drawn = λ fresh. least_within old.answers issued.version (above_seen law epoch_end recovery old new chain issued (drawn fresh))
 least_before law epoch_end recovery (Err cause) old new chain drawn = tt
 
-pub least_after : (epoch_end recovery : ℕ) (result : Result Issued ChainError) (old new : Holding) → IfOk result (λ issued. issued.fresh ≡ true → IsDrawn epoch_end recovery issued old new)
+pub least_after : (epoch_end recovery : ℕ) (result : Result Issued ChainError) (old new : Sight) → IfOk result (λ issued. issued.fresh ≡ true → IsDrawn epoch_end recovery issued old new)
     → IfOk result (λ issued. issued.fresh ≡ true → least_above new.answers ≡ issued.version + 1)
 least_after epoch_end recovery (Ok issued) old new drawn = λ fresh. (
     let d = drawn fresh in
@@ -177,7 +177,7 @@ at_seam (x ∷ before) issued zero e = absurd (omega arith)
 at_seam (x ∷ before) issued (suc k) e = at_seam before issued k (omega arith)
 
 -- a fresh answer stands at its ordinal
-pub stands_drawn : (epoch_end recovery : ℕ) (result : Result Issued ChainError) (old new : Holding) → IfOk result (λ issued. issued.fresh ≡ true → IsDrawn epoch_end recovery issued old new)
+pub stands_drawn : (epoch_end recovery : ℕ) (result : Result Issued ChainError) (old new : Sight) → IfOk result (λ issued. issued.fresh ≡ true → IsDrawn epoch_end recovery issued old new)
     → IfOk result (λ issued. issued.fresh ≡ true → slice_get new.answers issued.ordinal ≡ Some issued)
 stands_drawn epoch_end recovery (Ok issued) old new drawn = λ fresh. (let d = drawn fresh in ap (λ (l : List Issued). slice_get l issued.ordinal) d.last ∙ at_seam d.before issued issued.ordinal d.next.ordinal)
 stands_drawn epoch_end recovery (Err cause) old new drawn = tt

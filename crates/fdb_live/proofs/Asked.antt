@@ -17,7 +17,8 @@ use Rattle.fdb_history.specs.declared.register.TheConstants.{MAX_VERSION}
 use Rattle.fdb_chain.specs.declared.error.ChainError.{ChainError}
 use Rattle.fdb_chain.specs.declared.error.ChainError.TheVariants as chain_error
 use Rattle.fdb_chain.specs.ChainCore.{IsAnswer, IsFor}
-use Rattle.fdb_live.specs.Holding.{Holding, IsAsked, IsDrawn, answers_among, answers_to, own_answers, versions}
+use Rattle.fdb_live.specs.Holding.{IsAsked, IsDrawn, answers_among, answers_to, own_answers, versions}
+use Rattle.fdb_live.specs.Seen.{Sight}
 use Rattle.fdb_live.proofs.Drawn.{answers_to-push_own}
 use Rattle.fdb_live.proofs.Prefixes.{prefix_trans}
 
@@ -27,7 +28,7 @@ goes_on_last epoch_end recovery before [] x g = subst (λ (l : List Issued). IsN
 goes_on_last epoch_end recovery before (y ∷ ys) x g =
     subst (λ (l : List Issued). IsNext epoch_end recovery l x) (append_assoc before (y ∷ []) ys) (goes_on_last epoch_end recovery (before ++ y ∷ []) ys x g.1)
 
-module _ (begun : Chain) (ask : Ask) (old new : Holding) where
+module _ (begun : Chain) (ask : Ask) (old new : Sight) where
   abbrev at : List Issued → Chain
   at answers = record begun { answers = answers }
 
@@ -46,7 +47,7 @@ module _ (begun : Chain) (ask : Ask) (old new : Holding) where
       go false e = subst (IsPrefix old.answers) (sym (after issued a.before false e a.ok)) a.seen
   extends (Err cause) a = subst (IsPrefix old.answers) (sym a.err) a.seen
 
-  pub drawn_if : (result : Result Issued ChainError) → IsAsked begun ask old result new → old.number ≡ Some ask.proxy → new.number ≡ old.number → IfOk result (IsFor ask) → IsChain begun.epoch_end begun.recovery new.answers
+  pub drawn_if : (result : Result Issued ChainError) → IsAsked begun ask old result new → old.reporter ≡ Some ask.proxy → new.reporter ≡ old.reporter → IfOk result (IsFor ask) → IsChain begun.epoch_end begun.recovery new.answers
       → IfOk result (λ issued. issued.fresh ≡ true → IsDrawn begun.epoch_end begun.recovery issued old new)
   drawn_if (Ok issued) a whose same for chain = λ fresh. (
       let last = after issued a.before true fresh a.ok in
@@ -62,16 +63,16 @@ module _ (begun : Chain) (ask : Ask) (old new : Holding) where
   drawn_if (Err cause) a whose same for chain = tt
 
   -- what is not drawn leaves the own answers as they are
-  own_stays : (before : List Issued) → old.number ≡ Some ask.proxy → new.number ≡ old.number → answers_to ask.proxy before ≡ answers_to ask.proxy old.answers → new.answers ≡ before → own_answers new ≡ own_answers old
+  own_stays : (before : List Issued) → old.reporter ≡ Some ask.proxy → new.reporter ≡ old.reporter → answers_to ask.proxy before ≡ answers_to ask.proxy old.answers → new.answers ≡ before → own_answers new ≡ own_answers old
   own_stays before whose same own is =
       ap (λ p. answers_among p new.answers) (same ∙ whose) ∙ (ap (answers_to ask.proxy) is ∙ (own ∙ ap (λ p. answers_among p old.answers) (sym whose)))
 
-  pub again : (result : Result Issued ChainError) → IsAsked begun ask old result new → old.number ≡ Some ask.proxy → new.number ≡ old.number
+  pub again : (result : Result Issued ChainError) → IsAsked begun ask old result new → old.reporter ≡ Some ask.proxy → new.reporter ≡ old.reporter
       → IfOk result (λ issued. issued.fresh ≡ false → own_answers new ≡ own_answers old)
   again (Ok issued) a whose same = λ e. own_stays a.before whose same a.own (after issued a.before false e a.ok)
   again (Err cause) a whose same = tt
 
-  pub refused : (result : Result Issued ChainError) → IsAsked begun ask old result new → old.number ≡ Some ask.proxy → new.number ≡ old.number
+  pub refused : (result : Result Issued ChainError) → IsAsked begun ask old result new → old.reporter ≡ Some ask.proxy → new.reporter ≡ old.reporter
       → OnErr result (own_answers new ≡ own_answers old)
   refused (Ok issued) a whose same = tt
   refused (Err cause) a whose same = own_stays a.before whose same a.own a.err
@@ -89,7 +90,7 @@ latest_by_own law n xs ys e = sym (law n xs) ∙ (ap (latest n) e ∙ law n ys)
 kept_by_own : KeptOwn → (n num : ℕ) (xs ys : List Issued) → answers_to n xs ≡ answers_to n ys → kept n num xs ≡ kept n num ys
 kept_by_own law n num xs ys e = sym (law n num xs) ∙ (ap (kept n num) e ∙ law n num ys)
 
-module _ (latest_own : LatestOwn) (kept_own : KeptOwn) (begun : Chain) (ask : Ask) (old new : Holding) where
+module _ (latest_own : LatestOwn) (kept_own : KeptOwn) (begun : Chain) (ask : Ask) (old new : Sight) where
   -- unless its number is the next one, the proxy's own answers decide
   by_own : (known : Bool) (num : ℕ) (xs ys : List Issued) (x y : Result Issued Refusal) → answers_to ask.proxy xs ≡ answers_to ask.proxy ys → num ≢ latest ask.proxy ys + 1
       → cond known (Err UnknownProxy) (by_number (latest ask.proxy xs) num (Err (Early (latest ask.proxy xs + 1))) (kept_answer (kept ask.proxy num xs)) x)
@@ -166,7 +167,7 @@ not_next false next (Err chain_error.Forgotten) is = absurd (cc is)
 not_next true next (Err (chain_error.Early expected)) is = absurd (cc is)
 not_next false next (Err (chain_error.Early expected)) is = absurd (cc is)
 
-module _ (latest_own : LatestOwn) (begun : Chain) (ask : Ask) (old new : Holding) (member : ask.proxy < begun.proxies) where
+module _ (latest_own : LatestOwn) (begun : Chain) (ask : Ask) (old new : Sight) (member : ask.proxy < begun.proxies) where
   fresh_next : (result : Result Issued ChainError) → (a : IsAsked begun ask old result new) → ask.num ≡ latest ask.proxy old.answers + 1 → IsAnswer (fresh_answer (record begun { answers = a.before }) ask) result
   fresh_next result a next =
       let same : latest ask.proxy a.before ≡ latest ask.proxy old.answers = latest_by_own latest_own ask.proxy a.before old.answers a.own in
@@ -192,7 +193,7 @@ EachIsNext = (epoch_end recovery : ℕ) (answers : List Issued) (place : ℕ) (a
 as_fresh : (issued : Issued) → issued.fresh ≡ true → issued ≡ record issued { fresh = true }
 as_fresh issued fresh = ap (λ b. record issued { fresh = b }) fresh
 
-module _ (stands : KeptStands) (next : EachIsNext) (begun : Chain) (ask : Ask) (old new : Holding) (member : ask.proxy < begun.proxies) (chain : IsChain begun.epoch_end begun.recovery new.answers) where
+module _ (stands : KeptStands) (next : EachIsNext) (begun : Chain) (ask : Ask) (old new : Sight) (member : ask.proxy < begun.proxies) (chain : IsChain begun.epoch_end begun.recovery new.answers) where
   -- an answer, fresh or repeated, stands at its ordinal
   pub stands_any : (result : Result Issued ChainError) → IsAsked begun ask old result new → IfOk result (λ issued. issued.fresh ≡ true → slice_get new.answers issued.ordinal ≡ Some issued)
       → IfOk result (λ issued. slice_get new.answers issued.ordinal ≡ Some (record issued { fresh = true }))
@@ -220,7 +221,7 @@ pub has_any : (result : Result Issued ChainError) (answers : List Issued) → If
 has_any (Ok issued) answers at = version_at answers issued.ordinal (record issued { fresh = true }) at
 has_any (Err cause) answers at = tt
 
-module _ (begun : Chain) (ask : Ask) (old new : Holding) (member : ask.proxy < begun.proxies) where
+module _ (begun : Chain) (ask : Ask) (old new : Sight) (member : ask.proxy < begun.proxies) where
   -- there is such a commit proxy
   pub known : (result : Result Issued ChainError) → IsAsked begun ask old result new → result ≡ Err chain_error.UnknownProxy → ⊥
   known result a is = never_unknown (record begun { answers = a.before }) ask member (subst (λ (r : Result Issued ChainError). IsAnswer (answer_to (record begun { answers = a.before }) ask) r) is a.answer)

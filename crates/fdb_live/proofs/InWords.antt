@@ -1,5 +1,5 @@
 -- What keeps the rule of a record and its position keeps it of the words that say them.
-use Rattle.std.proofs.Common.{◌≡◌, ℕ, ◌+◌, ◌<◌, true, Option, Some, [], ◌∷◌, ◌++◌, length, sym, ◌∙◌, subst}
+use Rattle.std.proofs.Common.{◌≡◌, ℕ, ◌+◌, ◌<◌, true, Option, Some, [], ◌∷◌, ◌++◌, length, refl, sym, ◌∙◌, subst}
 use Rattle.std.specs.Prelude.{Contains, IsSome}
 use Rattle.std.proofs.lemmas.Option.{same_Some}
 use Rattle.crossbeam_utils.specs.Register.{Turns, Forks, Merges}
@@ -11,7 +11,7 @@ use Rattle.fdb_live.specs.Holding.{versions}
 use Rattle.fdb_live.specs.Seen.{IsRecord, last_record}
 use Rattle.fdb_live.specs.declared.fetched.Fetched.{Fetched}
 use Rattle.fdb_live.specs.declared.held.Held.{Held}
-use Rattle.fdb_live.specs.declared.view.Epoch.{Epoch}
+use Rattle.fdb_live.specs.declared.epoch.Epoch.{Epoch}
 use Rattle.fdb_live.specs.declared.view.View.{View}
 use Rattle.fdb_live.specs.private.Rule.{Kept, Keeps, InWords, Adds, Draws, Looks, Opens, Settles, copy_of, drawer_of, first, joined, lowest_of, served, spent, taken, without_drawing, without_lowest}
 use Rattle.fdb_live.specs.private.Words.{fetched_of}
@@ -41,7 +41,7 @@ adds_in_words rec named pass v held new is same replaces some_number position up
 
 pub draws_in_words : (answer named : Issued) (epoch : Epoch) (pass : ℕ) (v : View) → answer ≡ named → v.chain.draws ≡ true → v.low ≡ answer.proxy → v.low < v.high → v.epoch ≡ Some epoch → IsChain epoch.before epoch.recovery (v.chain.seen ++ answer ∷ []) → Turns Keeps pass v (λ x. x) (InWords (Draws named))
 draws_in_words answer named epoch pass v same may low some_number known legal =
-    loads (Draws named) (draws_named pass v same may low some_number (λ other is. subst (λ (e : Epoch). IsChain e.before e.recovery (v.chain.seen ++ answer ∷ [])) (same_Some epoch other (sym known ∙ is)) legal))
+    loads (Draws named) (draws_named pass v same may low some_number (subst IsSome (sym known) refl) (λ other is. subst (λ (e : Epoch). IsChain e.before e.recovery (v.chain.seen ++ answer ∷ [])) (same_Some epoch other (sym known ∙ is)) legal))
 
 pub copies_in_words : (pass : ℕ) (v : View) → Forks Keeps pass v v (copy_of v)
 copies_in_words pass v x = copies pass v (fetched_of x)

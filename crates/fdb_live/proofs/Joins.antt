@@ -28,6 +28,7 @@ tells pass v other w x views k at apart there =
       register = k.register;
       legal = k.legal;
       drawn = k.drawn;
+      bare = k.bare;
       each = fits_merge whole views pass other (joined v w) (λ j u _ _ e. k.each j u e) both;
     }
 
@@ -59,6 +60,7 @@ takes pass v other w replaces some_reporter x views k at apart there =
       register = k.register;
       legal = k.legal;
       drawn = k.drawn;
+      bare = k.bare;
       each = fits_merge whole views pass other (taken v w) (left_alone pass other views (k.whole, k.each)) both;
     }
 
@@ -73,5 +75,6 @@ serves pass v other w draws x views k at apart there =
       register = k.register;
       legal = k.legal;
       drawn = k.drawn;
+      bare = k.bare;
       each = fits_merge whole views pass other (served v w) (left_alone pass other views (k.whole, k.each)) both;
     }

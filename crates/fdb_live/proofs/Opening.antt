@@ -1,17 +1,42 @@
 -- The tokens that are made for the reporters, one after another.
-use Rattle.std.proofs.Common.{◌≡◌, ℕ, ◌<◌, List, [], Some, slice_get}
-use Rattle.fdb_live.specs.Holding.{Holding}
-use Rattle.fdb_live.specs.Seen.{Sight}
+use Rattle.std.proofs.Common.{◌≡◌, ℕ, ◌<◌, ◌≤◌, Bool, true, false, true≢false, List, [], Option, None, Some, slice_get, refl, sym, ap}
+use Rattle.fdb_chain.specs.ChainCore.{new_chain}
+use Rattle.fdb_chain.specs.Recent.{Recent, IsStateOf}
+use Rattle.fdb_history.specs.declared.register.Record.{Record}
+use Rattle.fdb_live.specs.private.Token.{IsMadeFor}
+use Rattle.std.specs.Prelude.{is_some}
+use Rattle.fdb_live.specs.Seen.{Sight, epoch_of}
+use Rattle.fdb_live.specs.declared.epoch.Epoch.{Epoch}
 
 abbrev pub token_of : ℕ → Sight
-token_of number = record { reporter = Some number; changes = [] }
+token_of number = record { reporter = Some number; changes = []; answers = [] }
 
 abbrev pub AreTokens : List Sight → ℕ → Type 0
 AreTokens items n = (k : ℕ) → k < n → slice_get items k ≡ Some (token_of k)
 
--- The same of the tokens of a master.
-abbrev pub holding_of : ℕ → Holding
-holding_of number = record { number = Some number; answers = []; changes = [] }
+-- the numbers of an epoch, for the name of a service
+abbrev pub before_of : Option Epoch → ℕ
+before_of None = 0
+before_of (Some epoch) = epoch.before
 
-abbrev pub AreHoldings : List Holding → ℕ → Type 0
-AreHoldings items n = (k : ℕ) → k < n → slice_get items k ≡ Some (holding_of k)
+abbrev pub recovery_of : Option Epoch → ℕ
+recovery_of None = 0
+recovery_of (Some epoch) = epoch.recovery
+
+pub epoch_of_is : (epoch : Option Epoch) → epoch ≡ epoch_of (is_some epoch) (before_of epoch) (recovery_of epoch)
+epoch_of_is None = refl
+epoch_of_is (Some epoch) = refl
+
+-- what is kept of the chain that was made for a service which has one
+pub record IsMade (chained : Bool) (start : Record) (reporters epoch_end recovery : ℕ) (core : Recent) : Type 0 where
+  pub chained_is : chained ≡ true
+  pub core_is : IsStateOf core (new_chain epoch_end recovery reporters)
+  pub begins : start.version ≤ recovery
+
+pub made : (chained : Bool) (start : Record) (reporters epoch_end recovery : ℕ) (core : Recent) → IsMadeFor start reporters (epoch_of chained epoch_end recovery) (Some core) → IsMade chained start reporters epoch_end recovery core
+made true start reporters epoch_end recovery core m = record { chained_is = refl; core_is = m.0; begins = m.1 }
+made false start reporters epoch_end recovery core m = absurd (true≢false (ap (λ (o : Option Recent). is_some o) m))
+
+pub made_some : (chained : Bool) (start : Record) (reporters epoch_end recovery : ℕ) → IsMadeFor start reporters (epoch_of chained epoch_end recovery) None → chained ≡ true → ⊥
+made_some true start reporters epoch_end recovery m is = m
+made_some false start reporters epoch_end recovery m is = true≢false (sym is)

@@ -4,10 +4,10 @@ use Rattle.std.specs.Prelude.{All, Contains, nat_lt}
 use Rattle.std.proofs.lemmas.Bool.Decides.{nat_tests}
 use Rattle.std.proofs.lemmas.List.Elements.{All-head, All-tail}
 use Rattle.std.proofs.lemmas.Option.{get_or_from_slice_get, slice_get_within}
-use Rattle.fdb_live.proofs.Prefixes.{prefix_same, prefix_length, prefix_longer, prefix_whole}
+use Rattle.fdb_live.proofs.Prefixes.{prefix_same, prefix_length, prefix_longer, prefix_trans, prefix_whole}
 use mathlib.Core.List.{IsPrefix}
-use Rattle.fdb_live.specs.Gathering.{IsOwnedOnce}
-use Rattle.fdb_live.specs.Seen.{Sight, changed_by, longer, own_among, own_positions}
+use Rattle.fdb_live.specs.Gathering.{IsOwnKept, IsOwnedOnce, IsSeenBy}
+use Rattle.fdb_live.specs.Seen.{Sight, changed_by, longer, own_positions}
 use Rattle.fdb_live.specs.declared.change.Change.{Change}
 
 module _ {A : Type 0} where
@@ -106,34 +106,35 @@ found reporters (q ∷ log) zero all within = (q, refl, All-head (λ r. r.report
 found reporters (q ∷ log) (suc i) all within = found reporters log i (All-tail (λ r. r.reporter < reporters) q log all) (omega arith)
 
 -- Where the tokens of all reporters have seen one list, each of its positions has one owner.
-pub owned_once : (reporters : ℕ) (log : List Change) (tokens : List Sight) (position : ℕ)
-    → All (λ r. r.reporter < reporters) log → length tokens ≡ reporters
-    → ((k : ℕ) → k < reporters → slice_get tokens k ≡ Some (record { reporter = Some k; changes = log }))
-    → 1 ≤ position → position ≤ length log → IsOwnedOnce tokens position
-owned_once reporters log tokens position all count each some within =
+pub owned_once : (reporters : ℕ) (first : Sight) (tokens : List Sight) (position : ℕ)
+    → All (λ r. r.reporter < reporters) first.changes → length tokens ≡ reporters
+    → ((k : ℕ) → k < reporters → slice_get tokens k ≡ Some (record first { reporter = Some k }))
+    → 1 ≤ position → position ≤ length first.changes → IsOwnedOnce tokens position
+owned_once reporters first tokens position all count each some within =
+    let log : List Change = first.changes in
     let i : ℕ = position - 1 in
     let there_is = found reporters log i all (omega arith) in
     let r : Change = there_is.0 in
     let place : 1 + i ≡ position = omega arith in
     record {
       owner = r.reporter;
-      token = record { reporter = Some r.reporter; changes = log };
+      token = record first { reporter = Some r.reporter };
       at = each r.reporter there_is.2;
       owns = subst (Contains (changed_by r.reporter 1 log)) place (owns_own r.reporter 1 log i r there_is.1 refl);
       alone = λ k other is has. alone i r place there_is.1 k other is has;
     }
   where
-    alone : (i : ℕ) (r : Change) → 1 + i ≡ position → slice_get log i ≡ Some r → (k : ℕ) (other : Sight) → slice_get tokens k ≡ Some other → Contains (own_positions other) position → k ≡ r.reporter
+    alone : (i : ℕ) (r : Change) → 1 + i ≡ position → slice_get first.changes i ≡ Some r → (k : ℕ) (other : Sight) → slice_get tokens k ≡ Some other → Contains (own_positions other) position → k ≡ r.reporter
     alone i r place stands k other is has =
         let below : k < reporters = omega (arith, count, slice_get_within tokens k other is) in
-        let same : other ≡ record { reporter = Some k; changes = log } = cc (is, each k below) in
-        let own = owned_own k 1 log position (subst (λ (t : Sight). Contains (own_positions t) position) same has) in
+        let same : other ≡ record first { reporter = Some k } = cc (is, each k below) in
+        let own = owned_own k 1 first.changes position (subst (λ (t : Sight). Contains (own_positions t) position) same has) in
         let at_place = own.position_is in
         let one : own.place ≡ i = omega arith in
         cc (own.own, own.stands, one, stands)
 
 -- where one list begins the other, the other is the longer
-pub longer_of_prefix : (xs ys : List Change) → IsPrefix xs ys → longer xs ys ≡ ys
+pub longer_of_prefix : {A : Type 0} (xs ys : List A) → IsPrefix xs ys → longer xs ys ≡ ys
 longer_of_prefix xs ys begins =
     let both = prefix_longer xs ys ys begins (prefix_same ys) in
     prefix_whole (longer xs ys) ys both.all (prefix_length ys (longer xs ys) both.those)
@@ -141,10 +142,10 @@ longer_of_prefix xs ys begins =
 -- what stands at a place has learnt all that the first token has seen, and owns what it owned
 abbrev pub IsTaught : List Sight → Sight → ℕ → Sight → Type 0
 IsTaught tokens first k token =
-    (slice_get tokens k ≡ Some (record { reporter = token.reporter; changes = first.changes }))
-    × (own_among token.reporter first.changes ≡ own_positions token)
+    (slice_get tokens k ≡ Some (record first { reporter = token.reporter })) × IsOwnKept first token
 
-pub sight_is : (sight : Sight) (reporter : Option ℕ) (changes : List Change) → sight.reporter ≡ reporter → sight.changes ≡ changes → sight ≡ record { reporter = reporter; changes = changes }
-sight_is sight reporter changes whose seen =
-    let first : sight ≡ record { reporter = reporter; changes = sight.changes } = ap (λ (who : Option ℕ). record { reporter = who; changes = sight.changes }) whose in
-    first ∙ ap (λ (those : List Change). record { reporter = reporter; changes = those }) seen
+pub sight_is : (sight first : Sight) (reporter : Option ℕ) → sight.reporter ≡ reporter → sight.changes ≡ first.changes → sight.answers ≡ first.answers → sight ≡ record first { reporter = reporter }
+sight_is sight first reporter whose changes answers = λ i. record { reporter = whose i; changes = changes i; answers = answers i }
+
+pub seen_trans : (first other third : Sight) → IsSeenBy other third → IsPrefix other.changes first.changes → IsPrefix other.answers first.answers → IsSeenBy first third
+seen_trans first other third seen changes answers = record { changes = prefix_trans _ _ _ seen.changes changes; answers = prefix_trans _ _ _ seen.answers answers }

@@ -56,3 +56,6 @@ module _ {A : Type 0} where
 
   pub prefix_nil : (xs : List A) → IsPrefix [] xs
   prefix_nil xs = (xs, refl)
+
+  pub prefix_of_none : (xs ys : List A) → IsPrefix xs ys → ys ≡ [] → xs ≡ []
+  prefix_of_none xs ys p none = prefix_whole xs ys p (omega (arith, ap length none)) ∙ none

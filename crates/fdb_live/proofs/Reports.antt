@@ -11,14 +11,15 @@ use Rattle.fdb_history.specs.declared.register.TheConstants.{MAX_VERSION}
 use Rattle.fdb_history.specs.Register.{after_report, changes, raises}
 use Rattle.fdb_live.specs.declared.fetched.Fetched.{Fetched}
 use Rattle.fdb_live.specs.declared.change.Change.{Change}
-use Rattle.fdb_live.specs.declared.view.Epoch.{Epoch}
+use Rattle.fdb_live.specs.declared.epoch.Epoch.{Epoch}
 use Rattle.fdb_live.specs.declared.view.View.{View}
 use Rattle.fdb_live.specs.Holding.{answers_among, answers_to, versions}
 use Rattle.fdb_live.specs.Seen.{Sight, last_record, IsLog, IsRecord, changed_by, IsChangedBy}
 use Rattle.fdb_live.specs.private.Rule.{taken, lowest_of, without_lowest, Looks}
-use Rattle.fdb_live.specs.private.Token.{IsHolder, IsMember, IsReported, IsRight, epoch_from}
+use Rattle.fdb_live.specs.private.Token.{IsHolder, IsMember, IsReported, IsRight}
 use Rattle.fdb_live.proofs.Logs.{last_record-push, all_change-push, position_below, taken_last, above_start, above_all, changed_by-push_own}
 use Rattle.fdb_live.proofs.Prefixes.{prefix_trans}
+use Rattle.fdb_live.proofs.Tokens.{chain_or_none}
 use Rattle.fdb_live.proofs.Register.{raises_higher, raised_stands, not_raised_stands}
 
 -- there is room for one more position
@@ -39,16 +40,17 @@ pub record HasReported (start : Record) (reporters : ℕ) (number : Option ℕ) 
   pub answers : IsPrefix was.chain.seen token.chain.seen
   pub own : (n : ℕ) → number ≡ Some n → answers_to n token.chain.seen ≡ answers_to n was.chain.mine
   pub legal : (epoch : Epoch) → was.epoch ≡ Some epoch → IsChain epoch.before epoch.recovery token.chain.seen
+  pub no_chain : was.epoch ≡ None → token.chain.seen ≡ []
   pub position_is : position ≡ length token.seen
   pub extends : IsPrefix old.changes token.seen
-  pub changed_is : changed ≡ true → IsChangedBy start rec raised old (record { reporter = number; changes = token.seen })
+  pub changed_is : changed ≡ true → IsChangedBy start rec raised old (record { reporter = number; changes = token.seen; answers = token.chain.seen })
 
 module _ (start : Record) (n : ℕ) where
-  abbrev sight : List Change → Sight
-  sight list = record { reporter = Some n; changes = list }
+  abbrev sight : List Issued → List Change → Sight
+  sight answers list = record { reporter = Some n; changes = list; answers = answers }
 
-  changed_so : (old found new : List Change) (rec : Record) (raised : Bool) → IsPrefix old found → changed_by n 1 found ≡ changed_by n 1 old → raised ≡ raises (last_record start found) rec → changes (last_record start found) rec ≡ true → new ≡ found ++ record { reporter = n; rec = rec } ∷ [] → IsChangedBy start rec raised (sight old) (sight new)
-  changed_so old found new rec raised seen own tests up is =
+  changed_so : (xs ys : List Issued) (old found new : List Change) (rec : Record) (raised : Bool) → IsPrefix old found → changed_by n 1 found ≡ changed_by n 1 old → raised ≡ raises (last_record start found) rec → changes (last_record start found) rec ≡ true → new ≡ found ++ record { reporter = n; rec = rec } ∷ [] → IsChangedBy start rec raised (sight xs old) (sight ys new)
+  changed_so xs ys old found new rec raised seen own tests up is =
       let it : Change = record { reporter = n; rec = rec } in
       let last : Record = last_record start found in
       let long : length new ≡ 1 + length found = omega (arith, ap length is, length-append found (it ∷ [])) in
@@ -82,16 +84,16 @@ module _ (start : Record) (n : ℕ) where
       })
   log_after reporters found new rec false below allowed legal up is = subst (IsLog start reporters) (sym is) legal
 
-  so : (old found new : List Change) (rec : Record) (raised changed : Bool) → IsPrefix old found → changed_by n 1 found ≡ changed_by n 1 old → raised ≡ raises (last_record start found) rec → changed ≡ changes (last_record start found) rec → MatchBool changed (new ≡ found ++ record { reporter = n; rec = rec } ∷ []) (new ≡ found)
-      → IsPrefix old new × (changed ≡ true → IsChangedBy start rec raised (sight old) (sight new))
-  so old found new rec raised true seen own tests up is =
+  so : (xs ys : List Issued) (old found new : List Change) (rec : Record) (raised changed : Bool) → IsPrefix old found → changed_by n 1 found ≡ changed_by n 1 old → raised ≡ raises (last_record start found) rec → changed ≡ changes (last_record start found) rec → MatchBool changed (new ≡ found ++ record { reporter = n; rec = rec } ∷ []) (new ≡ found)
+      → IsPrefix old new × (changed ≡ true → IsChangedBy start rec raised (sight xs old) (sight ys new))
+  so xs ys old found new rec raised true seen own tests up is =
       let it : Change = record { reporter = n; rec = rec } in
       let longer : IsPrefix found new = (it ∷ [], sym is) in
-      (prefix_trans old found new seen longer, λ _. changed_so old found new rec raised seen own tests (sym up) is)
-  so old found new rec raised false seen own tests up is =
+      (prefix_trans old found new seen longer, λ _. changed_so xs ys old found new rec raised seen own tests (sym up) is)
+  so xs ys old found new rec raised false seen own tests up is =
       (subst (IsPrefix old) (sym is) seen, λ e. absurd (true≢false (sym e)))
 
-reported_as : (start : Record) (reporters n : ℕ) (rv v u right token : View) (rec : Record) (raised changed : Bool) (position : ℕ) → IsRecord rec → IsRight start reporters rv → IsHolder start reporters (Some n) v → IsReported (taken rv v) rec raised changed position u → right ≡ without_lowest u → token ≡ lowest_of u → HasReported start reporters (Some n) v (record { reporter = Some n; changes = v.seen }) rec raised changed position right token
+reported_as : (start : Record) (reporters n : ℕ) (rv v u right token : View) (rec : Record) (raised changed : Bool) (position : ℕ) → IsRecord rec → IsRight start reporters rv → IsHolder start reporters (Some n) v → IsReported (taken rv v) rec raised changed position u → right ≡ without_lowest u → token ≡ lowest_of u → HasReported start reporters (Some n) v (record { reporter = Some n; changes = v.seen; answers = v.chain.seen }) rec raised changed position right token
 reported_as start reporters n rv v u right token rec raised changed position allowed r h d e f =
     let low : v.low ≡ n = h.numbers.0 in
     let seen : token.seen ≡ u.seen = ap (λ w. w.seen) f in
@@ -101,7 +103,7 @@ reported_as start reporters n rv v u right token rec raised changed position all
     let is : MatchBool changed (token.seen ≡ d.found ++ record { reporter = n; rec = rec } ∷ []) (token.seen ≡ d.found) =
     subst (λ (p : List Change × ℕ). MatchBool changed (p.0 ≡ d.found ++ record { reporter = p.1; rec = rec } ∷ []) (p.0 ≡ d.found)) (λ i. (sym seen i, low i)) d.seen in
     let own : changed_by n 1 d.found ≡ changed_by n 1 v.seen = sym (d.tells.own n (omega arith) (let high = h.numbers.1 in omega arith)) ∙ ap (changed_by n 1) h.settled in
-    let all = so start n v.seen d.found token.seen rec raised changed d.tells.theirs own tests up is in
+    let all = so start n v.chain.seen token.chain.seen v.seen d.found token.seen rec raised changed d.tells.theirs own tests up is in
     let below : n < reporters = (let high = h.numbers.1 in let count = r.reporters_is in let some = d.numbers in omega arith) in
     record {
       holder = record {
@@ -117,29 +119,33 @@ reported_as start reporters n rv v u right token rec raised changed position all
       answers = subst (IsPrefix v.chain.seen) (sym (ap (λ w. w.chain.seen) f)) d.chain.seen;
       own = λ m same. (let its : n ≡ m = same_Some n m same in ap (λ w. answers_to m w.chain.seen) f ∙ sym (d.chain.own m (omega arith) (let high = h.numbers.1 in omega arith)));
       legal = λ epoch its. subst (IsChain epoch.before epoch.recovery) (sym (ap (λ w. w.chain.seen) f)) (d.legal_chain epoch its);
+      no_chain = λ its. ap (λ w. w.chain.seen) f ∙ d.no_chain its;
       position_is = d.position_is ∙ ap length (sym seen);
       extends = all.0;
       changed_is = all.1;
     }
 
-reported : (start : Record) (reporters : ℕ) (number : Option ℕ) (rv v u right token : View) (rec : Record) (raised changed : Bool) (position : ℕ) → IsSome number → IsRecord rec → IsRight start reporters rv → IsHolder start reporters number v → IsReported (taken rv v) rec raised changed position u → right ≡ without_lowest u → token ≡ lowest_of u → HasReported start reporters number v (record { reporter = number; changes = v.seen }) rec raised changed position right token
+reported : (start : Record) (reporters : ℕ) (number : Option ℕ) (rv v u right token : View) (rec : Record) (raised changed : Bool) (position : ℕ) → IsSome number → IsRecord rec → IsRight start reporters rv → IsHolder start reporters number v → IsReported (taken rv v) rec raised changed position u → right ≡ without_lowest u → token ≡ lowest_of u → HasReported start reporters number v (record { reporter = number; changes = v.seen; answers = v.chain.seen }) rec raised changed position right token
 reported start reporters None rv v u right token rec raised changed position some allowed r h d e f = absurd (true≢false (sym some))
 reported start reporters (Some n) rv v u right token rec raised changed position some allowed r h d e f = reported_as start reporters n rv v u right token rec raised changed position allowed r h d e f
 
-pub has_reported : {start : Record} {reporters : ℕ} {number : Option ℕ} {old : Sight} {rv v given t u right token : View} {rec : Record} {raised changed : Bool} {position : ℕ} → record { reporter = number; changes = v.seen } ≡ old → IsSome old.reporter → IsRecord rec → IsRight start reporters rv → IsHolder start reporters number v → given ≡ v → t ≡ taken rv given → IsReported t rec raised changed position u → right ≡ without_lowest u → token ≡ lowest_of u → HasReported start reporters number v old rec raised changed position right token
+pub has_reported : {start : Record} {reporters : ℕ} {number : Option ℕ} {old : Sight} {rv v given t u right token : View} {rec : Record} {raised changed : Bool} {position : ℕ} → record { reporter = number; changes = v.seen; answers = v.chain.seen } ≡ old → IsSome old.reporter → IsRecord rec → IsRight start reporters rv → IsHolder start reporters number v → given ≡ v → t ≡ taken rv given → IsReported t rec raised changed position u → right ≡ without_lowest u → token ≡ lowest_of u → HasReported start reporters number v old rec raised changed position right token
 has_reported {start} {reporters} {number} {old} {rv} {v} {given} {t} {u} {right} {token} {rec} {raised} {changed} {position} is some allowed r h gives takes d e f =
     let done = subst (λ (w : View). IsReported w rec raised changed position u) (takes ∙ ap (taken rv) gives) d in
     let numbered : IsSome number = subst (λ (s : Sight). IsSome s.reporter) (sym is) some in
     subst (λ (s : Sight). HasReported start reporters number v s rec raised changed position right token) is (reported start reporters number rv v u right token rec raised changed position numbered allowed r h done e f)
 
--- what a report makes of what a master's token knows besides
-pub member_reported : {start : Record} {epoch_end recovery reporters : ℕ} {number : Option ℕ} {v right token : View} {old : Sight} {rec : Record} {raised changed : Bool} {position : ℕ} → IsMember epoch_end recovery reporters number v → HasReported start reporters number v old rec raised changed position right token → IsMember epoch_end recovery reporters number token
-member_reported {epoch_end = epoch_end} {recovery = recovery} m all = record {
-  epoch = all.epoch ∙ m.epoch;
-  settled = all.settled;
-  legal = all.legal (epoch_from epoch_end recovery) m.epoch;
-  below = m.below;
-}
+-- what a report makes of what a token knows of the chain
+pub member_reported : {start : Record} {chained : Bool} {epoch_end recovery reporters : ℕ} {number : Option ℕ} {v right token : View} {old : Sight} {rec : Record} {raised changed : Bool} {position : ℕ} → IsMember chained epoch_end recovery reporters number v → HasReported start reporters number v old rec raised changed position right token → IsMember chained epoch_end recovery reporters number token
+member_reported {chained = chained} {epoch_end = epoch_end} {recovery = recovery} {v = v} {token = token} m all =
+    let chain = chain_or_none chained epoch_end recovery v.epoch token.chain.seen m.epoch all.legal all.no_chain in
+    record {
+      epoch = all.epoch ∙ m.epoch;
+      settled = all.settled;
+      legal = chain.0;
+      none = chain.1;
+      below = m.below;
+    }
 
 -- each version of a chain is a version
 goes_on_in_range : (epoch_end recovery : ℕ) (before later : List Issued) → GoesOn epoch_end recovery before later → All (λ answer. answer.version ≤ MAX_VERSION) later
@@ -150,6 +156,6 @@ pub version_in_range : (epoch_end recovery : ℕ) (answers : List Issued) (versi
 version_in_range epoch_end recovery answers version chain has =
     All-contains (λ (v : ℕ). v ≤ MAX_VERSION) (versions answers) version (All-map (λ (v : ℕ). v ≤ MAX_VERSION) (λ (answer : Issued). answer.version) answers (goes_on_in_range epoch_end recovery [] answers chain)) has
 
-pub own_reported : {start : Record} {epoch_end recovery reporters : ℕ} {v right token : View} {old : Sight} {rec : Record} {raised changed : Bool} {position : ℕ} (number : Option ℕ) → IsMember epoch_end recovery reporters number v → HasReported start reporters number v old rec raised changed position right token → answers_among number token.chain.seen ≡ answers_among number v.chain.seen
+pub own_reported : {start : Record} {chained : Bool} {epoch_end recovery reporters : ℕ} {v right token : View} {old : Sight} {rec : Record} {raised changed : Bool} {position : ℕ} (number : Option ℕ) → IsMember chained epoch_end recovery reporters number v → HasReported start reporters number v old rec raised changed position right token → answers_among number token.chain.seen ≡ answers_among number v.chain.seen
 own_reported None m all = refl
 own_reported (Some n) m all = all.own n refl ∙ ap (answers_to n) m.settled

@@ -7,7 +7,8 @@ use Rattle.fdb_chain.specs.declared.error.ChainError.{ChainError}
 use Rattle.fdb_history.specs.Issuing.{Chain, answer_to, with_answer}
 use Rattle.fdb_history.specs.declared.chain.Ask.{Ask}
 use Rattle.fdb_history.specs.declared.chain.Issued.{Issued}
-use Rattle.fdb_live.specs.Holding.{AreDrawn, Holding, IsAsked, answers_to}
+use Rattle.fdb_live.specs.Holding.{AreDrawn, IsAsked, answers_to}
+use Rattle.fdb_live.specs.Seen.{Sight}
 use Rattle.fdb_live.specs.declared.fetched.Fetched.{Fetched}
 use Rattle.fdb_live.specs.declared.view.View.{View}
 use Rattle.fdb_live.specs.private.Rule.{Draws, Settles, chain_view, lowest_of, served, view, without_lowest}
@@ -52,11 +53,11 @@ module _ (begun core next : Chain) (ask : Ask) (drawn : Option Issued) (right to
     pub opened : 0 < token.reporters
     pub chained : IsSome token.epoch
 
-  abbrev old_of : Option ℕ → Holding
-  old_of number = record { number = number; answers = token.chain.seen; changes = token.seen }
+  abbrev old_of : Option ℕ → Sight
+  old_of number = record { reporter = number; changes = token.seen; answers = token.chain.seen }
 
-  abbrev new_of : Option ℕ → Holding
-  new_of number = record { number = number; answers = token'.chain.seen; changes = token'.seen }
+  abbrev new_of : Option ℕ → Sight
+  new_of number = record { reporter = number; changes = token'.seen; answers = token'.chain.seen }
 
   is_next : Stands → token'.chain.seen ≡ next.answers
   is_next s = ap (λ (v : View). v.chain.seen) served.is ∙ s.after

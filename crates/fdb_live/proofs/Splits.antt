@@ -23,6 +23,7 @@ begins x = record {
   register = λ o. absurd (omega arith);
   legal = record { all_change = refl; numbered = All-nil _; taken = All-nil _; start_taken = record { in_range = omega arith; within = omega arith } };
   drawn = λ epoch e. absurd (cc e);
+  bare = λ _. refl;
   each = each;
 }
   where
@@ -55,6 +56,7 @@ copies pass v x views k at =
       register = k.register;
       legal = k.legal;
       drawn = k.drawn;
+      bare = k.bare;
       each = fits_fork whole views pass v (copy_of v) (λ j u apart e. k.each j u e) f copy;
     }
 
@@ -93,6 +95,7 @@ gives_lowest pass v some_number x views k at =
       register = k.register;
       legal = k.legal;
       drawn = k.drawn;
+      bare = k.bare;
       each = fits_fork whole views pass (without_lowest v) (lowest_of v) others left right;
     }
 
@@ -110,6 +113,7 @@ gives_all pass v x views k at =
       register = k.register;
       legal = k.legal;
       drawn = k.drawn;
+      bare = k.bare;
       each = fits_fork whole views pass spent v others (fits_spent whole pass) right;
     }
 
@@ -128,5 +132,6 @@ gives_drawer pass v x views k at =
       register = k.register;
       legal = k.legal;
       drawn = k.drawn;
+      bare = k.bare;
       each = fits_fork whole views pass (without_drawing v) (drawer_of v) others left right;
     }

@@ -1,17 +1,18 @@
 -- What the steps make of a token.
-use Rattle.std.proofs.Common.{◌≡◌, ℕ, ◌*◌, ◌<◌, ◌≤◌, true≢false, List, Option, None, Some, refl, sym, ap, ◌∙◌, subst, arith}
-use Rattle.std.specs.Prelude.{IsSome, is_some}
+use Rattle.std.proofs.Common.{◌≡◌, ℕ, ◌*◌, ◌<◌, ◌≤◌, Bool, true, false, true≢false, List, [], Option, None, Some, refl, sym, ap, ◌∙◌, subst, arith}
+use Rattle.std.specs.Prelude.{Contains, IsSome, is_some}
 use mathlib.Core.List.{IsPrefix}
 use Rattle.fdb_history.specs.Chain.{IsChain}
 use Rattle.fdb_history.specs.declared.chain.Issued.{Issued}
 use Rattle.fdb_history.specs.declared.register.Record.{Record}
 use Rattle.fdb_live.specs.declared.fetched.Fetched.{Fetched}
 use Rattle.fdb_live.specs.declared.change.Change.{Change}
-use Rattle.fdb_live.specs.declared.view.Epoch.{Epoch}
+use Rattle.fdb_live.specs.declared.epoch.Epoch.{Epoch}
 use Rattle.fdb_live.specs.declared.view.View.{View}
-use Rattle.fdb_live.specs.Seen.{IsLog, IsRecord, own_among}
-use Rattle.fdb_live.specs.private.Rule.{IsDrawnFrom, IsRegister, Looks, Settles, Tells, having_seen, joined}
-use Rattle.fdb_live.specs.private.Token.{HasNumber, IsBelow, IsFree, IsHolder, IsMember, epoch_from}
+use Rattle.fdb_live.specs.Holding.{AreDrawn, versions}
+use Rattle.fdb_live.specs.Seen.{IsLog, IsRecord, epoch_from, epoch_of, own_among}
+use Rattle.fdb_live.specs.private.Rule.{IsRegister, Looks, Settles, Tells, having_seen, joined, taken}
+use Rattle.fdb_live.specs.private.Token.{HasNumber, IsBelow, IsHolder, IsMember}
 use Rattle.fdb_live.proofs.Logs.{position_below, taken_last}
 
 -- a holder's own positions are those of the list that it had seen itself
@@ -22,15 +23,6 @@ own_stays (Some n) v list h t = sym (t.own n (omega (arith, h.0)) (omega (arith,
 same_numbers : (number : Option ℕ) (v w : View) → w.low ≡ v.low → w.high ≡ v.high → HasNumber number v → HasNumber number w
 same_numbers None v w low high h = omega (arith, low, high, h)
 same_numbers (Some n) v w low high h = (low ∙ h.0, high ∙ h.1)
-
--- a token with a number may report any record where its service has no chain
-pub free_same : (number : Option ℕ) (v w : View) → w.epoch ≡ v.epoch → IsFree number v → IsFree number w
-free_same None v w same free = tt
-free_same (Some n) v w same free = same ∙ free
-
-pub free_issues : {P : Type 0} (number : Option ℕ) (v w : View) → IsSome number → IsFree number v → w.epoch ≡ v.epoch → IsSome w.epoch → P
-free_issues None v w some free same chained = absurd (true≢false (sym some))
-free_issues (Some n) v w some free same chained = absurd (true≢false (sym chained ∙ ap (λ (e : Option Epoch). is_some e) (same ∙ free)))
 
 -- once a list is seen
 settled_as : (start : Record) (reporters : ℕ) (number : Option ℕ) (v w : View) (list : List Change) (answers : List Issued) → v.start ≡ start → v.reporters ≡ reporters → 0 < reporters → HasNumber number v → w ≡ having_seen v list answers → IsLog start reporters list → IsHolder start reporters number w
@@ -75,25 +67,46 @@ looked_taken {start} {reporters} {number} {v} {w} {x} h l =
     let all = looked start reporters number v w x h l in
     subst IsRecord (sym all.register.rec) (taken_last all.holder.legal)
 
--- what a step makes of what a master's token knows besides
-member_as : (epoch_end recovery reporters : ℕ) (number : Option ℕ) (v w : View) (list : List Change) (answers : List Issued) → v.epoch ≡ Some (epoch_from epoch_end recovery) → IsBelow number reporters → w ≡ having_seen v list answers → IsChain epoch_end recovery answers → IsMember epoch_end recovery reporters number w
-member_as epoch_end recovery reporters number v w list answers epoch below is chain = record {
+-- of a service with a chain what was seen is one, and of one without it nothing
+pub chain_or_none : (chained : Bool) (epoch_end recovery : ℕ) (epoch : Option Epoch) (answers : List Issued) → epoch ≡ epoch_of chained epoch_end recovery → ((e : Epoch) → epoch ≡ Some e → IsChain e.before e.recovery answers) → (epoch ≡ None → answers ≡ [])
+    → IsChain epoch_end recovery answers × (chained ≡ false → answers ≡ [])
+chain_or_none true epoch_end recovery epoch answers is legal none = (legal (epoch_from epoch_end recovery) is, λ not. absurd (true≢false not))
+chain_or_none false epoch_end recovery epoch answers is legal none = (subst (IsChain epoch_end recovery) (sym (none is)) tt, λ _. none is)
+
+pub epoch_is : {chained : Bool} {epoch_end recovery : ℕ} {epoch : Option Epoch} → epoch ≡ epoch_of chained epoch_end recovery → chained ≡ true → epoch ≡ Some (epoch_from epoch_end recovery)
+epoch_is {chained} {epoch_end} {recovery} is so = is ∙ ap (λ (c : Bool). epoch_of c epoch_end recovery) so
+
+-- only where there is a chain a report needs a version that was drawn
+pub issued_if : {P : Type 0} (chained : Bool) (epoch_end recovery : ℕ) (epoch : Option Epoch) → epoch ≡ epoch_of chained epoch_end recovery → (chained ≡ true → P) → IsSome epoch → P
+issued_if true epoch_end recovery epoch is drawn some = drawn refl
+issued_if false epoch_end recovery epoch is drawn some = absurd (true≢false (sym some ∙ ap (λ (e : Option Epoch). is_some e) is))
+
+pub issued_taken : {chained : Bool} {epoch_end recovery reporters : ℕ} {number : Option ℕ} {v given t : View} (rv : View) (rec : Record) → IsMember chained epoch_end recovery reporters number v → given ≡ v → t ≡ taken rv given → (chained ≡ true → Contains (versions v.chain.seen) rec.version) → IsSome t.epoch → Contains (versions t.chain.seen) rec.version
+issued_taken {chained} {epoch_end} {recovery} {v = v} rv rec m gives takes drawn =
+    subst (λ (u : View). IsSome u.epoch → Contains (versions u.chain.seen) rec.version) (sym (takes ∙ ap (taken rv) gives)) (issued_if chained epoch_end recovery v.epoch m.epoch drawn)
+
+-- what a step makes of what a token knows of the chain
+member_as : (chained : Bool) (epoch_end recovery reporters : ℕ) (number : Option ℕ) (v w : View) (list : List Change) (answers : List Issued) → v.epoch ≡ epoch_of chained epoch_end recovery → IsBelow number reporters → w ≡ having_seen v list answers → IsChain epoch_end recovery answers × (chained ≡ false → answers ≡ []) → IsMember chained epoch_end recovery reporters number w
+member_as chained epoch_end recovery reporters number v w list answers epoch below is chain = record {
   epoch = ap (λ u. u.epoch) is ∙ epoch;
   settled = ap (λ u. u.chain.mine) is ∙ sym (ap (λ u. u.chain.seen) is);
-  legal = subst (IsChain epoch_end recovery) (sym (ap (λ u. u.chain.seen) is)) chain;
+  legal = subst (IsChain epoch_end recovery) (sym (ap (λ u. u.chain.seen) is)) chain.0;
+  none = λ not. ap (λ u. u.chain.seen) is ∙ chain.1 not;
   below = below;
 }
 
 is_open : {start : Record} {reporters : ℕ} {number : Option ℕ} {v : View} → IsHolder start reporters number v → 0 < v.reporters
 is_open h = subst (λ n. 0 < n) (sym h.reporters_is) h.opened
 
-pub member_drawn : {start : Record} {epoch_end recovery reporters : ℕ} {number : Option ℕ} {v w : View} {x : Fetched} → IsHolder start reporters number v → IsMember epoch_end recovery reporters number v → Looks v x x w → IsDrawnFrom (epoch_from epoch_end recovery) w.chain.seen w.seen
-member_drawn {start} {epoch_end} {recovery} h m l = l.drawn (is_open h) (epoch_from epoch_end recovery) m.epoch
+pub member_drawn : {start : Record} {chained : Bool} {epoch_end recovery reporters : ℕ} {number : Option ℕ} {v w : View} {x : Fetched} → IsHolder start reporters number v → IsMember chained epoch_end recovery reporters number v → Looks v x x w → chained ≡ true → AreDrawn w.chain.seen w.seen
+member_drawn {epoch_end = epoch_end} {recovery = recovery} h m l so = (l.drawn (is_open h) (epoch_from epoch_end recovery) (epoch_is m.epoch so)).drawn
 
-pub member_looked : {start : Record} {epoch_end recovery reporters : ℕ} {number : Option ℕ} {v w : View} {x : Fetched} → IsHolder start reporters number v → IsMember epoch_end recovery reporters number v → Looks v x x w → IsMember epoch_end recovery reporters number w
-member_looked {start} {epoch_end} {recovery} {reporters} {number} {v} {w} h m l =
-    member_as epoch_end recovery reporters number v w w.seen w.chain.seen m.epoch m.below l.is (member_drawn h m l).legal
+pub member_looked : {start : Record} {chained : Bool} {epoch_end recovery reporters : ℕ} {number : Option ℕ} {v w : View} {x : Fetched} → IsHolder start reporters number v → IsMember chained epoch_end recovery reporters number v → Looks v x x w → IsMember chained epoch_end recovery reporters number w
+member_looked {start} {chained} {epoch_end} {recovery} {reporters} {number} {v} {w} h m l =
+    member_as chained epoch_end recovery reporters number v w w.seen w.chain.seen m.epoch m.below l.is
+    (chain_or_none chained epoch_end recovery v.epoch w.chain.seen m.epoch (λ e is. (l.drawn (is_open h) e is).legal) (l.bare (is_open h)))
 
-pub member_told : {start : Record} {epoch_end recovery reporters : ℕ} {number : Option ℕ} {x : Fetched} (v u w : View) → IsHolder start reporters number v → IsMember epoch_end recovery reporters number v → Settles (joined v u) x x w → IsMember epoch_end recovery reporters number w
-member_told {start} {epoch_end} {recovery} {reporters} {number} v u w h m s =
-    member_as epoch_end recovery reporters number (joined v u) w (joined v u).seen (joined v u).chain.seen m.epoch m.below s.is (s.legal (is_open h) (epoch_from epoch_end recovery) m.epoch)
+pub member_told : {start : Record} {chained : Bool} {epoch_end recovery reporters : ℕ} {number : Option ℕ} {x : Fetched} (v u w : View) → IsHolder start reporters number v → IsMember chained epoch_end recovery reporters number v → Settles (joined v u) x x w → IsMember chained epoch_end recovery reporters number w
+member_told {start} {chained} {epoch_end} {recovery} {reporters} {number} v u w h m s =
+    member_as chained epoch_end recovery reporters number (joined v u) w (joined v u).seen (joined v u).chain.seen m.epoch m.below s.is
+    (chain_or_none chained epoch_end recovery v.epoch (joined v u).chain.seen m.epoch (s.legal (is_open h)) (s.bare (is_open h)))

@@ -1,6 +1,6 @@
 -- The moves that load or replace the words.
 use Rattle.std.proofs.Common.{◌≡◌, ◌≢◌, ℕ, ◌+◌, ◌<◌, true, true≢false, Option, None, Some, List, [], ◌∷◌, ◌++◌, length, set, refl, sym, ap, ◌∙◌, subst, arith, length-append}
-use Rattle.std.specs.Prelude.{All, Contains, IsSome}
+use Rattle.std.specs.Prelude.{All, Contains, IsSome, is_some}
 use Rattle.std.proofs.lemmas.List.Elements.{All-nil, All-cons, All-append}
 use mathlib.Core.List.{IsPrefix}
 use mathlib.Core.Option.{some}
@@ -12,14 +12,14 @@ use Rattle.fdb_history.specs.declared.register.Record.{Record}
 use Rattle.fdb_history.specs.Register.{after_report, changes}
 use Rattle.fdb_live.specs.declared.fetched.Fetched.{Fetched}
 use Rattle.fdb_live.specs.declared.change.Change.{Change}
-use Rattle.fdb_live.specs.declared.view.Epoch.{Epoch}
+use Rattle.fdb_live.specs.declared.epoch.Epoch.{Epoch}
 use Rattle.fdb_live.specs.declared.view.View.{View}
 use Rattle.fdb_live.specs.Holding.{AreDrawn, answers_to, versions}
 use Rattle.fdb_live.specs.Seen.{last_record, all_change, IsLog, IsRecord, changed_by}
 use Rattle.fdb_live.specs.private.Rule.{IsDrawnFrom, IsRegister, Fits, Kept, Whole, first, opened, having_seen, Tells, TellsChain, Looks, Settles, Adds, Draws, Opens}
 use Rattle.fdb_live.proofs.ChainParts.{chain_drew, chain_grown, chain_sees}
 use Rattle.fdb_live.proofs.Drawn.{answers_to-between, chain_begins, drawn_fewer, drawn_more, drawn_push, version_stays}
-use Rattle.fdb_live.proofs.Prefixes.{prefix_nil, prefix_same, prefix_trans}
+use Rattle.fdb_live.proofs.Prefixes.{prefix_nil, prefix_of_none, prefix_same, prefix_trans}
 use Rattle.fdb_live.proofs.Logs.{all_change-push, last_record-push, changed_by-push_other, changed_by-between}
 use Rattle.fdb_live.proofs.Fitting.{fits_set}
 
@@ -60,6 +60,7 @@ opens epoch reporters pass v y is at_first allowed x views k at =
         register = λ o. record { position = at_first; rec = refl };
         legal = record { all_change = refl; numbered = All-nil _; taken = All-nil _; start_taken = allowed };
         drawn = λ some_epoch e. record { legal = subst (IsChain some_epoch.before some_epoch.recovery) none tt; drawn = All-nil _ };
+        bare = λ _. sym none;
         each = fits_set whole views pass (opened y.rec epoch reporters) others mine;
       },
       refl,
@@ -97,6 +98,7 @@ module _ (pass : ℕ) (v : View) (x : Fetched) (views : List View) (k : Kept x v
           register = k.register;
           legal = k.legal;
           drawn = k.drawn;
+          bare = k.bare;
           each = fits_set whole views pass (having_seen v list answers) (λ j u _ e. k.each j u e) mine;
         };
         tells = t;
@@ -106,6 +108,10 @@ module _ (pass : ℕ) (v : View) (x : Fetched) (views : List View) (k : Kept x v
   -- of an opened service with a chain, the changes were all drawn
   are_drawn : 0 < v.reporters → (epoch : Epoch) → v.epoch ≡ Some epoch → IsDrawnFrom epoch k.whole.answers k.whole.log
   are_drawn o epoch e = k.drawn epoch (sym ((k.each pass v at).opened o).2 ∙ e)
+
+  -- of an opened service with no chain there are no answers
+  no_answers : 0 < v.reporters → v.epoch ≡ None → k.whole.answers ≡ []
+  no_answers o e = k.bare (sym ((k.each pass v at).opened o).2 ∙ e)
 
 pub looks : (pass : ℕ) (v : View) → Turns Kept pass v (λ x. x) Looks
 looks pass v x views k at =
@@ -121,6 +127,7 @@ looks pass v x views k at =
         legal = λ o. subst (λ (p : Record × ℕ). IsLog p.0 p.1 k.whole.log) (λ i. (sym (f.opened o).0 i, sym (f.opened o).1 i)) k.legal;
         register = λ o. subst (λ (start : Record). IsRegister start x k.whole.log) (sym (f.opened o).0) (k.register (subst (λ n. 0 < n) (f.opened o).1 o));
         drawn = are_drawn pass v x views k at;
+        bare = no_answers pass v x views k at;
       },
     )
 
@@ -128,7 +135,7 @@ pub settles : (pass : ℕ) (v : View) → Turns Kept pass v (λ x. x) Settles
 settles pass v x views k at =
     let f = k.each pass v at in
     let s = sees pass v x views k at v.seen v.chain.seen (prefix_same v.seen) f.seen (λ e. (f.right e).2) (prefix_same v.chain.seen) f.chain.seen (λ e. (f.chain.right e).1) in
-    (having_seen v v.seen v.chain.seen, s.kept, record { is = refl; tells = s.tells; chain = s.chain; legal = λ o epoch e. chain_begins epoch.before epoch.recovery v.chain.seen k.whole.answers f.chain.seen (are_drawn pass v x views k at o epoch e).legal })
+    (having_seen v v.seen v.chain.seen, s.kept, record { is = refl; tells = s.tells; chain = s.chain; legal = λ o epoch e. chain_begins epoch.before epoch.recovery v.chain.seen k.whole.answers f.chain.seen (are_drawn pass v x views k at o epoch e).legal; bare = λ o e. prefix_of_none v.chain.seen k.whole.answers f.chain.seen (no_answers pass v x views k at o e) })
 
 -- the pass with the right changes
 pub adds : (rec : Record) (pass : ℕ) (v : View) (y : Fetched) → v.replaces ≡ true → v.low < v.high → y.position ≡ length v.seen + 1 → changes (last_record v.start v.seen) rec ≡ true → y.rec ≡ after_report (last_record v.start v.seen) rec → IsRecord rec → (IsSome v.epoch → Contains (versions v.chain.seen) rec.version) → Turns Kept pass v (λ _. y) (Adds rec)
@@ -179,6 +186,7 @@ adds rec pass v y replaces some_number position up becomes allowed issued x view
         register = λ o. record { position = position ∙ (sym (length-append v.seen (new ∷ []))); rec = becomes ∙ (ap (λ (start : Record). after_report (last_record start v.seen) rec) same ∙ sym (last_record-push k.whole.start v.seen new)) };
         legal = record { all_change = all_change'; numbered = numbered; taken = All-append (λ r. IsRecord r.rec) v.seen (new ∷ []) legal.taken (All-cons (λ r. IsRecord r.rec) new [] allowed (All-nil _)); start_taken = legal.start_taken };
         drawn = drawn;
+        bare = k.bare;
         each = fits_set whole views pass (having_seen v log v.chain.seen) others mine;
       },
       refl,
@@ -194,8 +202,8 @@ with_some None all has = absurd (true≢false (sym has))
 with_some (Some e) all has = (all e refl).drawn
 
 -- the pass with the right to draw draws
-pub draws : (answer : Issued) (pass : ℕ) (v : View) → v.chain.draws ≡ true → v.low ≡ answer.proxy → v.low < v.high → ((epoch : Epoch) → v.epoch ≡ Some epoch → IsChain epoch.before epoch.recovery (v.chain.seen ++ answer ∷ [])) → Turns Kept pass v (λ x. x) (Draws answer)
-draws answer pass v may low some_number legal x views k at =
+pub draws : (answer : Issued) (pass : ℕ) (v : View) → v.chain.draws ≡ true → v.low ≡ answer.proxy → v.low < v.high → IsSome v.epoch → ((epoch : Epoch) → v.epoch ≡ Some epoch → IsChain epoch.before epoch.recovery (v.chain.seen ++ answer ∷ [])) → Turns Kept pass v (λ x. x) (Draws answer)
+draws answer pass v may low some_number some_epoch legal x views k at =
     let f = k.each pass v at in
     let right = f.chain.right may in
     let here = f.held v.low (omega arith) some_number in
@@ -237,6 +245,7 @@ draws answer pass v may low some_number legal x views k at =
           legal = subst (λ (l : List Issued). IsChain epoch.before epoch.recovery (l ++ answer ∷ [])) right.1 (legal epoch (opened.2 ∙ e));
           drawn = drawn_more k.whole.answers answers k.whole.log (answer ∷ [], refl) (k.drawn epoch e).drawn;
         };
+        bare = λ e. absurd (true≢false (sym some_epoch ∙ ap (λ (o : Option Epoch). is_some o) (opened.2 ∙ e)));
         each = fits_set whole views pass (having_seen v v.seen list) others mine;
       },
       record {
@@ -248,6 +257,6 @@ draws answer pass v may low some_number legal x views k at =
     )
 
 -- the same of an answer that a name stands for
-pub draws_named : {answer named : Issued} (pass : ℕ) (v : View) → answer ≡ named → v.chain.draws ≡ true → v.low ≡ answer.proxy → v.low < v.high → ((epoch : Epoch) → v.epoch ≡ Some epoch → IsChain epoch.before epoch.recovery (v.chain.seen ++ answer ∷ [])) → Turns Kept pass v (λ x. x) (Draws named)
-draws_named {answer} pass v is may low some_number legal =
-    subst (λ (z : Issued). Turns Kept pass v (λ x. x) (Draws z)) is (draws answer pass v may low some_number legal)
+pub draws_named : {answer named : Issued} (pass : ℕ) (v : View) → answer ≡ named → v.chain.draws ≡ true → v.low ≡ answer.proxy → v.low < v.high → IsSome v.epoch → ((epoch : Epoch) → v.epoch ≡ Some epoch → IsChain epoch.before epoch.recovery (v.chain.seen ++ answer ∷ [])) → Turns Kept pass v (λ x. x) (Draws named)
+draws_named {answer} pass v is may low some_number some_epoch legal =
+    subst (λ (z : Issued). Turns Kept pass v (λ x. x) (Draws z)) is (draws answer pass v may low some_number some_epoch legal)

@@ -1,24 +1,14 @@
--- What the token of a master proves that its holder has seen.
-use Rattle.std.specs.Prelude.{◌≡◌, ℕ, ◌+◌, ◌==◌, true, List, [], ◌∷◌, ◌++◌, All, Contains, Option, None, Some, Result, IfOk, OnErr, filter, map, slice_get}
+-- What a token proves that its holder has seen of the chain.
+use Rattle.std.specs.Prelude.{◌≡◌, ◌<◌, ℕ, ◌+◌, ◌==◌, true, List, [], ◌∷◌, ◌++◌, All, Contains, Option, None, Some, Result, IfOk, OnErr, filter, map, slice_get}
 use mathlib.Core.List.{IsPrefix}
-use Rattle.atomic_table.specs.Seated.{TableId}
 use Rattle.fdb_chain.specs.ChainCore.{IsAnswer}
 use Rattle.fdb_chain.specs.declared.error.ChainError.{ChainError}
-use Rattle.fdb_history.specs.Chain.{IsNext, last_answer}
+use Rattle.fdb_history.specs.Chain.{IsChain, IsNext, last_answer}
 use Rattle.fdb_history.specs.Issuing.{Chain, answer_to, with_answer}
 use Rattle.fdb_history.specs.declared.chain.Ask.{Ask}
 use Rattle.fdb_history.specs.declared.chain.Issued.{Issued}
-use Rattle.fdb_history.specs.declared.register.Record.{Record}
-use Rattle.fdb_live.specs.Seen.{Sight, own_positions}
+use Rattle.fdb_live.specs.Seen.{Sight}
 use Rattle.fdb_live.specs.declared.change.Change.{Change}
-
--- What its holder has seen: the answers by which versions were drawn, and the reports that changed
--- the record, each from the first on and in order. The token of a commit proxy has its number.
--- (this product's own)
-pub record Holding : Type 0 where
-  pub number : Option ℕ
-  pub answers : List Issued
-  pub changes : List Change
 
 -- The commit versions that some answers give, in their order.
 abbrev pub versions : List Issued → List ℕ
@@ -38,12 +28,8 @@ abbrev pub answers_among : Option ℕ → List Issued → List Issued
 answers_among None answers = []
 answers_among (Some proxy) answers = answers_to proxy answers
 
-abbrev pub own_answers : Holding → List Issued
-own_answers holding = answers_among holding.number holding.answers
-
--- What it has seen of the live record, as a token of that alone has it.
-abbrev pub sight_of : Holding → Sight
-sight_of holding = record { reporter = holding.number; changes = holding.changes }
+abbrev pub own_answers : Sight → List Issued
+own_answers sight = answers_among sight.reporter sight.answers
 
 -- The least version above the last one of some answers, and 0 where there is none.
 abbrev pub above_last : Option Issued → ℕ
@@ -58,7 +44,7 @@ least_above answers = above_last (last_answer answers)
 -- other answers than those that the token has seen. The holder has then seen all that, and a fresh
 -- answer after it. The versions that it had read were all drawn before.
 pub record IsAsked
-    (begun : Chain) (ask : Ask) (old : Holding) (result : Result Issued ChainError) (new : Holding)
+    (begun : Chain) (ask : Ask) (old : Sight) (result : Result Issued ChainError) (new : Sight)
     : Type 0 where
   pub before : List Issued
   pub seen : IsPrefix old.answers before
@@ -72,7 +58,7 @@ pub record IsAsked
 -- A fresh answer is the next one after all that had been answered by then, which is all that its
 -- asker had seen and maybe more. It is the last that the asker has now seen, and the one that became
 -- its own. The versions that it had read were all drawn before.
-pub record IsDrawn (epoch_end recovery : ℕ) (issued : Issued) (old new : Holding) : Type 0 where
+pub record IsDrawn (epoch_end recovery : ℕ) (issued : Issued) (old new : Sight) : Type 0 where
   pub before : List Issued
   pub seen : IsPrefix old.answers before
   pub next : IsNext epoch_end recovery before issued
@@ -85,36 +71,20 @@ abbrev pub chain_of : ℕ → ℕ → ℕ → List Issued → Chain
 chain_of epoch_end recovery proxies answers =
     record { epoch_end = epoch_end; recovery = recovery; proxies = proxies; answers = answers }
 
--- What a master was opened with, and the table of its cell.
-pub record Founding : Type 0 where
-  pub table : TableId
-  pub start : Record
-  pub members : ℕ
-  pub epoch_end : ℕ
-  pub recovery : ℕ
-
--- Each of these is the token of the commit proxy whose number is its place.
-abbrev pub AreNumbered : List Holding → Type 0
-AreNumbered tokens =
-    (k : ℕ) (token : Holding) → slice_get tokens k ≡ Some token → token.number ≡ Some k
-
 -- What stands at a place among some tokens is what this one has become once its holder has seen all
 -- of these answers: its own ones are as before.
-pub record IsClosedWith (answers : List Issued) (old : Holding) (k : ℕ) (tokens : List Holding)
+pub record IsClosedWith (answers : List Issued) (old : Sight) (k : ℕ) (tokens : List Sight)
     : Type 0 where
   pub at : slice_get tokens k
-      ≡ Some (record { number = old.number; answers = answers; changes = old.changes })
+      ≡ Some (record { reporter = old.reporter; changes = old.changes; answers = answers })
   pub seen : IsPrefix old.answers answers
-  pub own : answers_among old.number answers ≡ own_answers old
+  pub own : answers_among old.reporter answers ≡ own_answers old
 
--- What stands at a place among some tokens is what this one has become once its holder has seen all
--- of these changes: it has lost no answer, and what are its own is as before.
-pub record IsToldAll (changes : List Change) (old : Holding) (k : ℕ) (tokens : List Holding)
-    : Type 0 where
-  pub now : Holding
-  pub at : slice_get tokens k ≡ Some now
-  pub number : now.number ≡ old.number
-  pub seen : now.changes ≡ changes
-  pub answers : IsPrefix old.answers now.answers
-  pub own_answers : own_answers now ≡ own_answers old
-  pub own_changes : own_positions (sight_of now) ≡ own_positions (sight_of old)
+-- These are all answers of a service: one chain, of answers to its own commit proxies, which the
+-- holder of each token has seen whole.
+pub record IsClosedAfter (epoch_end recovery proxies : ℕ) (answers : List Issued)
+    (old new : List Sight) : Type 0 where
+  pub one_chain : IsChain epoch_end recovery answers
+  pub asked : All (λ answer. answer.proxy < proxies) answers
+  pub each : (k : ℕ) (token : Sight) → slice_get old k ≡ Some token
+      → IsClosedWith answers token k new

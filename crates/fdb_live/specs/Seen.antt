@@ -1,17 +1,22 @@
--- What a token proves that its holder has seen of the live committed version.
+-- What a token proves that its holder has seen of the live committed version, and of the chain.
 use Rattle.std.specs.Prelude.{◌≡◌, ℕ, ◌+◌, ◌*◌, ◌<◌, ◌≤◌, ◌==◌, ◌&&◌, Bool, true, false, Option, None, Some, List, [], ◌∷◌, ◌++◌, All, length, if◌then◌else◌, nat_lt}
 use mathlib.Core.List.{IsPrefix}
 use Rattle.atomic_table.specs.Seated.{TableId}
+use Rattle.fdb_chain.specs.ChainCore.{IsEpoch, IsProxyCount}
+use Rattle.fdb_history.specs.declared.chain.Issued.{Issued}
 use Rattle.fdb_history.specs.declared.register.Record.{Record}
 use Rattle.fdb_history.specs.declared.register.TheConstants.{MAX_VERSION}
 use Rattle.fdb_history.specs.Register.{after_report, raises, changes}
 use Rattle.fdb_live.specs.declared.change.Change.{Change}
+use Rattle.fdb_live.specs.declared.epoch.Epoch.{Epoch}
 
--- What its holder has seen: the reports that changed the record, from the first on and in order.
--- The token of a reporter has its number. (this product's own)
+-- What its holder has seen: the reports that changed the record, and the answers by which versions
+-- were drawn, each from the first on and in order. The token of a reporter has its number. There are
+-- no answers where the service has no chain. (this product's own)
 pub record Sight : Type 0 where
   pub reporter : Option ℕ
   pub changes : List Change
+  pub answers : List Issued
 
 -- The live record after these changes: what each in its turn made of the one before it.
 -- (updateLiveCommittedVersion of masterserver, FoundationDB 7.1)
@@ -104,8 +109,24 @@ pub record IsNotChangedBy (start rec : Record) (raised : Bool) (old new : Sight)
   pub not_later : rec.min_known ≤ (last_record start new.changes).min_known
   pub own : own_positions new ≡ own_positions old
 
+-- The epoch that begins with the recovery version of a service's chain.
+abbrev pub epoch_from : ℕ → ℕ → Epoch
+epoch_from before recovery = record { before = before; recovery = recovery }
+
+-- The same, if the service has a chain.
+abbrev pub epoch_of : Bool → ℕ → ℕ → Option Epoch
+epoch_of true before recovery = Some (epoch_from before recovery)
+epoch_of false before recovery = None
+
+-- A chain of this epoch may begin beside a live record with this first record and these reporters.
+pub record MayBegin (epoch : Epoch) (start : Record) (reporters : ℕ) : Type 0 where
+  pub legal : IsEpoch epoch.before epoch.recovery
+  pub members : IsProxyCount reporters
+  pub begins : start.version ≤ epoch.recovery
+
 -- What a service was opened with, and the table of its cell.
 pub record Origin : Type 0 where
   pub table : TableId
   pub start : Record
   pub reporters : ℕ
+  pub epoch : Option Epoch

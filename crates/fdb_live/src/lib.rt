@@ -4,6 +4,7 @@
 
 mod ack;
 mod change;
+mod epoch;
 mod error;
 mod fetched;
 mod gathering;
@@ -12,26 +13,21 @@ mod live;
 mod live_record;
 mod master;
 mod named;
-mod named_master;
 mod opened;
-mod opened_master;
 mod passes;
 mod right;
 mod seen;
-mod token;
 mod turn;
 mod view;
 
 pub use ack::Ack;
 pub use change::Change;
+pub use epoch::Epoch;
 pub use error::LiveError;
 pub use fetched::Fetched;
 pub use live::Live;
 pub use live_record::LiveRecord;
 pub use master::Master;
 pub use named::UnderName;
-pub use named_master::UnderMaster;
 pub use opened::{MAX_REPORTERS, Opened};
-pub use opened_master::OpenedMaster;
 pub use seen::Seen;
-pub use token::Token;

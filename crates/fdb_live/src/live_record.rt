@@ -1,8 +1,12 @@
 //! The live record, which reports replace under a lock and reads load without it.
 
-ghost use Rattle.std.specs.Prelude.{◌≡◌, ◌≢◌, ◌*◌, ◌<◌, ◌≤◌, ◌⊎◌, ◌↔◌, length, Option, None};
-ghost use Rattle.std.specs.Prelude.{IsSome, IfOk, OnOk, OnErr, true, false};
+ghost use Rattle.std.specs.Prelude.{◌≡◌, ◌≢◌, ◌*◌, ◌<◌, ◌≤◌, ◌⊎◌, ◌↔◌, [], length, Option, None};
+ghost use Rattle.std.specs.Prelude.{Contains, IsSome, IfErr, IfOk, OnOk, OnErr, Some, slice_get};
+ghost use Rattle.std.specs.Prelude.{true, false};
 ghost use mathlib.Core.List.{IsPrefix};
+ghost use Rattle.fdb_history.specs.Chain.{IsChain};
+ghost use Rattle.fdb_history.specs.declared.chain.Issued.{Issued};
+ghost use Rattle.fdb_live.specs.Holding.{AreDrawn, least_above, own_answers, versions};
 ghost use Rattle.fdb_live.specs.Seen.{IsBounded, IsLog, IsNotBehind, IsNotChangedBy, IsChangedBy};
 ghost use Rattle.fdb_live.specs.Seen.{last_record, longer, own_positions};
 
@@ -14,7 +18,7 @@ use crate::passes;
 use crate::right::Right;
 use crate::seen::Seen;
 use crate::view::Cell;
-use fdb_history::{Gate, MAX_VERSION, Place, Record};
+use fdb_history::{Gate, Issued, MAX_VERSION, Place, Record, laws};
 use std::marker::PhantomData;
 use std::sync::{Mutex, Wait};
 
@@ -24,6 +28,9 @@ use std::sync::{Mutex, Wait};
 /// Reports take turns under a lock that only they take. A read does not take it: it loads the six
 /// words of a sequence cell, and only where a replacement came between does it take the cell's own
 /// lock for a moment. No call on it takes memory, and each takes constant time, waiting aside.
+///
+/// Where the service has a chain of commit versions, its [`Master`](crate::Master) lends its record,
+/// and only versions that were drawn are reported. Where it has none, no answer is ever seen.
 #[derive(Drop)]
 pub struct LiveRecord<J: Live> {
     pub(crate) cell: Cell,
@@ -34,7 +41,8 @@ pub struct LiveRecord<J: Live> {
 impl<J: Live> LiveRecord<J> {
     /// The record and its position (`getLiveCommittedVersion` of masterserver): version, lock,
     /// metadata version and minimum known committed version are those of one moment. The holder of
-    /// the token has then seen each change up to that position.
+    /// the token has then seen each change up to that position, and the answers by which the versions
+    /// of these changes were drawn.
     ///
     /// It waits for a replacement that is under way, and not for the lock of the reports. That it
     /// sees a report of which its caller had seen nothing, no clause says.
@@ -52,7 +60,15 @@ impl<J: Live> LiveRecord<J> {
         ensures within { result.rec.min_known ≤ result.rec.version }
         ensures in_range { result.rec.version ≤ MAX_VERSION }
         ensures log { IsLog J.start J.reporters seen.new.changes }
+        ensures answers { IsPrefix seen.old.answers seen.new.answers }
+        ensures own_answers { own_answers seen.new ≡ own_answers seen.old }
+        ensures least { least_above seen.old.answers ≤ least_above seen.new.answers }
+        ensures chain { IsChain J.epoch_end J.recovery seen.new.answers }
+        ensures drawn { J.chained ≡ true → AreDrawn seen.new.answers seen.new.changes }
+        ensures no_chain { J.chained ≡ false → seen.new.answers ≡ [] }
     {
+        // The check learns here that the versions of a chain rise.
+        laws::versions_rise();
         let fetched = passes::look(rt, &self.cell, &mut seen.pass);
         seen.position = fetched.position;
         fetched
@@ -64,12 +80,13 @@ impl<J: Live> LiveRecord<J> {
     /// the minimum known committed version becomes the greater of the two
     /// (`minKnownCommittedVersion` of `ReportRawCommittedVersionRequest`). Each report that changes
     /// the record has a position of its own; one that does not writes no word. It is acknowledged
-    /// in each case.
+    /// in each case. Where the service has a chain, the holder of the token knows that the version
+    /// was drawn.
     ///
-    /// It is refused as `TooLarge` where the version is above the greatest one, else as `MinAbove`
-    /// where the minimum known committed version is above the version, and for nothing else. It
-    /// waits for the other reports. While it holds their lock it passes the gate as `who`,
-    /// before it looks at the record.
+    /// It is refused as `TooLarge` where the version is above the greatest one, which none that was
+    /// drawn is, else as `MinAbove` where the minimum known committed version is above the version,
+    /// and for nothing else. It waits for the other reports. While it holds their lock it passes the
+    /// gate as `who`, before it looks at the record.
     #[tactic(auto, using(crate::proofs::Rising::never_behind, crate::proofs::Rising::covered))]
     #[inline]
     pub fn report<R: Wait, G: Gate>(
@@ -80,11 +97,13 @@ impl<J: Live> LiveRecord<J> {
         seen: &mut Seen<J>,
         rec: Record,
     ) -> Result<Ack, LiveError>
-        requires { IsSome seen.old.reporter }
+        requires numbered { IsSome seen.old.reporter }
+        requires drawn { J.chained ≡ true → Contains (versions seen.old.answers) rec.version }
         ensures too_large { (result ≡ Err LiveError.TooLarge) ↔ (MAX_VERSION < rec.version) }
         ensures min_above { (result ≡ Err LiveError.MinAbove)
             ↔ ((rec.version ≤ MAX_VERSION) × (rec.version < rec.min_known)) }
         ensures no_memory { result ≢ Err LiveError.Memory }
+        ensures in_range { J.chained ≡ true → rec.version ≤ MAX_VERSION }
         ensures err { OnErr result (seen.new ≡ seen.old) }
         ensures reporter { seen.new.reporter ≡ seen.old.reporter }
         ensures extends { IsPrefix seen.old.changes seen.new.changes }
@@ -100,7 +119,15 @@ impl<J: Live> LiveRecord<J> {
             IsChangedBy J.start rec ack.raised seen.old seen.new) }
         ensures not_changed { IfOk result (λ ack. ack.changed ≡ false →
             IsNotChangedBy J.start rec ack.raised seen.old seen.new) }
+        ensures answers { IsPrefix seen.old.answers seen.new.answers }
+        ensures own_answers { own_answers seen.new ≡ own_answers seen.old }
+        ensures least { least_above seen.old.answers ≤ least_above seen.new.answers }
+        ensures chain { OnOk result (IsChain J.epoch_end J.recovery seen.new.answers) }
     {
+        // The check learns here that the versions of a chain rise.
+        laws::versions_rise();
+        // And that what its holder has seen is one.
+        let _ = seen.position();
         if rec.version > MAX_VERSION {
             return Err(LiveError::TooLarge);
         }
@@ -116,7 +143,7 @@ impl<J: Live> LiveRecord<J> {
     #[inline]
     pub fn split(&self, seen: &mut Seen<J>) -> Seen<J>
         ensures same { seen.new ≡ seen.old }
-        ensures given { result ≡ record { reporter = None; changes = seen.old.changes } }
+        ensures given { result ≡ record seen.old { reporter = None } }
         ensures log { IsLog J.start J.reporters result.changes }
     {
         Seen {
@@ -147,7 +174,16 @@ impl<J: Live> LiveRecord<J> {
             (last_record J.start seen.new.changes) }
         ensures own { own_positions seen.new ≡ own_positions seen.old }
         ensures log { IsLog J.start J.reporters seen.new.changes }
+        ensures longer_answers { seen.new.answers ≡ longer seen.old.answers told.answers }
+        ensures answers { IsPrefix seen.old.answers seen.new.answers }
+        ensures told_answers { IsPrefix told.answers seen.new.answers }
+        ensures own_answers { own_answers seen.new ≡ own_answers seen.old }
+        ensures least { least_above seen.old.answers ≤ least_above seen.new.answers }
+        ensures least_told { least_above told.answers ≤ least_above seen.new.answers }
+        ensures chain { IsChain J.epoch_end J.recovery seen.new.answers }
     {
+        // The check learns here that the versions of a chain rise.
+        laws::versions_rise();
         let Seen {
             number: _,
             position,
@@ -161,8 +197,8 @@ impl<J: Live> LiveRecord<J> {
         }
     }
 
-    /// Compares two tokens: one holder has seen all that the other has, from the first change on.
-    /// Both tokens stay as they are.
+    /// Compares two tokens: of the changes, and of the answers, one holder has seen all that the
+    /// other has, from the first on. A version belongs to one answer. Both tokens stay as they are.
     #[inline]
     pub fn meet<R: Wait>(&self, rt: &R, first: &mut Seen<J>, second: &mut Seen<J>)
         ensures first { first.new ≡ first.old }
@@ -171,9 +207,39 @@ impl<J: Live> LiveRecord<J> {
             ⊎ IsPrefix second.old.changes first.old.changes }
         ensures log { IsLog J.start J.reporters first.new.changes
             × IsLog J.start J.reporters second.new.changes }
+        ensures answers { IsPrefix first.old.answers second.old.answers
+            ⊎ IsPrefix second.old.answers first.old.answers }
+        ensures unique { (one other : Issued) → Contains first.old.answers one
+            → Contains second.old.answers other → one.version ≡ other.version → one ≡ other }
     {
+        // The check learns here that the versions of a chain rise.
+        laws::versions_rise();
         let mut mine = passes::copy(&self.cell, &mut first.pass);
         let theirs = passes::copy(&self.cell, &mut second.pass);
         passes::learn(rt, &self.cell, &mut mine, theirs);
+    }
+
+    /// That two answers to two commit proxies are of different versions, as the holders of two tokens
+    /// find that have seen them. Both tokens stay as they are.
+    #[inline]
+    pub fn distinct<R: Wait>(
+        &self,
+        rt: &R,
+        first: &mut Seen<J>,
+        one: Issued,
+        second: &mut Seen<J>,
+        other: Issued,
+    )
+        requires one { slice_get first.old.answers one.ordinal
+            ≡ Some (record one { fresh = true }) }
+        requires other { slice_get second.old.answers other.ordinal
+            ≡ Some (record other { fresh = true }) }
+        requires proxies { one.proxy ≢ other.proxy }
+        ensures first { first.new ≡ first.old }
+        ensures second { second.new ≡ second.old }
+        ensures versions { one.version ≢ other.version }
+    {
+        let _ = (one, other);
+        self.meet(rt, first, second);
     }
 }

@@ -1,21 +1,29 @@
-//! A live record that was opened, before its service has a name.
+//! A service that was opened, before it has a name.
 
-ghost use Rattle.std.specs.Prelude.{◌≡◌, ◌+◌, ◌<◌, ◌≤◌, ◌↔◌, ℕ, [], Some, None, IfOk, IfErr};
-ghost use Rattle.std.specs.Prelude.{vec_len, slice_get};
+ghost use Rattle.std.specs.Prelude.{◌≡◌, ◌+◌, ◌<◌, ◌≤◌, ◌↔◌, ℕ, [], Some, None, IfOk, IfErr, IsSome};
+ghost use Rattle.std.specs.Prelude.{option_map, vec_len, slice_get, true};
+ghost use Rattle.std.specs.Option.{ForSome};
 ghost use Rattle.crossbeam_utils.specs.Seq.{cell_view};
-ghost use Rattle.fdb_live.specs.Seen.{IsRecord};
+ghost use Rattle.fdb_chain.specs.ChainCore.{IsEpoch, IsProxyCount, new_chain};
+ghost use Rattle.fdb_chain.specs.Recent.{IsStateOf};
+ghost use Rattle.fdb_live.specs.Seen.{IsRecord, MayBegin, epoch_of};
 ghost use Rattle.fdb_live.specs.private.Rule.{left_from, opened};
+ghost use Rattle.fdb_live.specs.private.Token.{IsMadeFor, IsRight};
 
+use crate::epoch::Epoch;
 use crate::error::LiveError;
 use crate::fetched::Fetched;
 use crate::held::Held;
 use crate::live::Live;
 use crate::live_record::LiveRecord;
+use crate::master::Master;
 use crate::passes;
 use crate::passes::Pass;
 use crate::right::Right;
 use crate::seen::Seen;
-use crate::view::{Bare, Cell};
+use crate::turn::Turn;
+use crate::view::Cell;
+use fdb_chain::RecentChain;
 use fdb_history::{MAX_VERSION, Record};
 use std::alloc::{AllocError, Global};
 use std::marker::{Brand, Model, PhantomData};
@@ -24,11 +32,12 @@ use std::sync::{Mutex, Wait};
 /// The most reporters that a live record may have.
 pub const MAX_REPORTERS: u32 = 64;
 
-/// A live record that was opened. Contracts see it as what it was opened with, and the table of its
-/// cell; a name is picked that stands for these, and [`Opened::parts`] gives the record and its
-/// tokens under that name.
+/// A service that was opened. Contracts see it as what it was opened with, and the table of its
+/// cell; a name is picked that stands for these, and [`Opened::parts`] or [`Opened::master`] gives the
+/// record, or the master, and its tokens under that name.
 #[derive(Drop)]
 pub struct Opened {
+    core: Option<RecentChain>,
     cell: Cell,
     pass: Pass,
     reporters: u32,
@@ -36,9 +45,10 @@ pub struct Opened {
 }
 
 impl Model for Opened {
-    ghost use Rattle.std.specs.Prelude.{◌≡◌, ◌<◌, ◌≤◌, None};
+    ghost use Rattle.std.specs.Prelude.{◌≡◌, ◌<◌, ◌≤◌};
     ghost use Rattle.crossbeam_utils.specs.Seq.{cell_view};
     ghost use Rattle.fdb_live.specs.private.Rule.{opened};
+    ghost use Rattle.fdb_live.specs.private.Token.{IsMadeFor};
     ghost use Rattle.fdb_live.specs.Seen.{IsRecord, Origin};
 
     ghost Value = { Origin };
@@ -47,16 +57,19 @@ impl Model for Opened {
       table = o.cell.table.shared.table_id;
       start = (cell_view o.pass).start;
       reporters = o.reporters;
+      epoch = (cell_view o.pass).epoch;
     } };
 
     ghost invariant = { λ o. (o.pass.table_id ≡ o.cell.table.shared.table_id)
         × (0 < o.reporters)
         × IsRecord (cell_view o.pass).start
-        × (cell_view o.pass ≡ opened (cell_view o.pass).start None o.reporters) };
+        × (cell_view o.pass ≡ opened (cell_view o.pass).start (cell_view o.pass).epoch o.reporters)
+        × IsMadeFor (cell_view o.pass).start o.reporters (cell_view o.pass).epoch o.core };
 }
 
 impl LiveRecord<Brand> {
-    /// Opens a live record, with its first record and for this many reporters.
+    /// Opens a live record, with its first record and for this many reporters; with a chain of commit
+    /// versions beside it, if an epoch is given. Each reporter is then a commit proxy too.
     ///
     /// It is refused as `TooLarge` where the version is above the greatest one, else as `MinAbove`
     /// where the minimum known committed version is above the version, else for memory.
@@ -65,13 +78,16 @@ impl LiveRecord<Brand> {
         alloc: Global,
         start: Record,
         reporters: u32,
+        epoch: Option<Epoch>,
     ) -> Result<Opened, LiveError>
-        requires { (0 < reporters) × (reporters ≤ MAX_REPORTERS) }
+        requires reporters { (0 < reporters) × (reporters ≤ MAX_REPORTERS) }
+        requires epoch { ForSome epoch (λ epoch. MayBegin epoch start reporters) }
         ensures too_large { (result ≡ Err LiveError.TooLarge) ↔ (MAX_VERSION < start.version) }
         ensures min_above { (result ≡ Err LiveError.MinAbove)
             ↔ ((start.version ≤ MAX_VERSION) × (start.version < start.min_known)) }
         ensures start { IfOk result (λ o. o.start ≡ start) }
         ensures reporters { IfOk result (λ o. o.reporters ≡ reporters) }
+        ensures epoch { IfOk result (λ o. o.epoch ≡ epoch) }
     {
         if start.version > MAX_VERSION {
             return Err(LiveError::TooLarge);
@@ -79,13 +95,15 @@ impl LiveRecord<Brand> {
         if start.min_known > start.version {
             return Err(LiveError::MinAbove);
         }
+        let core = core_for(alloc, start, reporters, epoch)?;
         let begun = Fetched {
             rec: start,
             position: 0,
         };
         let (cell, mut pass) = Cell::ruled(alloc, Held::of(begun))?;
-        passes::open_as::<Brand, Bare, R>(rt, &cell, &mut pass, start, reporters);
+        passes::open_as::<Brand, Brand, R>(rt, &cell, &mut pass, start, reporters, epoch);
         Ok(Opened {
+            core,
             cell,
             pass,
             reporters,
@@ -94,20 +112,95 @@ impl LiveRecord<Brand> {
     }
 }
 
+/// The chain of an epoch, if one is given.
+fn core_for(
+    alloc: Global,
+    start: Record,
+    reporters: u32,
+    epoch: Option<Epoch>,
+) -> Result<Option<RecentChain>, AllocError>
+    requires { ForSome epoch (λ epoch. MayBegin epoch start reporters) }
+    ensures { IfOk result (λ core. IsMadeFor start reporters epoch core) }
+{
+    let _ = start;
+    match epoch {
+        None => Ok(None),
+        Some(epoch) => match RecentChain::new(alloc, epoch.before, epoch.recovery, reporters) {
+            Ok(core) => Ok(Some(core)),
+            Err(_) => Err(AllocError),
+        },
+    }
+}
+
 impl Opened {
     /// The live record under a name that stands for it, a token with no number, and one for each
-    /// reporter, in order. None of them has seen a change.
+    /// reporter, in order. None of them has seen anything. Where there is a chain, it is given up.
     ///
     /// It is refused where memory runs out, and for nothing else; the service is then given up.
     pub fn parts<J: Live>(self) -> Result<(LiveRecord<J>, Seen<J>, Vec<Seen<J>>), LiveError>
-        requires { self ≡ record { table = J.table; start = J.start; reporters = J.reporters } }
+        requires { self ≡ record {
+          table = J.table;
+          start = J.start;
+          reporters = J.reporters;
+          epoch = epoch_of J.chained J.epoch_end J.recovery;
+        } }
         ensures memory { IfErr result (λ cause. cause ≡ LiveError.Memory) }
-        ensures first { IfOk result (λ parts. parts.1 ≡ record { reporter = None; changes = [] }) }
+        ensures first { IfOk result (λ parts.
+            parts.1 ≡ record { reporter = None; changes = []; answers = [] }) }
         ensures count { IfOk result (λ parts. vec_len parts.2 ≡ J.reporters) }
         ensures tokens { IfOk result (λ parts. (k : ℕ) → k < J.reporters →
-            slice_get parts.2.items k ≡ Some (record { reporter = Some k; changes = [] })) }
+            slice_get parts.2.items k
+            ≡ Some (record { reporter = Some k; changes = []; answers = [] })) }
+    {
+        let (record, _, first, tokens) = self.share::<J>()?;
+        Ok((record, first, tokens))
+    }
+
+    /// The master of a service with a chain, and its tokens, as [`Opened::parts`] gives those of a
+    /// live record.
+    pub fn master<J: Live>(self) -> Result<(Master<J>, Seen<J>, Vec<Seen<J>>), LiveError>
+        requires chained { J.chained ≡ true }
+        requires opened { self ≡ record {
+          table = J.table;
+          start = J.start;
+          reporters = J.reporters;
+          epoch = epoch_of J.chained J.epoch_end J.recovery;
+        } }
+        ensures memory { IfErr result (λ cause. cause ≡ LiveError.Memory) }
+        ensures first { IfOk result (λ parts.
+            parts.1 ≡ record { reporter = None; changes = []; answers = [] }) }
+        ensures count { IfOk result (λ parts. vec_len parts.2 ≡ J.reporters) }
+        ensures tokens { IfOk result (λ parts. (k : ℕ) → k < J.reporters →
+            slice_get parts.2.items k
+            ≡ Some (record { reporter = Some k; changes = []; answers = [] })) }
+    {
+        let (live, turn, first, tokens) = self.share::<J>()?;
+        let Some(turn) = turn else { unreachable!() };
+        let master = Master {
+            live,
+            turn: Mutex::new(turn),
+        };
+        Ok((master, first, tokens))
+    }
+
+    /// The live record, the right to draw if there is a chain, and the tokens.
+    fn share<J: Live>(self) -> Result<Shared<J>, AllocError>
+        requires { self ≡ record {
+          table = J.table;
+          start = J.start;
+          reporters = J.reporters;
+          epoch = epoch_of J.chained J.epoch_end J.recovery;
+        } }
+        ensures turn { IfOk result (λ parts. J.chained ≡ true → IsSome parts.1) }
+        ensures first { IfOk result (λ parts.
+            parts.2 ≡ record { reporter = None; changes = []; answers = [] }) }
+        ensures count { IfOk result (λ parts. vec_len parts.3 ≡ J.reporters) }
+        ensures tokens { IfOk result (λ parts. (k : ℕ) → k < J.reporters →
+            slice_get parts.3.items k
+            ≡ Some (record { reporter = Some k; changes = []; answers = [] })) }
     {
         let Opened {
+            core,
             cell,
             mut pass,
             reporters,
@@ -120,6 +213,7 @@ impl Opened {
             pass: passes::copy(&cell, &mut pass),
             of: PhantomData,
         };
+        let turn = drawing::<J>(&cell, &mut pass, core);
         let right = Right {
             pass,
             of: PhantomData,
@@ -128,7 +222,46 @@ impl Opened {
             cell,
             reports: Mutex::new(right),
         };
-        Ok((record, first, tokens))
+        Ok((record, turn, first, tokens))
+    }
+}
+
+/// What is shared out of a service that was opened.
+type Shared<J> = (LiveRecord<J>, Option<Turn<J>>, Seen<J>, Vec<Seen<J>>);
+
+/// The right to draw, split off the first pass for the chain, if there is one.
+fn drawing<J: Live>(cell: &Cell, pass: &mut Pass, core: Option<RecentChain>) -> Option<Turn<J>>
+    requires cell { cell.now.table.shared.table_id ≡ J.table }
+    requires pass { pass.old.table_id ≡ J.table }
+    requires left { cell_view pass.old
+        ≡ left_from J.reporters J.start (epoch_of J.chained J.epoch_end J.recovery) J.reporters }
+    requires core { IsMadeFor J.start J.reporters (epoch_of J.chained J.epoch_end J.recovery) core }
+    ensures cell { pass.new.table_id ≡ J.table }
+    ensures right { IsRight J.start J.reporters (cell_view pass.new) }
+    ensures turn { J.chained ≡ true → IsSome result }
+{
+    match core {
+        None => None,
+        Some(core) => Some(drawing_for::<J>(cell, pass, core)),
+    }
+}
+
+/// The right to draw for this chain.
+fn drawing_for<J: Live>(cell: &Cell, pass: &mut Pass, core: RecentChain) -> Turn<J>
+    requires cell { cell.now.table.shared.table_id ≡ J.table }
+    requires pass { pass.old.table_id ≡ J.table }
+    requires left { cell_view pass.old
+        ≡ left_from J.reporters J.start (epoch_of J.chained J.epoch_end J.recovery) J.reporters }
+    requires chained { J.chained ≡ true }
+    requires core { IsStateOf core (new_chain J.epoch_end J.recovery J.reporters) }
+    requires begins { J.start.version ≤ J.recovery }
+    ensures cell { pass.new.table_id ≡ J.table }
+    ensures right { IsRight J.start J.reporters (cell_view pass.new) }
+{
+    Turn {
+        core,
+        pass: passes::give_drawing(cell, pass),
+        of: PhantomData,
     }
 }
 
@@ -142,14 +275,15 @@ fn numbered<J: Live>(
     requires cell { cell.now.table.shared.table_id ≡ J.table }
     requires pass { pass.old.table_id ≡ J.table }
     requires named { reporters ≡ J.reporters }
-    requires opened { cell_view pass.old ≡ opened J.start None reporters }
+    requires opened { cell_view pass.old
+        ≡ opened J.start (epoch_of J.chained J.epoch_end J.recovery) reporters }
     requires taken { IsRecord J.start }
     ensures cell { pass.new.table_id ≡ J.table }
-    ensures left { IfOk result (λ _.
-        cell_view pass.new ≡ left_from reporters J.start None reporters) }
+    ensures left { IfOk result (λ _. cell_view pass.new
+        ≡ left_from reporters J.start (epoch_of J.chained J.epoch_end J.recovery) reporters) }
     ensures count { IfOk result (λ tokens. vec_len tokens ≡ reporters) }
-    ensures tokens { IfOk result (λ tokens. (k : ℕ) → k < reporters →
-        slice_get tokens.items k ≡ Some (record { reporter = Some k; changes = [] })) }
+    ensures tokens { IfOk result (λ tokens. (k : ℕ) → k < reporters → slice_get tokens.items k
+        ≡ Some (record { reporter = Some k; changes = []; answers = [] })) }
 {
     let mut tokens = Vec::with_capacity(alloc, reporters as usize)?;
     for number in 0..reporters {
@@ -164,10 +298,12 @@ fn token<J: Live>(cell: &Cell, pass: &mut Pass, number: u32) -> Seen<J>
     requires pass { pass.old.table_id ≡ J.table }
     requires below { number < J.reporters }
     requires taken { IsRecord J.start }
-    requires left { cell_view pass.old ≡ left_from number J.start None J.reporters }
+    requires left { cell_view pass.old
+        ≡ left_from number J.start (epoch_of J.chained J.epoch_end J.recovery) J.reporters }
     ensures cell { pass.new.table_id ≡ J.table }
-    ensures left { cell_view pass.new ≡ left_from (number + 1) J.start None J.reporters }
-    ensures token { result ≡ record { reporter = Some number; changes = [] } }
+    ensures left { cell_view pass.new
+        ≡ left_from (number + 1) J.start (epoch_of J.chained J.epoch_end J.recovery) J.reporters }
+    ensures token { result ≡ record { reporter = Some number; changes = []; answers = [] } }
 {
     Seen {
         number: Some(number),

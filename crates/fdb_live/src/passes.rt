@@ -8,8 +8,8 @@ ghost use Rattle.crossbeam_utils.specs.Seq.{IsSamePass, cell_view};
 ghost use Rattle.fdb_history.specs.Chain.{IsChain};
 ghost use Rattle.fdb_history.specs.Register.{after_report, changes};
 ghost use Rattle.fdb_live.specs.Holding.{versions};
-ghost use Rattle.fdb_live.specs.Seen.{IsRecord, last_record};
-ghost use Rattle.fdb_live.specs.private.Token.{DrawsAny, IsReported, IsServed, epoch_from};
+ghost use Rattle.fdb_live.specs.Seen.{IsRecord, epoch_from, last_record};
+ghost use Rattle.fdb_live.specs.private.Token.{DrawsAny, IsReported, IsServed};
 ghost use Rattle.fdb_live.specs.private.Rule.{Adds, Draws, InWords, Keeps, Looks, Opens, Settles};
 ghost use Rattle.fdb_live.specs.private.Rule.{copy_of};
 ghost use Rattle.fdb_live.specs.private.Rule.{drawer_of, served, without_drawing};
@@ -18,6 +18,7 @@ ghost use Rattle.fdb_live.specs.private.Rule.{without_lowest};
 ghost use Rattle.fdb_live.specs.private.Words.{fetched_of};
 
 use crate::ack::Ack;
+use crate::epoch::Epoch;
 use crate::fetched::Fetched;
 use crate::held::Held;
 use crate::live::Live;
@@ -38,14 +39,17 @@ pub(crate) fn open_as<S: Service, K: Kind, R: Wait>(
     pass: &mut Pass,
     start: Record,
     reporters: u32,
+    epoch: Option<Epoch>,
 )
     requires cell { pass.old.table_id ≡ cell.now.table.shared.table_id }
     requires first { cell_view pass.old ≡ first }
     requires named { reporters ≡ S.reporters }
+    requires kind { epoch ≡ K.epoch }
     requires taken { IsRecord start }
     ensures cell { IsSamePass pass.old pass.new }
-    ensures opened { cell_view pass.new ≡ opened start K.epoch reporters }
+    ensures opened { cell_view pass.new ≡ opened start epoch reporters }
 {
+    let _ = epoch;
     let words = opening::<S, K>(pass, start);
     cell.swap_as::<view::Opens<S, K>, R>(rt, pass, words);
 }

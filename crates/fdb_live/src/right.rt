@@ -3,7 +3,7 @@
 ghost use Rattle.std.specs.Prelude.{◌≡◌, ◌≤◌, length, Contains, IsSome, true, false};
 ghost use mathlib.Core.List.{IsPrefix};
 ghost use Rattle.fdb_history.specs.Chain.{IsChain};
-ghost use Rattle.fdb_live.specs.Holding.{own_answers, sight_of, versions};
+ghost use Rattle.fdb_live.specs.Holding.{own_answers, versions};
 ghost use Rattle.fdb_live.specs.Seen.{IsLog, IsRecord, IsChangedBy, IsNotChangedBy};
 
 use crate::ack::Ack;
@@ -11,7 +11,6 @@ use crate::live::Live;
 use crate::passes;
 use crate::passes::Pass;
 use crate::seen::Seen;
-use crate::token::Token;
 use crate::view::Cell;
 use fdb_history::Record;
 use std::marker::{Model, PhantomData};
@@ -52,9 +51,13 @@ impl<J: Live> Right<J> {
         requires cell { cell.now.table.shared.table_id ≡ J.table }
         requires numbered { IsSome seen.old.reporter }
         requires taken { IsRecord rec }
+        requires drawn { J.chained ≡ true → Contains (versions seen.old.answers) rec.version }
         ensures reporter { seen.new.reporter ≡ seen.old.reporter }
         ensures seen { IsPrefix seen.old.changes seen.new.changes }
+        ensures answers { IsPrefix seen.old.answers seen.new.answers }
+        ensures own { own_answers seen.new ≡ own_answers seen.old }
         ensures position { result.position ≡ length seen.new.changes }
+        ensures chain { IsChain J.epoch_end J.recovery seen.new.answers }
         ensures log { IsLog J.start J.reporters seen.new.changes }
         ensures changed { result.changed ≡ true
             → IsChangedBy J.start rec result.raised seen.old seen.new }
@@ -66,39 +69,6 @@ impl<J: Live> Right<J> {
         let ack = passes::report(rt, cell, &mut self.pass, rec);
         seen.pass = passes::give_lowest(cell, &mut self.pass);
         seen.position = ack.position;
-        ack
-    }
-
-    /// Reports a record of a version that was drawn, for the holder of a master's token.
-    #[inline]
-    pub(crate) fn report_drawn<R: Wait>(
-        &mut self,
-        rt: &R,
-        cell: &Cell,
-        token: &mut Token<J>,
-        rec: Record,
-    ) -> Ack
-        requires cell { cell.now.table.shared.table_id ≡ J.table }
-        requires numbered { IsSome token.old.number }
-        requires taken { IsRecord rec }
-        requires drawn { Contains (versions token.old.answers) rec.version }
-        ensures number { token.new.number ≡ token.old.number }
-        ensures changes { IsPrefix token.old.changes token.new.changes }
-        ensures answers { IsPrefix token.old.answers token.new.answers }
-        ensures own { own_answers token.new ≡ own_answers token.old }
-        ensures position { result.position ≡ length token.new.changes }
-        ensures chain { IsChain J.epoch_end J.recovery token.new.answers }
-        ensures log { IsLog J.start J.reporters token.new.changes }
-        ensures changed { result.changed ≡ true
-            → IsChangedBy J.start rec result.raised (sight_of token.old) (sight_of token.new) }
-        ensures not_changed { result.changed ≡ false
-            → IsNotChangedBy J.start rec result.raised (sight_of token.old) (sight_of token.new) }
-    {
-        let given = passes::give_all(cell, &mut token.pass);
-        passes::take(cell, &mut self.pass, given);
-        let ack = passes::report(rt, cell, &mut self.pass, rec);
-        token.pass = passes::give_lowest(cell, &mut self.pass);
-        token.position = ack.position;
         ack
     }
 }

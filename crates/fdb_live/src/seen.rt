@@ -1,18 +1,21 @@
-//! Tokens, which prove what their holders have seen of the live record.
+//! Tokens, which prove what their holders have seen of the live record, and of its chain.
 
 ghost use Rattle.std.specs.Prelude.{◌≡◌, length};
+ghost use Rattle.fdb_history.specs.Chain.{IsChain};
 
 use crate::live::Live;
 use crate::passes::Pass;
 use std::marker::{Model, PhantomData};
 
-/// A token of what its holder has seen of the live record of the service `J`. Whoever has it proves
-/// by it that these reports have changed the record, one after another. At run time it is a position
+/// A token of what its holder has seen of the live record of the service `J`, and of its commit
+/// versions where it has a chain of them. Whoever has it proves by it that these reports have changed
+/// the record, and that these answers drew versions, one after another. At run time it is a position
 /// and a number.
 ///
-/// Contracts see it as the number of the reporter whose token it is, if it is one's, and the changes
-/// that were seen. It is not cloned: [`LiveRecord::split`](crate::LiveRecord::split) makes another
-/// that has seen the same. It may be dropped.
+/// Contracts see it as the number of the reporter whose token it is, if it is one's, and both lists.
+/// The answers are none where the service has no chain. It is not cloned:
+/// [`LiveRecord::split`](crate::LiveRecord::split) makes another that has seen the same. It may be
+/// dropped.
 #[derive(Drop)]
 pub struct Seen<J: Live> {
     pub(crate) number: Option<u32>,
@@ -25,23 +28,28 @@ impl<J: Live> Model for Seen<J> {
     ghost use Rattle.std.specs.Prelude.{◌≡◌, length};
     ghost use Rattle.crossbeam_utils.specs.Seq.{cell_view};
     ghost use Rattle.fdb_live.specs.Seen.{Sight};
-    ghost use Rattle.fdb_live.specs.private.Token.{IsFree, IsHolder};
+    ghost use Rattle.fdb_live.specs.private.Token.{IsHolder, IsMember};
 
     ghost Value = { Sight };
 
-    ghost view = { λ s. record { reporter = s.number; changes = (cell_view s.pass).seen } };
+    ghost view = { λ s. record {
+      reporter = s.number;
+      changes = (cell_view s.pass).seen;
+      answers = (cell_view s.pass).chain.seen;
+    } };
 
     ghost invariant = { λ s. (s.pass.table_id ≡ J.table)
         × (s.position ≡ length (cell_view s.pass).seen)
         × IsHolder J.start J.reporters s.number (cell_view s.pass)
-        × IsFree s.number (cell_view s.pass) };
+        × IsMember J.chained J.epoch_end J.recovery J.reporters s.number (cell_view s.pass) };
 }
 
 impl<J: Live> Seen<J> {
     /// The number of changes that it has seen.
     #[inline]
     pub fn position(&self) -> u64
-        ensures { result ≡ length self.now.changes }
+        ensures position { result ≡ length self.now.changes }
+        ensures chain { IsChain J.epoch_end J.recovery self.now.answers }
     {
         self.position
     }

@@ -1,18 +1,20 @@
 //! The right to draw commit versions: one pass beside the chain, and how it answers for the holder
 //! of a token.
 
-ghost use Rattle.std.specs.Prelude.{◌≡◌, ◌<◌, ◌≤◌, All, Some, IfErr, IfOk, IsSome};
+ghost use Rattle.std.specs.Prelude.{◌≡◌, ◌<◌, ◌≤◌, All, Some, IfErr, IfOk, IsSome, length};
 ghost use mathlib.Core.List.{IsPrefix};
 ghost use Rattle.fdb_chain.specs.ChainCore.{IsEpoch, IsFor, MayRefuse, new_chain};
+ghost use Rattle.fdb_chain.specs.Recent.{IsStateOf};
 ghost use Rattle.fdb_history.specs.Chain.{IsChain};
 ghost use Rattle.fdb_live.specs.Holding.{IsAsked, own_answers};
+ghost use Rattle.fdb_live.specs.private.Token.{drawn_of};
 
 use crate::live::Live;
 use crate::passes;
 use crate::passes::Pass;
-use crate::token::Token;
+use crate::seen::Seen;
 use crate::view::Cell;
-use fdb_chain::{ChainCore, ChainError};
+use fdb_chain::{ChainError, RecentChain};
 use fdb_history::{Ask, Issued, MAX_VERSION};
 use std::marker::{Model, PhantomData};
 use std::sync::Wait;
@@ -21,27 +23,27 @@ use std::sync::Wait;
 /// it, which has seen just the chain's answers. Contracts see it as that chain.
 #[derive(Drop)]
 pub(crate) struct Turn<J: Live> {
-    pub(crate) core: ChainCore,
+    pub(crate) core: RecentChain,
     pub(crate) pass: Pass,
     pub(crate) of: PhantomData<J>,
 }
 
 impl<J: Live> Model for Turn<J> {
-    ghost use Rattle.std.specs.Prelude.{◌≡◌, ◌≤◌};
+    ghost use Rattle.std.specs.Prelude.{◌≡◌, ◌≤◌, true};
     ghost use Rattle.crossbeam_utils.specs.Seq.{cell_view};
     ghost use Rattle.fdb_history.specs.Issuing.{Chain};
+    ghost use Rattle.fdb_live.specs.Holding.{chain_of};
     ghost use Rattle.fdb_live.specs.private.Token.{IsDrawer};
 
     ghost Value = { Chain };
 
-    ghost view = { λ turn. turn.core };
+    ghost view = { λ turn. chain_of J.epoch_end J.recovery J.reporters
+        (cell_view turn.pass).chain.seen };
 
-    ghost invariant = { λ turn. (turn.core.epoch_end ≡ J.epoch_end)
-        × (turn.core.recovery ≡ J.recovery)
-        × (turn.core.proxies ≡ J.reporters)
-        × (J.start.version ≤ J.recovery)
+    ghost invariant = { λ turn. (J.start.version ≤ J.recovery)
+        × (J.chained ≡ true)
         × (turn.pass.table_id ≡ J.table)
-        × IsDrawer turn.core.answers (cell_view turn.pass) };
+        × IsDrawer J.epoch_end J.recovery J.reporters turn.core (cell_view turn.pass) };
 }
 
 impl<J: Live> Turn<J> {
@@ -51,12 +53,12 @@ impl<J: Live> Turn<J> {
         &mut self,
         rt: &R,
         cell: &Cell,
-        token: &mut Token<J>,
+        token: &mut Seen<J>,
         ask: Ask,
     ) -> Result<Issued, ChainError>
         requires cell { cell.now.table.shared.table_id ≡ J.table }
-        requires numbered { token.old.number ≡ Some ask.proxy }
-        ensures number { token.new.number ≡ token.old.number }
+        requires numbered { token.old.reporter ≡ Some ask.proxy }
+        ensures reporter { token.new.reporter ≡ token.old.reporter }
         ensures changes { token.new.changes ≡ token.old.changes }
         ensures asked { IsAsked (new_chain J.epoch_end J.recovery J.reporters)
             ask token.old result token.new }
@@ -69,48 +71,42 @@ impl<J: Live> Turn<J> {
         ensures start { J.start.version ≤ J.recovery }
     {
         let result = self.core.ask(ask);
-        // The check learns here that the answers of a core are one chain.
-        let _ = self.core.answers();
-        let drawn = match &result {
-            Ok(issued) if issued.fresh => Some(*issued),
-            _ => None,
-        };
+        self.core.stands_for();
+        let drawn = drawn(&result);
         passes::answer::<J, R>(rt, cell, &mut self.pass, &mut token.pass, drawn);
         result
     }
 
     /// The holder of a token sees all answers so far.
-    pub(crate) fn look<R: Wait>(&mut self, rt: &R, cell: &Cell, token: &mut Token<J>)
+    pub(crate) fn look<R: Wait>(&mut self, rt: &R, cell: &Cell, token: &mut Seen<J>)
         requires cell { cell.now.table.shared.table_id ≡ J.table }
-        requires numbered { IsSome token.old.number }
+        requires numbered { IsSome token.old.reporter }
         ensures chain { self.new ≡ self.old }
-        ensures number { token.new.number ≡ token.old.number }
+        ensures reporter { token.new.reporter ≡ token.old.reporter }
         ensures changes { token.new.changes ≡ token.old.changes }
         ensures all { token.new.answers ≡ self.old.answers }
         ensures extends { IsPrefix token.old.answers token.new.answers }
         ensures own { own_answers token.new ≡ own_answers token.old }
     {
-        // The check learns here that the answers of a core are one chain.
-        let _ = self.core.answers();
         passes::answer::<J, R>(rt, cell, &mut self.pass, &mut token.pass, None);
     }
 
-    /// The chain, once no token is to be asked with any more.
-    pub(crate) fn into_core(self) -> ChainCore
-        ensures same { result ≡ self }
-        ensures epoch_end { result.epoch_end ≡ J.epoch_end }
-        ensures recovery { result.recovery ≡ J.recovery }
-        ensures proxies { result.proxies ≡ J.reporters }
-        ensures one_chain { IsChain J.epoch_end J.recovery result.answers }
-        ensures asked { All (λ answer. answer.proxy < J.reporters) result.answers }
+    /// How many commit versions were drawn.
+    pub(crate) fn count(&self) -> u64
+        ensures count { result ≡ length self.now.answers }
+        ensures one_chain { IsChain J.epoch_end J.recovery self.now.answers }
+        ensures asked { All (λ answer. answer.proxy < J.reporters) self.now.answers }
     {
-        let Turn {
-            core,
-            pass: _,
-            of: _,
-        } = self;
-        // The check learns here that the answers of a core are one chain.
-        let _ = core.answers();
-        core
+        self.core.drawn()
+    }
+}
+
+/// The answer that is drawn where a request is answered so.
+fn drawn(answered: &Result<Issued, ChainError>) -> Option<Issued>
+    ensures { result ≡ drawn_of answered.now }
+{
+    match answered {
+        Ok(issued) if issued.fresh => Some(*issued),
+        _ => None,
     }
 }

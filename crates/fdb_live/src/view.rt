@@ -1,6 +1,7 @@
 //! What each pass of the cell knows. It exists in proofs alone: no value of these types is made.
 
 use crate::change::Change;
+use crate::epoch::Epoch;
 use crate::held::Held;
 use atomic_table::{Join, Split};
 use crossbeam_utils::atomic::seq_cell::RuledSeqCell;
@@ -35,14 +36,6 @@ pub(crate) struct View {
     pub(crate) chain: ChainView,
 }
 
-/// The versions that an epoch begins from.
-pub(crate) struct Epoch {
-    /// The last version of the epoch before.
-    pub(crate) before: u64,
-    /// The first version of this one, its recovery version.
-    pub(crate) recovery: u64,
-}
-
 /// What a pass knows of the chain of commit versions, and what it may do with it.
 pub(crate) struct ChainView {
     /// Whether it has the right to draw.
@@ -72,30 +65,17 @@ pub(crate) type Cell = RuledSeqCell<Held, View, Law, 6>;
 /// Stands for the chain that a service is opened with.
 pub(crate) trait Kind {
     ghost use Rattle.std.specs.Prelude.{Option};
-    ghost use Rattle.fdb_live.specs.declared.view.Epoch.{Epoch};
+    ghost use Rattle.fdb_live.specs.declared.epoch.Epoch.{Epoch};
 
     // The epoch of its chain, if it has one.
     ghost epoch: { Option Epoch };
 }
 
-/// A service with no chain, as a live record alone is opened for.
-pub(crate) struct Bare;
-
-impl Kind for Bare {
+/// The kind that a call may pick the epoch of.
+impl Kind for Brand {
     ghost use Rattle.std.specs.Prelude.{None};
 
     ghost epoch = { None };
-}
-
-/// A service with the chain of a name's epoch.
-pub(crate) struct Chained<S: Service> {
-    service: PhantomData<S>,
-}
-
-impl<S: Service> Kind for Chained<S> {
-    ghost use Rattle.std.specs.Prelude.{Some};
-
-    ghost epoch = { Some (record { before = S.epoch_end; recovery = S.recovery }) };
 }
 
 /// A step that opens the service of a name.

@@ -1,8 +1,9 @@
 //! A run of a script, from its plan to its outcome.
 
-ghost use Rattle.std.specs.Prelude.{◌≡◌, ◌<◌, ◌≤◌, ℕ, [], IfOk, Some, slice_get, vec_len};
+ghost use Rattle.std.specs.Prelude.{◌≡◌, ◌<◌, ◌≤◌, ℕ, [], IfOk, Some, slice_get, true, vec_len};
 ghost use Rattle.fdb_client.specs.Cluster.{IsClusterConfig};
 ghost use Rattle.fdb_client.specs.declared.cluster.TheConstants.{MAX_GRV_PROXIES};
+ghost use Rattle.fdb_live.specs.Seen.{epoch_of};
 ghost use Rattle.fdb_replay.specs.Outcome.{IsRunOf, opening};
 ghost use Rattle.fdb_replay.specs.private.Configured.{IsConfigFor};
 ghost use Rattle.fdb_script.specs.Answering.{Answers};
@@ -13,7 +14,7 @@ use crate::serving::served;
 use crate::world::World;
 use fdb_client::{Cluster, ClusterConfig, ClusterParts, Finished, OpenedCluster, clients_of};
 use fdb_history::{Gate, Record, laws};
-use fdb_live::{Live, Seen, Token};
+use fdb_live::{Live, Seen};
 use fdb_script::{Outcome, Script};
 use std::alloc::{AllocError, Global};
 use std::marker::Brand;
@@ -76,14 +77,14 @@ fn run_named<J: Live + Send + Sync, R: Threads + Wait + Sync, G: Gate>(
     script: &Script,
     gate: &G,
 ) -> Result<Outcome, AllocError>
+    requires chained { J.chained ≡ true }
     requires plan { IsPlan script.now }
     requires config { IsConfigFor script.now opened.config }
     requires founding { opened.founding ≡ record {
       table = J.table;
       start = J.start;
-      members = J.reporters;
-      epoch_end = J.epoch_end;
-      recovery = J.recovery;
+      reporters = J.reporters;
+      epoch = epoch_of J.chained J.epoch_end J.recovery;
     } }
     ensures { IfOk result (IsRunOf script.now) }
 {
@@ -96,8 +97,9 @@ fn run_named<J: Live + Send + Sync, R: Threads + Wait + Sync, G: Gate>(
     let run = cluster.settle(rt, first, finished);
     laws::minima_stay_within();
     let history = run.history(alloc)?;
+    let chain = run.chain(alloc)?;
     Ok(Outcome {
-        chain: run.chain,
+        chain,
         logs: run.logs,
         history,
     })
@@ -112,13 +114,13 @@ fn finished_at<J: Live + Send + Sync, R: Threads + Wait + Sync, G: Gate>(
     gate: &G,
     script: &Script,
     first: &mut Seen<J>,
-    tokens: Vec<Token<J>>,
+    tokens: Vec<Seen<J>>,
 ) -> Result<Finished<J>, AllocError>
     requires plan { IsPlan script.now }
     requires clients { script.now.setup.clients ≡ J.reporters }
     requires count { vec_len tokens ≡ J.reporters }
     requires numbered { (k : ℕ) → k < J.reporters
-        → slice_get tokens.items k ≡ Some (record { number = Some k; answers = []; changes = [] }) }
+        → slice_get tokens.items k ≡ Some (record { reporter = Some k; changes = []; answers = [] }) }
     ensures answers { IfOk result (Answers script.now) }
 {
     let clients = Clients::new(alloc, clients_of(alloc, cluster.master(), tokens)?)?;

@@ -2,7 +2,7 @@
 
 ghost use Rattle.std.specs.Prelude.{◌≡◌, None, length};
 
-use fdb_live::{Live, Token};
+use fdb_live::{Live, Seen};
 use std::marker::Model;
 
 /// What a client told another: what it had seen of the commit versions and of the live record.
@@ -13,7 +13,7 @@ pub(crate) struct Tell<J: Live> {
     pub(crate) to: u32,
     pub(crate) from: u32,
     /// What the teller had seen, as a token with no number.
-    pub(crate) seen: Token<J>,
+    pub(crate) seen: Seen<J>,
 }
 
 impl<J: Live> Model for Tell<J> {
@@ -25,13 +25,13 @@ impl<J: Live> Model for Tell<J> {
     ghost view = { λ tell.
         record { to = tell.to; from = tell.from; position = length tell.seen.changes } };
 
-    ghost invariant = { λ tell. tell.seen.number ≡ None };
+    ghost invariant = { λ tell. tell.seen.reporter ≡ None };
 }
 
 impl<J: Live> Tell<J> {
     /// One client told another what it had seen.
-    pub(crate) fn new(from: u32, to: u32, seen: Token<J>) -> Self
-        requires { seen.number ≡ None }
+    pub(crate) fn new(from: u32, to: u32, seen: Seen<J>) -> Self
+        requires { seen.reporter ≡ None }
         ensures { result ≡ record { to = to; from = from; position = length seen.changes } }
     {
         Tell { to, from, seen }

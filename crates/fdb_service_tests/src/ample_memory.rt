@@ -43,7 +43,7 @@ Client::tell, Client::learn | tells | 65538
 
 /// `fdb_client`: clusters, whose clients each make calls, of which a history is made.
 const CLUSTERS: &str = "
-run_workload, OpenedCluster::parts, clients_of, Cluster::finish | clients | 1 2 5 6 63 64
+run_workload, OpenedCluster::parts, clients_of, Cluster::finish, SettledRun::chain | clients | 1 2 5 6 63 64
 run_workload, Cluster::new, serve_while, SettledRun::history | GRV proxies | 1 2 5 6 8 9 15 16
 run_workload, serve_while | throttles | few 999 1000 1001 many
 run_workload, ClusterConfig::open | a first version | few many 9223372036854775807

@@ -1,7 +1,8 @@
 //! A service with its clients, who play the lines of a text, each of which is a call. What stands
 //! behind `=>`, if it does, is what comes of the call.
 
-ghost use Rattle.std.specs.Prelude.{◌≡◌};
+ghost use Rattle.std.specs.Prelude.{◌≡◌, true};
+ghost use Rattle.fdb_live.specs.Seen.{epoch_of};
 
 pub mod lines;
 
@@ -12,7 +13,7 @@ use crate::stand::lines::play_lines;
 use fdb_checks::CaseError;
 use fdb_client::{Client, clients_of};
 use fdb_history::Record;
-use fdb_live::{Fetched, Live, Master, OpenedMaster, Seen, Token};
+use fdb_live::{Epoch, Fetched, Live, LiveRecord, Master, Opened, Seen};
 use fdb_proxy::{Desk, Request};
 use fdb_queue::Req;
 use std::alloc::Global;
@@ -57,7 +58,7 @@ pub(crate) struct Stand<'a, J: Live> {
     pub(crate) service: &'a Service<J>,
     pub(crate) clients: Vec<Client<'a, J>>,
     /// What was told and not learnt yet.
-    pub(crate) told: Option<Token<J>>,
+    pub(crate) told: Option<Seen<J>>,
     /// What those have seen who leave requests on the desk: nothing, or what they read last.
     pub(crate) seen: Seen<J>,
     pub(crate) ahead: Seen<J>,
@@ -78,15 +79,15 @@ impl<'a, J: Live> Stand<'a, J> {
     /// The last of some clients gives the tokens of those who are none.
     fn new(service: &'a Service<J>, mut clients: Vec<Client<'a, J>>, once: bool) -> Option<Self> {
         let (_, mut token) = clients.pop()?.finish();
-        let master = &service.master;
+        let live = service.master.record();
         Some(Stand {
             service,
             clients,
             told: None,
-            seen: master.seen(&mut token),
-            ahead: master.seen(&mut token),
-            served: master.seen(&mut token),
-            witness: master.seen(&mut token),
+            seen: live.split(&mut token),
+            ahead: live.split(&mut token),
+            served: live.split(&mut token),
+            witness: live.split(&mut token),
             waiters: Vec::new(service.alloc),
             later: None,
             back: None,
@@ -102,7 +103,7 @@ impl<'a, J: Live> Stand<'a, J> {
             calls = calls.saturating_add(client.calls().len());
             positions = positions.saturating_add(client.position());
         }
-        let live = self.service.master.live();
+        let live = self.service.master.record();
         (calls, positions, live.read(rt, &mut self.witness))
     }
 }
@@ -111,19 +112,19 @@ impl<'a, J: Live> Stand<'a, J> {
 fn play_named<J: Live + Send + Sync, R: Threads + Wait + Sync>(
     rt: &R,
     alloc: Global,
-    opened: OpenedMaster,
+    opened: Opened,
     case: Case<'_>,
     once: bool,
 ) -> Result<(), CaseError>
     requires { opened ≡ record {
       table = J.table;
       start = J.start;
-      members = J.reporters;
-      epoch_end = J.epoch_end;
-      recovery = J.recovery;
+      reporters = J.reporters;
+      epoch = epoch_of J.chained J.epoch_end J.recovery;
     } }
+    requires { J.chained ≡ true }
 {
-    let (master, tokens) = opened.parts::<J>()?;
+    let (master, _, tokens) = opened.master::<J>()?;
     if tokens.len() > 64 {
         return Err(CaseError::Failed(Fail::new("64 tokens at most")));
     }
@@ -169,7 +170,11 @@ pub(crate) fn play<R: Threads + Wait + Sync>(
         metadata: None,
         min_known: 0,
     };
-    let opened = Master::<Brand>::open(rt, alloc, 0, 100, start, CLIENTS + 1)?;
+    let epoch = Epoch {
+        before: 0,
+        recovery: 100,
+    };
+    let opened = LiveRecord::<Brand>::open(rt, alloc, start, CLIENTS + 1, Some(epoch))?;
     play_named::<Brand, R>(rt, alloc, opened, case, once)
 }
 

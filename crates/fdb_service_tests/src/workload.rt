@@ -221,8 +221,9 @@ fn explained(
     reads: u64,
     closes: bool,
 ) -> Result<bool, AllocError> {
-    let mut right = run.logs.len() as u64 == clients && run.chain.len() as u64 == clients;
-    for (place, issued) in run.chain.iter().enumerate() {
+    let chain = run.chain(alloc)?;
+    let mut right = run.logs.len() as u64 == clients && run.drawn == clients;
+    for (place, issued) in chain.iter().enumerate() {
         let own = (issued.proxy as usize, issued.num, issued.ordinal as usize);
         right &= own == (place, 1, place);
     }

@@ -60,7 +60,7 @@ ChainCore::ask | new 0 100 1 => ok;round 1 1 => fresh;ask 0 2 184467440737095516
 => 1 100 @100 @0 fresh | few many 5000000
 ChainCore::ask | new 0 100 1 => ok;round 1 1 => fresh;ask 0 2 18446744073709551615 @0 \
 => 1 100 5000100 @0 fresh | 5000001 18446744073709551615
-Sequencer::ask | behind 1 => ok;*round @1 1 => fresh;stand => @0 | 65538
+RecentChain::new, RecentChain::ask, Sequencer::ask | behind 1 => ok;*round @1 1 => fresh;stand => @0 | 65538
 Sequencer::ask | behind 64 => ok;*round @1 64 => fresh | 1025
 ";
 
@@ -125,8 +125,8 @@ LiveRecord::open, Opened::parts | open @0 unlocked none for 64 => 64 \
 | 0 few many 9223372036854775807
 LiveRecord::open, Opened::parts | open @0 locked 0102030405060708090a for 64 => 64 \
 | 0 few many 9223372036854775807
-Master::open, OpenedMaster::parts, Master::ask | master 100 @0 1 => fresh | 1 2 5 6 63 64
-Master::open, OpenedMaster::parts, Master::ask | master @0 1 1 => fresh \
+LiveRecord::open, Opened::master, Master::ask | master 100 @0 1 => fresh | 1 2 5 6 63 64
+LiveRecord::open, Opened::master, Master::ask | master @0 1 1 => fresh \
 | few many 9223372036854775807
 Master::ask | master 100 1 @0 => fresh | 0 few many
 Master::ask | master 100 64 @0 => fresh | 0 few

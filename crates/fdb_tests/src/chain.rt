@@ -12,7 +12,7 @@
 
 mod rows;
 
-use fdb_chain::{ChainCore, ChainError, Sequencer};
+use fdb_chain::{ChainCore, ChainError, RecentChain, Sequencer};
 use fdb_checks::{CaseError, HoldsFirst, Line, Player, same};
 use fdb_history::{Ask, Issued, OpenGate, Place, Service};
 use std::alloc::{AllocError, Global};
@@ -91,7 +91,7 @@ impl<'a, R: Wait> Chain<'a, R> {
     }
 
     fn open_behind(&mut self, proxies: u32) -> Result<String, CaseError> {
-        match ChainCore::new(self.alloc, 0, 100, proxies) {
+        match RecentChain::new(self.alloc, 0, 100, proxies) {
             Ok(core) => {
                 self.asked = Asked::Behind(Sequencer::new(core));
                 self.word("ok")
@@ -148,7 +148,7 @@ impl<'a, R: Wait> Chain<'a, R> {
         let standing = match std::mem::replace(&mut self.asked, Asked::Nobody) {
             Asked::Nobody => 0,
             Asked::Core(core) => core.into_answers().len(),
-            Asked::Behind(sequencer) => sequencer.close().answers().len(),
+            Asked::Behind(sequencer) => sequencer.close().drawn() as usize,
         };
         Ok(standing.to_string(self.alloc)?)
     }

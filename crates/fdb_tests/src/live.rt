@@ -6,7 +6,8 @@
 //! - `master` has a recovery version, how many commit proxies there are, and how often each asks:
 //! whether all answers are fresh.
 
-ghost use Rattle.std.specs.Prelude.{◌≡◌};
+ghost use Rattle.std.specs.Prelude.{◌≡◌, false};
+ghost use Rattle.fdb_live.specs.Seen.{epoch_of};
 
 pub mod gathered;
 mod held;
@@ -75,12 +76,17 @@ fn opened<R: Wait>(
     if reporters == 0 || reporters > 64 {
         return Ok(0);
     }
-    parted::<Brand>(LiveRecord::<Brand>::open(rt, alloc, start, reporters)?)
+    parted::<Brand>(LiveRecord::<Brand>::open(rt, alloc, start, reporters, None)?)
 }
 
 /// How many reporters have tokens under the name of the service.
 fn parted<J: Live>(opened: Opened) -> Result<usize, LiveError>
-    requires { opened ≡ record { table = J.table; start = J.start; reporters = J.reporters } }
+    requires { opened ≡ record {
+      table = J.table;
+      start = J.start;
+      reporters = J.reporters;
+      epoch = epoch_of J.chained J.epoch_end J.recovery;
+    } }
 {
     let (_, _, tokens) = opened.parts::<J>()?;
     Ok(tokens.len())
@@ -96,7 +102,7 @@ pub(crate) fn played<R: Threads + Wait + Sync>(
     if reporters == 0 || reporters > 64 {
         return Err(CaseError::Failed(Fail::new("no number of reporters")));
     }
-    match LiveRecord::<Brand>::open(rt, alloc, plain(100), reporters) {
+    match LiveRecord::<Brand>::open(rt, alloc, plain(100), reporters, None) {
         Ok(opened) => played_named::<Brand, R>(rt, alloc, opened, Text { text }),
         Err(cause) => Err(refusal(cause)),
     }
@@ -123,7 +129,13 @@ fn played_named<J: Live + Send + Sync, R: Threads + Wait + Sync>(
     opened: Opened,
     played: Text<'_>,
 ) -> Result<(), CaseError>
-    requires { opened ≡ record { table = J.table; start = J.start; reporters = J.reporters } }
+    requires bare { J.chained ≡ false }
+    requires opened { opened ≡ record {
+      table = J.table;
+      start = J.start;
+      reporters = J.reporters;
+      epoch = epoch_of J.chained J.epoch_end J.recovery;
+    } }
 {
     let (live, first, tokens) = match opened.parts::<J>() {
         Ok(parts) => parts,

@@ -11,8 +11,8 @@ use std::sync::Wait;
 /// Opens a live record for two reporters, and has them report under a name that stands for it, so
 /// that no token of another record fits it.
 pub(crate) fn two_reporters<R: Print + Wait>(rt: &R, alloc: Global) -> Result<()> {
-    let opened = LiveRecord::<Brand>::open(rt, alloc, START, 2)?;
-    opened.named(rt, 0, START.version, TwoReporters)
+    let opened = LiveRecord::<Brand>::open(rt, alloc, START, 2, None)?;
+    opened.named(rt, TwoReporters)
 }
 
 /// Two reporters, to be run under a name that stands for their record.
@@ -23,13 +23,7 @@ impl<R: Print + Wait> UnderName<R> for TwoReporters {
     type Output = Result<()>;
 
     /// Has both report, the greater version first. Then a token that had seen nothing reads.
-    fn run<J: Live + Send + Sync>(
-        self,
-        rt: &R,
-        opened: Opened,
-        _epoch_end: u64,
-        _recovery: u64,
-    ) -> Result<()> {
+    fn run<J: Live + Send + Sync>(self, rt: &R, opened: Opened) -> Result<()> {
         let (live, mut reader, mut reporters) = opened.parts::<J>()?;
         if reporters.len() != 2 {
             return Err(anyhow!("two reporters are wanted"));

@@ -1,12 +1,13 @@
 //! Commit versions that two threads draw from one master, each once it was told of the other's.
 
-ghost use Rattle.std.specs.Prelude.{◌<◌, ◌≤◌, ◌≡◌, IfOk, None};
+ghost use Rattle.std.specs.Prelude.{◌<◌, ◌≤◌, ◌≡◌, IfOk, None, true};
 ghost use Rattle.fdb_live.specs.Holding.{least_above};
+ghost use Rattle.fdb_live.specs.Seen.{epoch_of};
 
 use crate::START;
 use anyhow::{Result, anyhow};
 use fdb_history::{Ask, OpenGate};
-use fdb_live::{Live, Master, OpenedMaster, Token};
+use fdb_live::{Epoch, Live, LiveRecord, Master, Opened, Seen};
 use std::alloc::Global;
 use std::marker::Brand;
 use std::sync::Wait;
@@ -15,24 +16,28 @@ use std::thread::Threads;
 
 /// Opens a master for two commit proxies, and has them draw under a name that stands for it.
 pub(crate) fn two_threads<R: Print + Threads + Wait + Sync>(rt: &R, alloc: Global) -> Result<()> {
-    let opened = Master::<Brand>::open(rt, alloc, 0, START.version, START, 2)?;
+    let epoch = Epoch {
+        before: 0,
+        recovery: START.version,
+    };
+    let opened = LiveRecord::<Brand>::open(rt, alloc, START, 2, Some(epoch))?;
     draw_named::<Brand, R>(rt, opened)
 }
 
 /// Shares out a master and the tokens of its commit proxies, under a name that stands for it.
 fn draw_named<J: Live + Send + Sync, R: Print + Threads + Wait + Sync>(
     rt: &R,
-    opened: OpenedMaster,
+    opened: Opened,
 ) -> Result<()>
-    requires { opened ≡ record {
+    requires chained { J.chained ≡ true }
+    requires opened { opened ≡ record {
       table = J.table;
       start = J.start;
-      members = J.reporters;
-      epoch_end = J.epoch_end;
-      recovery = J.recovery;
+      reporters = J.reporters;
+      epoch = epoch_of J.chained J.epoch_end J.recovery;
     } }
 {
-    let (master, mut tokens) = opened.parts::<J>()?;
+    let (master, _, mut tokens) = opened.master::<J>()?;
     draw_both(rt, &master, tokens.as_mut_slice())
 }
 
@@ -40,7 +45,7 @@ fn draw_named<J: Live + Send + Sync, R: Print + Threads + Wait + Sync>(
 fn draw_both<J: Live + Send + Sync, R: Print + Threads + Wait + Sync>(
     rt: &R,
     master: &Master<J>,
-    tokens: &mut [Token<J>],
+    tokens: &mut [Seen<J>],
 ) -> Result<()> {
     if tokens.len() != 2 {
         return Err(anyhow!("two commit proxies are wanted"));
@@ -68,8 +73,8 @@ fn draw_both<J: Live + Send + Sync, R: Print + Threads + Wait + Sync>(
 #[derive(Drop)]
 struct Told<J: Live> {
     version: u64,
-    token: Token<J>,
-    ghost nobodys: { token.number ≡ None },
+    token: Seen<J>,
+    ghost nobodys: { token.reporter ≡ None },
     ghost drawn: { version < least_above token.answers },
 }
 
@@ -77,10 +82,10 @@ struct Told<J: Live> {
 fn draw_and_tell<J: Live, R: Wait>(
     rt: &R,
     master: &Master<J>,
-    token: &mut Token<J>,
+    token: &mut Seen<J>,
 ) -> Result<Told<J>> {
     let version = draw(rt, master, token, 1)?;
-    let token = master.split(token);
+    let token = master.record().split(token);
     Ok(Told { version, token })
 }
 
@@ -88,7 +93,7 @@ fn draw_and_tell<J: Live, R: Wait>(
 fn draw_once_told<J: Live, R: Wait>(
     rt: &R,
     master: &Master<J>,
-    token: &mut Token<J>,
+    token: &mut Seen<J>,
     told: Told<J>,
 ) -> Result<(u64, u64)>
     ensures { IfOk result (λ both. both.0 < both.1) }
@@ -97,16 +102,16 @@ fn draw_once_told<J: Live, R: Wait>(
         version,
         token: seen,
     } = told;
-    master.learn(rt, token, seen);
+    master.record().learn(rt, token, seen);
     Ok((version, draw(rt, master, token, 2)?))
 }
 
 /// Draws a version under this number, above all that its commit proxy has seen or was told of.
-fn draw<J: Live, R: Wait>(rt: &R, master: &Master<J>, token: &mut Token<J>, num: u64) -> Result<u64>
+fn draw<J: Live, R: Wait>(rt: &R, master: &Master<J>, token: &mut Seen<J>, num: u64) -> Result<u64>
     ensures above { IfOk result (λ version. least_above token.old.answers ≤ version) }
     ensures seen { IfOk result (λ version. version < least_above token.new.answers) }
 {
-    let Some(proxy) = token.number() else {
+    let Some(proxy) = token.reporter() else {
         return Err(anyhow!("the token is nobody's"));
     };
     let ask = Ask {

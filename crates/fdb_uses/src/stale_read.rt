@@ -13,8 +13,8 @@ use std::io;
 /// Adds a read to what the last client of a run has logged: it got the record before all calls,
 /// though it had come to the last position.
 pub(crate) fn caught(rt: &impl Print, alloc: Global, run: SettledRun) -> Result<()> {
+    let chain = run.chain(alloc)?;
     let SettledRun {
-        chain,
         mut logs,
         changes,
         ..

@@ -1,7 +1,8 @@
 //! Two clients that read at once, each in a thread of its own.
 
-ghost use Rattle.std.specs.Prelude.{◌≡◌, IfOk};
+ghost use Rattle.std.specs.Prelude.{◌≡◌, IfOk, true};
 ghost use Rattle.fdb_history.specs.Linear.{IsLinear};
+ghost use Rattle.fdb_live.specs.Seen.{epoch_of};
 
 use crate::proxies::{config, opts};
 use anyhow::{Result, anyhow};
@@ -32,12 +33,12 @@ fn read_side_by_side<J: Live + Send + Sync, R: Print + Threads + Wait + Sync>(
     alloc: Global,
     opened: OpenedCluster<'_>,
 ) -> Result<(SettledRun, History)>
-    requires { opened.founding ≡ record {
+    requires chained { J.chained ≡ true }
+    requires founding { opened.founding ≡ record {
       table = J.table;
       start = J.start;
-      members = J.reporters;
-      epoch_end = J.epoch_end;
-      recovery = J.recovery;
+      reporters = J.reporters;
+      epoch = epoch_of J.chained J.epoch_end J.recovery;
     } }
     ensures { IfOk result (λ left. IsLinear J.start left.0.logs.items left.1.events) }
 {

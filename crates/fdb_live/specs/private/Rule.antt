@@ -14,7 +14,7 @@ use Rattle.fdb_live.specs.declared.fetched.Fetched.{Fetched}
 use Rattle.fdb_live.specs.declared.held.Held.{Held}
 use Rattle.fdb_live.specs.declared.change.Change.{Change}
 use Rattle.fdb_live.specs.declared.view.ChainView.{ChainView}
-use Rattle.fdb_live.specs.declared.view.Epoch.{Epoch}
+use Rattle.fdb_live.specs.declared.epoch.Epoch.{Epoch}
 use Rattle.fdb_live.specs.declared.view.View.{View}
 
 -- The words are those after the log.
@@ -66,14 +66,15 @@ pub record IsDrawnFrom (epoch : Epoch) (answers : List Issued) (log : List Chang
   pub drawn : AreDrawn answers log
 
 -- The rule. There is one log, whose last record the words are once the service is opened, and one
--- list of answers, from which the versions of the log are where the service has a chain. Each pass
--- fits these.
+-- list of answers, from which the versions of the log are where the service has a chain, and which
+-- is empty where it has none. Each pass fits these.
 pub record Kept (fetched : Fetched) (views : List View) : Type 0 where
   pub whole : Whole
   pub register : 0 < whole.reporters → IsRegister whole.start fetched whole.log
   pub legal : IsLog whole.start whole.reporters whole.log
   pub drawn : (epoch : Epoch) → whole.epoch ≡ Some epoch
       → IsDrawnFrom epoch whole.answers whole.log
+  pub bare : whole.epoch ≡ None → whole.answers ≡ []
   pub each : (pass : ℕ) (v : View) → get_elem? views pass ≡ some v → Fits whole pass v
 
 abbrev pub chain_view : Bool → List Issued → List Issued → List Issued → ChainView
@@ -214,6 +215,7 @@ pub record Looks (v : View) (before after : Fetched) (w : View) : Type 0 where
   pub register : 0 < v.reporters → IsRegister v.start after w.seen
   pub drawn : 0 < v.reporters → (epoch : Epoch) → v.epoch ≡ Some epoch
       → IsDrawnFrom epoch w.chain.seen w.seen
+  pub bare : 0 < v.reporters → v.epoch ≡ None → w.chain.seen ≡ []
 
 -- A look that ends a join: what was seen stays.
 pub record Settles (v : View) (before after : Fetched) (w : View) : Type 0 where
@@ -222,6 +224,7 @@ pub record Settles (v : View) (before after : Fetched) (w : View) : Type 0 where
   pub chain : TellsChain v v.chain.seen
   pub legal : 0 < v.reporters → (epoch : Epoch) → v.epoch ≡ Some epoch
       → IsChain epoch.before epoch.recovery v.chain.seen
+  pub bare : 0 < v.reporters → v.epoch ≡ None → v.chain.seen ≡ []
 
 -- A report of this record by the pass with the right, under its lowest number.
 abbrev pub Adds : Record → View → Fetched → Fetched → View → Type 0

@@ -1,17 +1,20 @@
 -- What a token, and what lies behind the lock of the reports, keep of their passes.
 -- (this product's own)
-use Rattle.std.specs.Prelude.{◌≡◌, ℕ, ◌+◌, ◌<◌, ◌≤◌, Bool, true, false, IsSome, Option, None, Some, List, [], ◌∷◌, ◌++◌, length, MatchBool}
+use Rattle.std.specs.Prelude.{◌≡◌, ℕ, ◌+◌, ◌<◌, ◌≤◌, Bool, true, false, IsSome, Option, None, Some, List, [], ◌∷◌, ◌++◌, length, All, MatchBool, Result, Ok, Err, if◌then◌else◌}
 use Rattle.atomic_table.specs.Seated.{TableId}
 use mathlib.Core.List.{IsPrefix}
+use Rattle.fdb_chain.specs.ChainCore.{new_chain}
+use Rattle.fdb_chain.specs.Recent.{Recent, IsStateOf}
+use Rattle.fdb_chain.specs.declared.error.ChainError.{ChainError}
 use Rattle.fdb_history.specs.Chain.{IsChain}
 use Rattle.fdb_history.specs.declared.chain.Issued.{Issued}
 use Rattle.fdb_history.specs.declared.register.Record.{Record}
 use Rattle.fdb_history.specs.Register.{raises, changes}
-use Rattle.fdb_live.specs.Seen.{IsLog, IsRecord, last_record}
-use Rattle.fdb_live.specs.Holding.{AreDrawn, answers_to}
-use Rattle.fdb_live.specs.private.Rule.{Tells, TellsChain, chain_view, having_seen, left_from, view}
+use Rattle.fdb_live.specs.Seen.{IsLog, epoch_of, last_record}
+use Rattle.fdb_live.specs.Holding.{AreDrawn, answers_to, chain_of}
+use Rattle.fdb_live.specs.private.Rule.{Tells, TellsChain, chain_view, having_seen, view}
 use Rattle.fdb_live.specs.declared.change.Change.{Change}
-use Rattle.fdb_live.specs.declared.view.Epoch.{Epoch}
+use Rattle.fdb_live.specs.declared.epoch.Epoch.{Epoch}
 use Rattle.fdb_live.specs.declared.view.View.{View}
 
 -- A table that is no cell's, for a name that no cell was picked for.
@@ -31,11 +34,6 @@ no_table =
 abbrev pub HasNumber : Option ℕ → View → Type 0
 HasNumber None v = v.high ≤ v.low
 HasNumber (Some number) v = (v.low ≡ number) × (v.high ≡ number + 1)
-
--- Where a token has a number and may report any record, its service has no chain.
-abbrev pub IsFree : Option ℕ → View → Type 0
-IsFree None v = Unit {0}
-IsFree (Some number) v = v.epoch ≡ None
 
 -- What the pass of a token knows: it has this number or none, and has seen a log of the service.
 pub record IsHolder (start : Record) (reporters : ℕ) (number : Option ℕ) (v : View) : Type 0 where
@@ -61,6 +59,7 @@ pub record IsReported (v : View) (rec : Record) (raised changed : Bool) (positio
   pub chain : TellsChain v w.chain.seen
   pub legal_chain : (epoch : Epoch) → v.epoch ≡ Some epoch
       → IsChain epoch.before epoch.recovery w.chain.seen
+  pub no_chain : v.epoch ≡ None → w.chain.seen ≡ []
   pub numbers : v.high ≤ v.reporters
   pub legal : IsLog v.start v.reporters found
   pub is : w ≡ having_seen v w.seen w.chain.seen
@@ -71,27 +70,28 @@ pub record IsReported (v : View) (rec : Record) (raised changed : Bool) (positio
       (w.seen ≡ found)
   pub position_is : position ≡ length w.seen
 
--- The epoch that begins with the recovery version of a service's chain.
-abbrev pub epoch_from : ℕ → ℕ → Epoch
-epoch_from before recovery = record { before = before; recovery = recovery }
-
 -- A number is below this one, where there is one.
 abbrev pub IsBelow : Option ℕ → ℕ → Type 0
 IsBelow None count = Unit {0}
 IsBelow (Some number) count = number < count
 
--- What the pass of a master's token knows besides: the chain of its epoch, and that its number is
--- one of the service.
-pub record IsMember (epoch_end recovery reporters : ℕ) (number : Option ℕ) (v : View) : Type 0 where
-  pub epoch : v.epoch ≡ Some (epoch_from epoch_end recovery)
+-- What the pass of a token knows of the chain: whose epoch it is, if there is one, that its number is
+-- one of the service, and that where there is no chain there are no answers.
+pub record IsMember (chained : Bool) (epoch_end recovery reporters : ℕ) (number : Option ℕ) (v : View)
+    : Type 0 where
+  pub epoch : v.epoch ≡ epoch_of chained epoch_end recovery
   pub settled : v.chain.mine ≡ v.chain.seen
   pub legal : IsChain epoch_end recovery v.chain.seen
+  pub none : chained ≡ false → v.chain.seen ≡ []
   pub below : IsBelow number reporters
 
--- What the pass behind the lock of the asks knows: it is the one with the right to draw.
-pub record IsDrawer (answers : List Issued) (v : View) : Type 0 where
+-- What the pass behind the lock of the asks knows: it is the one with the right to draw, and what
+-- is kept of the chain stands for the answers that it has seen.
+pub record IsDrawer (epoch_end recovery proxies : ℕ) (state : Recent) (v : View) : Type 0 where
   pub draws : v.chain.draws ≡ true
-  pub seen : v.chain.seen ≡ answers
+  pub stands : IsStateOf state (chain_of epoch_end recovery proxies v.chain.seen)
+  pub one_chain : IsChain epoch_end recovery v.chain.seen
+  pub asked : All (λ answer. answer.proxy < proxies) v.chain.seen
 
 -- The answers after one more, if there is one.
 abbrev pub and_then : List Issued → Option Issued → List Issued
@@ -116,9 +116,15 @@ pub record IsServed (drawn : Option Issued) (right token right' token' : View) :
   pub read : IsSome drawn → 0 < token.reporters → IsSome token.epoch
       → AreDrawn right.chain.seen token.seen
 
--- What the first pass of a master knows before it is shared out.
-pub record IsFounder (epoch_end recovery members : ℕ) (v : View) : Type 0 where
-  pub some : 0 < members
-  pub begins : v.start.version ≤ recovery
-  pub taken : IsRecord v.start
-  pub is : v ≡ left_from 0 v.start (Some (epoch_from epoch_end recovery)) members
+-- What is kept of the chain that was made for a service which was opened, if it is to have one.
+abbrev pub IsMadeFor : Record → ℕ → Option Epoch → Option Recent → Type 0
+IsMadeFor start reporters None core = core ≡ None
+IsMadeFor start reporters (Some epoch) None = ⊥
+IsMadeFor start reporters (Some epoch) (Some core) =
+    IsStateOf core (new_chain epoch.before epoch.recovery reporters)
+    × (start.version ≤ epoch.recovery)
+
+-- The answer that is drawn where a request is answered so.
+abbrev pub drawn_of : Result Issued ChainError → Option Issued
+drawn_of (Ok issued) = if issued.fresh then Some issued else None
+drawn_of (Err cause) = None

@@ -80,7 +80,7 @@ pub(crate) fn read<J: Live + Send + Sync, R: Threads + Wait + Sync>(
     let service = stand.service;
     let alloc = service.alloc;
     let opts = told_apart(alloc, line.next_word().unwrap_or_default())?;
-    let served = service.master.live().split(&mut stand.served);
+    let served = service.master.record().split(&mut stand.served);
     let Some(client) = stand.clients.get_mut(place) else {
         return Err(CaseError::Failed(line.fail("no client")));
     };
@@ -207,7 +207,7 @@ fn replied<J: Live, R: Wait>(
 ) -> Option<Answer<J>> {
     let (client, serial) = (request.client, request.serial);
     let asked = request.asked.saturating_add(later);
-    let live = service.master.live();
+    let live = service.master.record();
     live.learn(rt, served, request.seen);
     let fetched = live.read(rt, served);
     if fetched.position < asked {

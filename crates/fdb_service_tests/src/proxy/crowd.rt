@@ -49,7 +49,7 @@ impl<J: Live> Asker<'_, J> {
         let num = self.client.ask(rt, &OpenGate, turn, 0).ok()?.num;
         self.client.report(rt, &OpenGate, num, false, None, 0).ok()?;
         let mut told = self.client.tell(0).ok()?;
-        Some(self.service.master.seen(&mut told))
+        Some(self.service.master.record().split(&mut told))
     }
 
     /// Leaves requests of each priority at both desks in turn.
@@ -141,7 +141,7 @@ fn proxy_at<'a, J: Live>(
     desk: &'a Desk<J>,
     seen: &mut Seen<J>,
 ) -> Result<GrvProxy<'a, J>, AllocError> {
-    let (alloc, live) = (service.alloc, service.master.live());
+    let (alloc, live) = (service.alloc, service.master.record());
     let queue = queue_of(alloc, 100_000, 100_000, 100_000)?;
     Ok(GrvProxy::new(alloc, live, desk, queue, 10_000_000, live.split(seen)))
 }

@@ -51,7 +51,7 @@ pub(crate) fn request_of<J: Live>(
         client,
         serial,
         asked,
-        seen: service.master.live().split(seen),
+        seen: service.master.record().split(seen),
         opts,
         reply,
     };
@@ -189,7 +189,7 @@ pub(crate) fn served<J: Live, R: Wait>(
     stand: &mut Stand<'_, J>,
 ) -> Result<Option<String>, CaseError> {
     let service = stand.service;
-    let (alloc, live) = (service.alloc, service.master.live());
+    let (alloc, live) = (service.alloc, service.master.record());
     let queue = queue_of(alloc, 1, 1, 1)?;
     let requests = match stand.back.take() {
         Some(back) => back,

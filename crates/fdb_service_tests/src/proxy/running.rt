@@ -37,7 +37,7 @@ pub(crate) fn runs_beside<J: Live + Send + Sync, R: Threads + Wait + Sync>(
     line: &mut Line<'_>,
 ) -> Result<bool, CaseError> {
     let service = stand.service;
-    let (alloc, live, desk) = (service.alloc, service.master.live(), &service.desk);
+    let (alloc, live, desk) = (service.alloc, service.master.record(), &service.desk);
     let token = live.split(&mut stand.served);
     let proxy = GrvProxy::new(alloc, live, desk, queue, 1_000_000, token);
     let later = stand.later.take();

@@ -89,7 +89,7 @@ fn said<J: Live, R: Wait>(
     stand: &mut Stand<'_, J>,
     word: &str,
 ) -> Result<Option<String>, AllocError> {
-    let (alloc, live) = (stand.service.alloc, stand.service.master.live());
+    let (alloc, live) = (stand.service.alloc, stand.service.master.record());
     match word {
         "see" => Ok(Some(live.read(rt, &mut stand.ahead).position.to_string(alloc)?)),
         "close" => {

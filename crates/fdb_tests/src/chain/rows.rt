@@ -1,7 +1,7 @@
 //! Requests for commit versions, by values worked out by hand, and two threads that ask at once.
 
 use crate::chain::{Chain, FromHundred, play_held};
-use fdb_chain::{ChainCore, ChainError, Sequencer};
+use fdb_chain::{ChainError, RecentChain, Sequencer};
 use fdb_checks::{cases, plays, plays_case, same, says};
 use fdb_history::{Ask, OpenGate};
 use std::alloc::Global;
@@ -95,12 +95,13 @@ fn each_of_64_proxies_processes(rt: HostRuntime) -> Result<(), Fail> {
     Ok(())
 }
 
-/// Asks for a proxy's numbers 1 to 100.
+/// Asks for a proxy's numbers 1 to 100. Answers the last version.
 fn asks_hundred_times<R: Wait>(
     rt: &R,
     sequencer: &Sequencer<FromHundred>,
     proxy: u32,
-) -> Result<(), ChainError> {
+) -> Result<u64, ChainError> {
+    let mut version = 0;
     for num in 1..=100 {
         let ask = Ask {
             proxy,
@@ -108,24 +109,22 @@ fn asks_hundred_times<R: Wait>(
             processed: num - 1,
             at: 0,
         };
-        sequencer.ask(rt, &OpenGate, ask)?;
+        version = sequencer.ask(rt, &OpenGate, ask)?.version;
     }
-    Ok(())
+    Ok(version)
 }
 
 /// Two threads ask 100 times each, for a proxy each. There is a version for each request, since no
 /// time passes.
 fn two_threads<R: Threads + Wait + Sync>(rt: &R, alloc: Global) -> Result<(), Fail> {
-    let sequencer: Sequencer<FromHundred> = Sequencer::new(ChainCore::new(alloc, 0, 100, 4)?);
-    let both = thread::join(
+    let sequencer: Sequencer<FromHundred> = Sequencer::new(RecentChain::new(alloc, 0, 100, 4)?);
+    let (zero, one) = thread::join(
         rt,
         || asks_hundred_times(rt, &sequencer, 0),
         || asks_hundred_times(rt, &sequencer, 1),
     );
-    same(&both, &(Ok(()), Ok(())), &"two threads")?;
-    let answers = sequencer.close().into_answers();
-    let last = answers.last().map(|last| (last.version, last.ordinal));
-    same(&last, &Some((299, 199)), &"the last version and ordinal")
+    same(&zero?.max(one?), &299, &"the last version")?;
+    same(&sequencer.close().drawn(), &200, &"how many were drawn")
 }
 
 #[test]

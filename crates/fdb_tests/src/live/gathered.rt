@@ -1,6 +1,7 @@
 //! What the holders of all reporters' tokens have seen, gathered.
 
-ghost use Rattle.std.specs.Prelude.{◌≡◌};
+ghost use Rattle.std.specs.Prelude.{◌≡◌, false};
+ghost use Rattle.fdb_live.specs.Seen.{epoch_of};
 
 use crate::audits::words::plain;
 use crate::live::refusal;
@@ -20,7 +21,7 @@ pub(crate) fn gather_two<R: Wait>(
     reported: (u64, u64),
     position: u64,
 ) -> Result<(), CaseError> {
-    match LiveRecord::<Brand>::open(rt, alloc, plain(100), 2) {
+    match LiveRecord::<Brand>::open(rt, alloc, plain(100), 2, None) {
         Ok(opened) => gather_named::<Brand, R>(rt, opened, reported, position),
         Err(cause) => Err(refusal(cause)),
     }
@@ -33,8 +34,13 @@ fn gather_named<J: Live, R: Wait>(
     reported: (u64, u64),
     position: u64,
 ) -> Result<(), CaseError>
-    requires opened { opened
-        ≡ record { table = J.table; start = J.start; reporters = J.reporters } }
+    requires bare { J.chained ≡ false }
+    requires opened { opened ≡ record {
+      table = J.table;
+      start = J.start;
+      reporters = J.reporters;
+      epoch = epoch_of J.chained J.epoch_end J.recovery;
+    } }
     requires two { opened.reporters ≡ 2 }
 {
     let (live, mut first, mut tokens) = match opened.parts::<J>() {
@@ -57,7 +63,9 @@ fn reports<J: Live, R: Wait>(
     live: &LiveRecord<J>,
     token: &mut Seen<J>,
     version: u64,
-) -> Result<(), Fail> {
+) -> Result<(), Fail>
+    requires { J.chained ≡ false }
+{
     let Some(who) = token.reporter() else {
         return Err(Fail::new("a reporter's token is wanted"));
     };

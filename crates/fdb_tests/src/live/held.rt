@@ -3,10 +3,10 @@
 //! all reporters, so that none of them can be held meanwhile.)
 
 use crate::audits::words::{plain, record};
-use crate::live::holders::{Holders, ack_text};
+use crate::live::holders::{Bare, Holders, ack_text};
 use fdb_checks::{CaseError, HoldsFirst, Line, same};
 use fdb_history::{Place, Record};
-use fdb_live::{Ack, Fetched, Live, LiveError, LiveRecord, Seen};
+use fdb_live::{Ack, Fetched, Live, LiveError, Seen};
 use std::sync::Wait;
 use std::thread;
 use std::thread::Threads;
@@ -23,7 +23,7 @@ pub(crate) fn report_held<J: Live + Send + Sync, R: Threads + Wait + Sync>(
     let (mut first, mut second) = (holders.take(place)?, holders.take(behind)?);
     let mut reader = holders.take(beside)?;
     let (rt, live) = (holders.rt, &holders.live);
-    let before = live.read(rt, &mut reader);
+    let before = live.record.read(rt, &mut reader);
     let gate = HoldsFirst::new(Place::ReportHeld, who, behind);
     let (found, (seen, again)) = thread::join(
         rt,
@@ -46,14 +46,14 @@ pub(crate) fn report_held<J: Live + Send + Sync, R: Threads + Wait + Sync>(
 /// Reports, and says so once that is done. Answers nothing where the token is nobody's.
 fn reported<J: Live, R: Wait>(
     rt: &R,
-    live: &LiveRecord<J>,
+    live: &Bare<J>,
     gate: &HoldsFirst,
     who: u32,
     token: &mut Seen<J>,
     rec: Record,
 ) -> Option<Result<Ack, LiveError>> {
     token.reporter()?;
-    let found = live.report(rt, gate, who, token, rec);
+    let found = live.record.report(rt, gate, who, token, rec);
     gate.is_answered();
     Some(found)
 }
@@ -61,19 +61,19 @@ fn reported<J: Live, R: Wait>(
 /// Reads while the first is at the gate, and then reports the same behind it.
 fn reported_behind<J: Live, R: Wait>(
     rt: &R,
-    live: &LiveRecord<J>,
+    live: &Bare<J>,
     gate: &HoldsFirst,
     reader: &mut Seen<J>,
     token: &mut Seen<J>,
     rec: Record,
 ) -> (Fetched, Option<Result<Ack, LiveError>>) {
     gate.waits_until_held();
-    let seen = live.read(rt, reader);
+    let seen = live.record.read(rt, reader);
     gate.is_done_beside();
     let Some(who) = token.reporter() else {
         return (seen, None);
     };
-    (seen, Some(live.report(rt, gate, who, token, rec)))
+    (seen, Some(live.record.report(rt, gate, who, token, rec)))
 }
 
 /// What the same report is answered once more.
@@ -116,22 +116,22 @@ pub(crate) fn beside<J: Live + Send + Sync, R: Threads + Wait + Sync>(
 /// else of the first token after it.
 fn called<J: Live, R: Wait>(
     rt: &R,
-    live: &LiveRecord<J>,
+    live: &Bare<J>,
     gate: &HoldsFirst,
     call: &str,
     (one, other): (&mut Seen<J>, &mut Seen<J>),
 ) -> u64 {
     gate.waits_until_held();
     let position = match call {
-        "read" => live.read(rt, one).position,
-        "split" => live.split(one).position(),
+        "read" => live.record.read(rt, one).position,
+        "split" => live.record.split(one).position(),
         "learn" => {
-            let told = live.split(other);
-            live.learn(rt, one, told);
+            let told = live.record.split(other);
+            live.record.learn(rt, one, told);
             one.position()
         }
         "meet" => {
-            live.meet(rt, one, other);
+            live.record.meet(rt, one, other);
             one.position()
         }
         _ => u64::MAX,

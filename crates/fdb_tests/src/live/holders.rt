@@ -11,6 +11,8 @@
 //! - `beside` has a call and two tokens, and what reporter 0 reports meanwhile: the position;
 //! - `threads` has how many readers there are beside all reporters: how often the record is raised.
 
+ghost use Rattle.std.specs.Prelude.{◌≡◌, false};
+
 use crate::audits::words::record;
 use crate::live::held::{beside, report_held};
 use crate::live::threads::run_all;
@@ -22,12 +24,19 @@ use std::sync::Wait;
 use std::test::Fail;
 use std::thread::Threads;
 
+/// The live record of a service with no chain.
+#[derive(Drop)]
+pub(crate) struct Bare<J: Live> {
+    pub(crate) record: LiveRecord<J>,
+    pub(crate) ghost bare: { J.chained ≡ false },
+}
+
 /// A live record, and the tokens that nobody calls with just now.
 #[derive(Drop)]
 pub(crate) struct Holders<'a, J: Live, R> {
     pub(crate) rt: &'a R,
     pub(crate) alloc: Global,
-    pub(crate) live: LiveRecord<J>,
+    pub(crate) live: Bare<J>,
     pub(crate) tokens: Vec<Option<Seen<J>>>,
 }
 
@@ -36,10 +45,12 @@ impl<'a, J: Live, R: Wait> Holders<'a, J, R> {
     pub(crate) fn of(
         rt: &'a R,
         alloc: Global,
-        live: LiveRecord<J>,
+        record: LiveRecord<J>,
         first: Seen<J>,
         numbered: Vec<Seen<J>>,
-    ) -> Result<Self, AllocError> {
+    ) -> Result<Self, AllocError>
+        requires { J.chained ≡ false }
+    {
         let mut tokens = Vec::new(alloc);
         for token in numbered {
             tokens.push(Some(token))?;
@@ -48,7 +59,7 @@ impl<'a, J: Live, R: Wait> Holders<'a, J, R> {
         Ok(Holders {
             rt,
             alloc,
-            live,
+            live: Bare { record },
             tokens,
         })
     }
@@ -73,7 +84,7 @@ impl<'a, J: Live, R: Wait> Holders<'a, J, R> {
 
     fn read(&mut self, place: u32) -> Result<String, CaseError> {
         let mut token = self.take(place)?;
-        let fetched = self.live.read(self.rt, &mut token);
+        let fetched = self.live.record.read(self.rt, &mut token);
         self.put(place, token);
         Ok(format!(in self.alloc; "{} at {}", fetched.rec, fetched.position)?)
     }
@@ -85,14 +96,17 @@ impl<'a, J: Live, R: Wait> Holders<'a, J, R> {
         let Some(who) = token.reporter() else {
             return Err(CaseError::Failed(line.fail("no reporter")));
         };
-        let found = self.live.report(self.rt, &OpenGate, who, &mut token, rec);
+        let found = self
+            .live
+            .record
+            .report(self.rt, &OpenGate, who, &mut token, rec);
         self.put(place, token);
         Ok(ack_text(self.alloc, found)?)
     }
 
     fn split(&mut self, place: u32) -> Result<String, CaseError> {
         let mut token = self.take(place)?;
-        let other = self.live.split(&mut token);
+        let other = self.live.record.split(&mut token);
         self.put(place, token);
         let text = token_text(self.alloc, &other)?;
         self.tokens.push(Some(other))?;
@@ -102,8 +116,8 @@ impl<'a, J: Live, R: Wait> Holders<'a, J, R> {
     /// The holder of the first token learns what that of the second has seen.
     fn learns(&mut self, place: u32, teller: u32) -> Result<String, CaseError> {
         let (mut token, mut other) = (self.take(place)?, self.take(teller)?);
-        let told = self.live.split(&mut other);
-        self.live.learn(self.rt, &mut token, told);
+        let told = self.live.record.split(&mut other);
+        self.live.record.learn(self.rt, &mut token, told);
         self.put(teller, other);
         self.put(place, token);
         self.at(place)
@@ -111,7 +125,7 @@ impl<'a, J: Live, R: Wait> Holders<'a, J, R> {
 
     fn meets(&mut self, place: u32, met: u32) -> Result<String, CaseError> {
         let (mut token, mut other) = (self.take(place)?, self.take(met)?);
-        self.live.meet(self.rt, &mut token, &mut other);
+        self.live.record.meet(self.rt, &mut token, &mut other);
         self.put(met, other);
         self.put(place, token);
         self.at(place)

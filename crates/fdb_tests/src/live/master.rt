@@ -1,11 +1,12 @@
 //! Masters that are opened, and asked for commit versions with their tokens.
 
-ghost use Rattle.std.specs.Prelude.{◌≡◌};
+ghost use Rattle.std.specs.Prelude.{◌≡◌, true};
+ghost use Rattle.fdb_live.specs.Seen.{epoch_of};
 
 use fdb_chain::ChainError;
 use fdb_checks::CaseError;
 use fdb_history::{Ask, MAX_VERSION, OpenGate, Record};
-use fdb_live::{Live, Master, OpenedMaster, Token};
+use fdb_live::{Epoch, Live, LiveRecord, Master, Opened, Seen};
 use std::alloc::Global;
 use std::marker::Brand;
 use std::sync::Wait;
@@ -29,7 +30,11 @@ pub(crate) fn asked<R: Wait>(
         metadata: None,
         min_known: 0,
     };
-    match Master::<Brand>::open(rt, alloc, 0, recovery, start, members) {
+    let epoch = Epoch {
+        before: 0,
+        recovery,
+    };
+    match LiveRecord::<Brand>::open(rt, alloc, start, members, Some(epoch)) {
         Ok(opened) => asked_named::<Brand, R>(rt, alloc, opened, asks),
         Err(_) => Err(CaseError::Memory),
     }
@@ -39,18 +44,18 @@ pub(crate) fn asked<R: Wait>(
 fn asked_named<J: Live, R: Wait>(
     rt: &R,
     alloc: Global,
-    opened: OpenedMaster,
+    opened: Opened,
     asks: u64,
 ) -> Result<String, CaseError>
-    requires { opened ≡ record {
+    requires chained { J.chained ≡ true }
+    requires opened { opened ≡ record {
       table = J.table;
       start = J.start;
-      members = J.reporters;
-      epoch_end = J.epoch_end;
-      recovery = J.recovery;
+      reporters = J.reporters;
+      epoch = epoch_of J.chained J.epoch_end J.recovery;
     } }
 {
-    let (master, tokens) = opened.parts::<J>()?;
+    let (master, _, tokens) = opened.master::<J>()?;
     for mut token in tokens {
         if !are_fresh(rt, &master, &mut token, asks)? {
             return Ok(String::from_str(alloc, "other")?);
@@ -63,11 +68,11 @@ fn asked_named<J: Live, R: Wait>(
 fn are_fresh<J: Live, R: Wait>(
     rt: &R,
     master: &Master<J>,
-    token: &mut Token<J>,
+    token: &mut Seen<J>,
     asks: u64,
 ) -> Result<bool, CaseError> {
     for processed in 0..asks {
-        let Some(proxy) = token.number() else {
+        let Some(proxy) = token.reporter() else {
             return Ok(false);
         };
         let num = processed + 1;

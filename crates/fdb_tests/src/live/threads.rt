@@ -1,10 +1,10 @@
 //! Reporters and readers, each in a thread of its own.
 
 use crate::audits::words::plain;
-use crate::live::holders::Holders;
+use crate::live::holders::{Bare, Holders};
 use fdb_checks::{CaseError, holds, same, stays_away};
 use fdb_history::{Gate, Place};
-use fdb_live::{Live, LiveRecord, Seen};
+use fdb_live::{Live, Seen};
 use std::alloc::AllocError;
 use std::sync::Wait;
 use std::sync::atomic::{AtomicBool, AtomicU64, Ordering};
@@ -52,14 +52,14 @@ struct Worker<J: Live> {
 
 impl<J: Live> Worker<J> {
     /// Reports rising versions that no other worker reports, or reads where its token has no number.
-    fn work<R: Wait>(&mut self, rt: &R, live: &LiveRecord<J>, gate: &OneByOne, reporters: u64) {
+    fn work<R: Wait>(&mut self, rt: &R, live: &Bare<J>, gate: &OneByOne, reporters: u64) {
         for turn in 0..TURNS {
             let before = self.token.position();
             match self.token.reporter() {
                 Some(who) => {
                     let version = turn.saturating_mul(reporters).saturating_add(101);
                     let rec = plain(version.saturating_add(u64::from(who)));
-                    match live.report(rt, gate, who, &mut self.token, rec) {
+                    match live.record.report(rt, gate, who, &mut self.token, rec) {
                         Ok(ack) => self.raises = self.raises.saturating_add(u64::from(ack.raised)),
                         Err(_) => self.failed = true,
                     }
@@ -70,8 +70,8 @@ impl<J: Live> Worker<J> {
         }
     }
 
-    fn read<R: Wait>(&mut self, rt: &R, live: &LiveRecord<J>) {
-        let version = live.read(rt, &mut self.token).rec.version;
+    fn read<R: Wait>(&mut self, rt: &R, live: &Bare<J>) {
+        let version = live.record.read(rt, &mut self.token).rec.version;
         self.failed |= version < self.version;
         self.version = version;
     }
@@ -91,7 +91,7 @@ fn workers_of<J: Live, R: Wait>(
     }
     let mut first = holders.take(reporters)?;
     for _ in 0..readers {
-        add_worker(&mut workers, holders.live.split(&mut first))?;
+        add_worker(&mut workers, holders.live.record.split(&mut first))?;
     }
     holders.put(reporters, first);
     Ok(workers)
@@ -140,7 +140,7 @@ pub(crate) fn run_all<J: Live + Send + Sync, R: Threads + Wait + Sync>(
     holds(!gate.failed.load(Ordering::SeqCst), &"each passes alone")?;
     let raises = raises_of(&workers)?;
     let mut first = holders.take(u32::try_from(reporters).unwrap_or_default())?;
-    let fetched = holders.live.read(rt, &mut first);
+    let fetched = holders.live.record.read(rt, &mut first);
     let greatest = TURNS.saturating_mul(reporters).saturating_add(100);
     same(&fetched.rec, &plain(greatest), &"the greatest")?;
     same(&fetched.position, &raises, &"its position")?;

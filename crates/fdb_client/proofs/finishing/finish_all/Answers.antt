@@ -1,8 +1,8 @@
 use Rattle.std.proofs.Common.{◌≡◌, [], ◌∷◌, ◌++◌, length, append_assoc, arith, ap, sym, subst, ◌∙◌}
 use Rattle.std.proofs.lemmas.List.{length-map, map-append}
-use Rattle.fdb_client.specs.Account.{holding}
+use Rattle.fdb_client.specs.Account.{sight}
 use Rattle.fdb_client.specs.Settling.{AllAgree, AllAgreeWithChain, HaveNumbers, logs_of}
-use Rattle.fdb_live.specs.Holding.{AreNumbered}
+use Rattle.fdb_live.specs.Gathering.{AreNumbered}
 use Rattle.fdb_client.proofs.Left.{MaySettle, all_agree, all_agree_with_chain, all_yielded, are_numbered, one_more}
 use Rattle.fdb_client.proofs.finishing.finish_all.Goals as goal
 
@@ -32,7 +32,7 @@ invariant_of-result g c =
     let beside : AllAgree start (logs_of yielded) c.loop-client.tokens.items = subst (λ tokens. AllAgree start (logs_of yielded) tokens) (sym inv.tokens) (all_agree epoch_end recovery start yielded have inv.settled) in
     let chained : AllAgreeWithChain epoch_end recovery (logs_of yielded) c.loop-client.tokens.items = subst (λ tokens. AllAgreeWithChain epoch_end recovery (logs_of yielded) tokens) (sym inv.tokens) (all_agree_with_chain epoch_end recovery start yielded have inv.settled) in (
       ap length inv.logs ∙ (length-map yielded _ ∙ count),
-      ap length inv.tokens ∙ (length-map yielded holding ∙ count),
+      ap length inv.tokens ∙ (length-map yielded sight ∙ count),
       subst AreNumbered (sym inv.tokens) (are_numbered yielded have),
       subst (λ logs. AllAgree start logs c.loop-client.tokens.items) (sym inv.logs) beside,
       subst (λ logs. AllAgreeWithChain epoch_end recovery logs c.loop-client.tokens.items) (sym inv.logs) chained,

@@ -1,5 +1,4 @@
 use Rattle.std.proofs.Common.{rules, refl}
-use Rattle.fdb_live.specs.Holding.{sight_of}
 use Rattle.fdb_client.proofs.Own.{own_answers_same, own_same}
 use Rattle.fdb_history.specs.declared.log.CallAnswer.TheVariants.{Version}
 use Rattle.fdb_client.proofs.reply.take_reply.Goals as goal
@@ -15,7 +14,7 @@ returns-clause-logged g c _ number begun reporter come_to =
         come_to = come_to;
         extends = c.hear.ensures.extends;
         stays = λ is. absurd (cc is);
-        own = λ _. own_same number (sight_of c.args.token.now) (sight_of c.hear.new.token) reporter c.hear.ensures.number c.hear.ensures.own_changes;
+        own = λ _. own_same number c.args.token.now c.hear.new.token reporter c.hear.ensures.number c.hear.ensures.own_changes;
         changed = λ is. absurd (cc is);
         answers = c.hear.ensures.answers;
         not_drawn = λ _. own_answers_same number c.args.token.now c.hear.new.token reporter c.hear.ensures.number c.hear.ensures.own;

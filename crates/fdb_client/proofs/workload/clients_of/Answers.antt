@@ -7,7 +7,7 @@ new_client-requires g c =
     let inv = c.loop-token.invariant in
     let tokens = c.args.tokens in
     let whole = ap (λ rest. c.loop-token.yielded ++ rest) (sym c.in-Some.ensures.steps.0) ∙ inv.left in
-    next_of c.loop-token.yielded c.in-Some.token c.next.new.self.rest.items tokens.items whole (λ k. record { number = Some k; answers = []; changes = [] }) c.loop-token.number inv.number
+    next_of c.loop-token.yielded c.in-Some.token c.next.new.self.rest.items tokens.items whole (λ k. record { reporter = Some k; changes = []; answers = [] }) c.loop-token.number inv.number
     (λ k below. c.requires.tokens k (omega (arith, below, tokens.ok.0)))
 
 pub push_reserved-requires : goal.push_reserved-requires

@@ -1,5 +1,6 @@
 use Rattle.std.proofs.Common.{◌≡◌, ◌<◌, ◌≤◌, ℕ, Some, length, slice_get}
-use Rattle.fdb_live.specs.Holding.{Holding, IsClosedWith}
+use Rattle.fdb_live.specs.Holding.{IsClosedWith}
+use Rattle.fdb_live.specs.Seen.{Sight}
 use Rattle.fdb_live.proofs.master.look_each.Given as goal
 
 abbrev pub invariant-loop-token : goal.invariant-loop-token
@@ -7,4 +8,4 @@ invariant-loop-token g l =
     (l.turn ≡ l.initial.turn)
     × (length l.tokens ≡ length l.initial.tokens)
     × ((k : ℕ) → l.token-index ≤ k → slice_get l.tokens k ≡ slice_get l.initial.tokens k)
-    × ((k : ℕ) (token : Holding) → k < l.token-index → slice_get l.initial.tokens k ≡ Some token → IsClosedWith l.initial.turn.answers token k l.tokens)
+    × ((k : ℕ) (token : Sight) → k < l.token-index → slice_get l.initial.tokens k ≡ Some token → IsClosedWith l.initial.turn.answers token k l.tokens)

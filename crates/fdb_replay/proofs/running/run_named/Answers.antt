@@ -23,13 +23,14 @@ returns g c =
     let version : c.args.opened.config.start.version ≡ plan.setup.recovery = ap (λ (rec : Record). rec.version) c.requires.config.start in
     let config : c.in_ok-cluster.cluster.config ≡ c.args.opened.config = cc (c.in_ok-cluster.ensures.config, c.in_ok-cluster.cluster-is) in
     let recovery : g.J.Service.recovery ≡ plan.setup.recovery = sym c.in_ok-cluster.cluster.recovery ∙ (ap (λ (own : ClusterConfig). own.start.version) config ∙ version) in
+    let chain = c.in_ok-chain.chain.items in
     let linear = subst (λ start. IsLinear start run.logs.items events) start c.in_ok-history.ensures.linear in
     record {
       answers = subst (Answers plan) (sym settled.logs) c.in_ok-finished.ensures.answers;
-      one_chain = subst (λ recovery. IsChain plan.setup.epoch_end recovery run.chain.items) recovery (subst (λ epoch_end. IsChain epoch_end g.J.Service.recovery run.chain.items) epoch_end settled.one_chain);
+      one_chain = subst (λ recovery. IsChain plan.setup.epoch_end recovery chain) recovery (subst (λ epoch_end. IsChain epoch_end g.J.Service.recovery chain) epoch_end (subst (IsChain g.J.Service.epoch_end g.J.Service.recovery) (sym c.in_ok-chain.ensures.value) settled.one_chain));
       linear = linear;
       minima = All-from_recursion IsWithin (opening plan.setup.recovery ∷ reports_of events) (omega arith, recursion_from_All IsWithin (reports_of events) (c.minima_stay_within.ensures run.start run.logs.items events c.in_ok-history.ensures.linear settled.minima));
       in_order = c.in_ok-history.ensures.in_order;
-      none_stray = run.justified;
+      none_stray = c.in_ok-chain.ensures.justified;
       none_low = rw start at run.above;
     }

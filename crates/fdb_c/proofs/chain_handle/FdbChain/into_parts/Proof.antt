@@ -29,8 +29,8 @@ use Rattle.std_heap.specs.contracts.GlobalAllocator.TheImpl.{ghosts}
 use Rattle.std.specs.Prelude.{Option, None, Some, IsSome}
 use Rattle.std.proofs.lemmas.Bool.{false≢true}
 use Rattle.std.proofs.raw_atomic.Walks.{proved_at, leaves}
-use Rattle.fdb_history.specs.Issuing.{Chain}
-use Rattle.fdb_chain.specs.contracts.chain_core.ChainCore as core
+use Rattle.fdb_chain.specs.Recent.{Recent}
+use Rattle.fdb_chain.specs.contracts.recent_chain.RecentChain as core
 use Rattle.fdb_c.specs.Held.{heap as the_heap, chain_held}
 use Rattle.fdb_c.specs.contracts.parts.Parts as parts
 use Rattle.fdb_c.specs.contracts.chain_handle.FdbChain as held
@@ -49,7 +49,7 @@ abbrev hs : Stays ended.signature.params ended.kept
 hs = (stay_dropped (plain (λ _. held.the_row)) ended.kept.0, (stay_dropped (plain (λ _. heap.the_row)) ended.kept.1.0, tt))
 
 -- what a handle holds, where it holds something
-held_in : (o : Option Chain) → IsSome o → (chain : Chain) × (o ≡ Some chain)
+held_in : (o : Option Recent) → IsSome o → (chain : Recent) × (o ≡ Some chain)
 held_in None is = absurd (false≢true is)
 held_in (Some chain) is = (chain, refl)
 
@@ -59,14 +59,14 @@ into_parts_spec 𝓤 𝓛 𝓜 𝓡 wired =
     proved_at 𝓛 ended hs c 𝓜 𝓡 (Goes-dropped 𝓛 0 (plain (λ _. held.the_row)) ended.kept.0 (λ κs x f. refl), (Goes-dropped 𝓛 0 (plain (λ _. heap.the_row)) ended.kept.1.0 (λ κs x f. refl), tt)) #self fn (code.unfolded 𝓤 H 𝓜 𝓡 wired) (λ z are.
     let v = z.0.3.0 in let a = z.0.3.1.0 in let Post : Val → SProp 𝓤 = (walk_of 𝓛 ended hs c).post z in let Run : List Val → SProp 𝓤 = λ ws. WpFn 𝓤 H 𝓣.C 𝓣.Λ fn ws Post in
     qed 𝓛 ((raw (alive 𝓛 ended.signature z.0.0 z.0.1) ⊛ ‵ (owns (types_at ended.signature.params z.0.0) z.0.3 z.0.4)) ∷ raw (fact 𝓤 (IsSome v.chain)) ∷ []) ∵
-    move ! (1 ∷ []) $ heard ! (IsSome v.chain) (λ some. let x : Chain = (held_in v.chain some).0 in let is : v.chain ≡ Some x = (held_in v.chain some).1 in
+    move ! (1 ∷ []) $ heard ! (IsSome v.chain) (λ some. let x : Recent = (held_in v.chain some).0 in let is : v.chain ≡ Some x = (held_in v.chain some).1 in
     split ! $ move ! (1 ∷ []) $ fsplit ! $ move ! (1 ∷ []) $ fsplit ! $
     -- the allocator's word
     peeks ! heap.the_row (Is heap.the_row) (shows 𝓛 heap.the_row) a z.0.4.1.0 (λ ia. let ea : z.0.4.1.0 ≡ heap_val ∷ [] = heap_Tells a z.0.4.1.0 ia in
     rewrite ! 0 (λ (us : List Val). ‵ ((heap.the_row).own_val a us)) ea refl $
     -- the handle's word, and the chain
     move ! (2 ∷ []) $ fsplit ! $ fpick ! (λ vss. fsplit ! $ feq_l ! (λ ev. fsplit ! $ feq_l ! (λ ep. move ! (1 ∷ []) $
-    rewrite ! 0 (λ (o : Option Chain). ‵ (chain_held v.at o)) is refl $
+    rewrite ! 0 (λ (o : Option Recent). ‵ (chain_held v.at o)) is refl $
     in_a_block ! v.at (λ p. box_owns (ghosts.dealloc_token the_heap) R p x) (fst∗ 𝓤 (never 𝓤) (sem 𝓛 (ghosts.dealloc_token the_heap (bare (lone R.mir)) null_ptr))) (λ b o e.
     let w : Val = vstruct (vcons (vptr b o) vnil) in let out : Val = vstruct (vcons (vptr b o) (vcons heap_val vnil)) in
     let ws : z.0.4.0 ≡ w ∷ [] =
@@ -76,7 +76,7 @@ into_parts_spec 𝓤 𝓛 𝓜 𝓡 wired =
     enter ! 𝓣.C 𝓣.Λ fn (w ∷ heap_val ∷ []) Post $ alloc_all ! (λ l. pass_all ! refl ((tt, (tt, tt)), ((tt, (((tt, tt), tt))), tt)) $
     -- let FdbChain { at } = self;
     sets ! (of_opd ! (get_in ! (fld ! refl (stop !)) (sub ! 0 refl (whole !)))) refl (tt, tt) $
-    -- at as *mut ChainCore
+    -- at as *mut RecentChain
     sets ! (of_opd ! (get ! refl)) refl (tt, tt) $
     -- Parts { ptr, alloc }
     sets ! (agg ! (and_then ! (get ! refl) (and_then ! (get ! refl) (no_more !)))) refl (tt, (tt, (((tt, tt), tt), tt))) $

@@ -19,7 +19,7 @@ use denote.Triple.Entry.{alive}
 use denote.Triple.Walked.{Stays, walk_of}
 use Rattle.std.specs.Prelude.{Option, None}
 use Rattle.std.proofs.raw_atomic.Walks.{proved_at, leaves}
-use Rattle.fdb_history.specs.Issuing.{Chain}
+use Rattle.fdb_chain.specs.Recent.{Recent}
 use Rattle.fdb_c.specs.contracts.chain_handle.FdbChain as held
 use Rattle.fdb_c.specs.contracts.chain_handle.FdbChain.none.{ended, clauses}
 use Rattle.fdb_c.specs.contracts.chain_handle.FdbChain.none.Key.{name as #self}
@@ -29,7 +29,7 @@ use Rattle.fdb_c.proofs.chain_handle.FdbChain.none.Code as code
 abbrev hs : Stays ended.signature.params ended.kept
 hs = tt
 
-abbrev nobody : Option Chain
+abbrev nobody : Option Recent
 nobody = None
 
 pub none_spec : {M : Type 1} → statement M

@@ -28,7 +28,7 @@ use Rattle.std_heap.specs.contracts.Global as heap
 use Rattle.std_heap.specs.contracts.GlobalAllocator.TheImpl.{ghosts}
 use Rattle.std.specs.Prelude.{Some}
 use Rattle.std.proofs.raw_atomic.Walks.{proved_at, leaves}
-use Rattle.fdb_chain.specs.contracts.chain_core.ChainCore as core
+use Rattle.fdb_chain.specs.contracts.recent_chain.RecentChain as core
 use Rattle.fdb_c.specs.Held.{heap as the_heap}
 use Rattle.fdb_c.specs.contracts.parts.Parts as parts
 use Rattle.fdb_c.specs.contracts.chain_handle.FdbChain as held

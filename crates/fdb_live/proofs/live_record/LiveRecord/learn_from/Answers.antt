@@ -2,7 +2,9 @@ use Rattle.std.proofs.Common.{◌≡◌, ap, ◌∙◌, sym, subst, slice_get, s
 use Rattle.std.proofs.lemmas.List.{set-get_or}
 use Rattle.std.proofs.lemmas.Option.{slice_get_within}
 use mathlib.Core.List.{IsPrefix}
-use Rattle.fdb_live.proofs.Owners.{each_below}
+use Rattle.fdb_live.specs.Gathering.{IsSeenBy}
+use Rattle.fdb_live.specs.Seen.{Sight}
+use Rattle.fdb_live.proofs.Owners.{each_below, seen_trans}
 use Rattle.fdb_live.proofs.Prefixes.{prefix_trans}
 use Rattle.fdb_live.proofs.live_record.LiveRecord.learn_from.Goals as goal
 
@@ -10,18 +12,24 @@ pub loop-other-preserved : goal.loop-other-preserved
 loop-other-preserved g c =
     let others = c.loop-other.others in
     let i = c.loop-other.other-index in
-    let old = get_or others i c.other-item.result in
-    let new = c.learn.new.seen in
+    let old : Sight = get_or others i c.other-item.result in
+    let was : Sight = c.loop-other.first in
+    let new : Sight = c.learn.new.seen in
     let before = c.loop-other.invariant in
     let learnt = c.learn.ensures in
     let whole : slice_set others i c.split-told.new.seen ≡ others = ap (slice_set others i) c.split-told.ensures.same ∙ set-get_or others i c.other-item.result in
-    let told : IsPrefix old.changes new.changes = subst (λ t. IsPrefix t.changes new.changes) c.split-told.ensures.given learnt.told in (
+    let told : IsSeenBy new old = record {
+      changes = subst (λ (t : Sight). IsPrefix t.changes new.changes) c.split-told.ensures.given learnt.told;
+      answers = subst (λ (t : Sight). IsPrefix t.answers new.answers) c.split-told.ensures.given learnt.told_answers;
+    } in (
       whole ∙ before.0,
       learnt.reporter ∙ before.1,
       prefix_trans _ _ _ before.2 learnt.extends,
-      λ k token below is. each_below {P = λ _ t. IsPrefix t.changes new.changes} others i c.other-item.result
-          (λ n t less at. prefix_trans _ _ _ (before.3 n t less at) learnt.extends) told k token below (sym (ap (λ l. slice_get l k) whole) ∙ is),
+      λ k token below is. each_below {P = λ _ t. IsSeenBy new t} others i c.other-item.result
+          (λ n t less at. seen_trans new was t (before.3 n t less at) learnt.extends learnt.answers) told k token below (sym (ap (λ l. slice_get l k) whole) ∙ is),
       learnt.own ∙ before.4,
+      prefix_trans _ _ _ before.5 learnt.answers,
+      learnt.own_answers ∙ before.6,
     )
 
 pub returns-clause-each : goal.returns-clause-each

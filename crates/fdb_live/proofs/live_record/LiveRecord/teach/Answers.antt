@@ -2,9 +2,10 @@ use Rattle.std.proofs.Common.{◌≡◌, ◌≢◌, ◌<◌, ap, ◌∙◌, sym,
 use Rattle.std.proofs.lemmas.List.{length-set}
 use Rattle.std.proofs.lemmas.Option.{slice_get_within, slice_get-get_or, unwrap_or-slice_get}
 use Rattle.std.specs.Prelude.{unwrap_or}
-use Rattle.fdb_live.specs.Seen.{Sight, longer, own_among, own_positions}
+use Rattle.fdb_live.specs.Gathering.{IsOwnKept, IsSeenBy}
+use Rattle.fdb_live.specs.Holding.{own_answers}
+use Rattle.fdb_live.specs.Seen.{Sight, longer, own_positions}
 use Rattle.fdb_live.proofs.Owners.{IsTaught, each_below, get_other, get_written, longer_of_prefix, sight_is}
-use mathlib.Core.List.{IsPrefix}
 use Rattle.fdb_live.proofs.live_record.LiveRecord.teach.Goals as goal
 
 pub loop-other-preserved : goal.loop-other-preserved
@@ -21,11 +22,13 @@ loop-other-preserved g c =
     let inside : i < length others = omega (arith, before.1, c.loop-other-test.true) in
     let same : get_or start i d ≡ old = sym (unwrap_or-slice_get start i d) ∙ (ap (λ o. unwrap_or o d) (sym (before.2 i (le_refl i))) ∙ unwrap_or-slice_get others i d) in
     let here : slice_get start i ≡ Some old = sym (before.2 i (le_refl i)) ∙ slice_get-get_or others i d inside in
-    let begins : IsPrefix old.changes first.changes = subst (λ (s : Sight). IsPrefix old.changes s.changes) (sym (c.split-told.ensures.same ∙ before.0)) (c.requires i old here) in
-    let told : c.split-told.result.changes ≡ first.changes = cc (c.split-told.ensures.given, c.split-told.ensures.same) in
-    let list : new.changes ≡ first.changes = learnt.longer ∙ (ap (longer old.changes) told ∙ longer_of_prefix old.changes first.changes begins) in
-    let taught : new ≡ record { reporter = old.reporter; changes = first.changes } = sight_is new old.reporter first.changes learnt.reporter list in
-    let owns : own_among old.reporter first.changes ≡ own_positions old = sym (ap own_positions taught) ∙ learnt.own in (
+    let begins : IsSeenBy first old = subst (λ (s : Sight). IsSeenBy s old) (sym (c.split-told.ensures.same ∙ before.0)) (c.requires i old here) in
+    let told : c.split-told.result.changes ≡ first.changes = ap (λ (s : Sight). s.changes) c.split-told.ensures.given ∙ ap (λ (s : Sight). s.changes) (sym c.split-told.ensures.same) in
+    let told_answers : c.split-told.result.answers ≡ first.answers = ap (λ (s : Sight). s.answers) c.split-told.ensures.given ∙ ap (λ (s : Sight). s.answers) (sym c.split-told.ensures.same) in
+    let list : new.changes ≡ first.changes = learnt.longer ∙ (ap (longer old.changes) told ∙ longer_of_prefix old.changes first.changes begins.changes) in
+    let answers : new.answers ≡ first.answers = learnt.longer_answers ∙ (ap (longer old.answers) told_answers ∙ longer_of_prefix old.answers first.answers begins.answers) in
+    let taught : new ≡ record first { reporter = old.reporter } = sight_is new first old.reporter learnt.reporter list answers in
+    let owns : IsOwnKept first old = record { positions = sym (ap own_positions taught) ∙ learnt.own; answers = sym (ap own_answers taught) ∙ learnt.own_answers } in (
       c.split-told.ensures.same ∙ before.0,
       length-set others i new ∙ before.1,
       λ k least. (let other : k ≢ i = omega arith in get_other others i k new other) ∙ before.2 k (omega arith),

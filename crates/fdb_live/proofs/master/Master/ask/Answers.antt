@@ -6,28 +6,28 @@ pub returns-clause-extends : goal.returns-clause-extends
 returns-clause-extends g c = extends _ _ _ _ _ c.ask.ensures.asked
 
 pub returns-clause-drawn : goal.returns-clause-drawn
-returns-clause-drawn g c = drawn_if _ _ _ _ _ c.ask.ensures.asked c.requires.numbered c.ask.ensures.number c.ask.ensures.request c.ask.ensures.log
+returns-clause-drawn g c = drawn_if _ _ _ _ _ c.ask.ensures.asked c.requires.numbered c.ask.ensures.reporter c.ask.ensures.request c.ask.ensures.log
 
 pub returns-clause-above : goal.returns-clause-above
 returns-clause-above g c =
-    above_each c.versions_rise.ensures _ _ _ _ c.ask.ensures.log _ (drawn_if _ _ _ _ _ c.ask.ensures.asked c.requires.numbered c.ask.ensures.number c.ask.ensures.request c.ask.ensures.log)
+    above_each c.versions_rise.ensures _ _ _ _ c.ask.ensures.log _ (drawn_if _ _ _ _ _ c.ask.ensures.asked c.requires.numbered c.ask.ensures.reporter c.ask.ensures.request c.ask.ensures.log)
 
 pub returns-clause-above_old : goal.returns-clause-above_old
 returns-clause-above_old g c =
-    least_before c.versions_rise.ensures _ _ _ _ _ c.ask.ensures.log (drawn_if _ _ _ _ _ c.ask.ensures.asked c.requires.numbered c.ask.ensures.number c.ask.ensures.request c.ask.ensures.log)
+    least_before c.versions_rise.ensures _ _ _ _ _ c.ask.ensures.log (drawn_if _ _ _ _ _ c.ask.ensures.asked c.requires.numbered c.ask.ensures.reporter c.ask.ensures.request c.ask.ensures.log)
 
 pub returns-clause-least : goal.returns-clause-least
 returns-clause-least g c =
-    least_after _ _ _ _ _ (drawn_if _ _ _ _ _ c.ask.ensures.asked c.requires.numbered c.ask.ensures.number c.ask.ensures.request c.ask.ensures.log)
+    least_after _ _ _ _ _ (drawn_if _ _ _ _ _ c.ask.ensures.asked c.requires.numbered c.ask.ensures.reporter c.ask.ensures.request c.ask.ensures.log)
 
 pub returns-clause-has : goal.returns-clause-has
 returns-clause-has g c =
-    let drawn = drawn_if _ _ _ _ _ c.ask.ensures.asked c.requires.numbered c.ask.ensures.number c.ask.ensures.request c.ask.ensures.log in
+    let drawn = drawn_if _ _ _ _ _ c.ask.ensures.asked c.requires.numbered c.ask.ensures.reporter c.ask.ensures.request c.ask.ensures.log in
     has_any _ _ (stands_any c.kept_is_first.ensures.stands c.each_is_next.ensures _ _ _ _ c.ask.ensures.member c.ask.ensures.log _ c.ask.ensures.asked (stands_drawn _ _ _ _ _ drawn))
 
 pub returns-clause-stands : goal.returns-clause-stands
 returns-clause-stands g c =
-    let drawn = drawn_if _ _ _ _ _ c.ask.ensures.asked c.requires.numbered c.ask.ensures.number c.ask.ensures.request c.ask.ensures.log in
+    let drawn = drawn_if _ _ _ _ _ c.ask.ensures.asked c.requires.numbered c.ask.ensures.reporter c.ask.ensures.request c.ask.ensures.log in
     stands_any c.kept_is_first.ensures.stands c.each_is_next.ensures _ _ _ _ c.ask.ensures.member c.ask.ensures.log _ c.ask.ensures.asked (stands_drawn _ _ _ _ _ drawn)
 
 pub returns-clause-next : goal.returns-clause-next
@@ -41,17 +41,17 @@ returns-clause-known g c = known _ _ _ _ c.ask.ensures.member _ c.ask.ensures.as
 
 pub returns-clause-above_read : goal.returns-clause-above_read
 returns-clause-above_read g c =
-    above_read c.versions_rise.ensures _ _ _ _ c.ask.ensures.log _ _ c.ask.ensures.start (drawn_if _ _ _ _ _ c.ask.ensures.asked c.requires.numbered c.ask.ensures.number c.ask.ensures.request c.ask.ensures.log)
+    above_read c.versions_rise.ensures _ _ _ _ c.ask.ensures.log _ _ c.ask.ensures.start (drawn_if _ _ _ _ _ c.ask.ensures.asked c.requires.numbered c.ask.ensures.reporter c.ask.ensures.request c.ask.ensures.log)
 
 pub returns-clause-again : goal.returns-clause-again
-returns-clause-again g c = again _ _ _ _ _ c.ask.ensures.asked c.requires.numbered c.ask.ensures.number
+returns-clause-again g c = again _ _ _ _ _ c.ask.ensures.asked c.requires.numbered c.ask.ensures.reporter
 
 pub returns-clause-refused : goal.returns-clause-refused
-returns-clause-refused g c = refused _ _ _ _ _ c.ask.ensures.asked c.requires.numbered c.ask.ensures.number
+returns-clause-refused g c = refused _ _ _ _ _ c.ask.ensures.asked c.requires.numbered c.ask.ensures.reporter
 
 pub returns-clause-decided : goal.returns-clause-decided
 returns-clause-decided g c = decided c.own_answers_decide.ensures.latest c.own_answers_decide.ensures.kept _ _ _ _ _ c.ask.ensures.asked
 
 pub returns-clause-at_least_read : goal.returns-clause-at_least_read
 returns-clause-at_least_read g c =
-    at_least_read c.versions_rise.ensures _ _ _ _ c.ask.ensures.log _ _ c.ask.ensures.start (drawn_if _ _ _ _ _ c.ask.ensures.asked c.requires.numbered c.ask.ensures.number c.ask.ensures.request c.ask.ensures.log)
+    at_least_read c.versions_rise.ensures _ _ _ _ c.ask.ensures.log _ _ c.ask.ensures.start (drawn_if _ _ _ _ _ c.ask.ensures.asked c.requires.numbered c.ask.ensures.reporter c.ask.ensures.request c.ask.ensures.log)
