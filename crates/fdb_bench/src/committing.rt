@@ -3,7 +3,7 @@
 //! one, and together the threads get the same versions in every schedule.
 
 ghost use Rattle.std.specs.Prelude.{◌≡◌, true};
-ghost use Rattle.fdb_live.specs.Seen.{epoch_of};
+ghost use Rattle.fdb_live.specs.Seen.{origin_of};
 
 use crate::asking::START;
 use crate::measuring::{Job, Measured};
@@ -136,12 +136,7 @@ fn draw_named<J: Live + Send + Sync, R: Clock + Threads + Wait + Sync>(
     opened: Opened,
 ) -> Result<Measured>
     requires chained { J.chained ≡ true }
-    requires opened { opened ≡ record {
-      table = J.table;
-      start = J.start;
-      reporters = J.reporters;
-      epoch = epoch_of J.chained J.epoch_end J.recovery;
-    } }
+    requires opened { opened ≡ origin_of J.table J.start J.reporters J.chained J.epoch_end J.recovery }
 {
     let (master, _, tokens) = opened.master::<J>()?;
     let asks = job.size / job.threads.max(1);

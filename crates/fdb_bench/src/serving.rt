@@ -1,7 +1,7 @@
 //! A live record under a name, and what is measured at it: reads, reports and tokens.
 
 ghost use Rattle.std.specs.Prelude.{◌≡◌, false};
-ghost use Rattle.fdb_live.specs.Seen.{epoch_of};
+ghost use Rattle.fdb_live.specs.Seen.{origin_of};
 
 use crate::asking::START;
 use crate::batching::batches;
@@ -56,12 +56,7 @@ fn measure_named<J: Live + Send + Sync, R: Clock + CpuClock + Threads + Wait + S
     opened: Opened,
 ) -> Result<Measured>
     requires bare { J.chained ≡ false }
-    requires opened { opened ≡ record {
-      table = J.table;
-      start = J.start;
-      reporters = J.reporters;
-      epoch = epoch_of J.chained J.epoch_end J.recovery;
-    } }
+    requires opened { opened ≡ origin_of J.table J.start J.reporters J.chained J.epoch_end J.recovery }
 {
     let (live, reader, reporters) = opened.parts::<J>()?;
     let shared = Shared {

@@ -1,11 +1,7 @@
 -- What a report that was answered logs, of a token whose number is its client's.
-use Rattle.std.proofs.Common.{◌≡◌, ℕ, zero, suc, ◌<◌, ◌≤◌, ◌↔◌, Bool, true, false, Option, Some, Result, Ok, Err, MatchBool, refl, subst, ◌∙◌, arith}
+use Rattle.std.proofs.Common.{◌≡◌, ℕ, Bool, true, false, Option, Some, MatchBool, refl, subst, ◌∙◌}
 use Rattle.fdb_history.specs.declared.register.Record.{Record}
-use Rattle.fdb_history.specs.declared.register.TheConstants.{MAX_VERSION}
-use Rattle.fdb_live.specs.Seen.{IsChangedBy, IsNotChangedBy, IsRecord, Sight}
-use Rattle.fdb_live.specs.declared.ack.Ack.{Ack}
-use Rattle.fdb_live.specs.declared.error.LiveError.{LiveError}
-use Rattle.fdb_live.specs.declared.error.LiveError.TheVariants.{MinAbove}
+use Rattle.fdb_live.specs.Seen.{IsChangedBy, IsNotChangedBy, Sight}
 
 -- the token, written out with its number
 abbrev pub written : ℕ → Sight → Sight
@@ -22,15 +18,3 @@ module _ (start rec : Record) (raised : Bool) (number : ℕ) (old new : Sight) (
       → MatchBool changed (IsChangedBy start rec raised (written number old) (written number new)) (IsNotChangedBy start rec raised (written number old) (written number new))
   changed_or_not true is not = of_both (IsChangedBy start rec raised) (is refl)
   changed_or_not false is not = of_both (IsNotChangedBy start rec raised) (not refl)
-
--- what is not refused for its minimum is a record
-at_most : (n m : ℕ) → (m < n → ⊥) → n ≤ m
-at_most zero m never = omega arith
-at_most (suc n) zero never = absurd (never (omega arith))
-at_most (suc n) (suc m) never =
-    let below : n ≤ m = at_most n m (λ low. never (omega (arith, low))) in
-    omega (arith, below)
-
-pub is_record : (rec : Record) (ack : Ack) → rec.version ≤ MAX_VERSION → Path (Result Ack LiveError) (Ok ack) (Err MinAbove) ↔ ((rec.version ≤ MAX_VERSION) × (rec.version < rec.min_known)) → IsRecord rec
-is_record rec ack in_range above =
-    record { in_range = in_range; within = at_most rec.min_known rec.version (λ low. cc (above.1 (in_range, low))) }

@@ -14,7 +14,7 @@ ghost use Rattle.fdb_history.specs.Issuing.{answer_to};
 ghost use Rattle.fdb_history.specs.Log.{position_after_calls};
 ghost use Rattle.fdb_history.specs.Strays.{issued_under, logged_as};
 ghost use Rattle.fdb_history.specs.declared.chain.Issued.{Issued};
-ghost use Rattle.fdb_live.specs.Holding.{chain_of, least_above, own_answers};
+ghost use Rattle.fdb_live.specs.Holding.{IsAboveRead, chain_of, least_above, own_answers};
 ghost use Rattle.fdb_live.specs.Seen.{IsBounded, IsNotBehind, last_record, own_positions};
 
 use crate::error::ClientError;
@@ -212,10 +212,8 @@ impl<'a, J: Live> Client<'a, J> {
             (λ issued. least_above self.old.answers ≤ issued.version) }
         ensures least { IfOk result
             (λ issued. least_above self.new.answers ≡ issued.version + 1) }
-        ensures above_read { IfOk result (λ issued. 0 < issued.ordinal
-            → (last_record J.start self.old.changes).version < issued.version) }
-        ensures at_least_read { IfOk result
-            (λ issued. (last_record J.start self.old.changes).version ≤ issued.version) }
+        ensures above_read { IfOk result
+            (IsAboveRead (last_record J.start self.old.changes).version) }
         ensures extends { IsPrefix self.old.answers self.new.answers }
         ensures refused { IfErr result (λ cause. (cause ≡ ClientError.Chain Exhausted)
             ⊎ (cause ≡ ClientError.Memory)) }
@@ -262,10 +260,8 @@ impl<'a, J: Live> Client<'a, J> {
             → least_above self.old.answers ≤ issued.version) }
         ensures least { IfOk result (λ issued. issued.fresh ≡ true
             → least_above self.new.answers ≡ issued.version + 1) }
-        ensures above_read { IfOk result (λ issued. issued.fresh ≡ true → 0 < issued.ordinal
-            → (last_record J.start self.old.changes).version < issued.version) }
-        ensures at_least_read { IfOk result (λ issued. issued.fresh ≡ true
-            → (last_record J.start self.old.changes).version ≤ issued.version) }
+        ensures above_read { IfOk result (λ issued. issued.fresh ≡ true
+            → IsAboveRead (last_record J.start self.old.changes).version issued) }
         ensures extends { IsPrefix self.old.answers self.new.answers }
         ensures memory { result ≡ Err ClientError.Memory
             → self.new ≡ record self.old { answers = self.new.answers } }

@@ -2,7 +2,7 @@
 
 ghost use Rattle.std.specs.Prelude.{◌≡◌, ◌<◌, ℕ, [], IfOk, None, Some, slice_get, true, vec_len};
 ghost use Rattle.fdb_client.specs.Cluster.{IsClusterConfig};
-ghost use Rattle.fdb_live.specs.Seen.{epoch_from, epoch_of};
+ghost use Rattle.fdb_live.specs.Seen.{epoch_from, origin_of};
 
 use crate::cluster::{Cluster, ClusterConfig};
 use fdb_live::{Epoch, Live, LiveRecord, Master, Opened, Seen};
@@ -76,12 +76,7 @@ impl<'c> OpenedCluster<'c> {
     /// the cluster is then given up.
     pub fn parts<J: Live>(self, alloc: Global) -> Result<ClusterParts<'c, J>, AllocError>
         requires chained { J.chained ≡ true }
-        requires opened { self.founding ≡ record {
-          table = J.table;
-          start = J.start;
-          reporters = J.reporters;
-          epoch = epoch_of J.chained J.epoch_end J.recovery;
-        } }
+        requires opened { self.founding ≡ origin_of J.table J.start J.reporters J.chained J.epoch_end J.recovery }
         ensures config { IfOk result (λ parts. parts.cluster.config ≡ self.entry.config) }
         ensures first { IfOk result
             (λ parts. parts.first ≡ record { reporter = None; changes = []; answers = [] }) }

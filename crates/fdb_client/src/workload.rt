@@ -7,7 +7,7 @@ ghost use Rattle.fdb_client.specs.Merging.{chain_in};
 ghost use Rattle.fdb_client.specs.Settling.{AreNew};
 ghost use Rattle.fdb_history.specs.Chain.{IsChain};
 ghost use Rattle.fdb_history.specs.Laws.{HaveMinimaWithin};
-ghost use Rattle.fdb_live.specs.Seen.{epoch_of};
+ghost use Rattle.fdb_live.specs.Seen.{origin_of};
 ghost use Rattle.fdb_live.specs.declared.opened.TheConstants.{MAX_REPORTERS};
 
 use crate::client::Client;
@@ -120,12 +120,7 @@ fn run_named<J: Live + Send + Sync, R: Threads + Wait + Sync, W: Workload<R> + D
     workload: W,
 ) -> Result<WorkloadOutcome<W::Output>, WorkloadError>
     requires chained { J.chained ≡ true }
-    requires opened { opened.founding ≡ record {
-      table = J.table;
-      start = J.start;
-      reporters = J.reporters;
-      epoch = epoch_of J.chained J.epoch_end J.recovery;
-    } }
+    requires opened { opened.founding ≡ origin_of J.table J.start J.reporters J.chained J.epoch_end J.recovery }
     ensures gives { IfOk result (λ ran. W.gives workload ran.output) }
     ensures epoch_end { IfOk result (λ ran. ran.run.epoch_end ≡ opened.entry.config.epoch_end) }
     ensures start { IfOk result (λ ran. ran.run.start ≡ opened.entry.founding.start) }

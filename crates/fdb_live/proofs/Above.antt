@@ -13,10 +13,10 @@ use Rattle.fdb_history.specs.Register.{after_report, raises}
 use Rattle.fdb_history.specs.declared.chain.Issued.{Issued}
 use Rattle.fdb_history.specs.declared.register.Record.{Record}
 use Rattle.fdb_chain.specs.declared.error.ChainError.{ChainError}
-use Rattle.fdb_live.specs.Holding.{AreDrawn, IsDrawn, above_last, least_above, versions}
+use Rattle.fdb_live.specs.Holding.{AreDrawn, IsAboveRead, above_last, least_above, versions}
 use Rattle.fdb_live.specs.Seen.{Sight, last_record}
 use Rattle.fdb_live.specs.declared.change.Change.{Change}
-use Rattle.fdb_live.proofs.Drawn.{all_begins, chain_begins}
+use Rattle.fdb_live.proofs.Drawn.{IsDrawn, all_begins, chain_begins}
 use Rattle.fdb_live.proofs.Prefixes.{prefix_length}
 
 abbrev pub Rise : List Issued → Type 0
@@ -65,7 +65,7 @@ module _ (law : Law) (epoch_end recovery : ℕ) (old new : Sight) (chain : IsCha
       let below = All-head (λ (earlier : Issued). earlier.version < n) x xs all in
       omega arith
 
-  pub above_read : (start : Record) (result : Result Issued ChainError) → start.version ≤ recovery → IfOk result (λ issued. issued.fresh ≡ true → IsDrawn epoch_end recovery issued old new)
+  above_read : (start : Record) (result : Result Issued ChainError) → start.version ≤ recovery → IfOk result (λ issued. issued.fresh ≡ true → IsDrawn epoch_end recovery issued old new)
       → IfOk result (λ issued. issued.fresh ≡ true → 0 < issued.ordinal → (last_record start old.changes).version < issued.version)
   above_read start (Ok issued) begun drawn = λ fresh later. (
       let d = drawn fresh in
@@ -82,7 +82,7 @@ module _ (law : Law) (epoch_end recovery : ℕ) (old new : Sight) (chain : IsCha
   none_read (c ∷ changes) all = (let has = All-head (λ (change : Change). Contains [] change.rec.version) c changes all in let no = has.1 in absurd (omega arith))
 
   -- the first version of all is not below the start record, which is all that anybody has read by then
-  pub at_least_read : (start : Record) (result : Result Issued ChainError) → start.version ≤ recovery → IfOk result (λ issued. issued.fresh ≡ true → IsDrawn epoch_end recovery issued old new)
+  at_least_read : (start : Record) (result : Result Issued ChainError) → start.version ≤ recovery → IfOk result (λ issued. issued.fresh ≡ true → IsDrawn epoch_end recovery issued old new)
       → IfOk result (λ issued. issued.fresh ≡ true → (last_record start old.changes).version ≤ issued.version)
   at_least_read start (Ok issued) begun drawn = λ fresh. go fresh (drawn fresh).before refl
     where
@@ -100,6 +100,11 @@ module _ (law : Law) (epoch_end recovery : ℕ) (old new : Sight) (chain : IsCha
           let up = above_read start (Ok issued) begun drawn fresh (omega arith) in
           omega arith
   at_least_read start (Err cause) begun drawn = tt
+
+  pub is_above_read : (start : Record) (result : Result Issued ChainError) → start.version ≤ recovery → IfOk result (λ issued. issued.fresh ≡ true → IsDrawn epoch_end recovery issued old new)
+      → IfOk result (λ issued. issued.fresh ≡ true → IsAboveRead (last_record start old.changes).version issued)
+  is_above_read start (Ok issued) begun drawn = λ fresh. record { at_least = at_least_read start (Ok issued) begun drawn fresh; above = above_read start (Ok issued) begun drawn fresh }
+  is_above_read start (Err cause) begun drawn = tt
 
 -- of a list with an element
 least_is : (xs : List Issued) (d : Issued) → 0 < length xs → least_above xs ≡ (get_or xs (length xs - 1) d).version + 1

@@ -1,6 +1,6 @@
 -- What follows for the holder of a token that was asked with.
-use Rattle.std.proofs.Common.{◌≡◌, ◌≢◌, ℕ, zero, suc, ◌+◌, ◌<◌, Bool, true, false, List, [], ◌∷◌, ◌++◌, slice_get, take, cond, inl, inr, ◌⊎◌, Option, None, Some, Result, Ok, Err, refl, sym, ap, ◌∙◌, subst, arith, append_assoc}
-use Rattle.std.specs.Prelude.{Contains, IfErr, IfOk, OnErr, nat_lt, nat_le, not}
+use Rattle.std.proofs.Common.{◌≡◌, ◌≢◌, ℕ, zero, suc, ◌+◌, ◌<◌, Bool, true, false, List, [], ◌∷◌, ◌++◌, slice_get, take, cond, inl, inr, Option, None, Some, Result, Ok, Err, refl, sym, ap, ◌∙◌, subst, arith, append_assoc}
+use Rattle.std.specs.Prelude.{Contains, IfOk, OnErr, nat_lt, nat_le, not}
 use Rattle.std.proofs.lemmas.Bool.{cond-false}
 use Rattle.std.proofs.lemmas.Bool.Decides.{nat_tests}
 use Rattle.std.proofs.lemmas.List.{append-nil}
@@ -17,9 +17,9 @@ use Rattle.fdb_history.specs.declared.register.TheConstants.{MAX_VERSION}
 use Rattle.fdb_chain.specs.declared.error.ChainError.{ChainError}
 use Rattle.fdb_chain.specs.declared.error.ChainError.TheVariants as chain_error
 use Rattle.fdb_chain.specs.ChainCore.{IsAnswer, IsFor}
-use Rattle.fdb_live.specs.Holding.{IsAsked, IsDrawn, answers_among, answers_to, own_answers, versions}
+use Rattle.fdb_live.specs.Holding.{IsAsked, IsFreshUnlessOut, answers_among, answers_to, own_answers, versions}
 use Rattle.fdb_live.specs.Seen.{Sight}
-use Rattle.fdb_live.proofs.Drawn.{answers_to-push_own}
+use Rattle.fdb_live.proofs.Drawn.{IsDrawn, answers_to-push_own}
 use Rattle.fdb_live.proofs.Prefixes.{prefix_trans}
 
 -- the last answer of a chain is the next one after those before it
@@ -122,16 +122,6 @@ module _ (chain : Chain) (ask : Ask) (known : ask.proxy < chain.proxies) where
       go true e = refl
       go false e = absurd (grind (arith, nat_tests))
 
-  not_unknown : (a b c : Bool) (o : Option Issued) (n : ℕ) (x : Issued) → cond a (Err (Early n)) (cond b (kept_answer o) (cond c (Ok x) (Err Exhausted))) ≡ Err UnknownProxy → ⊥
-  not_unknown true b c o n x e = cc e
-  not_unknown false true c None n x e = cc e
-  not_unknown false true c (Some found) n x e = cc e
-  not_unknown false false true o n x e = cc e
-  not_unknown false false false o n x e = cc e
-
-  pub never_unknown : answer_to chain ask ≡ Err UnknownProxy → ⊥
-  never_unknown e = not_unknown (nat_lt (latest ask.proxy chain.answers + 1) ask.num) (nat_le ask.num (latest ask.proxy chain.answers)) (nat_le (next_answer chain ask).version MAX_VERSION) (kept ask.proxy ask.num chain.answers) (latest ask.proxy chain.answers + 1) (next_answer chain ask) (sym whole ∙ e)
-
   is_kept : (a b c : Bool) (o : Option Issued) (n : ℕ) (x issued : Issued) → x.fresh ≡ true → issued.fresh ≡ false → cond a (Err (Early n)) (cond b (kept_answer o) (cond c (Ok x) (Err Exhausted))) ≡ Ok issued → (found : Issued) × (o ≡ Some found) × (issued ≡ record found { fresh = false })
   is_kept true b c o n x issued new old e = absurd (cc e)
   is_kept false true c None n x issued new old e = absurd (cc e)
@@ -149,23 +139,19 @@ by_next : {A : Type 0} (n num : ℕ) (ahead again next : A) → num ≡ n + 1 �
 by_next n num ahead again next e =
     cond-false (nat_lt (n + 1) num) ahead (cond (nat_le num n) again next) (grind (arith, nat_tests)) ∙ cond-false (nat_le num n) again next (grind (arith, nat_tests))
 
-is_next : (fits : Bool) (next : Issued) (result : Result Issued ChainError) → next.fresh ≡ true → IsAnswer (cond fits (Ok next) (Err Exhausted)) result → IfOk result (λ issued. issued.fresh ≡ true)
+is_next : (fits : Bool) (next : Issued) (result : Result Issued ChainError) → next.fresh ≡ true → IsAnswer (cond fits (Ok next) (Err Exhausted)) result → IsFreshUnlessOut result
 is_next true next (Ok issued) fresh is = cc (is, fresh)
 is_next false next (Ok issued) fresh is = absurd (cc is)
-is_next fits next (Err cause) fresh is = tt
-
-not_next : (fits : Bool) (next : Issued) (result : Result Issued ChainError) → IsAnswer (cond fits (Ok next) (Err Exhausted)) result → IfErr result (λ cause. (cause ≡ chain_error.Exhausted) ⊎ (cause ≡ chain_error.Memory))
-not_next fits next (Ok issued) is = tt
-not_next fits next (Err chain_error.Exhausted) is = inl refl
-not_next fits next (Err chain_error.Memory) is = inr refl
-not_next fits next (Err chain_error.BadEpoch) is = absurd is
-not_next fits next (Err chain_error.NoProxy) is = absurd is
-not_next true next (Err chain_error.UnknownProxy) is = absurd (cc is)
-not_next false next (Err chain_error.UnknownProxy) is = absurd (cc is)
-not_next true next (Err chain_error.Forgotten) is = absurd (cc is)
-not_next false next (Err chain_error.Forgotten) is = absurd (cc is)
-not_next true next (Err (chain_error.Early expected)) is = absurd (cc is)
-not_next false next (Err (chain_error.Early expected)) is = absurd (cc is)
+is_next fits next (Err chain_error.Exhausted) fresh is = inl refl
+is_next fits next (Err chain_error.Memory) fresh is = inr refl
+is_next fits next (Err chain_error.BadEpoch) fresh is = absurd is
+is_next fits next (Err chain_error.NoProxy) fresh is = absurd is
+is_next true next (Err chain_error.UnknownProxy) fresh is = absurd (cc is)
+is_next false next (Err chain_error.UnknownProxy) fresh is = absurd (cc is)
+is_next true next (Err chain_error.Forgotten) fresh is = absurd (cc is)
+is_next false next (Err chain_error.Forgotten) fresh is = absurd (cc is)
+is_next true next (Err (chain_error.Early expected)) fresh is = absurd (cc is)
+is_next false next (Err (chain_error.Early expected)) fresh is = absurd (cc is)
 
 module _ (latest_own : LatestOwn) (begun : Chain) (ask : Ask) (old new : Sight) (member : ask.proxy < begun.proxies) where
   fresh_next : (result : Result Issued ChainError) → (a : IsAsked begun ask old result new) → ask.num ≡ latest ask.proxy old.answers + 1 → IsAnswer (fresh_answer (record begun { answers = a.before }) ask) result
@@ -174,13 +160,9 @@ module _ (latest_own : LatestOwn) (begun : Chain) (ask : Ask) (old new : Sight) 
       let is = whole (record begun { answers = a.before }) ask member ∙ by_next (latest ask.proxy a.before) ask.num _ _ _ (next ∙ ap (λ n. n + 1) (sym same)) in
       subst (λ answer. IsAnswer answer result) is a.answer
 
-  pub next_fresh : (result : Result Issued ChainError) → IsAsked begun ask old result new → ask.num ≡ latest ask.proxy old.answers + 1 → IfOk result (λ issued. issued.fresh ≡ true)
+  pub next_fresh : (result : Result Issued ChainError) → IsAsked begun ask old result new → ask.num ≡ latest ask.proxy old.answers + 1 → IsFreshUnlessOut result
   next_fresh result a next =
       is_next (nat_le (next_answer (record begun { answers = a.before }) ask).version MAX_VERSION) (next_answer (record begun { answers = a.before }) ask) result refl (fresh_next result a next)
-
-  pub next_refused : (result : Result Issued ChainError) → IsAsked begun ask old result new → ask.num ≡ latest ask.proxy old.answers + 1 → IfErr result (λ cause. (cause ≡ chain_error.Exhausted) ⊎ (cause ≡ chain_error.Memory))
-  next_refused result a next =
-      not_next (nat_le (next_answer (record begun { answers = a.before }) ask).version MAX_VERSION) (next_answer (record begun { answers = a.before }) ask) result (fresh_next result a next)
 
 -- the kept answer of a chain stands at its ordinal, and each of its answers is the next one
 abbrev pub KeptStands : Type 0
@@ -220,8 +202,3 @@ version_at (y ∷ ys) (suc place) x e = Contains-append_right (y.version ∷ [])
 pub has_any : (result : Result Issued ChainError) (answers : List Issued) → IfOk result (λ issued. slice_get answers issued.ordinal ≡ Some (record issued { fresh = true })) → IfOk result (λ issued. Contains (versions answers) issued.version)
 has_any (Ok issued) answers at = version_at answers issued.ordinal (record issued { fresh = true }) at
 has_any (Err cause) answers at = tt
-
-module _ (begun : Chain) (ask : Ask) (old new : Sight) (member : ask.proxy < begun.proxies) where
-  -- there is such a commit proxy
-  pub known : (result : Result Issued ChainError) → IsAsked begun ask old result new → result ≡ Err chain_error.UnknownProxy → ⊥
-  known result a is = never_unknown (record begun { answers = a.before }) ask member (subst (λ (r : Result Issued ChainError). IsAnswer (answer_to (record begun { answers = a.before }) ask) r) is a.answer)

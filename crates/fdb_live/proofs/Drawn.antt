@@ -5,9 +5,10 @@ use Rattle.std.proofs.lemmas.Bool.Decides.{nat_tests}
 use Rattle.std.proofs.lemmas.List.{append-nil, map-append, nil_from_length, get_or_append_left}
 use Rattle.std.proofs.lemmas.List.Elements.{All-push, All-weaker, Contains-append_left, filter-append}
 use mathlib.Core.List.{IsPrefix}
-use Rattle.fdb_history.specs.Chain.{GoesOn, IsChain}
+use Rattle.fdb_history.specs.Chain.{GoesOn, IsChain, IsNext}
 use Rattle.fdb_history.specs.declared.chain.Issued.{Issued}
-use Rattle.fdb_live.specs.Holding.{AreDrawn, answers_to, versions}
+use Rattle.fdb_live.specs.Holding.{AreDrawn, answers_to, own_answers, versions}
+use Rattle.fdb_live.specs.Seen.{Sight}
 use Rattle.fdb_live.specs.declared.change.Change.{Change}
 
 pub versions-append : (xs ys : List Issued) → versions (xs ++ ys) ≡ versions xs ++ versions ys
@@ -69,3 +70,14 @@ goes_on_begins before_epoch recovery before (x ∷ xs) ys g = (g.0, goes_on_begi
 
 pub chain_begins : (before_epoch recovery : ℕ) (xs ys : List Issued) → IsPrefix xs ys → IsChain before_epoch recovery ys → IsChain before_epoch recovery xs
 chain_begins before_epoch recovery xs ys p chain = goes_on_begins before_epoch recovery [] xs p.0 (subst (IsChain before_epoch recovery) (sym p.1) chain)
+
+-- A fresh answer is the next one after all that had been answered by then, which is all that its
+-- asker had seen and maybe more. It is the last that the asker has now seen, and the one that became
+-- its own. The versions that it had read were all drawn before.
+pub record IsDrawn (epoch_end recovery : ℕ) (issued : Issued) (old new : Sight) : Type 0 where
+  pub before : List Issued
+  pub seen : IsPrefix old.answers before
+  pub next : IsNext epoch_end recovery before issued
+  pub last : new.answers ≡ before ++ issued ∷ []
+  pub own : own_answers new ≡ own_answers old ++ issued ∷ []
+  pub read : AreDrawn before old.changes

@@ -1,9 +1,10 @@
 -- What a token proves that its holder has seen of the chain.
-use Rattle.std.specs.Prelude.{◌≡◌, ◌<◌, ℕ, ◌+◌, ◌==◌, true, List, [], ◌∷◌, ◌++◌, All, Contains, Option, None, Some, Result, IfOk, OnErr, filter, map, slice_get}
+use Rattle.std.specs.Prelude.{◌≡◌, ◌<◌, ◌≤◌, ℕ, ◌+◌, ◌==◌, true, List, [], All, Contains, Option, None, Some, Result, Ok, Err, ◌⊎◌, IfOk, OnErr, filter, map, slice_get}
 use mathlib.Core.List.{IsPrefix}
 use Rattle.fdb_chain.specs.ChainCore.{IsAnswer}
 use Rattle.fdb_chain.specs.declared.error.ChainError.{ChainError}
-use Rattle.fdb_history.specs.Chain.{IsChain, IsNext, last_answer}
+use Rattle.fdb_chain.specs.declared.error.ChainError.TheVariants.{Exhausted, Memory}
+use Rattle.fdb_history.specs.Chain.{IsChain, last_answer}
 use Rattle.fdb_history.specs.Issuing.{Chain, answer_to, with_answer}
 use Rattle.fdb_history.specs.declared.chain.Ask.{Ask}
 use Rattle.fdb_history.specs.declared.chain.Issued.{Issued}
@@ -55,16 +56,16 @@ pub record IsAsked
   pub err : OnErr result (new.answers ≡ before)
   pub read : IfOk result (λ issued. issued.fresh ≡ true → AreDrawn before old.changes)
 
--- A fresh answer is the next one after all that had been answered by then, which is all that its
--- asker had seen and maybe more. It is the last that the asker has now seen, and the one that became
--- its own. The versions that it had read were all drawn before.
-pub record IsDrawn (epoch_end recovery : ℕ) (issued : Issued) (old new : Sight) : Type 0 where
-  pub before : List Issued
-  pub seen : IsPrefix old.answers before
-  pub next : IsNext epoch_end recovery before issued
-  pub last : new.answers ≡ before ++ issued ∷ []
-  pub own : own_answers new ≡ own_answers old ++ issued ∷ []
-  pub read : AreDrawn before old.changes
+-- A fresh answer is of no lower version than its asker had read; of a higher one, unless it is the
+-- first answer of all.
+pub record IsAboveRead (read : ℕ) (issued : Issued) : Type 0 where
+  pub at_least : read ≤ issued.version
+  pub above : 0 < issued.ordinal → read < issued.version
+
+-- A request drew a version, or was refused since the versions are used up, or since memory is.
+abbrev pub IsFreshUnlessOut : Result Issued ChainError → Type 0
+IsFreshUnlessOut (Ok issued) = issued.fresh ≡ true
+IsFreshUnlessOut (Err cause) = (cause ≡ Exhausted) ⊎ (cause ≡ Memory)
 
 -- The chain of a service with these answers.
 abbrev pub chain_of : ℕ → ℕ → ℕ → List Issued → Chain

@@ -9,6 +9,8 @@ use Rattle.fdb_history.specs.declared.register.TheConstants.{MAX_VERSION}
 use Rattle.fdb_history.specs.Register.{after_report, raises, changes}
 use Rattle.fdb_live.specs.declared.change.Change.{Change}
 use Rattle.fdb_live.specs.declared.epoch.Epoch.{Epoch}
+use Rattle.fdb_live.specs.declared.error.LiveError.{LiveError}
+use Rattle.fdb_live.specs.declared.error.LiveError.TheVariants.{TooLarge, MinAbove, Memory}
 
 -- What its holder has seen: the reports that changed the record, and the answers by which versions
 -- were drawn, each from the first on and in order. The token of a reporter has its number. There are
@@ -29,6 +31,12 @@ last_record start (r ∷ rs) = last_record (after_report start r.rec) rs
 pub record IsRecord (rec : Record) : Type 0 where
   pub in_range : rec.version ≤ MAX_VERSION
   pub within : rec.min_known ≤ rec.version
+
+-- Why a record is none that a live record takes.
+abbrev pub IsRefusedFor : Record → LiveError → Type 0
+IsRefusedFor rec TooLarge = MAX_VERSION < rec.version
+IsRefusedFor rec MinAbove = (rec.version ≤ MAX_VERSION) × (rec.version < rec.min_known)
+IsRefusedFor rec Memory = ⊥
 
 -- Each of these did change the record that it found.
 abbrev pub all_change : Record → List Change → Bool
@@ -130,3 +138,8 @@ pub record Origin : Type 0 where
   pub start : Record
   pub reporters : ℕ
   pub epoch : Option Epoch
+
+-- What a service was opened with that has these numbers, with an epoch if it has a chain.
+abbrev pub origin_of : TableId → Record → ℕ → Bool → ℕ → ℕ → Origin
+origin_of table start reporters chained before recovery =
+    record { table = table; start = start; reporters = reporters; epoch = epoch_of chained before recovery }

@@ -7,8 +7,8 @@ ghost use mathlib.Core.List.{IsPrefix};
 ghost use Rattle.fdb_history.specs.Chain.{IsChain};
 ghost use Rattle.fdb_history.specs.declared.chain.Issued.{Issued};
 ghost use Rattle.fdb_live.specs.Holding.{AreDrawn, least_above, own_answers, versions};
-ghost use Rattle.fdb_live.specs.Seen.{IsBounded, IsLog, IsNotBehind, IsNotChangedBy, IsChangedBy};
-ghost use Rattle.fdb_live.specs.Seen.{last_record, longer, own_positions};
+ghost use Rattle.fdb_live.specs.Seen.{IsBounded, IsChangedBy, IsLog, IsNotBehind, IsNotChangedBy};
+ghost use Rattle.fdb_live.specs.Seen.{IsRecord, IsRefusedFor, last_record, longer, own_positions};
 
 use crate::ack::Ack;
 use crate::error::LiveError;
@@ -99,10 +99,8 @@ impl<J: Live> LiveRecord<J> {
     ) -> Result<Ack, LiveError>
         requires numbered { IsSome seen.old.reporter }
         requires drawn { J.chained ≡ true → Contains (versions seen.old.answers) rec.version }
-        ensures too_large { (result ≡ Err LiveError.TooLarge) ↔ (MAX_VERSION < rec.version) }
-        ensures min_above { (result ≡ Err LiveError.MinAbove)
-            ↔ ((rec.version ≤ MAX_VERSION) × (rec.version < rec.min_known)) }
-        ensures no_memory { result ≢ Err LiveError.Memory }
+        ensures taken { OnOk result (IsRecord rec) }
+        ensures refused { IfErr result (IsRefusedFor rec) }
         ensures in_range { J.chained ≡ true → rec.version ≤ MAX_VERSION }
         ensures err { OnErr result (seen.new ≡ seen.old) }
         ensures reporter { seen.new.reporter ≡ seen.old.reporter }
@@ -114,7 +112,6 @@ impl<J: Live> LiveRecord<J> {
         ensures covers { OnOk result (IsNotBehind rec (last_record J.start seen.new.changes)) }
         ensures bounded { OnOk result
             (IsBounded (length seen.new.changes) (last_record J.start seen.new.changes)) }
-        ensures log { OnOk result (IsLog J.start J.reporters seen.new.changes) }
         ensures changed { IfOk result (λ ack. ack.changed ≡ true →
             IsChangedBy J.start rec ack.raised seen.old seen.new) }
         ensures not_changed { IfOk result (λ ack. ack.changed ≡ false →
@@ -122,7 +119,6 @@ impl<J: Live> LiveRecord<J> {
         ensures answers { IsPrefix seen.old.answers seen.new.answers }
         ensures own_answers { own_answers seen.new ≡ own_answers seen.old }
         ensures least { least_above seen.old.answers ≤ least_above seen.new.answers }
-        ensures chain { OnOk result (IsChain J.epoch_end J.recovery seen.new.answers) }
     {
         // The check learns here that the versions of a chain rise.
         laws::versions_rise();
@@ -173,7 +169,6 @@ impl<J: Live> LiveRecord<J> {
             (length seen.new.changes)
             (last_record J.start seen.new.changes) }
         ensures own { own_positions seen.new ≡ own_positions seen.old }
-        ensures log { IsLog J.start J.reporters seen.new.changes }
         ensures longer_answers { seen.new.answers ≡ longer seen.old.answers told.answers }
         ensures answers { IsPrefix seen.old.answers seen.new.answers }
         ensures told_answers { IsPrefix told.answers seen.new.answers }

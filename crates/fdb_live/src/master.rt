@@ -1,14 +1,15 @@
 //! The master of a service: its sequencer and its live record, asked with tokens.
 
-ghost use Rattle.std.specs.Prelude.{◌≡◌, ◌≢◌, ◌+◌, ◌<◌, ◌≤◌, ◌⊎◌, ℕ, length};
-ghost use Rattle.std.specs.Prelude.{All, Contains, List, IfErr, IfOk, OnErr, Some, slice_get, true, false};
+ghost use Rattle.std.specs.Prelude.{◌≡◌, ◌≢◌, ◌+◌, ◌<◌, ◌≤◌, ℕ, length};
+ghost use Rattle.std.specs.Prelude.{Contains, List, IfOk, OnErr, Some, slice_get, true, false};
 ghost use mathlib.Core.List.{IsPrefix};
-ghost use Rattle.fdb_chain.specs.ChainCore.{IsAnswer, IsEpoch, IsFor, MayRefuse, new_chain};
-ghost use Rattle.fdb_history.specs.Chain.{IsChain, latest};
+ghost use Rattle.fdb_chain.specs.ChainCore.{IsAnswer, IsEpoch, IsFor, new_chain};
+ghost use Rattle.fdb_history.specs.Chain.{latest};
 ghost use Rattle.fdb_history.specs.Issuing.{answer_to};
 ghost use Rattle.fdb_history.specs.declared.chain.Issued.{Issued};
 ghost use Rattle.fdb_live.specs.Gathering.{AreNumbered};
-ghost use Rattle.fdb_live.specs.Holding.{IsAsked, IsClosedAfter, IsClosedWith, IsDrawn};
+ghost use Rattle.fdb_live.specs.Holding.{IsAboveRead, IsAsked, IsClosedAfter, IsClosedWith};
+ghost use Rattle.fdb_live.specs.Holding.{IsFreshUnlessOut};
 ghost use Rattle.fdb_live.specs.Holding.{chain_of, least_above, own_answers, versions};
 ghost use Rattle.fdb_live.specs.Seen.{Sight, last_record};
 
@@ -18,7 +19,7 @@ use crate::seen::Seen;
 use crate::turn::Turn;
 use crate::view::Cell;
 use fdb_chain::ChainError;
-use fdb_history::{Ask, Gate, Issued, MAX_VERSION, Place, laws};
+use fdb_history::{Ask, Gate, Issued, Place, laws};
 use std::sync::{Mutex, Wait};
 
 /// The commit versions and the live committed version of the service `J`, for threads to ask for
@@ -61,40 +62,28 @@ impl<J: Live> Master<J> {
         ask: Ask,
     ) -> Result<Issued, ChainError>
         requires numbered { token.old.reporter ≡ Some ask.proxy }
-        ensures reporter { token.new.reporter ≡ token.old.reporter }
-        ensures changes { token.new.changes ≡ token.old.changes }
+        ensures token { token.new ≡ record token.old { answers = token.new.answers } }
+        ensures extends { IsPrefix token.old.answers token.new.answers }
         ensures asked { IsAsked (new_chain J.epoch_end J.recovery J.reporters)
             ask token.old result token.new }
+        ensures chain { IsEpoch J.epoch_end J.recovery × (ask.proxy < J.reporters) }
         ensures request { IfOk result (IsFor ask) }
-        ensures in_range { IfOk result (λ issued. issued.version ≤ MAX_VERSION) }
-        ensures cause { IfErr result (MayRefuse ask) }
-        ensures known { result ≢ Err ChainError.UnknownProxy }
-        ensures member { ask.proxy < J.reporters }
-        ensures epoch { IsEpoch J.epoch_end J.recovery }
-        ensures extends { IsPrefix token.old.answers token.new.answers }
-        ensures log { IsChain J.epoch_end J.recovery token.new.answers }
-        ensures drawn { IfOk result (λ issued. issued.fresh ≡ true
-            → IsDrawn J.epoch_end J.recovery issued token.old token.new) }
         ensures above { IfOk result (λ issued. issued.fresh ≡ true → (earlier : Issued)
             → Contains token.old.answers earlier → earlier.version < issued.version) }
         ensures above_old { IfOk result (λ issued. issued.fresh ≡ true
             → least_above token.old.answers ≤ issued.version) }
+        ensures above_read { IfOk result (λ issued. issued.fresh ≡ true
+            → IsAboveRead (last_record J.start token.old.changes).version issued) }
         ensures least { IfOk result (λ issued. issued.fresh ≡ true
             → least_above token.new.answers ≡ issued.version + 1) }
         ensures stands { IfOk result (λ issued. slice_get token.new.answers issued.ordinal
             ≡ Some (record issued { fresh = true })) }
         ensures has { IfOk result (λ issued. Contains (versions token.new.answers) issued.version) }
-        ensures above_read { IfOk result (λ issued. issued.fresh ≡ true → 0 < issued.ordinal
-            → (last_record J.start token.old.changes).version < issued.version) }
-        ensures at_least_read { IfOk result (λ issued. issued.fresh ≡ true
-            → (last_record J.start token.old.changes).version ≤ issued.version) }
         ensures again { IfOk result (λ issued. issued.fresh ≡ false
             → own_answers token.new ≡ own_answers token.old) }
         ensures refused { OnErr result (own_answers token.new ≡ own_answers token.old) }
         ensures next { ask.num ≡ latest ask.proxy token.old.answers + 1
-            → IfOk result (λ issued. issued.fresh ≡ true) }
-        ensures next_refused { ask.num ≡ latest ask.proxy token.old.answers + 1
-            → IfErr result (λ cause. (cause ≡ ChainError.Exhausted) ⊎ (cause ≡ ChainError.Memory)) }
+            → IsFreshUnlessOut result }
         ensures decided { ask.num ≢ latest ask.proxy token.old.answers + 1
             → IsAnswer (answer_to (chain_of J.epoch_end J.recovery J.reporters token.old.answers)
             ask) result }

@@ -1,7 +1,7 @@
 //! A name for a service that was opened.
 
 ghost use Rattle.std.specs.Prelude.{◌≡◌, ⊤, false, is_some};
-ghost use Rattle.fdb_live.specs.Seen.{Origin, epoch_of};
+ghost use Rattle.fdb_live.specs.Seen.{Origin, origin_of};
 
 use crate::live::Live;
 use crate::opened::Opened;
@@ -22,12 +22,7 @@ pub trait UnderName<R> {
     fn run<J: Live + Send + Sync>(self, rt: &R, opened: Opened) -> Self::Output
         requires takes { takes self opened }
         requires chained { J.chained ≡ is_some opened.epoch }
-        requires opened { opened ≡ record {
-          table = J.table;
-          start = J.start;
-          reporters = J.reporters;
-          epoch = epoch_of J.chained J.epoch_end J.recovery;
-        } }
+        requires opened { opened ≡ origin_of J.table J.start J.reporters J.chained J.epoch_end J.recovery }
         ensures gives { gives self opened result };
 }
 
@@ -50,12 +45,7 @@ fn run_under<J: Live + Send + Sync, R, U: UnderName<R>>(
 ) -> U::Output
     requires takes { U.takes uses opened }
     requires chained { J.chained ≡ is_some opened.epoch }
-    requires opened { opened ≡ record {
-      table = J.table;
-      start = J.start;
-      reporters = J.reporters;
-      epoch = epoch_of J.chained J.epoch_end J.recovery;
-    } }
+    requires opened { opened ≡ origin_of J.table J.start J.reporters J.chained J.epoch_end J.recovery }
     ensures gives { U.gives uses opened result }
 {
     uses.run::<J>(rt, opened)

@@ -6,7 +6,7 @@ ghost use Rattle.std.specs.Option.{ForSome};
 ghost use Rattle.crossbeam_utils.specs.Seq.{cell_view};
 ghost use Rattle.fdb_chain.specs.ChainCore.{IsEpoch, IsProxyCount, new_chain};
 ghost use Rattle.fdb_chain.specs.Recent.{IsStateOf};
-ghost use Rattle.fdb_live.specs.Seen.{IsRecord, MayBegin, epoch_of};
+ghost use Rattle.fdb_live.specs.Seen.{IsRecord, MayBegin, epoch_of, origin_of};
 ghost use Rattle.fdb_live.specs.private.Rule.{left_from, opened};
 ghost use Rattle.fdb_live.specs.private.Token.{IsMadeFor, IsRight};
 
@@ -138,12 +138,7 @@ impl Opened {
     ///
     /// It is refused where memory runs out, and for nothing else; the service is then given up.
     pub fn parts<J: Live>(self) -> Result<(LiveRecord<J>, Seen<J>, Vec<Seen<J>>), LiveError>
-        requires { self ≡ record {
-          table = J.table;
-          start = J.start;
-          reporters = J.reporters;
-          epoch = epoch_of J.chained J.epoch_end J.recovery;
-        } }
+        requires { self ≡ origin_of J.table J.start J.reporters J.chained J.epoch_end J.recovery }
         ensures memory { IfErr result (λ cause. cause ≡ LiveError.Memory) }
         ensures first { IfOk result (λ parts.
             parts.1 ≡ record { reporter = None; changes = []; answers = [] }) }
@@ -160,12 +155,7 @@ impl Opened {
     /// live record.
     pub fn master<J: Live>(self) -> Result<(Master<J>, Seen<J>, Vec<Seen<J>>), LiveError>
         requires chained { J.chained ≡ true }
-        requires opened { self ≡ record {
-          table = J.table;
-          start = J.start;
-          reporters = J.reporters;
-          epoch = epoch_of J.chained J.epoch_end J.recovery;
-        } }
+        requires opened { self ≡ origin_of J.table J.start J.reporters J.chained J.epoch_end J.recovery }
         ensures memory { IfErr result (λ cause. cause ≡ LiveError.Memory) }
         ensures first { IfOk result (λ parts.
             parts.1 ≡ record { reporter = None; changes = []; answers = [] }) }
@@ -185,12 +175,7 @@ impl Opened {
 
     /// The live record, the right to draw if there is a chain, and the tokens.
     fn share<J: Live>(self) -> Result<Shared<J>, AllocError>
-        requires { self ≡ record {
-          table = J.table;
-          start = J.start;
-          reporters = J.reporters;
-          epoch = epoch_of J.chained J.epoch_end J.recovery;
-        } }
+        requires { self ≡ origin_of J.table J.start J.reporters J.chained J.epoch_end J.recovery }
         ensures turn { IfOk result (λ parts. J.chained ≡ true → IsSome parts.1) }
         ensures first { IfOk result (λ parts.
             parts.2 ≡ record { reporter = None; changes = []; answers = [] }) }

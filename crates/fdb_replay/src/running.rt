@@ -3,7 +3,7 @@
 ghost use Rattle.std.specs.Prelude.{◌≡◌, ◌<◌, ◌≤◌, ℕ, [], IfOk, Some, slice_get, true, vec_len};
 ghost use Rattle.fdb_client.specs.Cluster.{IsClusterConfig};
 ghost use Rattle.fdb_client.specs.declared.cluster.TheConstants.{MAX_GRV_PROXIES};
-ghost use Rattle.fdb_live.specs.Seen.{epoch_of};
+ghost use Rattle.fdb_live.specs.Seen.{origin_of};
 ghost use Rattle.fdb_replay.specs.Outcome.{IsRunOf, opening};
 ghost use Rattle.fdb_replay.specs.private.Configured.{IsConfigFor};
 ghost use Rattle.fdb_script.specs.Answering.{Answers};
@@ -80,12 +80,7 @@ fn run_named<J: Live + Send + Sync, R: Threads + Wait + Sync, G: Gate>(
     requires chained { J.chained ≡ true }
     requires plan { IsPlan script.now }
     requires config { IsConfigFor script.now opened.config }
-    requires founding { opened.founding ≡ record {
-      table = J.table;
-      start = J.start;
-      reporters = J.reporters;
-      epoch = epoch_of J.chained J.epoch_end J.recovery;
-    } }
+    requires founding { opened.founding ≡ origin_of J.table J.start J.reporters J.chained J.epoch_end J.recovery }
     ensures { IfOk result (IsRunOf script.now) }
 {
     let ClusterParts {

@@ -2,7 +2,7 @@
 //! behind `=>`, if it does, is what comes of the call.
 
 ghost use Rattle.std.specs.Prelude.{◌≡◌, true};
-ghost use Rattle.fdb_live.specs.Seen.{epoch_of};
+ghost use Rattle.fdb_live.specs.Seen.{origin_of};
 
 pub mod lines;
 
@@ -116,12 +116,7 @@ fn play_named<J: Live + Send + Sync, R: Threads + Wait + Sync>(
     case: Case<'_>,
     once: bool,
 ) -> Result<(), CaseError>
-    requires { opened ≡ record {
-      table = J.table;
-      start = J.start;
-      reporters = J.reporters;
-      epoch = epoch_of J.chained J.epoch_end J.recovery;
-    } }
+    requires { opened ≡ origin_of J.table J.start J.reporters J.chained J.epoch_end J.recovery }
     requires { J.chained ≡ true }
 {
     let (master, _, tokens) = opened.master::<J>()?;

@@ -7,7 +7,7 @@
 //! whether all answers are fresh.
 
 ghost use Rattle.std.specs.Prelude.{◌≡◌, false};
-ghost use Rattle.fdb_live.specs.Seen.{epoch_of};
+ghost use Rattle.fdb_live.specs.Seen.{origin_of};
 
 pub mod gathered;
 mod held;
@@ -81,12 +81,7 @@ fn opened<R: Wait>(
 
 /// How many reporters have tokens under the name of the service.
 fn parted<J: Live>(opened: Opened) -> Result<usize, LiveError>
-    requires { opened ≡ record {
-      table = J.table;
-      start = J.start;
-      reporters = J.reporters;
-      epoch = epoch_of J.chained J.epoch_end J.recovery;
-    } }
+    requires { opened ≡ origin_of J.table J.start J.reporters J.chained J.epoch_end J.recovery }
 {
     let (_, _, tokens) = opened.parts::<J>()?;
     Ok(tokens.len())
@@ -130,12 +125,7 @@ fn played_named<J: Live + Send + Sync, R: Threads + Wait + Sync>(
     played: Text<'_>,
 ) -> Result<(), CaseError>
     requires bare { J.chained ≡ false }
-    requires opened { opened ≡ record {
-      table = J.table;
-      start = J.start;
-      reporters = J.reporters;
-      epoch = epoch_of J.chained J.epoch_end J.recovery;
-    } }
+    requires opened { opened ≡ origin_of J.table J.start J.reporters J.chained J.epoch_end J.recovery }
 {
     let (live, first, tokens) = match opened.parts::<J>() {
         Ok(parts) => parts,

@@ -2,7 +2,7 @@
 
 ghost use Rattle.std.specs.Prelude.{◌<◌, ◌≤◌, ◌≡◌, IfOk, None, true};
 ghost use Rattle.fdb_live.specs.Holding.{least_above};
-ghost use Rattle.fdb_live.specs.Seen.{epoch_of};
+ghost use Rattle.fdb_live.specs.Seen.{origin_of};
 
 use crate::START;
 use anyhow::{Result, anyhow};
@@ -30,12 +30,7 @@ fn draw_named<J: Live + Send + Sync, R: Print + Threads + Wait + Sync>(
     opened: Opened,
 ) -> Result<()>
     requires chained { J.chained ≡ true }
-    requires opened { opened ≡ record {
-      table = J.table;
-      start = J.start;
-      reporters = J.reporters;
-      epoch = epoch_of J.chained J.epoch_end J.recovery;
-    } }
+    requires opened { opened ≡ origin_of J.table J.start J.reporters J.chained J.epoch_end J.recovery }
 {
     let (master, _, mut tokens) = opened.master::<J>()?;
     draw_both(rt, &master, tokens.as_mut_slice())

@@ -2,7 +2,7 @@
 
 ghost use Rattle.std.specs.Prelude.{◌≡◌, IfOk, true};
 ghost use Rattle.fdb_history.specs.Linear.{IsLinear};
-ghost use Rattle.fdb_live.specs.Seen.{epoch_of};
+ghost use Rattle.fdb_live.specs.Seen.{origin_of};
 
 use crate::proxies::{config, opts};
 use anyhow::{Result, anyhow};
@@ -34,12 +34,7 @@ fn read_side_by_side<J: Live + Send + Sync, R: Print + Threads + Wait + Sync>(
     opened: OpenedCluster<'_>,
 ) -> Result<(SettledRun, History)>
     requires chained { J.chained ≡ true }
-    requires founding { opened.founding ≡ record {
-      table = J.table;
-      start = J.start;
-      reporters = J.reporters;
-      epoch = epoch_of J.chained J.epoch_end J.recovery;
-    } }
+    requires founding { opened.founding ≡ origin_of J.table J.start J.reporters J.chained J.epoch_end J.recovery }
     ensures { IfOk result (λ left. IsLinear J.start left.0.logs.items left.1.events) }
 {
     let ClusterParts {

@@ -1,7 +1,7 @@
 //! What the holders of all reporters' tokens have seen, gathered.
 
 ghost use Rattle.std.specs.Prelude.{◌≡◌, false};
-ghost use Rattle.fdb_live.specs.Seen.{epoch_of};
+ghost use Rattle.fdb_live.specs.Seen.{origin_of};
 
 use crate::audits::words::plain;
 use crate::live::refusal;
@@ -35,12 +35,7 @@ fn gather_named<J: Live, R: Wait>(
     position: u64,
 ) -> Result<(), CaseError>
     requires bare { J.chained ≡ false }
-    requires opened { opened ≡ record {
-      table = J.table;
-      start = J.start;
-      reporters = J.reporters;
-      epoch = epoch_of J.chained J.epoch_end J.recovery;
-    } }
+    requires opened { opened ≡ origin_of J.table J.start J.reporters J.chained J.epoch_end J.recovery }
     requires two { opened.reporters ≡ 2 }
 {
     let (live, mut first, mut tokens) = match opened.parts::<J>() {

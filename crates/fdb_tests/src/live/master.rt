@@ -1,7 +1,7 @@
 //! Masters that are opened, and asked for commit versions with their tokens.
 
 ghost use Rattle.std.specs.Prelude.{◌≡◌, true};
-ghost use Rattle.fdb_live.specs.Seen.{epoch_of};
+ghost use Rattle.fdb_live.specs.Seen.{origin_of};
 
 use fdb_chain::ChainError;
 use fdb_checks::CaseError;
@@ -48,12 +48,7 @@ fn asked_named<J: Live, R: Wait>(
     asks: u64,
 ) -> Result<String, CaseError>
     requires chained { J.chained ≡ true }
-    requires opened { opened ≡ record {
-      table = J.table;
-      start = J.start;
-      reporters = J.reporters;
-      epoch = epoch_of J.chained J.epoch_end J.recovery;
-    } }
+    requires opened { opened ≡ origin_of J.table J.start J.reporters J.chained J.epoch_end J.recovery }
 {
     let (master, _, tokens) = opened.master::<J>()?;
     for mut token in tokens {

@@ -10,7 +10,7 @@ use Rattle.fdb_history.specs.declared.log.Refusal.TheVariants.{MinAbove, NotIssu
 use Rattle.fdb_client.specs.Account.{Account}
 use Rattle.fdb_history.specs.declared.register.Record.{Record}
 use Rattle.fdb_live.specs.Seen.{IsRecord}
-use Rattle.fdb_client.proofs.Reported.{changed_or_not, is_record}
+use Rattle.fdb_client.proofs.Reported.{changed_or_not}
 use Rattle.fdb_client.proofs.Chained.{agreed_reported}
 use Rattle.fdb_client.proofs.client.Client.report.Goals as goal
 
@@ -29,7 +29,7 @@ returns-in-Ok-clause-logged g c _ =
     let after : Account = record { number = c.self.inside.id; begun = c.self.inside.begun; calls = c.add.new.self.calls.items; answers = c.report.new.seen.answers; changes = c.report.new.seen.changes } in
     let rec : Record = record { version = c.in-Some.version; locked = c.args.locked; metadata = c.args.metadata; min_known = c.args.min_known } in
     let is : issued_under before.calls c.args.num ≡ Some c.in-Some.version = search rules in
-    let taken : IsRecord rec = is_record rec c.in-Ok.ack (c.report.ensures.in_range c.record.ensures.chained) c.in-Ok.ensures.min_above in
+    let taken : IsRecord rec = c.in-Ok.ensures.taken in
     let found = changed_or_not g.J.Service.start rec c.in-Ok.ack.raised c.self.inside.id c.self.inside.token c.report.new.seen c.self.invariant.0 c.report.ensures.reporter c.in-Ok.ack.changed c.in-Ok.ensures.changed c.in-Ok.ensures.not_changed in
     let reports : Reports g.J.Service.start c.args.num c.args.locked c.args.metadata c.args.min_known before after (Ok c.in-Ok.ack) = record { answer = Acked rec c.in-Ok.ack.raised c.in-Ok.ack.changed; logged = search rules; answered = (is, refl, refl, refl, taken, found); returned = search rules } in
     subst (λ (account : Account). Reports g.J.Service.start c.args.num c.args.locked c.args.metadata c.args.min_known account after (Ok c.in-Ok.ack)) c.self.view_is reports
@@ -54,7 +54,7 @@ invariant_of-self-in-Ok g c =
     let after : Account = record { number = c.self.inside.id; begun = c.self.inside.begun; calls = c.add.new.self.calls.items; answers = c.report.new.seen.answers; changes = c.report.new.seen.changes } in
     let rec : Record = record { version = c.in-Some.version; locked = c.args.locked; metadata = c.args.metadata; min_known = c.args.min_known } in
     let is : issued_under before.calls c.args.num ≡ Some c.in-Some.version = search rules in
-    let taken : IsRecord rec = is_record rec c.in-Ok.ack (c.report.ensures.in_range c.record.ensures.chained) c.in-Ok.ensures.min_above in
+    let taken : IsRecord rec = c.in-Ok.ensures.taken in
     let found = changed_or_not g.J.Service.start rec c.in-Ok.ack.raised c.self.inside.id c.self.inside.token c.report.new.seen c.self.invariant.0 c.report.ensures.reporter c.in-Ok.ack.changed c.in-Ok.ensures.changed c.in-Ok.ensures.not_changed in
     let reports : Reports g.J.Service.start c.args.num c.args.locked c.args.metadata c.args.min_known before after (Ok c.in-Ok.ack) = record { answer = Acked rec c.in-Ok.ack.raised c.in-Ok.ack.changed; logged = search rules; answered = (is, refl, refl, refl, taken, found); returned = search rules } in
     let agreed = agreed_reported g.J.Service.epoch_end g.J.Service.recovery g.J.Service.start before after (c.self.invariant.1, c.self.invariant.2, c.self.invariant.3) c.args.num c.args.locked c.args.metadata c.args.min_known (Ok c.in-Ok.ack) reports in

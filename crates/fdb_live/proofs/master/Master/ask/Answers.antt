@@ -1,12 +1,9 @@
-use Rattle.fdb_live.proofs.Above.{above_each, above_read, at_least_read, least_after, least_before, stands_drawn}
-use Rattle.fdb_live.proofs.Asked.{again, decided, drawn_if, extends, has_any, known, next_fresh, next_refused, refused, stands_any}
+use Rattle.fdb_live.proofs.Above.{above_each, is_above_read, least_after, least_before, stands_drawn}
+use Rattle.fdb_live.proofs.Asked.{again, decided, drawn_if, extends, has_any, next_fresh, refused, stands_any}
 use Rattle.fdb_live.proofs.master.Master.ask.Goals as goal
 
 pub returns-clause-extends : goal.returns-clause-extends
 returns-clause-extends g c = extends _ _ _ _ _ c.ask.ensures.asked
-
-pub returns-clause-drawn : goal.returns-clause-drawn
-returns-clause-drawn g c = drawn_if _ _ _ _ _ c.ask.ensures.asked c.requires.numbered c.ask.ensures.reporter c.ask.ensures.request c.ask.ensures.log
 
 pub returns-clause-above : goal.returns-clause-above
 returns-clause-above g c =
@@ -30,19 +27,6 @@ returns-clause-stands g c =
     let drawn = drawn_if _ _ _ _ _ c.ask.ensures.asked c.requires.numbered c.ask.ensures.reporter c.ask.ensures.request c.ask.ensures.log in
     stands_any c.kept_is_first.ensures.stands c.each_is_next.ensures _ _ _ _ c.ask.ensures.member c.ask.ensures.log _ c.ask.ensures.asked (stands_drawn _ _ _ _ _ drawn)
 
-pub returns-clause-next : goal.returns-clause-next
-returns-clause-next g c = next_fresh c.own_answers_decide.ensures.latest _ _ _ _ c.ask.ensures.member _ c.ask.ensures.asked
-
-pub returns-clause-next_refused : goal.returns-clause-next_refused
-returns-clause-next_refused g c = next_refused c.own_answers_decide.ensures.latest _ _ _ _ c.ask.ensures.member _ c.ask.ensures.asked
-
-pub returns-clause-known : goal.returns-clause-known
-returns-clause-known g c = known _ _ _ _ c.ask.ensures.member _ c.ask.ensures.asked
-
-pub returns-clause-above_read : goal.returns-clause-above_read
-returns-clause-above_read g c =
-    above_read c.versions_rise.ensures _ _ _ _ c.ask.ensures.log _ _ c.ask.ensures.start (drawn_if _ _ _ _ _ c.ask.ensures.asked c.requires.numbered c.ask.ensures.reporter c.ask.ensures.request c.ask.ensures.log)
-
 pub returns-clause-again : goal.returns-clause-again
 returns-clause-again g c = again _ _ _ _ _ c.ask.ensures.asked c.requires.numbered c.ask.ensures.reporter
 
@@ -52,6 +36,12 @@ returns-clause-refused g c = refused _ _ _ _ _ c.ask.ensures.asked c.requires.nu
 pub returns-clause-decided : goal.returns-clause-decided
 returns-clause-decided g c = decided c.own_answers_decide.ensures.latest c.own_answers_decide.ensures.kept _ _ _ _ _ c.ask.ensures.asked
 
-pub returns-clause-at_least_read : goal.returns-clause-at_least_read
-returns-clause-at_least_read g c =
-    at_least_read c.versions_rise.ensures _ _ _ _ c.ask.ensures.log _ _ c.ask.ensures.start (drawn_if _ _ _ _ _ c.ask.ensures.asked c.requires.numbered c.ask.ensures.reporter c.ask.ensures.request c.ask.ensures.log)
+pub returns-clause-token : goal.returns-clause-token
+returns-clause-token g c = λ i. record { reporter = c.ask.ensures.reporter i; changes = c.ask.ensures.changes i; answers = c.ask.new.token.answers }
+
+pub returns-clause-above_read : goal.returns-clause-above_read
+returns-clause-above_read g c =
+    is_above_read c.versions_rise.ensures _ _ _ _ c.ask.ensures.log _ _ c.ask.ensures.start (drawn_if _ _ _ _ _ c.ask.ensures.asked c.requires.numbered c.ask.ensures.reporter c.ask.ensures.request c.ask.ensures.log)
+
+pub returns-clause-next : goal.returns-clause-next
+returns-clause-next g c = next_fresh c.own_answers_decide.ensures.latest _ _ _ _ c.ask.ensures.member _ c.ask.ensures.asked
