@@ -1,6 +1,6 @@
 -- What follows for the holder of a token that was asked with.
 use Rattle.std.proofs.Common.{◌≡◌, ◌≢◌, ℕ, zero, suc, ◌+◌, ◌<◌, Bool, true, false, List, [], ◌∷◌, ◌++◌, slice_get, take, cond, inl, inr, Option, None, Some, Result, Ok, Err, refl, sym, ap, ◌∙◌, subst, arith, append_assoc}
-use Rattle.std.specs.Prelude.{Contains, IfOk, OnErr, nat_lt, nat_le, not}
+use Rattle.std.specs.Prelude.{Contains, IfOk, nat_lt, nat_le, not}
 use Rattle.std.proofs.lemmas.Bool.{cond-false}
 use Rattle.std.proofs.lemmas.Bool.Decides.{nat_tests}
 use Rattle.std.proofs.lemmas.List.{append-nil}
@@ -17,7 +17,7 @@ use Rattle.fdb_history.specs.declared.register.TheConstants.{MAX_VERSION}
 use Rattle.fdb_chain.specs.declared.error.ChainError.{ChainError}
 use Rattle.fdb_chain.specs.declared.error.ChainError.TheVariants as chain_error
 use Rattle.fdb_chain.specs.ChainCore.{IsAnswer, IsFor}
-use Rattle.fdb_live.specs.Holding.{IsAsked, IsFreshUnlessOut, answers_among, answers_to, own_answers, versions}
+use Rattle.fdb_live.specs.Holding.{DrewNone, IsAsked, IsFreshUnlessOut, answers_among, answers_to, own_answers, versions}
 use Rattle.fdb_live.specs.Seen.{Sight}
 use Rattle.fdb_live.proofs.Drawn.{IsDrawn, answers_to-push_own}
 use Rattle.fdb_live.proofs.Prefixes.{prefix_trans}
@@ -67,15 +67,10 @@ module _ (begun : Chain) (ask : Ask) (old new : Sight) where
   own_stays before whose same own is =
       ap (λ p. answers_among p new.answers) (same ∙ whose) ∙ (ap (answers_to ask.proxy) is ∙ (own ∙ ap (λ p. answers_among p old.answers) (sym whose)))
 
-  pub again : (result : Result Issued ChainError) → IsAsked begun ask old result new → old.reporter ≡ Some ask.proxy → new.reporter ≡ old.reporter
-      → IfOk result (λ issued. issued.fresh ≡ false → own_answers new ≡ own_answers old)
-  again (Ok issued) a whose same = λ e. own_stays a.before whose same a.own (after issued a.before false e a.ok)
-  again (Err cause) a whose same = tt
-
-  pub refused : (result : Result Issued ChainError) → IsAsked begun ask old result new → old.reporter ≡ Some ask.proxy → new.reporter ≡ old.reporter
-      → OnErr result (own_answers new ≡ own_answers old)
-  refused (Ok issued) a whose same = tt
-  refused (Err cause) a whose same = own_stays a.before whose same a.own a.err
+  pub none_drawn : (result : Result Issued ChainError) → IsAsked begun ask old result new → old.reporter ≡ Some ask.proxy → new.reporter ≡ old.reporter
+      → DrewNone result → own_answers new ≡ own_answers old
+  none_drawn (Ok issued) a whose same e = own_stays a.before whose same a.own (after issued a.before false e a.ok)
+  none_drawn (Err cause) a whose same e = own_stays a.before whose same a.own a.err
 
 -- what a proxy's number stands to is decided by its own answers
 abbrev pub LatestOwn : Type 0

@@ -1,5 +1,5 @@
 -- What a token proves that its holder has seen of the chain.
-use Rattle.std.specs.Prelude.{◌≡◌, ◌<◌, ◌≤◌, ℕ, ◌+◌, ◌==◌, true, List, [], All, Contains, Option, None, Some, Result, Ok, Err, ◌⊎◌, IfOk, OnErr, filter, map, slice_get}
+use Rattle.std.specs.Prelude.{◌≡◌, ◌<◌, ◌≤◌, ⊤, ℕ, ◌+◌, ◌==◌, true, false, List, [], All, Contains, Option, None, Some, Result, Ok, Err, ◌⊎◌, IfOk, OnErr, filter, map, slice_get}
 use mathlib.Core.List.{IsPrefix}
 use Rattle.fdb_chain.specs.ChainCore.{IsAnswer}
 use Rattle.fdb_chain.specs.declared.error.ChainError.{ChainError}
@@ -61,6 +61,11 @@ pub record IsAsked
 pub record IsAboveRead (read : ℕ) (issued : Issued) : Type 0 where
   pub at_least : read ≤ issued.version
   pub above : 0 < issued.ordinal → read < issued.version
+
+-- A request drew no version: it was answered again, or refused.
+abbrev pub DrewNone : Result Issued ChainError → Type 0
+DrewNone (Ok issued) = issued.fresh ≡ false
+DrewNone (Err cause) = ⊤
 
 -- A request drew a version, or was refused since the versions are used up, or since memory is.
 abbrev pub IsFreshUnlessOut : Result Issued ChainError → Type 0

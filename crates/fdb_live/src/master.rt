@@ -1,14 +1,14 @@
 //! The master of a service: its sequencer and its live record, asked with tokens.
 
 ghost use Rattle.std.specs.Prelude.{◌≡◌, ◌≢◌, ◌+◌, ◌<◌, ◌≤◌, ℕ, length};
-ghost use Rattle.std.specs.Prelude.{Contains, List, IfOk, OnErr, Some, slice_get, true, false};
+ghost use Rattle.std.specs.Prelude.{Contains, List, IfOk, Some, slice_get, true};
 ghost use mathlib.Core.List.{IsPrefix};
 ghost use Rattle.fdb_chain.specs.ChainCore.{IsAnswer, IsEpoch, IsFor, new_chain};
 ghost use Rattle.fdb_history.specs.Chain.{latest};
 ghost use Rattle.fdb_history.specs.Issuing.{answer_to};
 ghost use Rattle.fdb_history.specs.declared.chain.Issued.{Issued};
 ghost use Rattle.fdb_live.specs.Gathering.{AreNumbered};
-ghost use Rattle.fdb_live.specs.Holding.{IsAboveRead, IsAsked, IsClosedAfter, IsClosedWith};
+ghost use Rattle.fdb_live.specs.Holding.{DrewNone, IsAboveRead, IsAsked, IsClosedAfter, IsClosedWith};
 ghost use Rattle.fdb_live.specs.Holding.{IsFreshUnlessOut};
 ghost use Rattle.fdb_live.specs.Holding.{chain_of, least_above, own_answers, versions};
 ghost use Rattle.fdb_live.specs.Seen.{Sight, last_record};
@@ -19,7 +19,7 @@ use crate::seen::Seen;
 use crate::turn::Turn;
 use crate::view::Cell;
 use fdb_chain::ChainError;
-use fdb_history::{Ask, Gate, Issued, Place, laws};
+use fdb_history::{Ask, Gate, Issued, MAX_VERSION, Place, laws};
 use std::sync::{Mutex, Wait};
 
 /// The commit versions and the live committed version of the service `J`, for threads to ask for
@@ -68,6 +68,7 @@ impl<J: Live> Master<J> {
             ask token.old result token.new }
         ensures chain { IsEpoch J.epoch_end J.recovery × (ask.proxy < J.reporters) }
         ensures request { IfOk result (IsFor ask) }
+        ensures in_range { IfOk result (λ issued. issued.version ≤ MAX_VERSION) }
         ensures above { IfOk result (λ issued. issued.fresh ≡ true → (earlier : Issued)
             → Contains token.old.answers earlier → earlier.version < issued.version) }
         ensures above_old { IfOk result (λ issued. issued.fresh ≡ true
@@ -79,9 +80,7 @@ impl<J: Live> Master<J> {
         ensures stands { IfOk result (λ issued. slice_get token.new.answers issued.ordinal
             ≡ Some (record issued { fresh = true })) }
         ensures has { IfOk result (λ issued. Contains (versions token.new.answers) issued.version) }
-        ensures again { IfOk result (λ issued. issued.fresh ≡ false
-            → own_answers token.new ≡ own_answers token.old) }
-        ensures refused { OnErr result (own_answers token.new ≡ own_answers token.old) }
+        ensures own { DrewNone result → own_answers token.new ≡ own_answers token.old }
         ensures next { ask.num ≡ latest ask.proxy token.old.answers + 1
             → IsFreshUnlessOut result }
         ensures decided { ask.num ≢ latest ask.proxy token.old.answers + 1

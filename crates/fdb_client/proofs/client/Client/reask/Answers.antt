@@ -27,7 +27,7 @@ returns-in-Ok-clause-logged g c _ =
     let begun = new_chain g.J.Service.epoch_end g.J.Service.recovery g.J.Service.reporters in
     let after : Account = record { number = c.self.inside.id; begun = c.self.inside.begun; calls = c.add_answer.new.self.calls.items; answers = c.ask.new.token.answers; changes = c.ask.new.token.changes } in
     let asks = asks_ok begun g.J.Service.start c.self.inside.id c.self.inside.begun c.args.num c.args.processed c.args.at c.self.inside.journal.calls.items c.add_answer.new.self.calls.items c.self.inside.token c.ask.new.token
-    c.self.invariant.0 c.self.invariant.1 (ap (λ (t : Sight). t.reporter) c.in-Ok.ensures.token) (ap (λ (t : Sight). t.changes) c.in-Ok.ensures.token) c.in-Ok.ensures.extends c.in-Ok.issued c.in-Ok.ensures.asked c.in-Ok.ensures.again (λ fresh. (c.in-Ok.ensures.above_read fresh).above) (search rules) in
+    c.self.invariant.0 c.self.invariant.1 (ap (λ (t : Sight). t.reporter) c.in-Ok.ensures.token) (ap (λ (t : Sight). t.changes) c.in-Ok.ensures.token) c.in-Ok.ensures.extends c.in-Ok.issued c.in-Ok.ensures.asked c.in-Ok.ensures.own (λ fresh. (c.in-Ok.ensures.above_read fresh).above) (search rules) in
     subst (λ (account : Account). Asks begun g.J.Service.start c.args.num c.args.processed c.args.at account after (Ok c.in-Ok.issued)) c.self.view_is asks
 
 pub invariant_of-self-in-Ok : goal.invariant_of-self-in-Ok
@@ -36,7 +36,7 @@ invariant_of-self-in-Ok g c =
     let before : Account = record { number = c.self.inside.id; begun = c.self.inside.begun; calls = c.self.inside.journal.calls.items; answers = c.self.inside.token.answers; changes = c.self.inside.token.changes } in
     let after : Account = record { number = c.self.inside.id; begun = c.self.inside.begun; calls = c.add_answer.new.self.calls.items; answers = c.ask.new.token.answers; changes = c.ask.new.token.changes } in
     let asks = asks_ok begun g.J.Service.start c.self.inside.id c.self.inside.begun c.args.num c.args.processed c.args.at c.self.inside.journal.calls.items c.add_answer.new.self.calls.items c.self.inside.token c.ask.new.token
-    c.self.invariant.0 c.self.invariant.1 (ap (λ (t : Sight). t.reporter) c.in-Ok.ensures.token) (ap (λ (t : Sight). t.changes) c.in-Ok.ensures.token) c.in-Ok.ensures.extends c.in-Ok.issued c.in-Ok.ensures.asked c.in-Ok.ensures.again (λ fresh. (c.in-Ok.ensures.above_read fresh).above) (search rules) in
+    c.self.invariant.0 c.self.invariant.1 (ap (λ (t : Sight). t.reporter) c.in-Ok.ensures.token) (ap (λ (t : Sight). t.changes) c.in-Ok.ensures.token) c.in-Ok.ensures.extends c.in-Ok.issued c.in-Ok.ensures.asked c.in-Ok.ensures.own (λ fresh. (c.in-Ok.ensures.above_read fresh).above) (search rules) in
     let held = agreed_asked g.J.Service.epoch_end g.J.Service.recovery g.J.Service.start before after (c.self.invariant.1, c.self.invariant.2, c.self.invariant.3) c.answers_are_justified.ensures g.J.Service.reporters c.args.num c.args.processed c.args.at (Ok c.in-Ok.issued) c.in-Ok.ensures.chain.0 c.in-Ok.ensures.chain.1 asks
     (λ issued is. (let same : c.in-Ok.issued ≡ issued = same_issued is in subst (λ (one : Issued). (one.proxy ≡ c.self.inside.id) × Contains (versions c.ask.new.token.answers) one.version) same (c.in-Ok.ensures.request.proxy, c.in-Ok.ensures.has))) in
     (search rules, held.0, held.1, held.2)
@@ -51,7 +51,7 @@ returns-in-Err-clause-logged g c not_memory =
     let error_is : c.add_refused.result ≡ error_of refusal = c.add_refused.ensures.same ∙ subst (λ (o : Option Refusal). IfSome o (λ why. c.from-error.result ≡ error_of why)) same c.add_refused.ensures.error in
     let added = subst (λ (o : Option Refusal). IfSome o (λ why. c.add_refused.new.self.calls.items ≡ c.reserve_under.new.self.calls.items ++ record { input = Ask c.args.num c.args.processed c.args.at; asked = c.position-position.result; position = c.position-position.result; answer = Refused why } ∷ [])) same c.add_refused.ensures.calls in
     let asks = asks_err begun g.J.Service.start c.self.inside.id c.self.inside.begun c.args.num c.args.processed c.args.at c.self.inside.journal.calls.items c.add_refused.new.self.calls.items c.self.inside.token c.ask.new.token
-    c.self.invariant.0 c.self.invariant.1 (ap (λ (t : Sight). t.reporter) c.in-Err.ensures.token) (ap (λ (t : Sight). t.changes) c.in-Err.ensures.token) c.in-Err.ensures.extends c.in-Err.cause refusal c.add_refused.result asked c.in-Err.ensures.refused is error_is
+    c.self.invariant.0 c.self.invariant.1 (ap (λ (t : Sight). t.reporter) c.in-Err.ensures.token) (ap (λ (t : Sight). t.changes) c.in-Err.ensures.token) c.in-Err.ensures.extends c.in-Err.cause refusal c.add_refused.result asked (c.in-Err.ensures.own tt) is error_is
     (added_alike (Ask c.args.num c.args.processed c.args.at) refusal c.reserve_under.ensures.calls c.position-position.ensures.position added) in
     subst (λ (account : Account). Asks begun g.J.Service.start c.args.num c.args.processed c.args.at account after (Err c.add_refused.result)) c.self.view_is asks
 
@@ -74,7 +74,7 @@ invariant_of-self-in-Err g c =
     let error_is : c.from-error.result ≡ error_of refusal = subst (λ (o : Option Refusal). IfSome o (λ why. c.from-error.result ≡ error_of why)) same c.add_refused.ensures.error in
     let added = subst (λ (o : Option Refusal). IfSome o (λ why. c.add_refused.new.self.calls.items ≡ c.reserve_under.new.self.calls.items ++ record { input = Ask c.args.num c.args.processed c.args.at; asked = c.position-position.result; position = c.position-position.result; answer = Refused why } ∷ [])) same c.add_refused.ensures.calls in
     let asks = asks_err begun start c.self.inside.id c.self.inside.begun c.args.num c.args.processed c.args.at c.self.inside.journal.calls.items c.add_refused.new.self.calls.items c.self.inside.token c.ask.new.token
-    c.self.invariant.0 c.self.invariant.1 (ap (λ (t : Sight). t.reporter) c.in-Err.ensures.token) (ap (λ (t : Sight). t.changes) c.in-Err.ensures.token) c.in-Err.ensures.extends c.in-Err.cause refusal c.from-error.result asked c.in-Err.ensures.refused is error_is
+    c.self.invariant.0 c.self.invariant.1 (ap (λ (t : Sight). t.reporter) c.in-Err.ensures.token) (ap (λ (t : Sight). t.changes) c.in-Err.ensures.token) c.in-Err.ensures.extends c.in-Err.cause refusal c.from-error.result asked (c.in-Err.ensures.own tt) is error_is
     (added_alike (Ask c.args.num c.args.processed c.args.at) refusal c.reserve_under.ensures.calls c.position-position.ensures.position added) in
     agreed_asked epoch_end recovery start before after agreed c.answers_are_justified.ensures g.J.Service.reporters c.args.num c.args.processed c.args.at (Err c.from-error.result) c.in-Err.ensures.chain.0 c.in-Err.ensures.chain.1 asks (λ issued answered. not_answered answered))
     (λ memory.
@@ -83,7 +83,7 @@ invariant_of-self-in-Err g c =
     let kept = subst (λ (o : Option Refusal). IfNone o (c.add_refused.new.self ≡ c.reserve_under.new.self)) none c.add_refused.ensures.unlogged in
     let calls : c.add_refused.new.self.calls.items ≡ c.self.inside.journal.calls.items = ap (λ j. j.calls.items) kept ∙ c.reserve_under.ensures.calls in
     agreed_more begun start c.self.inside.id c.self.inside.begun c.args.num c.args.processed c.args.at c.self.inside.journal.calls.items c.add_refused.new.self.calls.items c.self.inside.token c.ask.new.token
-    c.self.invariant.0 c.self.invariant.1 (ap (λ (t : Sight). t.reporter) c.in-Err.ensures.token) (ap (λ (t : Sight). t.changes) c.in-Err.ensures.token) c.in-Err.ensures.extends epoch_end recovery c.in-Err.ensures.refused calls agreed) in
+    c.self.invariant.0 c.self.invariant.1 (ap (λ (t : Sight). t.reporter) c.in-Err.ensures.token) (ap (λ (t : Sight). t.changes) c.in-Err.ensures.token) c.in-Err.ensures.extends epoch_end recovery (c.in-Err.ensures.own tt) calls agreed) in
     (search rules, held.0, held.1, held.2)
 
 pub returns-in-Err-clause-extends : goal.returns-in-Err-clause-extends

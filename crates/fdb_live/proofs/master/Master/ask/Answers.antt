@@ -1,5 +1,5 @@
 use Rattle.fdb_live.proofs.Above.{above_each, is_above_read, least_after, least_before, stands_drawn}
-use Rattle.fdb_live.proofs.Asked.{again, decided, drawn_if, extends, has_any, next_fresh, refused, stands_any}
+use Rattle.fdb_live.proofs.Asked.{decided, drawn_if, extends, has_any, next_fresh, none_drawn, stands_any}
 use Rattle.fdb_live.proofs.master.Master.ask.Goals as goal
 
 pub returns-clause-extends : goal.returns-clause-extends
@@ -27,12 +27,6 @@ returns-clause-stands g c =
     let drawn = drawn_if _ _ _ _ _ c.ask.ensures.asked c.requires.numbered c.ask.ensures.reporter c.ask.ensures.request c.ask.ensures.log in
     stands_any c.kept_is_first.ensures.stands c.each_is_next.ensures _ _ _ _ c.ask.ensures.member c.ask.ensures.log _ c.ask.ensures.asked (stands_drawn _ _ _ _ _ drawn)
 
-pub returns-clause-again : goal.returns-clause-again
-returns-clause-again g c = again _ _ _ _ _ c.ask.ensures.asked c.requires.numbered c.ask.ensures.reporter
-
-pub returns-clause-refused : goal.returns-clause-refused
-returns-clause-refused g c = refused _ _ _ _ _ c.ask.ensures.asked c.requires.numbered c.ask.ensures.reporter
-
 pub returns-clause-decided : goal.returns-clause-decided
 returns-clause-decided g c = decided c.own_answers_decide.ensures.latest c.own_answers_decide.ensures.kept _ _ _ _ _ c.ask.ensures.asked
 
@@ -45,3 +39,6 @@ returns-clause-above_read g c =
 
 pub returns-clause-next : goal.returns-clause-next
 returns-clause-next g c = next_fresh c.own_answers_decide.ensures.latest _ _ _ _ c.ask.ensures.member _ c.ask.ensures.asked
+
+pub returns-clause-own : goal.returns-clause-own
+returns-clause-own g c = none_drawn _ _ _ _ _ c.ask.ensures.asked c.requires.numbered c.ask.ensures.reporter
