@@ -1,4 +1,5 @@
-/* What calls from C cost, in nanoseconds of processor time: the least of some runs.
+/* What calls from C cost, in nanoseconds of processor time: the least of some runs; and what a chain
+ * takes whose proxies process all, as it goes on: kilobytes, and the longest single ask by the wall.
  *     cc -O2 -Iinclude bench/from_c.c crates/fdb_c/out/libfdb_c.a crates/fdb_c/out/liblibc_c.a */
 #define _POSIX_C_SOURCE 200809L
 #include "fdb_read_version.h"
@@ -6,11 +7,14 @@
 #include <stdio.h>
 #include <stdlib.h>
 #include <string.h>
+#include <sys/resource.h>
 #include <time.h>
 
 #define COUNT 1000000
 #define RUNS 9
 #define ROOM 200
+#define TIMED 10000000
+#define ALL 100000000
 
 static uint64_t sink;
 static fdb_ask asks[COUNT];
@@ -122,7 +126,46 @@ static void told(const char *what, void (*timed)(void)) {
     printf("%-28s %6.1f\n", what, least);
 }
 
+static double wall(void) {
+    struct timespec it;
+    clock_gettime(CLOCK_MONOTONIC, &it);
+    return (double)it.tv_sec * 1e9 + (double)it.tv_nsec;
+}
+
+static long kilobytes(void) {
+    struct rusage it;
+    getrusage(RUSAGE_SELF, &it);
+    return it.ru_maxrss;
+}
+
+/* Asks of four proxies in turn, each of which has processed all its answers before. */
+static void go_on(uint64_t from, uint64_t to, double *longest) {
+    fdb_answer answer;
+    for (uint64_t i = from; i < to; i++) {
+        fdb_ask ask = {i / 4 + 1, i / 4, i, (uint32_t)(i % 4)};
+        double begun = longest ? wall() : 0;
+        if (fdb_chain_ask(&chain, &ask, &answer) || answer.status || !answer.fresh) exit(1);
+        if (longest && wall() - begun > *longest) *longest = wall() - begun;
+        sink += answer.version;
+    }
+}
+
+static void told_of_months(void) {
+    double longest = 0;
+    sink += fdb_chain_new(100, 200, 4, &chain);
+    go_on(0, 1000, NULL);
+    long before = kilobytes();
+    go_on(1000, TIMED, &longest);
+    double begun = now();
+    go_on(TIMED, ALL, NULL);
+    double spent = (now() - begun) / (ALL - TIMED);
+    printf("%-28s %6.1f\n%-28s %6.0f\n%-28s %6ld\n", "of 100,000,000 asks, each", spent,
+           "the longest of 10,000,000", longest, "kilobytes more than at 1,000", kilobytes() - before);
+    fdb_chain_free(&chain);
+}
+
 int main(void) {
+    told_of_months();
     make_inputs();
     told("a fresh ask, by handle", fresh_by_handle);
     told("a kept ask, by handle", kept_by_handle);
