@@ -32,11 +32,12 @@ pub record IsRecord (rec : Record) : Type 0 where
   pub in_range : rec.version ≤ MAX_VERSION
   pub within : rec.min_known ≤ rec.version
 
--- Why a record is none that a live record takes.
-abbrev pub IsRefusedFor : Record → LiveError → Type 0
-IsRefusedFor rec TooLarge = MAX_VERSION < rec.version
-IsRefusedFor rec MinAbove = (rec.version ≤ MAX_VERSION) × (rec.version < rec.min_known)
-IsRefusedFor rec Memory = ⊥
+-- Why a report is refused. No version of a chain is too large.
+abbrev pub IsRefusedFor : Bool → Record → LiveError → Type 0
+IsRefusedFor chained rec TooLarge = (chained ≡ false) × (MAX_VERSION < rec.version)
+IsRefusedFor chained rec MinAbove =
+    (rec.version ≤ MAX_VERSION) × (rec.version < rec.min_known)
+IsRefusedFor chained rec Memory = ⊥
 
 -- Each of these did change the record that it found.
 abbrev pub all_change : Record → List Change → Bool

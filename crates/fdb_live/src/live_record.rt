@@ -56,9 +56,7 @@ impl<J: Live> LiveRecord<J> {
         ensures position { result.position ≡ length seen.new.changes }
         ensures never_falls { IsNotBehind (last_record J.start seen.old.changes) result.rec }
         ensures never_back { length seen.old.changes ≤ result.position }
-        ensures below { result.position ≤ 2 * result.rec.version }
-        ensures within { result.rec.min_known ≤ result.rec.version }
-        ensures in_range { result.rec.version ≤ MAX_VERSION }
+        ensures bounded { IsBounded result.position result.rec }
         ensures log { IsLog J.start J.reporters seen.new.changes }
         ensures answers { IsPrefix seen.old.answers seen.new.answers }
         ensures own_answers { own_answers seen.new ≡ own_answers seen.old }
@@ -100,8 +98,7 @@ impl<J: Live> LiveRecord<J> {
         requires numbered { IsSome seen.old.reporter }
         requires drawn { J.chained ≡ true → Contains (versions seen.old.answers) rec.version }
         ensures taken { OnOk result (IsRecord rec) }
-        ensures refused { IfErr result (IsRefusedFor rec) }
-        ensures in_range { J.chained ≡ true → rec.version ≤ MAX_VERSION }
+        ensures refused { IfErr result (IsRefusedFor J.chained rec) }
         ensures err { OnErr result (seen.new ≡ seen.old) }
         ensures reporter { seen.new.reporter ≡ seen.old.reporter }
         ensures extends { IsPrefix seen.old.changes seen.new.changes }

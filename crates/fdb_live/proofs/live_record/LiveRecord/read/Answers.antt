@@ -6,14 +6,10 @@ use Rattle.fdb_live.proofs.live_record.LiveRecord.read.Goals as goal
 pub invariant_of-seen : goal.invariant_of-seen
 invariant_of-seen g c = (search rules, search rules, search rules, member_looked c.seen.invariant.2 c.seen.invariant.3 c.look-fetched.ensures.looks)
 
-pub returns-clause-below : goal.returns-clause-below
-returns-clause-below g c = looked_below c.seen.invariant.2 c.look-fetched.ensures.looks
-
-pub returns-clause-within : goal.returns-clause-within
-returns-clause-within g c = (looked_taken c.seen.invariant.2 c.look-fetched.ensures.looks).within
-
-pub returns-clause-in_range : goal.returns-clause-in_range
-returns-clause-in_range g c = (looked_taken c.seen.invariant.2 c.look-fetched.ensures.looks).in_range
+pub returns-clause-bounded : goal.returns-clause-bounded
+returns-clause-bounded g c =
+    let taken = looked_taken c.seen.invariant.2 c.look-fetched.ensures.looks in
+    record { below = looked_below c.seen.invariant.2 c.look-fetched.ensures.looks; within = taken.within; in_range = taken.in_range }
 
 pub returns-clause-drawn : goal.returns-clause-drawn
 returns-clause-drawn g c = member_drawn c.seen.invariant.2 c.seen.invariant.3 c.look-fetched.ensures.looks
