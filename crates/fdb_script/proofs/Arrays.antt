@@ -4,7 +4,7 @@ use Rattle.std.proofs.lemmas.List.{at_drop_all, drop_more}
 use Rattle.std.specs.Option.{option_map}
 use Rattle.serde_json.specs.Data.{Data}
 use Rattle.serde_json.specs.View.{items_of}
-use Rattle.fdb_script.specs.Reading.{command_of, commands_from, every, list_of, then_commands}
+use Rattle.fdb_script.specs.Reading.{command_of, commands_from, every, list_of, rounds_from, then_commands, then_rounds}
 use Rattle.fdb_script.specs.declared.error.ScriptError.{ScriptError}
 use Rattle.fdb_script.specs.declared.error.ScriptError.TheVariants.{BadField}
 use Rattle.fdb_script.specs.declared.script.Command.{Command}
@@ -69,3 +69,14 @@ commands_none view clients round front values i value within here read = rw (nex
 pub commands_all : {V : Type 0} (view : V → Data) (clients round : ℕ) (front : List Command) (values : List V) (i : ℕ) → length values ≤ i
     → prefixed front (commands_from clients round i (map view (drop i values))) ≡ Ok front
 commands_all view clients round front values i all = at_drop_all (λ rest. prefixed front (commands_from clients round i (map view rest))) values i all ∙ ap Ok (append-nil front)
+
+-- And so with the rounds.
+pub rounds_more : {V : Type 0} (view : V → List Data) (clients : ℕ) (front : List (List Command)) (rounds : List V) (i : ℕ) (round : V) (commands : List Command) → i < length rounds → round ≡ get_or rounds i round
+    → commands_from clients i 0 (view round) ≡ Ok commands
+    → prefixed front (rounds_from clients i (map view (drop i rounds))) ≡ prefixed (front ++ commands ∷ []) (rounds_from clients (i + 1) (map view (drop (i + 1) rounds)))
+rounds_more view clients front rounds i round commands within here read =
+    rw (next_is rounds i round within here, read) (prefixed_one front commands (rounds_from clients (i + 1) (map view (drop (i + 1) rounds))) (then_rounds (Ok commands)) (λ others. refl) (λ error. refl))
+
+pub rounds_all : {V : Type 0} (view : V → List Data) (clients : ℕ) (front : List (List Command)) (rounds : List V) (i : ℕ) → length rounds ≤ i
+    → prefixed front (rounds_from clients i (map view (drop i rounds))) ≡ Ok front
+rounds_all view clients front rounds i all = at_drop_all (λ rest. prefixed front (rounds_from clients i (map view rest))) rounds i all ∙ ap Ok (append-nil front)

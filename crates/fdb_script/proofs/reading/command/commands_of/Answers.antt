@@ -17,4 +17,4 @@ returns-in_default c =
     sym c.loop-place.invariant ∙ commands_none view c.args.clients c.args.round c.loop-place.commands c.args.values.now c.loop-place.place value.result c.loop-place-test.true value.is read
 
 pub returns : goal.returns
-returns c = ?
+returns c = sym c.loop-place.invariant ∙ commands_all view c.args.clients c.args.round c.loop-place.commands c.args.values.now c.loop-place.place c.loop-place-test.false
