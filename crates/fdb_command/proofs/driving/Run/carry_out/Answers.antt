@@ -1,3 +1,6 @@
+use Rattle.std.proofs.Common.{[], arith, inl, inr, refl}
+use Rattle.std.proofs.KnownBytes.{Consumes-nil}
+use Rattle.fdb_command.proofs.Answered.{no_finding, no_refusal, told_as}
 use Rattle.fdb_command.proofs.driving.Run.carry_out.Goals as goal
 
 pub returns-in-Ok-clause-asked : goal.returns-in-Ok-clause-asked
@@ -29,3 +32,39 @@ returns-in-Ok-clause-unwritten g c = c.do_asked.ensures.unwritten
 
 pub returns-in-Ok-clause-few : goal.returns-in-Ok-clause-few
 returns-in-Ok-clause-few g c = c.do_asked.ensures.few
+
+pub returns-in-Err-clause-asked : goal.returns-in-Err-clause-asked
+returns-in-Err-clause-asked g c =
+    let kind = told_as c.from.result c.from-in-Err.result c.from-in-Err.ensures in
+    λ no_words no_memory. elim kind [ inl words ↦ absurd (no_words words) | inr memory ↦ absurd (no_memory memory) ]
+
+pub returns-in-Err-clause-refused : goal.returns-in-Err-clause-refused
+returns-in-Err-clause-refused g c =
+    let kind = told_as c.from.result c.from-in-Err.result c.from-in-Err.ensures in
+    λ error same. absurd (no_refusal c.from-in-Err.result kind error same)
+
+pub returns-in-Err-clause-faulty : goal.returns-in-Err-clause-faulty
+returns-in-Err-clause-faulty g c =
+    let kind = told_as c.from.result c.from-in-Err.result c.from-in-Err.ensures in
+    λ found same. absurd (no_finding c.from-in-Err.result kind found same)
+
+pub returns-in-Err-clause-wrong : goal.returns-in-Err-clause-wrong
+returns-in-Err-clause-wrong g c = rw c.in-Err.is (λ words memory. let told = c.from-in-Err.ensures.1 (c.from.ensures.0 memory) in absurd (cc))
+
+pub returns-in-Err-clause-unread : goal.returns-in-Err-clause-unread
+returns-in-Err-clause-unread g c = rw c.in-Err.is refl
+
+pub returns-in-Err-clause-left : goal.returns-in-Err-clause-left
+returns-in-Err-clause-left g c = rw c.in-Err.is tt
+
+pub returns-in-Err-clause-quiet : goal.returns-in-Err-clause-quiet
+returns-in-Err-clause-quiet g c = rw c.in-Err.is tt
+
+pub returns-in-Err-clause-unwritten : goal.returns-in-Err-clause-unwritten
+returns-in-Err-clause-unwritten g c = λ stop. refl
+
+pub returns-in-Err-clause-begun : goal.returns-in-Err-clause-begun
+returns-in-Err-clause-begun g c = λ kind. inl refl
+
+pub returns-in-Err-clause-few : goal.returns-in-Err-clause-few
+returns-in-Err-clause-few g c = ([], omega arith, Consumes-nil _)
