@@ -39,13 +39,13 @@ impl<J: Live> Model for Finished<J> {
         × AllAgreeWithChain J.epoch_end J.recovery finished.logs.items finished.tokens.items };
 }
 
-/// Why the clients of a cluster have left nothing.
+/// Why the clients of a cluster, or a workload, have left nothing.
 #[derive(Clone, Copy, Debug, PartialEq, Eq, Error)]
 pub enum FinishError {
     /// These are not all clients of the cluster, each at the place of its number.
     #[error("a client is not in its place")]
     Astray,
-    /// Memory was refused; the clients are given up all the same.
+    /// Memory was refused, or a thread could not be had; the clients are given up all the same.
     #[error("want of memory")]
     Memory,
 }

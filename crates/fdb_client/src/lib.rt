@@ -33,4 +33,4 @@ pub use read::ReadVersion;
 pub use serving::{Ends, Served, serve_while};
 pub use settled_run::SettledRun;
 pub use settling::settle;
-pub use workload::{Workload, WorkloadError, WorkloadOutcome, clients_of, run_workload};
+pub use workload::{Workload, WorkloadOutcome, clients_of, run_workload};

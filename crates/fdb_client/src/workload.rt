@@ -21,7 +21,6 @@ use std::alloc::{AllocError, Global};
 use std::marker::Brand;
 use std::sync::Wait;
 use std::thread::Threads;
-use thiserror::Error;
 
 /// Calls that a user writes, to be made at a cluster (`TestWorkload`, FoundationDB 7.1).
 pub trait Workload<R> {
@@ -55,37 +54,6 @@ pub struct WorkloadOutcome<O> {
     pub ends: Ends,
 }
 
-/// Why a workload has left nothing, neither logs nor what it returned.
-#[derive(Clone, Copy, Debug, PartialEq, Eq, Error)]
-pub enum WorkloadError {
-    /// Memory was refused, or a thread could not be had.
-    #[error("want of memory")]
-    Memory,
-    /// The workload left a client at another place than that of its number.
-    #[error("a client is not in its place")]
-    Astray,
-}
-
-impl From<AllocError> for WorkloadError {
-    ghost use Rattle.std.specs.Prelude.{◌≡◌};
-    ghost use Rattle.fdb_client.specs.declared.workload.WorkloadError.TheVariants.{Memory};
-
-    ghost from_gives = { λ _ error. error ≡ Memory };
-
-    fn from(_refused: AllocError) -> Self {
-        WorkloadError::Memory
-    }
-}
-
-impl From<FinishError> for WorkloadError {
-    fn from(error: FinishError) -> Self {
-        match error {
-            FinishError::Astray => WorkloadError::Astray,
-            FinishError::Memory => WorkloadError::Memory,
-        }
-    }
-}
-
 /// Runs a workload at a new cluster, and answers what came of it, its clients' logs and the chain of
 /// commit versions, settled, and how the GRV proxies ended.
 ///
@@ -98,7 +66,7 @@ pub fn run_workload<R: Threads + Wait + Sync, W: Workload<R> + Drop>(
     alloc: Global,
     config: ClusterConfig<'_>,
     workload: W,
-) -> Result<WorkloadOutcome<W::Output>, WorkloadError>
+) -> Result<WorkloadOutcome<W::Output>, FinishError>
     requires { IsClusterConfig config }
     ensures gives { IfOk result (λ ran. W.gives workload ran.output) }
     ensures epoch_end { IfOk result (λ ran. ran.run.epoch_end ≡ config.entry.epoch_end) }
@@ -118,7 +86,7 @@ fn run_named<J: Live + Send + Sync, R: Threads + Wait + Sync, W: Workload<R> + D
     alloc: Global,
     opened: OpenedCluster<'_>,
     workload: W,
-) -> Result<WorkloadOutcome<W::Output>, WorkloadError>
+) -> Result<WorkloadOutcome<W::Output>, FinishError>
     requires chained { J.chained ≡ true }
     requires opened { opened.founding ≡ origin_of J.table J.start J.reporters J.chained J.epoch_end J.recovery }
     ensures gives { IfOk result (λ ran. W.gives workload ran.output) }

@@ -10,7 +10,7 @@ ghost use Rattle.fdb_history.specs.Linear.{IsLinear};
 ghost use Rattle.fdb_history.specs.Strays.{IsStray};
 ghost use Rattle.fdb_replay.specs.Outcome.{opening};
 
-use fdb_client::{ClusterConfig, Workload, WorkloadError, WorkloadOutcome, run_workload};
+use fdb_client::{ClusterConfig, FinishError, Workload, WorkloadOutcome, run_workload};
 use fdb_history::{History, OpenGate, laws};
 use fdb_replay::run;
 use fdb_script::{Outcome, Script};
@@ -25,7 +25,7 @@ pub fn run_whole<R: Threads + Wait + Sync, W: Workload<R> + Drop>(
     alloc: Global,
     config: ClusterConfig<'_>,
     workload: W,
-) -> Result<(WorkloadOutcome<W::Output>, Result<History, AllocError>), WorkloadError>
+) -> Result<(WorkloadOutcome<W::Output>, Result<History, AllocError>), FinishError>
     requires { IsClusterConfig config }
     ensures linear { IfOk result (λ left. IfOk left.1 (λ history.
         IsLinear config.entry.start left.0.run.logs.items history.events)) }

@@ -8,7 +8,7 @@ pub mod proxies;
 use crate::stand::{Case, play};
 use crate::workload::{Visits, ran};
 use fdb_checks::same;
-use fdb_client::WorkloadError;
+use fdb_client::FinishError;
 use std::alloc::Global;
 use std::sync::Wait;
 use std::sync::atomic::{AtomicU64, Ordering};
@@ -89,7 +89,7 @@ fn a_proxy_bears_it(rt: HostRuntime) -> Result<(), Fail> {
 fn a_workload_bears_it(rt: HostRuntime) -> Result<(), Fail> {
     let alloc = rt.alloc();
     let mut found = ran(&rt, alloc, 100, (2, 2), 2, Visits::new(alloc, 1));
-    if found == Err(WorkloadError::Memory) {
+    if found == Err(FinishError::Memory) {
         found = ran(&rt, alloc, 100, (2, 2), 2, Visits::new(alloc, 1));
     }
     same(&found, &Ok(true), &"a workload that is made once more")
@@ -116,7 +116,7 @@ fn without_memory(rt: HostRuntime) -> Result<(), Fail> {
         }
     }
     match ran(&rt, alloc, 100, (2, 2), 2, Visits::new(alloc, 1)) {
-        Ok(true) | Err(WorkloadError::Memory) => Ok(()),
+        Ok(true) | Err(FinishError::Memory) => Ok(()),
         _ => Err(Fail::new("a workload without memory")),
     }
 }

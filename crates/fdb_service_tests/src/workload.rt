@@ -6,7 +6,7 @@ ghost use Rattle.fdb_queue.specs.Throttles.{is_throttle};
 
 use fdb_checks::{same, tag};
 use fdb_client::{
-    Client, ClientError, Cluster, ClusterConfig, SettledRun, Workload, WorkloadError, run_workload,
+    Client, ClientError, Cluster, ClusterConfig, FinishError, SettledRun, Workload, run_workload,
 };
 use fdb_history::{GrvOpts, MAX_VERSION, OpenGate, Priority, Record, Sequence, Tag, TagLimit};
 use fdb_live::Live;
@@ -174,7 +174,7 @@ pub(crate) fn ran<R: Threads + Wait + Sync>(
     (clients, grv_proxies): (u64, u64),
     throttles: u64,
     visits: Visits,
-) -> Result<bool, WorkloadError> {
+) -> Result<bool, FinishError> {
     let throttles = throttles_of(alloc, throttles)?;
     let begins = version > 0 && version <= MAX_VERSION;
     let serves = (1..=64).contains(&clients) && (1..=16).contains(&grv_proxies);
@@ -207,7 +207,7 @@ pub(crate) fn ran<R: Threads + Wait + Sync>(
             Ok(right && explained(alloc, &ran.run, clients, reads, closes)?)
         }
         Err(ClientError::ProxyClosed) if ran.ends.all_served() => Ok(false),
-        Ok(_) | Err(ClientError::Memory | ClientError::ProxyClosed) => Err(WorkloadError::Memory),
+        Ok(_) | Err(ClientError::Memory | ClientError::ProxyClosed) => Err(FinishError::Memory),
         Err(_) => Ok(false),
     }
 }
@@ -257,7 +257,7 @@ fn each_client_stays_in_its_place(rt: HostRuntime) -> Result<(), Fail> {
         let mut visits = Visits::new(alloc, 1);
         visits.swaps = clients % 2 == 0;
         let wanted = if visits.swaps {
-            Err(WorkloadError::Astray)
+            Err(FinishError::Astray)
         } else {
             Ok(true)
         };
