@@ -1,6 +1,6 @@
 //! Reads and reports of the live record with no client between, by tokens alone.
 
-ghost use Rattle.std.specs.Prelude.{◌≡◌, ◌*◌, ◌<◌, ◌≤◌, IfOk, IsSome, length, false, true};
+ghost use Rattle.std.specs.Prelude.{◌≡◌, ◌*◌, ◌<◌, ◌≤◌, [], IfOk, IsSome, length, false, true};
 ghost use Rattle.fdb_live.specs.Seen.{last_record};
 
 use fdb_history::{MAX_VERSION, OpenGate, Record};
@@ -38,6 +38,18 @@ pub fn look_twice<J: Live, R: Wait>(
     let first = live.read(rt, seen);
     let second = live.read(rt, seen);
     (first, second)
+}
+
+/// Where there is no chain of commit versions, who looks sees no answer of one.
+pub fn look_beside_no_chain<J: Live, R: Wait>(
+    rt: &R,
+    live: &LiveRecord<J>,
+    seen: &mut Seen<J>,
+) -> Fetched
+    requires { J.chained ≡ false }
+    ensures { seen.new.answers ≡ [] }
+{
+    live.read(rt, seen)
 }
 
 /// Who learns what another had read, and what that one had reported, reads no older version.
