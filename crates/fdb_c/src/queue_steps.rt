@@ -10,7 +10,10 @@ ghost use Rattle.fdb_c.specs.Queue.{after, after_offer, after_op, out_at, out_of
 ghost use Rattle.fdb_c.specs.Queue.{offered, request_of, started_at, status_at, status_of, told};
 
 use crate::queue::{FdbOutcome, Op, shown};
-use crate::status::{FDB_MEMORY, FDB_OK, status_of};
+use crate::status::{
+    FDB_BAD_CONFIG, FDB_BAD_COUNT, FDB_BATCH_THROTTLED, FDB_FULL, FDB_MEMORY, FDB_OK,
+    FDB_TAG_TOO_LONG,
+};
 use fdb_queue::{GrvQueue, QueueError, Req};
 
 /// Offers a request: its refusal's number, and the request that is pushed out. There is none of it
@@ -26,8 +29,12 @@ fn offer(queue: &mut GrvQueue<u64>, request: Req<u64>) -> Option<(u8, Option<Req
 {
     match queue.offer(request) {
         Ok(out) => Some((FDB_OK, out)),
+        Err((QueueError::BadConfig, _)) => Some((FDB_BAD_CONFIG, None)),
+        Err((QueueError::BadCount, _)) => Some((FDB_BAD_COUNT, None)),
+        Err((QueueError::BatchThrottled, _)) => Some((FDB_BATCH_THROTTLED, None)),
+        Err((QueueError::Full, _)) => Some((FDB_FULL, None)),
+        Err((QueueError::TagTooLong, _)) => Some((FDB_TAG_TOO_LONG, None)),
         Err((QueueError::Memory, _)) => None,
-        Err((cause, _)) => Some((status_of(cause), None)),
     }
 }
 
