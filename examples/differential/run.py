@@ -52,7 +52,7 @@ def operations(rng):
         elif kind < 0.20:
             normal, batch = rng.choice([100, 100, 100, 50, 1, 0]), rng.choice([20, 20, 1, 0, 100_001])
             yield "set_rates", dict(normal=normal, batch=batch)
-        elif kind < 0.30:
+        elif kind < 0.35:
             yield throttling(rng)
         else:
             usual = rng.random() < 0.95
@@ -62,7 +62,7 @@ def operations(rng):
 
 def throttling(rng):
     """A throttle is set, asked for or forgotten, at a random moment."""
-    moment, kind = rng.randrange(20), rng.random()
+    moment, kind = rng.randrange(10), rng.random()
     if kind < 0.2:
         return "forget_throttles", dict(at=moment)
     it = dict(priority=rng.choice(list(Priority)), tag=b"t" * rng.choice([0, 1, 16, 17]))
