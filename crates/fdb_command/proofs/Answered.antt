@@ -2,7 +2,7 @@
 use Rattle.std.proofs.Common.{◌≡◌, ◌≢◌, ◌⊎◌, ◌≤◌, ℕ, List, [], Bool, true, false, length, Option, None, Some, Result, Ok, Err, inl, inr, refl, sym, subst}
 use Rattle.std.specs.Borrow.{Bor}
 use Rattle.std.specs.Io.KnownBytes.{Appends}
-use Rattle.std.specs.Prelude.{IfErr, IfOk, MatchResult, is_some, option_map}
+use Rattle.std.specs.Prelude.{IfErr, IfOk, IsErrAnd, MatchResult, is_some, option_map}
 use Rattle.std.proofs.lemmas.Result.{IfErr-weaker}
 use Rattle.clap.specs.Words.{App, Text, fault_of}
 use Rattle.clap.specs.declared.parser.matches.ArgMatches.{ArgMatches}
@@ -10,6 +10,8 @@ use Rattle.fdb_command.specs.Arguments.{AreMatches, ReadsInput, file_named}
 use Rattle.fdb_command.specs.Driving.{IsBegun, IsPrinted, IsWritten, MayFind, MayRefuse, Promise, Stops, TellsProgress}
 use Rattle.fdb_command.specs.Output.{TakesSome}
 use Rattle.fdb_command.specs.Input.{MayBeRead}
+use Rattle.fdb_command.specs.declared.arguments.ArgumentsFault.{ArgumentsFault}
+use Rattle.fdb_command.specs.declared.arguments.ArgumentsFault.TheVariants as words
 use Rattle.fdb_command.specs.declared.fault.Fault.{Fault}
 use Rattle.fdb_command.specs.declared.program.Answer.{Answer}
 use Rattle.fdb_command.specs.declared.fault.Fault.TheVariants.{Refused, Arguments, Memory, Found, Reading, Writing}
@@ -101,3 +103,35 @@ two_kinds fault (inr (found, is)) (inr memory) = cc
 pub no_stop : {E F T : Type 0} (r : Result T (Fault E F)) (P : Type 0) → IfErr r (λ fault. (fault ≡ Writing) ⊎ ((found : F) × (fault ≡ Found found)))
     → IfErr r (λ fault. ((error : E) × (fault ≡ Refused error)) ⊎ (fault ≡ Memory) → P)
 no_stop r P kinds = IfErr-weaker r _ _ (λ fault kind stop. absurd (two_kinds fault kind stop)) kinds
+
+-- nor is it one of the arguments
+pub not_words : {E F : Type 0} (fault : Fault E F) → (fault ≡ Writing) ⊎ ((found : F) × (fault ≡ Found found)) → fault ≢ Arguments
+not_words fault (inl writing) words = cc
+not_words fault (inr (found, is)) words = cc
+
+-- why arguments ask for nothing is told as a fault
+pub told_as : {E F : Type 0} (cause : ArgumentsFault) (made : Fault E F) → (cause ≡ words.Refused → made ≡ Arguments) × (cause ≡ words.Memory → made ≡ Memory) → (made ≡ Arguments) ⊎ (made ≡ Memory)
+told_as words.Refused made told = inl (told.0 refl)
+told_as words.Memory made told = inr (told.1 refl)
+
+pub is_words : {E F : Type 0} (cause : ArgumentsFault) (made : Fault E F) → (cause ≡ words.Refused → made ≡ Arguments) × (cause ≡ words.Memory → made ≡ Memory) → made ≡ Arguments → cause ≡ words.Refused
+is_words words.Refused made told is = refl
+is_words words.Memory made told is = let memory = told.1 refl in absurd (cc)
+
+pub no_refusal : {E F : Type 0} (made : Fault E F) → (made ≡ Arguments) ⊎ (made ≡ Memory) → (error : E) → made ≡ Refused error → ⊥
+no_refusal made (inl words) error is = cc
+no_refusal made (inr memory) error is = cc
+
+pub no_finding : {E F : Type 0} (made : Fault E F) → (made ≡ Arguments) ⊎ (made ≡ Memory) → (found : F) → made ≡ Found found → ⊥
+no_finding made (inl words) found is = cc
+no_finding made (inr memory) found is = cc
+
+-- a fault of writing is none that leaves nothing written
+pub not_unwritten : {E F : Type 0} (fault : Fault E F) → fault ≡ Writing → ((error : E) × (fault ≡ Refused error)) ⊎ ((fault ≡ Arguments) ⊎ (fault ≡ Memory)) → ⊥
+not_unwritten fault writing (inl (error, refused)) = cc
+not_unwritten fault writing (inr (inl words)) = cc
+not_unwritten fault writing (inr (inr memory)) = cc
+
+pub failed : {T E : Type 0} (r : Result T E) (Q : E → Type 0) → IsErrAnd r Q → (error : E) × (r ≡ Err error) × Q error
+failed (Ok value) Q is = absurd is
+failed (Err error) Q is = (error, refl, is)

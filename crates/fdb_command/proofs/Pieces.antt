@@ -1,12 +1,12 @@
 -- What is read of an input, piece by piece.
-use Rattle.std.proofs.Common.{◌≡◌, ◌⊎◌, inl, inr, ℕ, ◌+◌, ◌≤◌, List, [], ◌++◌, Option, None, Some, IfSome, append-nil, append_assoc, length, Result, Ok, Err, ap, arith, refl, subst, sym, ◌∙◌}
+use Rattle.std.proofs.Common.{◌≡◌, ◌⊎◌, inl, inr, ℕ, ◌+◌, ◌≤◌, List, [], ◌∷◌, ◌++◌, Option, None, Some, IfSome, append-nil, append_assoc, length, Result, Ok, Err, ap, arith, refl, subst, sym, ◌∙◌}
 use Rattle.std.specs.Io.KnownBytes.{Consumes, IsAtEnd}
 use Rattle.std.specs.Prelude.{IfErr, IsErrAnd}
 use Rattle.std.proofs.KnownBytes.{Consumes-trans}
 use Rattle.std.proofs.lemmas.List.{length-append}
 use Rattle.fdb_command.specs.Driving.{Promise, Stops}
 use Rattle.fdb_command.specs.Input.{TakesAtMost}
-use Rattle.fdb_command.specs.private.Taking.{IsTaken, MayStop, StopsAt}
+use Rattle.fdb_command.specs.private.Taking.{IsTaken, MayStop, StopsAt, TakesOn}
 use Rattle.fdb_command.specs.declared.fault.Fault.{Fault}
 use Rattle.fdb_command.specs.declared.fault.Fault.TheVariants.{Memory, Reading}
 
@@ -24,6 +24,12 @@ read_whole (Some bytes) (Some left) all gone end = gone ∙ ap (λ rest. all ++ 
 pub taken_whole : {O I E F : Type 0} (program : Promise O I E F) (first last : Option (List ℕ)) (intake : I) (bytes : List ℕ) → length bytes ≤ program.most → Consumes first last bytes → IsAtEnd last
     → program.taken intake bytes → IsTaken program None first intake
 taken_whole program first last intake bytes few gone end taken = record { bytes = bytes; few = few; read = read_whole first last bytes gone end; taken = taken }
+
+-- a program that is given nothing takes nothing
+pub takes_nothing : {O I E F : Type 0} (program : Promise O I E F) (intake : I) (count : ℕ) (before after : Option (List ℕ)) (bytes : List ℕ) → count ≡ 0 → length bytes ≡ count → Consumes before after bytes
+    → TakesOn program intake intake count before after
+takes_nothing program intake count before after [] none counted gone = record { bytes = []; counted = counted; gone = gone; taken = λ so_far taken. rw (append-nil so_far) taken }
+takes_nothing program intake count before after (byte ∷ bytes) none counted gone = absurd (omega arith)
 
 -- memory that was refused says nothing of the bytes
 pub stops_unread : {O I E F : Type 0} (program : Promise O I E F) (first : Option (List ℕ)) → MayStop program None first Memory

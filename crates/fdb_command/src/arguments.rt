@@ -14,7 +14,6 @@ use clap::error::ErrorKind;
 use clap::{Arg, ArgAction, ArgMatches, Command, Error, value_parser};
 use std::alloc::Global;
 use std::env::Env;
-use std::io::Write;
 use std::{env, io};
 
 /// Why arguments ask for nothing; the first ends a program with status 2, the second with 3.
@@ -173,10 +172,4 @@ pub(crate) fn help_of(error: Error) -> Result<Error, ArgumentsFault>
         ErrorKind::OutOfMemory => Err(ArgumentsFault::Memory),
         _ => Err(ArgumentsFault::Refused),
     }
-}
-
-/// Writes the help, and flushes it. What a writer that fails has taken is not said.
-pub(crate) fn show<O: Write>(help: &Error, out: &mut O) -> io::Result<()> {
-    write!(out, "{help}")?;
-    out.flush()
 }

@@ -13,12 +13,12 @@ ghost use Rattle.fdb_command.specs.Driving.{TellsProgress};
 ghost use Rattle.fdb_command.specs.Output.{TakesSome};
 ghost use Rattle.std.specs.Io.KnownBytes.{Appends};
 
-use crate::arguments::{ArgumentsFault, Invocation, file_of, parse, show};
+use crate::arguments::{ArgumentsFault, Invocation, file_of, parse};
 use crate::fault::Fault;
 use crate::intake::Taker;
 use crate::output::write_whole;
 use crate::program::{Answer, Program};
-use clap::ArgMatches;
+use clap::{ArgMatches, Error};
 use std::alloc::Global;
 use std::fmt::{Debug, Display};
 use std::fs::Files;
@@ -144,15 +144,52 @@ where
         ensures few { TakesAtMost (P.promise.most + 1)
             (I.remaining input.old) (I.remaining input.new) }
     {
-        let arguments = match arguments {
-            Ok(arguments) => arguments,
-            Err(error) => return Err(Fault::from(ArgumentsFault::from(error))),
-        };
-        match asked(self.program, self.alloc, &arguments)? {
-            Invocation::Help(help) => match show(&help, out) {
-                Ok(()) => Ok(()),
-                Err(_) => Err(Fault::Writing),
-            },
+        match arguments {
+            Ok(arguments) => self.do_asked(&arguments, input, out, err),
+            Err(error) => Err(Fault::from(ArgumentsFault::from(error))),
+        }
+    }
+
+    /// Does what these arguments ask for, and flushes what was written.
+    fn do_asked<I: Read, O: Write, E: Write>(
+        self,
+        arguments: &[String],
+        input: &mut I,
+        out: &mut O,
+        err: &mut E,
+    ) -> Result<(), Fault<P::Refusal, P::Finding>>
+        requires callable { IsCallable P.promise (B.pre self.body) }
+        requires promised { KeepsPromise P.promise (B.post self.body) }
+        ensures asked { MatchResult result
+            (λ _. AreTaken P.promise.app (map string_bytes arguments.now))
+            (λ fault. fault ≢ Fault.Arguments → fault ≢ Fault.Memory
+            → AreTaken P.promise.app (map string_bytes arguments.now)) }
+        ensures done { OnOk result (IsDone P.promise (map string_bytes arguments.now)
+            (I.remaining input.old) (O.contents out.old) (O.contents out.new)) }
+        ensures refused { IfErr result (λ fault. (error : P.Refusal) → fault ≡ Fault.Refused error
+            → MayRefuse P.promise (map string_bytes arguments.now) (I.remaining input.old)) }
+        ensures faulty { IfErr result (λ fault. (found : P.Finding) → fault ≡ Fault.Found found
+            → ((out.new ≡ out.old)
+            × MayFind P.promise (map string_bytes arguments.now) (I.remaining input.old))
+            ⊎ ((found : P.Finding) × IsWritten P.promise (map string_bytes arguments.now)
+            (I.remaining input.old) (Some found) (O.contents out.old) (O.contents out.new))) }
+        ensures wrong { IfErr result (λ fault. fault ≡ Fault.Arguments
+            → AreWrong P.promise.app (map string_bytes arguments.now)) }
+        ensures left { (ReadsInput P.promise.app (map string_bytes arguments.now) → ⊥)
+            → input.new ≡ input.old }
+        ensures quiet { (TellsProgress P.promise (map string_bytes arguments.now) → ⊥)
+            → err.new ≡ err.old }
+        ensures unwritten { IfErr result (λ fault.
+            ((error : P.Refusal) × (fault ≡ Fault.Refused error))
+            ⊎ ((fault ≡ Fault.Arguments) ⊎ (fault ≡ Fault.Memory)) → out.new ≡ out.old) }
+        ensures begun { IfErr result (λ fault. (fault ≡ Fault.Reading) ⊎ (fault ≡ Fault.Writing)
+            → (out.new ≡ out.old) ⊎ IsBegun P.promise (map string_bytes arguments.now)
+            (I.remaining input.old) (O.contents out.old) (O.contents out.new)) }
+        ensures few { TakesAtMost (P.promise.most + 1)
+            (I.remaining input.old) (I.remaining input.new) }
+    {
+        match asked(self.program, self.alloc, arguments)? {
+            Invocation::Help(help) => show(&help, out),
             Invocation::Input(matches) => self.run_on(&matches, input, out, err),
         }
     }
@@ -259,6 +296,19 @@ fn asked<'a, P: Program>(
         Ok(command) => parse(command, arguments),
         Err(_) => Err(ArgumentsFault::Memory),
     }
+}
+
+/// Writes the help, and flushes it. What a writer that fails has taken is not said.
+fn show<E: Debug + Display + Drop, F: Debug + Display + Drop, W: Write>(
+    help: &Error,
+    out: &mut W,
+) -> Result<(), Fault<E, F>>
+    ensures { IfErr result (λ fault. fault ≡ Fault.Writing) }
+{
+    if write!(out, "{help}").is_err() || out.flush().is_err() {
+        return Err(Fault::Writing);
+    }
+    Ok(())
 }
 
 /// Writes an answer, and flushes it. Fails with the fault that it tells of, where it tells of one.

@@ -5,30 +5,25 @@ ghost use Rattle.std.specs.Prelude.{◌≡◌, ◌⊎◌, ◌<◌, ◌≤◌};
 use crate::arguments::ArgumentsFault;
 use crate::input::InputFault;
 use crate::output::OutputFault;
+use std::error::Error;
+use std::fmt;
 use std::fmt::{Debug, Display};
-use thiserror::Error;
 
 /// Why a program ends with another status than 0. Its text
 /// is the line that the program writes, behind its name.
-#[derive(Debug, Drop, Error)]
+#[derive(Debug, Drop)]
 pub enum Fault<E: Debug + Display + Drop, F: Debug + Display + Drop> {
     /// The input is refused, and why, with what the input is called.
-    #[error("{0}")]
     Refused(E),
     /// The arguments of the command line are refused, or could not be had.
-    #[error("words refused: see --help")]
     Arguments,
     /// Memory was refused, before anything was written to the output.
-    #[error("want of memory")]
     Memory,
     /// A fault was found in what the input stands for.
-    #[error("audit fault: {0}")]
     Found(F),
     /// The input could not be read, or has too many bytes.
-    #[error("reading failed")]
     Reading,
     /// What is printed could not be written, or not flushed.
-    #[error("writing failed")]
     Writing,
 }
 
@@ -57,6 +52,21 @@ impl<E: Debug + Display + Drop, F: Debug + Display + Drop> Fault<E, F> {
         }
     }
 }
+
+impl<E: Debug + Display + Drop, F: Debug + Display + Drop> Display for Fault<E, F> {
+    fn fmt<W: fmt::Write>(&self, f: &mut fmt::Formatter<W>) -> fmt::Result {
+        f.write_str(match self {
+            Fault::Refused(error) => return write!(f, "{error}"),
+            Fault::Arguments => "words refused: see --help",
+            Fault::Memory => "want of memory",
+            Fault::Found(found) => return write!(f, "audit fault: {found}"),
+            Fault::Reading => "reading failed",
+            Fault::Writing => "writing failed",
+        })
+    }
+}
+
+impl<E: Debug + Display + Drop, F: Debug + Display + Drop> Error for Fault<E, F> {}
 
 impl<E: Debug + Display + Drop, F: Debug + Display + Drop> From<ArgumentsFault> for Fault<E, F> {
     ghost use Rattle.fdb_command.specs.declared.fault.Fault.TheVariants as made;

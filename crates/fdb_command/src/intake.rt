@@ -150,15 +150,25 @@ impl<P: Program> Taker<'_, P> {
             (I.remaining input.old) (I.remaining input.new)) }
         ensures room { length room.new ≡ length room.old }
     {
-        let (intake, count, is_last) = match read_piece(input, room)? {
-            None => (intake, 0, false),
-            Some(0) => (intake, 0, true),
-            Some(count) => (self.program.take(intake, &room[..count])?, count, false),
+        let Some(count) = read_piece(input, room)? else {
+            return Ok(Piece {
+                intake,
+                count: 0,
+                is_last: false,
+            });
         };
+        if count == 0 {
+            return Ok(Piece {
+                intake,
+                count,
+                is_last: true,
+            });
+        }
+        let intake = self.program.take(intake, &room[..count])?;
         Ok(Piece {
             intake,
             count,
-            is_last,
+            is_last: false,
         })
     }
 

@@ -95,6 +95,42 @@ impl fmt::Display for Digits {
     }
 }
 
+/// The metadata version, or `none`.
+#[derive(Clone, Copy)]
+struct MetadataText(Option<[u8; 10]>);
+
+impl fmt::Display for MetadataText {
+    ghost use Rattle.std.specs.Prelude.{Some};
+    ghost use Rattle.fdb_history.specs.Text.{metadata_text};
+
+    ghost output = { λ metadata. Some (metadata_text metadata.0) };
+
+    fn fmt<W: fmt::Write>(&self, f: &mut fmt::Formatter<W>) -> fmt::Result {
+        match self.0 {
+            None => f.write_str("none"),
+            Some(metadata) => write!(f, "{}", Digits(metadata)),
+        }
+    }
+}
+
+/// The minimum known committed version, where that is not 0.
+#[derive(Clone, Copy)]
+struct MinText(u64);
+
+impl fmt::Display for MinText {
+    ghost use Rattle.std.specs.Prelude.{Some};
+    ghost use Rattle.fdb_history.specs.Text.{min_text};
+
+    ghost output = { λ min_known. Some (min_text min_known.0) };
+
+    fn fmt<W: fmt::Write>(&self, f: &mut fmt::Formatter<W>) -> fmt::Result {
+        match self.0 {
+            0 => Ok(()),
+            min_known => write!(f, " min {min_known}"),
+        }
+    }
+}
+
 /// The version, `locked` or `unlocked`, the metadata version or `none`, and `min` with the minimum
 /// known committed version where that is not 0.
 impl fmt::Display for Record {
@@ -104,22 +140,13 @@ impl fmt::Display for Record {
     ghost output = { λ rec. Some (record_text rec) };
 
     fn fmt<W: fmt::Write>(&self, f: &mut fmt::Formatter<W>) -> fmt::Result {
-        let version = self.version;
         let lock = if self.locked {
             " locked "
         } else {
             " unlocked "
         };
-        match self.metadata {
-            None => write!(f, "{version}{lock}none")?,
-            Some(metadata) => {
-                let digits = Digits(metadata);
-                write!(f, "{version}{lock}{digits}")?;
-            }
-        }
-        match self.min_known {
-            0 => Ok(()),
-            min_known => write!(f, " min {min_known}"),
-        }
+        let metadata = MetadataText(self.metadata);
+        let min_known = MinText(self.min_known);
+        write!(f, "{}{lock}{metadata}{min_known}", self.version)
     }
 }

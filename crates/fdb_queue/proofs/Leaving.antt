@@ -1,5 +1,5 @@
 -- What a window leaves.
-use Rattle.std.proofs.Common.{◌≡◌, ℕ, ◌+◌, ◌==◌, ◌<◌, Bool, true, false, List, [], ◌∷◌, ◌++◌, length, take, drop, refl, ◌⊎◌, inl, inr, ap, ◌∙◌, arith, length-append, length-drop}
+use Rattle.std.proofs.Common.{◌≡◌, ℕ, ◌+◌, ◌==◌, ◌<◌, ◌≤◌, Bool, true, false, List, [], ◌∷◌, ◌++◌, length, take, drop, refl, ◌⊎◌, inl, inr, ap, ◌∙◌, arith, length-append, length-drop}
 use Rattle.std.specs.Prelude.{All}
 use Rattle.std.proofs.lemmas.List.{append-nil, length-take-le}
 use Rattle.std.proofs.lemmas.List.Elements.{All-head, All-tail, All-take, All-drop, filter-append}
@@ -161,3 +161,10 @@ IsQueue-after_window queue elapsed h =
         batch = cut_in_range (length (row (without started queue.waiting)) == 0) _;
       };
     }
+
+-- no more requests wait than a queue may have room for
+pub few_wait : {T : Type 0} (queue : Queue T) → IsQueue queue → length queue.waiting.system + length queue.waiting.default_ + length queue.waiting.batch ≤ 100000
+few_wait queue is =
+    let most : queue.config.room ≤ 100000 = is.config.room_in_range in
+    let all : length (queue.waiting.system ++ queue.waiting.default_ ++ queue.waiting.batch) ≤ queue.config.room = is.room in
+    omega (arith, most, all, length-append (queue.waiting.system ++ queue.waiting.default_) queue.waiting.batch, length-append queue.waiting.system queue.waiting.default_)

@@ -176,9 +176,10 @@ impl Throttles {
     {
         let mut limits = Vec::new(alloc);
         for tag in tags {
-            if let Some(limit) = self.limit(priority, tag, at)? {
-                limits.push(limit)?;
-            }
+            let Some(limit) = self.limit(priority, tag, at)? else {
+                continue;
+            };
+            limits.push(limit)?;
         }
         Ok(limits)
     }

@@ -3,16 +3,15 @@
 ghost use Rattle.std.specs.Prelude.{◌≡◌};
 
 use std::alloc::{AllocError, AllocFailed};
-use thiserror::Error;
+use std::error::Error;
+use std::fmt;
 
 /// Why a script is refused, or its text not made.
-#[derive(Clone, Copy, Debug, PartialEq, Eq, Error)]
+#[derive(Clone, Copy, Debug, PartialEq, Eq)]
 pub enum ScriptError {
     /// The bytes are no UTF-8, or no JSON text that `serde_json` reads.
-    #[error("NotJson")]
     NotJson,
     /// A command has a fault: the first that has one is named.
-    #[error("BadField {round} {command}")]
     BadField {
         /// The round that it stands in, counted from 0.
         round: u64,
@@ -21,12 +20,25 @@ pub enum ScriptError {
     },
     /// A member of the whole script, or of a throttle, is missing, of another kind or beyond its
     /// limit, or a round is no list.
-    #[error("BadLimit")]
     BadLimit,
     /// Memory was refused, which says nothing of the script.
-    #[error("want of memory")]
     Memory,
 }
+
+impl fmt::Display for ScriptError {
+    fn fmt<W: fmt::Write>(&self, f: &mut fmt::Formatter<W>) -> fmt::Result {
+        f.write_str(match self {
+            ScriptError::NotJson => "NotJson",
+            ScriptError::BadField { round, command } => {
+                return write!(f, "BadField {round} {command}");
+            }
+            ScriptError::BadLimit => "BadLimit",
+            ScriptError::Memory => "want of memory",
+        })
+    }
+}
+
+impl Error for ScriptError {}
 
 impl From<AllocError> for ScriptError {
     ghost use Rattle.fdb_script.specs.declared.error.ScriptError.TheVariants.{Memory};

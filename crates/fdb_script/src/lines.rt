@@ -39,8 +39,7 @@ impl fmt::Display for LimitsText<'_> {
     fn fmt<W: fmt::Write>(&self, f: &mut fmt::Formatter<W>) -> fmt::Result {
         for limit in self.0 {
             let tag = TagText(limit.tag.as_slice());
-            let (rate, expires) = (limit.rate, limit.expires);
-            write!(f, " limit {tag} {rate} {expires}")?;
+            write!(f, " limit {tag} {} {}", limit.rate, limit.expires)?;
         }
         Ok(())
     }
@@ -89,10 +88,7 @@ impl fmt::Display for AnswerText<'_> {
                 rec,
                 locked_out: true,
                 ..
-            } => {
-                let version = rec.version;
-                write!(f, "refused Locked {version} pos {position}")
-            }
+            } => write!(f, "refused Locked {} pos {position}", rec.version),
             CallAnswer::Version {
                 rec,
                 limits,
@@ -104,18 +100,20 @@ impl fmt::Display for AnswerText<'_> {
                 write!(f, "{rec}{used} pos {position}{limits}")
             }
             CallAnswer::Answered(issued) => {
-                let (prev, version, ordinal) = (issued.prev, issued.version, issued.ordinal);
                 let fresh = fresh_word(issued.fresh);
-                write!(f, "prev {prev} version {version} ordinal {ordinal} {fresh}")
+                write!(
+                    f,
+                    "prev {} version {} ordinal {} {fresh}",
+                    issued.prev, issued.version, issued.ordinal
+                )
             }
             CallAnswer::Acked {
                 rec,
                 raised,
                 changed,
             } => {
-                let version = rec.version;
                 let raised = raised_words(*raised, *changed);
-                write!(f, "{version} {raised} pos {position}")
+                write!(f, "{} {raised} pos {position}", rec.version)
             }
             CallAnswer::Told => match &self.0.input {
                 Input::Tell { to } => write!(f, "{to} pos {position}"),
@@ -179,10 +177,15 @@ impl fmt::Display for ReplyLine<'_> {
         Some (reply_text line.round line.client line.number line.act.now line.call.now) };
 
     fn fmt<W: fmt::Write>(&self, f: &mut fmt::Formatter<W>) -> fmt::Result {
-        let (round, client, number) = (self.round, self.client, self.number);
-        let act = act_word(self.act);
-        let answer = AnswerText(self.call);
-        write!(f, "{round} {client} {number} {act} {answer}")
+        write!(
+            f,
+            "{} {} {} {} {}",
+            self.round,
+            self.client,
+            self.number,
+            act_word(self.act),
+            AnswerText(self.call)
+        )
     }
 }
 
@@ -204,10 +207,10 @@ impl fmt::Display for AuditLine {
     ghost output = { λ line. Some (counts_text line.events line.raised line.versions) };
 
     fn fmt<W: fmt::Write>(&self, f: &mut fmt::Formatter<W>) -> fmt::Result {
-        let (events, raised, versions) = (self.events, self.raised, self.versions);
         write!(
             f,
-            "audit ok events {events} raised {raised} versions {versions}"
+            "audit ok events {} raised {} versions {}",
+            self.events, self.raised, self.versions
         )
     }
 }

@@ -4,7 +4,7 @@ use fdb_history::{ClientLog, History, Issued};
 
 /// What a run leaves: the chain of commit versions, the log of each client, and a history that
 /// explains them.
-#[derive(Debug, Drop)]
+#[derive(Drop)]
 pub struct Outcome {
     /// The answers that drew a commit version, each above the one before.
     pub chain: Vec<Issued>,

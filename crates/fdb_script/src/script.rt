@@ -25,7 +25,7 @@ pub const MAX_COMMANDS: usize = 10_000;
 pub const MAX_TAGS: usize = 5;
 
 /// What a client is to do, with the default for each member that the script left out.
-#[derive(Debug, Drop, PartialEq, Eq)]
+#[derive(Debug, Drop)]
 pub enum Act {
     /// Read the read version through a GRV proxy.
     Grv(GrvOpts),
@@ -64,7 +64,7 @@ pub enum Act {
 }
 
 /// A command of a script, which one client does in one round.
-#[derive(Debug, Drop, PartialEq, Eq)]
+#[derive(Debug, Drop)]
 pub struct Command {
     /// The client that is to do it, counted from 0.
     pub client: u32,
@@ -74,7 +74,7 @@ pub struct Command {
 
 /// What a script says besides its rounds: from where the service starts, how many clients there
 /// are, and what its GRV proxies are made with.
-#[derive(Debug, Drop)]
+#[derive(Drop)]
 pub struct Setup {
     /// The end of the epoch before: the version before the first commit version.
     pub epoch_end: u64,
@@ -95,7 +95,7 @@ pub struct Setup {
 ///
 /// Contracts see its plan, which is the record of these parts, and know that it is within the
 /// limits (`IsPlan`).
-#[derive(Debug, Drop)]
+#[derive(Drop)]
 pub struct Script {
     setup: Setup,
     rounds: Sequence<Sequence<Command>>,

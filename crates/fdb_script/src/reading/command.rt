@@ -37,11 +37,15 @@ fn grv_with(value: &Value, tags: Sequence<Tag>) -> Option<Act>
         (member_or false as_bool (codes "lock_aware") (view value.now))
         (member_or false as_bool (codes "use_min") (view value.now)) }
 {
-    let at = whole_or(value, "at", 0)?;
-    let priority = priority_or_default(value)?;
-    let count = whole_or(value, "count", 1)?;
-    let lock_aware = flag_or_false(value, "lock_aware")?;
-    let use_min = flag_or_false(value, "use_min")?;
+    let (Some(at), Some(priority), Some(count), Some(lock_aware), Some(use_min)) = (
+        whole_or(value, "at", 0),
+        priority_or_default(value),
+        whole_or(value, "count", 1),
+        flag_or_false(value, "lock_aware"),
+        flag_or_false(value, "use_min"),
+    ) else {
+        return None;
+    };
     Some(Act::Grv(GrvOpts {
         priority,
         count,
@@ -75,9 +79,13 @@ fn ask_of(value: &Value) -> Option<Act>
 fn reask_of(value: &Value) -> Option<Act>
     ensures { result ≡ reask_of (view value.now) }
 {
-    let num = whole_member(value, "num")?;
-    let at = whole_member(value, "at")?;
-    let processed = whole_or(value, "processed", 0)?;
+    let (Some(num), Some(at), Some(processed)) = (
+        whole_member(value, "num"),
+        whole_member(value, "at"),
+        whole_or(value, "processed", 0),
+    ) else {
+        return None;
+    };
     Some(Act::Reask { num, processed, at })
 }
 
@@ -85,10 +93,14 @@ fn reask_of(value: &Value) -> Option<Act>
 fn report_of(value: &Value) -> Option<Act>
     ensures { result ≡ report_of (view value.now) }
 {
-    let num = whole_member(value, "num")?;
-    let locked = flag_or_false(value, "locked")?;
-    let metadata = metadata_or_none(value)?;
-    let min_known = whole_or(value, "min_known", 0)?;
+    let (Some(num), Some(locked), Some(metadata), Some(min_known)) = (
+        whole_member(value, "num"),
+        flag_or_false(value, "locked"),
+        metadata_or_none(value),
+        whole_or(value, "min_known", 0),
+    ) else {
+        return None;
+    };
     Some(Act::Report {
         num,
         locked,

@@ -39,9 +39,13 @@ fn config_of(value: &Value) -> Option<QueueConfig>
     ensures value { result ≡ config_of (view value.now) }
     ensures in_range { IfSome result IsConfig }
 {
-    let normal = within_or(value, "normal", 1_000, 1, MAX_RATE)?;
-    let batch = within_or(value, "batch", 500, 0, MAX_RATE)?;
-    let room = within_or(value, "room", 1_000, 1, MAX_ROOM)?;
+    let (Some(normal), Some(batch), Some(room)) = (
+        within_or(value, "normal", 1_000, 1, MAX_RATE),
+        within_or(value, "batch", 500, 0, MAX_RATE),
+        within_or(value, "room", 1_000, 1, MAX_ROOM),
+    ) else {
+        return None;
+    };
     Some(QueueConfig {
         normal,
         batch,
@@ -65,9 +69,13 @@ fn throttle_with(value: &Value, tag: Tag) -> Option<Throttle>
         (member whole (codes "rate") (view value.now))
         (member whole (codes "expires") (view value.now)) }
 {
-    let priority = priority_of(value.get("priority")?)?;
-    let rate = whole_member(value, "rate")?;
-    let expires = whole_member(value, "expires")?;
+    let (Some(priority), Some(rate), Some(expires)) = (
+        priority_of(value.get("priority")?),
+        whole_member(value, "rate"),
+        whole_member(value, "expires"),
+    ) else {
+        return None;
+    };
     Some(Throttle {
         priority,
         tag,
@@ -179,18 +187,22 @@ fn frame_with<'a>(
         (config_of (view value.now))
         (member_or 1000000 (whole_within 1 MAX_ELAPSED) (codes "elapsed") (view value.now))) }
 {
-    let epoch_end = whole_member(value, "epoch_end")?;
-    let recovery = member_within(value, "recovery", 0, MAX_VERSION)?;
-    let clients = member_within(value, "clients", 1, MAX_CLIENTS)? as u32;
-    let config = config_of(value)?;
-    let elapsed = elapsed_of(value)?;
+    let (Some(epoch_end), Some(recovery), Some(clients), Some(config), Some(elapsed)) = (
+        whole_member(value, "epoch_end"),
+        member_within(value, "recovery", 0, MAX_VERSION),
+        member_within(value, "clients", 1, MAX_CLIENTS),
+        config_of(value),
+        elapsed_of(value),
+    ) else {
+        return None;
+    };
     if !is_frame(epoch_end, recovery, &rounds) {
         return None;
     }
     let setup = Setup {
         epoch_end,
         recovery,
-        clients,
+        clients: clients as u32,
         config,
         elapsed,
         throttles,

@@ -1,57 +1,70 @@
-use Rattle.std.proofs.Common.{map, string_bytes, Result, Ok, Err, inl, inr}
-use Rattle.std.specs.Prelude.{IfErr, MatchResult, OnErr}
-use Rattle.std.proofs.lemmas.Result.{on_ok_weaker}
-use Rattle.fdb_command.specs.Arguments.{AreMatches}
+use Rattle.std.proofs.Common.{[], arith, inl, inr, refl}
+use Rattle.std.proofs.KnownBytes.{Consumes-nil}
+use Rattle.fdb_command.proofs.Answered.{no_finding, no_refusal, told_as}
 use Rattle.fdb_command.proofs.driving.Run.carry_out.Goals as goal
 
--- what holds where there is an error holds of each
-of_each : {T E : Type 0} (r : Result T E) (P : Type 0) (Q : E → Type 0) → OnErr r P → IfErr r (λ e. Q e → P)
-of_each (Ok value) P Q is = tt
-of_each (Err e) P Q is = λ q. is
+pub returns-in-Ok-clause-asked : goal.returns-in-Ok-clause-asked
+returns-in-Ok-clause-asked g c = rw c.in-Ok.is (rw c.deref.ensures.value at c.do_asked.ensures.asked)
 
--- what holds in any case holds in both
-in_both : {T E : Type 0} (r : Result T E) (P : Type 0) (Q S : E → Type 0) → P → MatchResult r (λ _. P) (λ e. Q e → S e → P)
-in_both (Ok value) P Q S is = is
-in_both (Err e) P Q S is = λ q s. is
+pub returns-in-Ok-clause-done : goal.returns-in-Ok-clause-done
+returns-in-Ok-clause-done g c = rw c.in-Ok.is (rw c.deref.ensures.value at c.do_asked.ensures.done)
 
-pub returns-clause-done : goal.returns-clause-done
-returns-clause-done g c =
-    let arguments = map string_bytes c.in-Ok.arguments.items in
-    let matches : AreMatches g.P.Program.promise.app arguments c.in-Input.matches = rw (c.in-Input.is, c.deref.ensures.value) at c.in_ok-help.ensures.ok in
-    rw c.in-Ok.is (on_ok_weaker c.run_on.result (λ written. inr written) (c.run_on.ensures.done arguments matches))
+pub returns-in-Ok-clause-refused : goal.returns-in-Ok-clause-refused
+returns-in-Ok-clause-refused g c = rw c.in-Ok.is (rw c.deref.ensures.value at c.do_asked.ensures.refused)
 
-pub returns-clause-refused : goal.returns-clause-refused
-returns-clause-refused g c =
-    let arguments = map string_bytes c.in-Ok.arguments.items in
-    let matches : AreMatches g.P.Program.promise.app arguments c.in-Input.matches = rw (c.in-Input.is, c.deref.ensures.value) at c.in_ok-help.ensures.ok in
-    rw c.in-Ok.is (c.run_on.ensures.refused arguments matches)
+pub returns-in-Ok-clause-faulty : goal.returns-in-Ok-clause-faulty
+returns-in-Ok-clause-faulty g c = rw c.in-Ok.is (rw c.deref.ensures.value at c.do_asked.ensures.faulty)
 
-pub returns-clause-faulty : goal.returns-clause-faulty
-returns-clause-faulty g c =
-    let arguments = map string_bytes c.in-Ok.arguments.items in
-    let matches : AreMatches g.P.Program.promise.app arguments c.in-Input.matches = rw (c.in-Input.is, c.deref.ensures.value) at c.in_ok-help.ensures.ok in
-    rw c.in-Ok.is (c.run_on.ensures.faulty arguments matches)
+pub returns-in-Ok-clause-wrong : goal.returns-in-Ok-clause-wrong
+returns-in-Ok-clause-wrong g c = rw c.in-Ok.is (rw c.deref.ensures.value at c.do_asked.ensures.wrong)
 
-pub returns-clause-left : goal.returns-clause-left
-returns-clause-left g c =
-    let arguments = map string_bytes c.in-Ok.arguments.items in
-    let matches : AreMatches g.P.Program.promise.app arguments c.in-Input.matches = rw (c.in-Input.is, c.deref.ensures.value) at c.in_ok-help.ensures.ok in
-    rw c.in-Ok.is (λ unread. c.run_on.ensures.left arguments matches unread)
+pub returns-in-Ok-clause-left : goal.returns-in-Ok-clause-left
+returns-in-Ok-clause-left g c = rw c.in-Ok.is (rw c.deref.ensures.value at c.do_asked.ensures.left)
 
-pub returns-clause-begun : goal.returns-clause-begun
-returns-clause-begun g c =
-    let arguments = map string_bytes c.in-Ok.arguments.items in
-    let matches : AreMatches g.P.Program.promise.app arguments c.in-Input.matches = rw (c.in-Input.is, c.deref.ensures.value) at c.in_ok-help.ensures.ok in
-    rw c.in-Ok.is (of_each c.run_on.result _ _ (c.run_on.ensures.begun arguments matches))
+pub returns-in-Ok-clause-quiet : goal.returns-in-Ok-clause-quiet
+returns-in-Ok-clause-quiet g c = rw c.in-Ok.is (rw c.deref.ensures.value at c.do_asked.ensures.quiet)
 
-pub returns-clause-asked : goal.returns-clause-asked
-returns-clause-asked g c =
-    let arguments = map string_bytes c.in-Ok.arguments.items in
-    let matches : AreMatches g.P.Program.promise.app arguments c.in-Input.matches = rw (c.in-Input.is, c.deref.ensures.value) at c.in_ok-help.ensures.ok in
-    rw c.in-Ok.is (in_both c.run_on.result _ _ _ (inl matches.taken))
+pub returns-in-Ok-clause-begun : goal.returns-in-Ok-clause-begun
+returns-in-Ok-clause-begun g c = rw c.in-Ok.is (rw c.deref.ensures.value at c.do_asked.ensures.begun)
 
-pub returns-clause-quiet : goal.returns-clause-quiet
-returns-clause-quiet g c =
-    let arguments = map string_bytes c.in-Ok.arguments.items in
-    let matches : AreMatches g.P.Program.promise.app arguments c.in-Input.matches = rw (c.in-Input.is, c.deref.ensures.value) at c.in_ok-help.ensures.ok in
-    rw c.in-Ok.is (λ silent. c.run_on.ensures.quiet arguments matches silent)
+pub returns-in-Ok-clause-unwritten : goal.returns-in-Ok-clause-unwritten
+returns-in-Ok-clause-unwritten g c = c.do_asked.ensures.unwritten
+
+pub returns-in-Ok-clause-few : goal.returns-in-Ok-clause-few
+returns-in-Ok-clause-few g c = c.do_asked.ensures.few
+
+pub returns-in-Err-clause-asked : goal.returns-in-Err-clause-asked
+returns-in-Err-clause-asked g c =
+    let kind = told_as c.from.result c.from-in-Err.result c.from-in-Err.ensures in
+    λ no_words no_memory. elim kind [ inl words ↦ absurd (no_words words) | inr memory ↦ absurd (no_memory memory) ]
+
+pub returns-in-Err-clause-refused : goal.returns-in-Err-clause-refused
+returns-in-Err-clause-refused g c =
+    let kind = told_as c.from.result c.from-in-Err.result c.from-in-Err.ensures in
+    λ error same. absurd (no_refusal c.from-in-Err.result kind error same)
+
+pub returns-in-Err-clause-faulty : goal.returns-in-Err-clause-faulty
+returns-in-Err-clause-faulty g c =
+    let kind = told_as c.from.result c.from-in-Err.result c.from-in-Err.ensures in
+    λ found same. absurd (no_finding c.from-in-Err.result kind found same)
+
+pub returns-in-Err-clause-wrong : goal.returns-in-Err-clause-wrong
+returns-in-Err-clause-wrong g c = rw c.in-Err.is (λ words memory. let told = c.from-in-Err.ensures.1 (c.from.ensures.0 memory) in absurd (cc))
+
+pub returns-in-Err-clause-unread : goal.returns-in-Err-clause-unread
+returns-in-Err-clause-unread g c = rw c.in-Err.is refl
+
+pub returns-in-Err-clause-left : goal.returns-in-Err-clause-left
+returns-in-Err-clause-left g c = rw c.in-Err.is tt
+
+pub returns-in-Err-clause-quiet : goal.returns-in-Err-clause-quiet
+returns-in-Err-clause-quiet g c = rw c.in-Err.is tt
+
+pub returns-in-Err-clause-unwritten : goal.returns-in-Err-clause-unwritten
+returns-in-Err-clause-unwritten g c = λ stop. refl
+
+pub returns-in-Err-clause-begun : goal.returns-in-Err-clause-begun
+returns-in-Err-clause-begun g c = λ kind. inl refl
+
+pub returns-in-Err-clause-few : goal.returns-in-Err-clause-few
+returns-in-Err-clause-few g c = ([], omega arith, Consumes-nil _)

@@ -51,3 +51,20 @@ loop-preserved g c =
       taken = (bytes ++ on.bytes, omega (arith, length-append bytes on.bytes, counted, on.counted), Consumes-trans (g.I.Read.remaining c.args.input.now) (g.I.Read.remaining c.loop.input) (g.I.Read.remaining c.take_piece.new.input) bytes on.bytes gone on.gone, on.taken bytes taken);
       quiet = λ arguments asks tells. c.tell_stride.ensures arguments asks tells ∙ c.loop.invariant.quiet arguments asks tells;
     }
+
+pub returns-in_err-piece-clause-quiet : goal.returns-in_err-piece-clause-quiet
+returns-in_err-piece-clause-quiet g c = c.loop.invariant.quiet
+
+pub returns-then-count-most-clause-quiet : goal.returns-then-count-most-clause-quiet
+returns-then-count-most-clause-quiet g c = c.loop.invariant.quiet
+
+pub returns-then-piece-clause-quiet : goal.returns-then-piece-clause-quiet
+returns-then-piece-clause-quiet g c = λ arguments asks tells. c.tell_end.ensures arguments asks tells ∙ c.loop.invariant.quiet arguments asks tells
+
+pub returns-clause-quiet : goal.returns-clause-quiet
+returns-clause-quiet g c = c.loop.invariant.quiet
+
+pub returns-clause-few : goal.returns-clause-few
+returns-clause-few g c =
+    let (bytes, counted, gone, taken) = c.loop.invariant.taken in
+    (bytes, omega (arith, counted, c.most-most.ensures), gone)

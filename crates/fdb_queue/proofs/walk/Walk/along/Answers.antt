@@ -1,5 +1,5 @@
 use Rattle.std.proofs.Common.{◌≤◌, sym, ◌∙◌}
-use Rattle.std.proofs.lemmas.List.Elements.{All-rest}
+use Rattle.std.proofs.lemmas.List.Elements.{All-head, All-rest}
 use Rattle.std.proofs.lemmas.List.Folds.{fold_stays}
 use Rattle.std.specs.VecDeque.Iter.{deque_iter_rest}
 use Rattle.fdb_queue.specs.private.Walk.{walk_after}
@@ -18,3 +18,7 @@ pub returns-then-walk-clause-value : goal.returns-then-walk-clause-value
 returns-then-walk-clause-value g c =
     sym (fold_stays (walk_after c.args.config.now c.args.budgets.now) c.loop-request.walk (λ request. ended_stays c.args.config.now c.args.budgets.now c.loop-request.walk request c.if-walk.true) (deque_iter_rest c.loop-request.request-iterator))
     ∙ c.loop-request.invariant.2
+
+pub after-walk-requires-clause-count : goal.after-walk-requires-clause-count
+after-walk-requires-clause-count g c =
+    All-head (λ request. request.count ≤ MAX_COUNT) c.in-Some.request.now (deque_iter_rest c.next.new.self) (rw c.in-Some.ensures.steps at c.loop-request.invariant.1)

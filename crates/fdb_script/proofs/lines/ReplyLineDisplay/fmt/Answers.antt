@@ -11,4 +11,4 @@ pub returns-clause-writes : goal.returns-clause-writes
 returns-clause-writes g c = λ plain ok.
     let line = c.args.self.now in
     let answer = answer_text line.call.now.input line.call.now.position line.call.now.answer in
-    has_written_of_eq _ _ _ _ _ (rw c.act_word-act.ensures (spaced (decimal line.round) (decimal line.client) (decimal line.number) (act_text line.act.now) answer)) (c.write.ensures.writes plain ok)
+    has_written_of_eq _ _ _ _ _ (rw c.act_word.ensures (spaced (decimal line.round) (decimal line.client) (decimal line.number) (act_text line.act.now) answer)) (c.write.ensures.writes plain ok)
