@@ -3,6 +3,7 @@
 ghost use Rattle.std.specs.Prelude.{◌≡◌, true};
 ghost use Rattle.fdb_live.specs.Seen.{epoch_of};
 
+use crate::live::refusal;
 use fdb_chain::ChainError;
 use fdb_checks::CaseError;
 use fdb_history::{Ask, MAX_VERSION, OpenGate, Record};
@@ -55,7 +56,10 @@ fn asked_named<J: Live, R: Wait>(
       epoch = epoch_of J.chained J.epoch_end J.recovery;
     } }
 {
-    let (master, _, tokens) = opened.master::<J>()?;
+    let (master, tokens) = match opened.master::<J>() {
+        Ok((master, _, tokens)) => (master, tokens),
+        Err(cause) => return Err(refusal(cause)),
+    };
     for mut token in tokens {
         if !are_fresh(rt, &master, &mut token, asks)? {
             return Ok(String::from_str(alloc, "other")?);
