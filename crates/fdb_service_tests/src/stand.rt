@@ -13,7 +13,7 @@ use crate::stand::lines::play_lines;
 use fdb_checks::CaseError;
 use fdb_client::{Client, clients_of};
 use fdb_history::Record;
-use fdb_live::{Epoch, Fetched, Live, LiveRecord, Master, Opened, Seen};
+use fdb_live::{Epoch, Fetched, Live, LiveError, LiveRecord, Master, Opened, Seen};
 use fdb_proxy::{Desk, Request};
 use fdb_queue::Req;
 use std::alloc::Global;
@@ -116,15 +116,18 @@ fn play_named<J: Live + Send + Sync, R: Threads + Wait + Sync>(
     case: Case<'_>,
     once: bool,
 ) -> Result<(), CaseError>
-    requires { opened ≡ record {
+    requires opened { opened ≡ record {
       table = J.table;
       start = J.start;
       reporters = J.reporters;
       epoch = epoch_of J.chained J.epoch_end J.recovery;
     } }
-    requires { J.chained ≡ true }
+    requires chained { J.chained ≡ true }
 {
-    let (master, _, tokens) = opened.master::<J>()?;
+    let (master, tokens) = match opened.master::<J>() {
+        Ok((master, _, tokens)) => (master, tokens),
+        Err(cause) => return Err(refusal(cause)),
+    };
     if tokens.len() > 64 {
         return Err(CaseError::Failed(Fail::new("64 tokens at most")));
     }
@@ -174,8 +177,18 @@ pub(crate) fn play<R: Threads + Wait + Sync>(
         before: 0,
         recovery: 100,
     };
-    let opened = LiveRecord::<Brand>::open(rt, alloc, start, CLIENTS + 1, Some(epoch))?;
-    play_named::<Brand, R>(rt, alloc, opened, case, once)
+    match LiveRecord::<Brand>::open(rt, alloc, start, CLIENTS + 1, Some(epoch)) {
+        Ok(opened) => play_named::<Brand, R>(rt, alloc, opened, case, once),
+        Err(cause) => Err(refusal(cause)),
+    }
+}
+
+/// That memory was refused, or a failure that says what else a live record was refused for.
+fn refusal(cause: LiveError) -> CaseError {
+    match cause {
+        LiveError::Memory => CaseError::Memory,
+        _ => CaseError::Failed(Fail::new(cause)),
+    }
 }
 
 /// Plays the lines of a text, with ample memory.

@@ -105,7 +105,7 @@ pub(crate) fn learnt<J: Live, R: Wait>(
     let Some(token) = stand.told.take() else {
         return Err(CaseError::Failed(line.fail("nothing was told")));
     };
-    if token.number().is_some() {
+    if token.reporter().is_some() {
         return Err(CaseError::Failed(line.fail("a commit proxy's token")));
     }
     let client = client_at(stand, line)?;
