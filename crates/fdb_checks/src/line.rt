@@ -148,6 +148,19 @@ impl<'a> Line<'a> {
         }
     }
 
+    /// Forgets what was said.
+    pub fn hush(&mut self) {
+        self.said = String::new(self.alloc);
+    }
+
+    /// Forgets what was said and that the call was refused memory. Its words are to be read anew.
+    pub fn again(&mut self) {
+        self.hush();
+        self.refused = false;
+        self.words = self.text.split_whitespace();
+        self.ahead = None;
+    }
+
     /// Notes what is not as it should be.
     pub fn fails(&mut self, why: &'static str) {
         self.why = why;

@@ -2,7 +2,7 @@
 
 use crate::case_error::CaseError;
 use crate::line::Line;
-use crate::table::{Case, cases};
+use crate::table::cases;
 use std::alloc::Global;
 use std::test::Fail;
 
@@ -15,11 +15,25 @@ pub trait Player {
 /// Plays the calls of a text, one of which wants something. They stand in lines or between
 /// semicolons; a `#` begins a comment.
 pub fn plays<P: Player>(alloc: Global, player: &mut P, text: &str) -> Result<(), CaseError> {
+    plays_at(alloc, player, text, 0)
+}
+
+/// The same at a number. What stands behind a star is played so often, at each place below the number,
+/// and the other lines at the number once. Lines of which several are played in turn stand between
+/// commas.
+pub fn plays_at<P: Player>(
+    alloc: Global,
+    player: &mut P,
+    text: &str,
+    number: u64,
+) -> Result<(), CaseError> {
     if !text.contains("=>") {
         return Err(CaseError::Failed(Fail::new("a text that wants nothing")));
     }
     for line in text.lines() {
-        plays_each(alloc, player, line, ';', 0)?;
+        if !line.starts_with('#') {
+            plays_line(alloc, player, line, number)?;
+        }
     }
     Ok(())
 }
@@ -44,60 +58,56 @@ pub fn bears<P: Player>(alloc: Global, player: &mut P, text: &str) -> Result<(),
 /// Plays the cases of a table, each of which begins anew, and is to succeed.
 pub fn plays_cases<P: Player>(alloc: Global, player: &mut P, table: &str) -> Result<(), Fail> {
     for case in cases(alloc, table)? {
-        plays_case(alloc, player, case)?;
+        case.ends(plays_at(alloc, player, case.of, case.number))?;
     }
     Ok(())
 }
 
-/// Plays what stands behind the calls of a case, where lines stand between semicolons. Those behind
-/// a star are played so often, at each place below the case's number, and the others at that number
-/// once. Lines of which several are played in turn stand between commas.
-fn plays_case<P: Player>(alloc: Global, player: &mut P, case: Case<'_>) -> Result<(), Fail> {
-    for lines in case.of.split(';') {
-        match plays_lines(alloc, player, lines.trim(), case.number) {
-            Err(CaseError::Memory) => return case.came_to(None),
-            played => played?,
+fn plays_line<P: Player>(
+    alloc: Global,
+    player: &mut P,
+    line: &str,
+    number: u64,
+) -> Result<(), CaseError> {
+    for part in line.split(';') {
+        match part.trim_start().strip_prefix('*') {
+            None => plays_part(alloc, player, part, number)?,
+            Some(each) => plays_each(alloc, player, each, number)?,
         }
     }
     Ok(())
 }
 
-/// Plays some lines of a case: behind a star at each place, and else once.
-fn plays_lines<P: Player>(
-    alloc: Global,
-    player: &mut P,
-    lines: &str,
-    number: u64,
-) -> Result<(), CaseError> {
-    let Some(each) = lines.strip_prefix('*') else {
-        return plays_each(alloc, player, lines, ',', number);
-    };
-    for place in 0..number {
-        plays_each(alloc, player, each, ',', place)?;
-    }
-    Ok(())
-}
-
-/// Plays lines, between which this character stands, at a place.
+/// Plays a part of a line at each place.
 fn plays_each<P: Player>(
     alloc: Global,
     player: &mut P,
-    lines: &str,
-    between: char,
-    place: u64,
+    each: &str,
+    number: u64,
 ) -> Result<(), CaseError> {
-    for line in lines.split(between) {
-        plays_line(player, &mut Line::at(alloc, line, place))?;
+    for place in 0..number {
+        plays_part(alloc, player, each, place)?;
     }
     Ok(())
 }
 
-fn plays_line<P: Player>(player: &mut P, line: &mut Line<'_>) -> Result<(), CaseError> {
-    match line.next_word() {
-        None | Some("#") => Ok(()),
-        Some(call) => {
-            player.called(call, line);
-            line.ends()
-        }
+/// Plays the calls of a part of a line, between which commas stand, at a place.
+fn plays_part<P: Player>(
+    alloc: Global,
+    player: &mut P,
+    part: &str,
+    place: u64,
+) -> Result<(), CaseError> {
+    for call in part.split(',') {
+        plays_call(player, &mut Line::at(alloc, call, place))?;
     }
+    Ok(())
+}
+
+fn plays_call<P: Player>(player: &mut P, line: &mut Line<'_>) -> Result<(), CaseError> {
+    if let Some(call) = line.next_word() {
+        player.called(call, line);
+        line.ends()?;
+    }
+    Ok(())
 }
