@@ -2,6 +2,7 @@
 //! `=>`, if it does, is what comes of the call.
 
 ghost use Rattle.std.specs.Prelude.{◌≡◌, true};
+ghost use Rattle.std.specs.Thread.{IsSync, IsSend};
 ghost use Rattle.fdb_live.specs.Seen.{epoch_of};
 
 pub mod lines;
@@ -57,6 +58,7 @@ pub(crate) struct Stand<'a, J: Live, R> {
     pub(crate) once: bool,
     /// The number of the request that alone was refused memory in its offer, counted from 1, or 0.
     pub(crate) alone: u64,
+    pub(crate) ghost shared: { IsSync R.row × IsSync J.row × IsSend J.row },
 }
 
 /// The tokens of those who are no clients.
@@ -83,7 +85,7 @@ impl<J: Live> Tokens<J> {
     }
 }
 
-impl<'a, J: Live, R: Wait> Stand<'a, J, R> {
+impl<'a, J: Live + Send + Sync, R: Threads + Wait + Sync> Stand<'a, J, R> {
     /// The last of some clients gives the tokens of those who are none.
     fn new(
         rt: &'a R,
@@ -105,7 +107,9 @@ impl<'a, J: Live, R: Wait> Stand<'a, J, R> {
             alone: 0,
         })
     }
+}
 
+impl<J: Live, R: Wait> Stand<'_, J, R> {
     /// How many calls are logged, how far the clients and the proxy have come in all, and what a
     /// witness reads. A call that is refused memory leaves that as it was.
     pub(crate) fn state(&mut self) -> (usize, u64, Fetched) {

@@ -3,6 +3,7 @@
 ghost use Rattle.std.specs.Prelude.{◌≡◌, IfSome};
 ghost use Rattle.fdb_client.specs.Cluster.{IsClusterConfig};
 ghost use Rattle.std.specs.List.{list_all};
+ghost use Rattle.std.specs.Thread.{IsSync};
 ghost use Rattle.fdb_queue.specs.Throttles.{is_throttle};
 
 use fdb_checks::{Line, Player, plays_cases, tag};
@@ -24,9 +25,10 @@ use std::thread::Threads;
 #[derive(Drop)]
 pub(crate) struct Clusters<'a, R> {
     rt: &'a R,
+    ghost shared: { IsSync R.row },
 }
 
-impl<'a, R> Clusters<'a, R> {
+impl<'a, R: Sync> Clusters<'a, R> {
     pub(crate) fn new(rt: &'a R) -> Self {
         Clusters { rt }
     }

@@ -12,6 +12,8 @@
 //! has to wait;
 //! - `stand` has nothing: how many answers stand, once the lock is gone.
 
+ghost use Rattle.std.specs.Thread.{IsSync};
+
 mod rows;
 
 use fdb_chain::{ChainCore, ChainError, RecentChain, Sequencer};
@@ -55,6 +57,7 @@ pub(crate) struct Chain<'a, R> {
     asked: Asked,
     patient: bool,
     held: bool,
+    ghost shared: { IsSync R.row },
 }
 
 impl<'a, R: Threads + Wait + Sync> Chain<'a, R> {

@@ -42,7 +42,7 @@ impl<'a, R: Wait> Opener<'a, R> {
 
     fn open(&self, line: &mut Line<'_>) {
         let start = record(line);
-        let reporters = line.number_behind("for") as u32;
+        let reporters = u32::try_from(line.number_behind("for")).unwrap_or_default();
         match opened(self.rt, line.alloc, start, reporters) {
             Ok(tokens) => line.say(tokens),
             Err(cause) => say_cause(line, cause),

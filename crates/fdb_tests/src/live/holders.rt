@@ -12,6 +12,7 @@
 //! - `threads` has how many readers there are beside all reporters and the first one: the last record.
 
 ghost use Rattle.std.specs.Prelude.{◌≡◌, false};
+ghost use Rattle.std.specs.Thread.{IsSync, IsSend};
 
 use crate::audits::words::record;
 use crate::live::held::{call_beside, report_held};
@@ -37,9 +38,10 @@ pub(crate) struct Holders<'a, J: Live, R> {
     pub(crate) rt: &'a R,
     pub(crate) live: Bare<J>,
     pub(crate) tokens: Vec<Option<Seen<J>>>,
+    pub(crate) ghost shared: { IsSync R.row × IsSync J.row × IsSend J.row },
 }
 
-impl<'a, J: Live, R: Wait> Holders<'a, J, R> {
+impl<'a, J: Live + Send + Sync, R: Threads + Wait + Sync> Holders<'a, J, R> {
     /// The holders of all tokens that a record is opened with.
     pub(crate) fn of(
         rt: &'a R,
@@ -61,8 +63,10 @@ impl<'a, J: Live, R: Wait> Holders<'a, J, R> {
             tokens,
         })
     }
+}
 
-    /// The token at a place that the next word names, which nobody else has until it is put back.
+impl<J: Live, R: Wait> Holders<'_, J, R> {
+    /// The token at a place, which nobody else has until it is put back.
     pub(crate) fn take(&mut self, line: &mut Line<'_>, place: u32) -> Option<Seen<J>> {
         let token = self.tokens.get_mut(place as usize)?.take();
         line.holds(token.is_some(), "somebody has the token");
