@@ -1,7 +1,7 @@
 //! Offers, windows, throttles and how long requests wait, by values worked out by hand.
 
 use crate::queue::Queue;
-use fdb_checks::{plays, says};
+use fdb_checks::{plays_all, says};
 use fdb_queue::QueueError;
 use std::test::Fail;
 
@@ -116,9 +116,6 @@ const TEXTS: &[&str] = &[RATES, OFFERS, RANGES, LIMITS, WAITS];
 
 #[test]
 fn offers_windows_and_throttles(rt: HostRuntime) -> Result<(), Fail> {
-    let mut queue = Queue::new(rt.alloc())?;
-    for text in TEXTS {
-        plays(&mut queue, text)?;
-    }
+    plays_all(rt.alloc(), &mut Queue::new(rt.alloc())?, TEXTS)?;
     says(rt.alloc(), &QueueError::Memory, "want of memory")
 }
