@@ -76,6 +76,10 @@ offer system 1 0 => in;starts 1 => 10000 | 3334 10000 10001 33333
 GrvQueue::window | new 1 1 1 => ok;*offer system 1 @0 => in,starts 1 => 1 | 65538
 GrvQueue::window | new 1 1 1 => ok;offer default 1 0 => in;starts @0 => 1 \
 | few many 9999999 10000000
+GrvQueue::set_rates | new 100000 1 100000 => ok;*offer batch 1 0 => in;turns 1 0 => @0 \
+| few many 99999 100000
+GrvQueue::set_rates | new 100000 1 1 => ok;offer batch 1 0 => in;turns @0 0 => 1 \
+| few many 99999 100000
 ";
 
 /// The same at each priority: requests that are let in and start, at most 10,000 in one window, and

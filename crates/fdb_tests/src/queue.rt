@@ -7,8 +7,11 @@
 //! - `starts` has a time: how many requests start in a window;
 //! - `waits` has a time: a number, or `none`;
 //! - `skip` has a time: how many idle windows were held at once, and behind a bar the budgets;
+//! - `rates` has a normal and a batch limit: how many are turned away, and behind a bar the payload
+//! and the cause of each; `turns` has the same: how many;
 //! - `lengths` has nothing: how many system, default and batch requests wait;
 //! - `throttle` has a priority, a tag, a rate and an expiry;
+//! - `forget` has a moment, by which throttles are forgotten;
 //! - `limits` has a priority and a moment: how many limits the tags of the `tag` lines before it
 //! have, and the rate and the expiry of the last.
 //!
@@ -19,7 +22,7 @@ mod rows;
 
 use fdb_checks::{Line, Player};
 use fdb_history::{Sequence, Tag};
-use fdb_queue::{GrvQueue, QueueConfig, QueueError, Req, Throttle};
+use fdb_queue::{GrvQueue, QueueConfig, QueueError, Req, Throttle, TurnedAway};
 use std::alloc::Global;
 use std::mem;
 
@@ -124,6 +127,22 @@ impl Queue {
         }
     }
 
+    fn rates(&mut self, line: &mut Line<'_>) {
+        let (normal, batch) = (line.number(), line.number());
+        match self.queue.set_rates(normal, batch) {
+            Ok(turned_away) => say_turned_away(line, &turned_away),
+            Err(cause) => say_cause(line, cause),
+        }
+    }
+
+    fn turns(&mut self, line: &mut Line<'_>) {
+        let (normal, batch) = (line.number(), line.number());
+        match self.queue.set_rates(normal, batch) {
+            Ok(turned_away) => line.say(turned_away.len()),
+            Err(cause) => say_cause(line, cause),
+        }
+    }
+
     fn waits(&self, line: &mut Line<'_>) {
         match self.queue.waits(line.number()) {
             None => line.say("none"),
@@ -186,10 +205,13 @@ impl Player for Queue {
             "offer" => self.offer(line),
             "window" => self.window(line),
             "starts" => self.starts(line),
+            "rates" => self.rates(line),
+            "turns" => self.turns(line),
             "waits" => self.waits(line),
             "skip" => self.skip(line),
             "lengths" => self.lengths(line),
             "throttle" => self.throttle(line),
+            "forget" => self.queue.forget_throttles(line.number()),
             "tag" => self.tag(line),
             "limits" => self.limits(line),
             _ => line.fails("no call"),
@@ -257,5 +279,15 @@ pub(crate) fn tag_of_bytes(line: &mut Line<'_>, bytes: u64) -> Tag {
 fn say_payloads(line: &mut Line<'_>, started: &[Req<u32>]) {
     for request in started {
         line.say(request.payload);
+    }
+}
+
+/// Says how many requests were turned away, and the payload and the cause of each.
+fn say_turned_away(line: &mut Line<'_>, turned_away: &[TurnedAway<u32>]) {
+    line.say(turned_away.len());
+    line.say("|");
+    for gone in turned_away {
+        line.say(gone.request.payload);
+        line.say(gone.cause);
     }
 }

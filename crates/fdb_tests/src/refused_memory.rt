@@ -58,7 +58,7 @@ const QUEUE: &str = "
 new 3 2 6 => ok
 offer batch 1 0 => in; offer batch 1 1 => in; offer default 1 2 => in; offer default 1 3 => in
 offer system 1 4 => in; offer system 1 5 => in; offer system 1 6 => out 0; window 1 => 4 5 6 | 0 0
-lengths => 0 2 1
+lengths => 0 2 1; rates 3 0 => 1 | 1 batch requests are not let in; lengths => 0 2 0
 throttle batch a 1 9 => ok; throttle batch b 2 9 => ok; throttle batch c 3 9 => ok
 throttle batch d 4 9 => ok; throttle batch e 5 9 => ok; throttle batch f 6 9 => ok
 throttle batch g 7 9 => ok; throttle batch a 8 9 => ok; throttle system b 9 9 => ok
