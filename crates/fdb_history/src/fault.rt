@@ -6,7 +6,7 @@ use std::fmt;
 /// Why the logs of a run, with the chain of its commit versions, have no explanation. Clients are
 /// places in the list of logs and calls are places in a log, both counted from 0. A position is
 /// that of a change of the register, counted from 1.
-#[derive(Clone, Copy, Debug)]
+#[derive(Clone, Copy, Debug, PartialEq, Eq)]
 pub enum AuditFault {
     /// A call was answered from before what its client had seen, or changed the register without
     /// going on.
