@@ -15,8 +15,9 @@
  * - A pointer is not null, also where its length is 0, and what it points to is readable, or
  *   writable where it is not `const`. What is written overlaps with no other argument.
  * - A `bool` is 0 or 1.
- * - A handle is one that stands here, written by these functions alone. It is copied nowhere, is
- *   used by one call at a time, and stays on the thread that made it. One that is not freed leaks.
+ * - A handle is one that stands here, written by these functions alone. It is copied nowhere, and
+ *   is used by one call at a time. Each may be used, and freed, on another thread than the one that
+ *   made it, where a lock, a join or the like orders the calls. One that is not freed leaks.
  * - No function is called from a signal handler, nor in the forked child of a program with threads.
  */
 #ifndef FDB_READ_VERSION_H
@@ -226,10 +227,32 @@ uint8_t fdb_queue_window(fdb_queue *queue, uint64_t elapsed, fdb_outcome *outcom
  * must be a queue. Constant time, and no memory. */
 void fdb_queue_pop(fdb_queue *queue, fdb_outcome *outcome);
 
+/* A batch request that new rates turned away. */
+typedef struct fdb_turned_away {
+    fdb_request request;
+    uint8_t cause; /* FDB_BAD_COUNT or FDB_BATCH_THROTTLED */
+} fdb_turned_away;
+
+/*
+ * Sets the two rates, as in fdb_queue_config, from the next window on. The capacity, the budgets and
+ * the throttles stay. Who waits, and would be let into a new queue of these rates, waits on; the
+ * others, all of them batch requests, are written to the start of `turned_away`, in order, each with
+ * why it would not be, and `*size` is how many. This needs room for all batch requests that wait.
+ * None are turned away where the normal rate does not fall and the batch rate is not 0. `*queue`
+ * must be a queue.
+ *
+ * FDB_OK, else FDB_ROOM, with `*size` the length that is needed, FDB_BAD_CONFIG (a rate is out of
+ * range) or FDB_MEMORY, the first that stands; all else is then as it was. FDB_MEMORY comes only
+ * where some would be turned away. Linear in the batch requests that wait.
+ */
+uint8_t fdb_queue_set_rates(fdb_queue *queue, uint64_t normal, uint64_t batch,
+                            fdb_turned_away *turned_away, size_t turned_away_length,
+                            uint64_t *size);
+
 /*
  * Whether the first of the row waits for its own rate alone; then `*windows` is how many windows of
- * `elapsed` microseconds start nothing before one starts it, with no offer between them. It does
- * not in an empty row, for a system request, for a batch one that the normal rate may hold or whose
+ * `elapsed` microseconds start nothing before one starts it, with no offer and no new rates between
+ * them. It does not in an empty row, for a system request, for a batch one that the normal rate may hold or whose
  * own limit is 0, and for a time out of range. `*queue` must be a queue. Constant time, no memory.
  */
 bool fdb_queue_waits(fdb_queue *queue, uint64_t elapsed, uint64_t *windows);
@@ -261,6 +284,11 @@ typedef struct fdb_limit {
 uint8_t fdb_queue_throttle(fdb_queue *queue, uint8_t priority,
                            const uint8_t *tag, size_t tag_length,
                            uint64_t at, fdb_limit *limit);
+
+/* Forgets each throttle that expires at the moment `at` or before: at that moment and later all
+ * answers are as if none were forgotten. `*queue` must be a queue. Linear in the throttles, and no
+ * memory. */
+void fdb_queue_forget_throttles(fdb_queue *queue, uint64_t at);
 
 /* Frees a queue; the handle is then none. `*queue` must be a queue. */
 void fdb_queue_free(fdb_queue *queue);

@@ -80,6 +80,7 @@ def of_c(_program):
             ("tests/c/audit.c", [], b"ok\n"),
             ("tests/c/audit.c", SANITIZED, b"ok\n"),
             ("tests/c/memory.c", WRAPPED, b"ok\n"),
+            ("tests/c/threads.c", [*SANITIZED, "-pthread"], b"ok\n"),
         ):
             case = f"{source} by {compiler} {' '.join(flags)}"
             yield case, fault_of_program(compiler, source, flags, wanted)
@@ -208,6 +209,7 @@ def refused_numbers(_program):
         ("a proxy above 32 bits", lambda: chain.ask(1 << 32, 1, 0)),
         ("a short metadata version", lambda: library.Record(1, False, b"1")._raw()),
         ("no such priority", lambda: library.GrvQueue(library.QueueConfig(1, 0, 1)).offer(1, 0, 3)),
+        ("a rate below 0", lambda: library.GrvQueue(library.QueueConfig(1, 0, 1)).set_rates(-1, 0)),
         ("a margin below 0", lambda: library.audit(b"", margin=-1)),
         ("an end and no begin", lambda: library.audit([library.Call(2, 1, 1, ended=2)])),
         ("a client above 32 bits", lambda: library.audit([library.Call(2, 1, client=1 << 32)])),

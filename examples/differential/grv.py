@@ -1,7 +1,9 @@
 """A small queue of a GRV proxy, as one would write it: a list for each priority, two budgets."""
-from fdb_read_version import Outcome, Priority, Refused, Request, Status
+from dataclasses import replace
 
-RATE_WINDOW = 2_000_000
+from fdb_read_version import Limit, Outcome, Priority, Refused, Request, Status, TurnedAway
+
+RATE_WINDOW, MOST_RATE, MOST_TAG = 2_000_000, 100_000, 16
 MOST_COUNT, MOST_STARTED, MOST_BURST, IDLE_BURST = 100_000, 10_000, 100_000, 10
 SYSTEM, DEFAULT, BATCH = Priority
 
@@ -10,6 +12,7 @@ class Grv:
     def __init__(self, config):
         self.config, self.normal, self.batch = config, 0, 0
         self.waiting = {SYSTEM: [], DEFAULT: [], BATCH: []}
+        self.throttles = {}
 
     def row(self):
         return self.waiting[SYSTEM] + self.waiting[DEFAULT] + self.waiting[BATCH]
@@ -19,10 +22,9 @@ class Grv:
         return Outcome(self.normal, self.batch, waits, tuple(started), out)
 
     def offer(self, count, payload, priority):
-        if not 1 <= count <= self.most(priority):
-            raise Refused(Status.BAD_COUNT)
-        if priority == BATCH and self.config.batch == 0:
-            raise Refused(Status.BATCH_THROTTLED)
+        cause = refusal_under(self.config, count, priority)
+        if cause is not None:
+            raise Refused(cause)
         out = None
         if len(self.row()) == self.config.room:
             below = [it for it in (BATCH, DEFAULT) if it > priority and self.waiting[it]]
@@ -32,8 +34,19 @@ class Grv:
         self.waiting[priority].append(Request(count, payload, priority))
         return self.outcome(out=out)
 
-    def most(self, priority):
-        return min(MOST_COUNT, self.config.normal + IDLE_BURST) if priority == BATCH else MOST_COUNT
+    def set_rates(self, normal, batch):
+        if not (1 <= normal <= MOST_RATE and batch <= MOST_RATE):
+            raise Refused(Status.BAD_CONFIG)
+        self.config = replace(self.config, normal=normal, batch=batch)
+        stay, gone = [], []
+        for request in self.waiting[BATCH]:
+            cause = refusal_under(self.config, request.count, BATCH)
+            if cause is None:
+                stay.append(request)
+            else:
+                gone.append(TurnedAway(cause, request))
+        self.waiting[BATCH] = stay
+        return gone
 
     def may_start(self, priority, count):
         """Whether a request may start with which so many transactions have started."""
@@ -68,11 +81,32 @@ class Grv:
         self.normal = paid(self.normal, elapsed, self.config.normal, unbatched, idle)
         self.batch = paid(self.batch, elapsed, self.config.batch, every, not self.row())
 
+    def set_throttle(self, priority, tag, rate, expires):
+        if len(tag) > MOST_TAG:
+            raise Refused(Status.TAG_TOO_LONG)
+        self.throttles[priority, tag] = Limit(rate, expires)
+
+    def throttle(self, priority, tag, at):
+        limit = self.throttles.get((priority, tag))
+        return limit if limit and at < limit.expires else None
+
+    def forget_throttles(self, at):
+        kept = {key: limit for key, limit in self.throttles.items() if at < limit.expires}
+        self.throttles = kept
+
     def pop(self):
         row = self.row()
         if not row:
             return self.outcome()
         return self.outcome(out=self.waiting[row[0].priority].pop(0))
+
+
+def refusal_under(config, count, priority):
+    """Why a configuration lets no such request in, if it does not."""
+    most = min(MOST_COUNT, config.normal + IDLE_BURST) if priority == BATCH else MOST_COUNT
+    if not 1 <= count <= most:
+        return Status.BAD_COUNT
+    return Status.BATCH_THROTTLED if priority == BATCH and config.batch == 0 else None
 
 
 def fits(limit, budget, count):

@@ -42,17 +42,33 @@ def asks(rng):
 
 
 def operations(rng):
-    """Random offers, windows and pops."""
+    """Random offers, windows and pops; and new rates, and throttles that are set and forgotten."""
     for payload in range(1 << 60):
         kind = rng.random()
         if kind < 0.15:
             yield "window", dict(elapsed=rng.choice([0, 1000, 5000, 100_000, 10_000_001]))
         elif kind < 0.17:
             yield "pop", {}
+        elif kind < 0.20:
+            normal, batch = rng.choice([100, 100, 100, 50, 1, 0]), rng.choice([20, 20, 1, 0, 100_001])
+            yield "set_rates", dict(normal=normal, batch=batch)
+        elif kind < 0.35:
+            yield throttling(rng)
         else:
             usual = rng.random() < 0.95
             count = rng.randint(1, 12) if usual else rng.choice([0, 110, 111, 100_001])
             yield "offer", dict(count=count, payload=payload, priority=rng.choice(list(Priority)))
+
+
+def throttling(rng):
+    """A throttle is set, asked for or forgotten, at a random moment."""
+    moment, kind = rng.randrange(10), rng.random()
+    if kind < 0.2:
+        return "forget_throttles", dict(at=moment)
+    it = dict(priority=rng.choice(list(Priority)), tag=b"t" * rng.choice([0, 1, 16, 17]))
+    if kind < 0.5:
+        return "set_throttle", dict(it, rate=rng.randrange(1 << 64), expires=moment)
+    return "throttle", dict(it, tag=it["tag"][:16], at=moment)
 
 
 def answer(subject, name, arguments):

@@ -248,6 +248,58 @@ static void waits_and_throttles_by_hand(void) {
     fdb_queue_free(&queue);
 }
 
+static bool is_gone(const fdb_turned_away *gone, uint64_t payload, uint64_t count, uint8_t cause) {
+    const fdb_request wanted = {.count = count, .payload = payload, .priority = FDB_BATCH};
+    return same_request(&gone->request, &wanted) && gone->cause == cause;
+}
+
+/* A batch request has at most normal + 10 transactions: 30, then 25, then 20. */
+static void rates_by_hand(void) {
+    fdb_queue_config config = {.normal = 20, .batch = 5, .room = 10};
+    fdb_queue queue = FDB_QUEUE_NONE;
+    fdb_outcome outcome;
+    const fdb_request given[] = {
+        {30, 1, FDB_BATCH}, {5, 2, FDB_BATCH}, {25, 3, FDB_BATCH}, {30, 4, FDB_DEFAULT}};
+    fdb_turned_away gone[3] = {{.cause = 77}, {.cause = 78}};
+    uint64_t size = 17, windows = 0;
+    assert(fdb_queue_new(&config, &queue) == FDB_OK);
+    for (size_t i = 0; i < 4; i++) assert(fdb_queue_offer(&queue, &given[i], &outcome) == FDB_OK);
+    assert(fdb_queue_set_rates(&queue, 0, 5, gone, 3, &size) == FDB_BAD_CONFIG);
+    assert(fdb_queue_set_rates(&queue, 100001, 5, gone, 3, &size) == FDB_BAD_CONFIG);
+    assert(fdb_queue_set_rates(&queue, 10, 100001, gone, 3, &size) == FDB_BAD_CONFIG && size == 17);
+    assert(fdb_queue_set_rates(&queue, 10, 5, gone, 2, &size) == FDB_ROOM && size == 3);
+    assert(fdb_queue_set_rates(&queue, 20, 1, gone, 3, &size) == FDB_OK && size == 0);
+    assert(gone[0].cause == 77);
+    assert(fdb_queue_set_rates(&queue, 15, 1, gone, 3, &size) == FDB_OK && size == 1);
+    assert(is_gone(&gone[0], 1, 30, FDB_BAD_COUNT) && gone[1].cause == 78);
+    assert(fdb_queue_set_rates(&queue, 10, 0, gone, 2, &size) == FDB_OK && size == 2);
+    assert(is_gone(&gone[0], 2, 5, FDB_BATCH_THROTTLED) && is_gone(&gone[1], 3, 25, FDB_BAD_COUNT));
+    /* the default request waits on: 20 more than a window lets start, and 5 in each second */
+    assert(fdb_queue_waits(&queue, 1000000, &windows) && windows == 4);
+    assert(fdb_queue_set_rates(&queue, 20, 0, gone, 0, &size) == FDB_OK && size == 0);
+    assert(fdb_queue_waits(&queue, 1000000, &windows) && windows == 1);
+    assert(fdb_queue_offer(&queue, &given[1], &outcome) == FDB_BATCH_THROTTLED);
+    fdb_queue_pop(&queue, &outcome);
+    assert(outcome.out.payload == 4 && outcome.default_waits == 0 && outcome.batch_waits == 0);
+    fdb_queue_free(&queue);
+}
+
+static void forgotten_by_hand(void) {
+    fdb_queue_config config = {.normal = 10, .batch = 0, .room = 2};
+    fdb_queue queue = FDB_QUEUE_NONE;
+    fdb_limit limit;
+    const uint8_t early[] = {'a'}, late[] = {'b'};
+    assert(fdb_queue_new(&config, &queue) == FDB_OK);
+    assert(fdb_queue_set_throttle(&queue, FDB_BATCH, early, 1, 8, 50) == FDB_OK);
+    assert(fdb_queue_set_throttle(&queue, FDB_BATCH, late, 1, 9, 51) == FDB_OK);
+    fdb_queue_forget_throttles(&queue, 49);
+    assert(fdb_queue_throttle(&queue, FDB_BATCH, early, 1, 49, &limit) == FDB_OK && limit.holds);
+    fdb_queue_forget_throttles(&queue, 50);
+    assert(fdb_queue_throttle(&queue, FDB_BATCH, early, 1, 49, &limit) == FDB_OK && !limit.holds);
+    assert(fdb_queue_throttle(&queue, FDB_BATCH, late, 1, 50, &limit) == FDB_OK && limit.rate == 9);
+    fdb_queue_free(&queue);
+}
+
 int main(int count, char **words) {
     size_t calls = count > 1 ? strtoull(words[1], NULL, 10) : 20000;
     state = count > 2 ? strtoull(words[2], NULL, 10) : 7;
@@ -257,6 +309,8 @@ int main(int count, char **words) {
     register_by_hand();
     queue_by_hand();
     waits_and_throttles_by_hand();
+    rates_by_hand();
+    forgotten_by_hand();
     queues_agree(calls);
     puts("ok");
     return 0;

@@ -94,6 +94,33 @@ static uint8_t queue_bears(long allowed) {
     return worst;
 }
 
+static uint8_t rates_bear(long allowed) {
+    fdb_queue_config config = {.normal = 20, .batch = 5, .room = OFFERS};
+    fdb_queue queue = FDB_QUEUE_NONE;
+    fdb_outcome outcome;
+    fdb_turned_away gone[OFFERS] = {{.cause = 77}};
+    uint64_t size = 77;
+    assert(fdb_queue_new(&config, &queue) == FDB_OK);
+    for (uint64_t i = 0; i < OFFERS; i++) {
+        fdb_request request = {.count = i % 2 ? 30 : 1, .payload = i, .priority = FDB_BATCH};
+        assert(fdb_queue_offer(&queue, &request, &outcome) == FDB_OK);
+    }
+    left = 0;
+    /* where nobody is turned away it takes none */
+    assert(fdb_queue_set_rates(&queue, 20, 7, gone, OFFERS, &size) == FDB_OK && size == 0);
+    left = allowed;
+    uint8_t status = fdb_queue_set_rates(&queue, 10, 7, gone, OFFERS, &size);
+    left = -1;
+    if (status == FDB_MEMORY) {
+        assert(size == 0 && gone[0].cause == 77);
+        assert(fdb_queue_set_rates(&queue, 10, 7, gone, OFFERS, &size) == FDB_OK);
+    }
+    assert(size == OFFERS / 2);
+    for (uint64_t i = 0; i < size; i++) assert(gone[i].request.payload == 2 * i + 1);
+    fdb_queue_free(&queue);
+    return status;
+}
+
 static uint8_t arrays_bear(long allowed) {
     fdb_ask asks[ASKS];
     fdb_answer answers[ASKS];
@@ -161,6 +188,7 @@ static void sweep(uint8_t (*bears)(long allowed)) {
 int main(void) {
     sweep(chain_bears);
     sweep(queue_bears);
+    sweep(rates_bear);
     sweep(arrays_bear);
     sweep(log_text_bears);
     sweep(log_faults_bear);

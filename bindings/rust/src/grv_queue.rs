@@ -7,6 +7,9 @@ use std::fmt;
 /// The most requests that one window starts.
 const MOST_STARTED: u64 = 10_000;
 
+/// The status of a list that is too short.
+const ROOM: u8 = 8;
+
 /// No rate holds the first, the normal rate the second, both rates the third.
 #[derive(Clone, Copy, Debug, PartialEq, Eq)]
 pub enum Priority {
@@ -60,6 +63,15 @@ pub struct Outcome {
     pub started: Vec<Request>,
     /// The request that was pushed out or taken out.
     pub out: Option<Request>,
+}
+
+/// A batch request that new rates turned away.
+#[derive(Clone, Copy, Debug, PartialEq, Eq)]
+pub struct TurnedAway {
+    /// What a new queue of these rates would refuse it for: `BadCount` or `BatchThrottled`.
+    pub cause: QueueError,
+    /// The request.
+    pub request: Request,
 }
 
 /// The throttle of a tag.
@@ -159,6 +171,10 @@ fn request_of(request: &raw::Request) -> Request {
     Request { priority, count: request.count, payload: request.payload }
 }
 
+fn turned_away_of(gone: &raw::TurnedAway) -> TurnedAway {
+    TurnedAway { cause: error_of(gone.cause), request: request_of(&gone.request) }
+}
+
 fn outcome_of(outcome: &raw::Outcome, started: &[raw::Request]) -> Result<Outcome, QueueError> {
     if outcome.status != 0 {
         return Err(error_of(outcome.status));
@@ -178,6 +194,8 @@ fn outcome_of(outcome: &raw::Outcome, started: &[raw::Request]) -> Result<Outcom
 pub struct GrvQueue {
     handle: raw::Handle,
     started: Vec<raw::Request>,
+    // (as long as the most that waited for batch at new rates)
+    turned_away: Vec<raw::TurnedAway>,
 }
 
 impl GrvQueue {
@@ -191,7 +209,8 @@ impl GrvQueue {
         match unsafe { raw::fdb_queue_new(&raw_config(&config), &mut handle) } {
             0 => {
                 let room = config.room.min(MOST_STARTED) as usize;
-                Ok(GrvQueue { handle, started: vec![raw::Request::default(); room] })
+                let started = vec![raw::Request::default(); room];
+                Ok(GrvQueue { handle, started, turned_away: Vec::new() })
             }
             status => Err(error_of(status)),
         }
@@ -227,6 +246,33 @@ impl GrvQueue {
         match status {
             0 => outcome_of(&outcome, &self.started[..outcome.started as usize]),
             status => Err(error_of(status)),
+        }
+    }
+
+    /// Sets the two rates, from the next window on; the capacity, the budgets and the throttles
+    /// stay. It gives the batch requests that wait and that a new queue of these rates would refuse,
+    /// in order; all others wait on. Refused, it leaves the queue as it was.
+    ///
+    /// # Errors
+    /// `BadConfig`, for a rate out of range, or `Memory`.
+    pub fn set_rates(&mut self, normal: u64, batch: u64) -> Result<Vec<TurnedAway>, QueueError> {
+        let mut size = 0;
+        let mut status = self.rates_set(normal, batch, &mut size);
+        if status == ROOM {
+            self.turned_away.resize(size as usize, raw::TurnedAway::default());
+            status = self.rates_set(normal, batch, &mut size);
+        }
+        match status {
+            0 => Ok(self.turned_away[..size as usize].iter().map(turned_away_of).collect()),
+            status => Err(error_of(status)),
+        }
+    }
+
+    fn rates_set(&mut self, normal: u64, batch: u64, size: &mut u64) -> u8 {
+        let (turned_away, room) = (self.turned_away.as_mut_ptr(), self.turned_away.len());
+        // SAFETY: the handle is a queue, and the length is that of the list.
+        unsafe {
+            raw::fdb_queue_set_rates(&mut self.handle, normal, batch, turned_away, room, size)
         }
     }
 
@@ -293,6 +339,13 @@ impl GrvQueue {
             0 => Ok(found.holds.then_some(Limit { rate: found.rate, expires: found.expires })),
             status => Err(error_of(status)),
         }
+    }
+
+    /// Forgets each throttle that expires at this moment or before: from it on all answers are as
+    /// if none were forgotten.
+    pub fn forget_throttles(&mut self, at: u64) {
+        // SAFETY: the handle is a queue.
+        unsafe { raw::fdb_queue_forget_throttles(&mut self.handle, at) }
     }
 
     /// Takes the first request of the row out, whatever the rates say of it.

@@ -14,6 +14,7 @@ mod record;
 pub use chain::{answers, Ask, Chain, ChainError, Issued};
 pub use grv_queue::{
     outcomes, GrvQueue, Limit, Op, Outcome, Priority, QueueConfig, QueueError, Request, State,
+    TurnedAway,
 };
 pub use log::{
     audit_lines, audit_lines_text, audit_log, audit_log_text, AuditOptions, Call, Fault, FaultKind,

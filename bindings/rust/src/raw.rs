@@ -1,7 +1,6 @@
 //! What `include/fdb_read_version.h` declares.
 
 use std::ffi::c_void;
-use std::marker::PhantomData;
 use std::ptr;
 
 #[repr(C)]
@@ -27,16 +26,20 @@ pub struct Answer {
     pub fresh: bool,
 }
 
-/// A handle, or none. It is not `Send`: it stays on its thread.
+/// A handle, or none. It owns what it points to.
 #[repr(C)]
 pub struct Handle {
     at: *mut c_void,
-    one_thread: PhantomData<*mut ()>,
 }
+
+// SAFETY: what a handle points to is its own, from the program's malloc, and the library has no
+// global and nothing of a thread's: as the header says, any thread may use and free it, one call at
+// a time. (It is not `Sync`: also a call that only reads writes the handle.)
+unsafe impl Send for Handle {}
 
 impl Handle {
     pub fn none() -> Handle {
-        Handle { at: ptr::null_mut(), one_thread: PhantomData }
+        Handle { at: ptr::null_mut() }
     }
 }
 
@@ -87,6 +90,13 @@ pub struct Op {
     pub payload: u64,
     pub kind: u8,
     pub priority: u8,
+}
+
+#[repr(C)]
+#[derive(Clone, Copy, Default)]
+pub struct TurnedAway {
+    pub request: Request,
+    pub cause: u8,
 }
 
 #[repr(C)]
@@ -170,6 +180,14 @@ extern "C" {
         started_length: usize,
     ) -> u8;
     pub fn fdb_queue_pop(queue: *mut Handle, outcome: *mut Outcome);
+    pub fn fdb_queue_set_rates(
+        queue: *mut Handle,
+        normal: u64,
+        batch: u64,
+        turned_away: *mut TurnedAway,
+        turned_away_length: usize,
+        size: *mut u64,
+    ) -> u8;
     pub fn fdb_queue_waits(queue: *mut Handle, elapsed: u64, windows: *mut u64) -> bool;
     pub fn fdb_queue_set_throttle(
         queue: *mut Handle,
@@ -187,6 +205,7 @@ extern "C" {
         at: u64,
         limit: *mut Limit,
     ) -> u8;
+    pub fn fdb_queue_forget_throttles(queue: *mut Handle, at: u64);
     pub fn fdb_queue_free(queue: *mut Handle);
     pub fn fdb_queue_outcomes(
         config: *const QueueConfig,

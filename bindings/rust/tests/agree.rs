@@ -2,8 +2,9 @@
 
 use fdb_read_version::{
     answers, outcomes, Ask, Chain, ChainError, GrvQueue, Limit, Op, Priority, QueueConfig,
-    QueueError, Record, Request,
+    QueueError, Record, Request, TurnedAway,
 };
+use std::thread;
 
 /// The same numbers on each machine (xorshift).
 struct Drawn(u64);
@@ -101,6 +102,54 @@ fn the_queue_by_hand() {
     assert_eq!(queue.throttle(Priority::Batch, b"tag", 49), Ok(None));
     let long = queue.set_throttle(Priority::Default, &[b't'; 17], limit);
     assert_eq!(long, Err(QueueError::TagTooLong));
+}
+
+#[test]
+fn new_rates_by_hand() {
+    let mut queue = GrvQueue::new(QueueConfig { normal: 20, batch: 5, room: 10 }).unwrap();
+    let batch = |count, payload| Request { priority: Priority::Batch, count, payload };
+    let gone = |count, payload, cause| TurnedAway { cause, request: batch(count, payload) };
+    // A batch request has at most normal + 10 transactions: 30, then 20.
+    for request in [batch(30, 1), batch(5, 2), batch(21, 3)] {
+        queue.offer(request).unwrap();
+    }
+    assert_eq!(queue.set_rates(0, 5), Err(QueueError::BadConfig));
+    assert_eq!(queue.set_rates(20, 1), Ok(vec![]));
+    let two = vec![gone(30, 1, QueueError::BadCount), gone(21, 3, QueueError::BadCount)];
+    assert_eq!(queue.set_rates(10, 1), Ok(two));
+    assert_eq!(queue.set_rates(10, 0), Ok(vec![gone(5, 2, QueueError::BatchThrottled)]));
+    assert_eq!(queue.offer(batch(5, 4)), Err(QueueError::BatchThrottled));
+    assert_eq!(queue.pop(), None);
+}
+
+#[test]
+fn forgotten_throttles_by_hand() {
+    let mut queue = GrvQueue::new(QueueConfig { normal: 20, batch: 5, room: 10 }).unwrap();
+    let limit = |expires| Limit { rate: 9, expires };
+    queue.set_throttle(Priority::Batch, b"early", limit(50)).unwrap();
+    queue.set_throttle(Priority::Batch, b"late", limit(51)).unwrap();
+    queue.forget_throttles(50);
+    assert_eq!(queue.throttle(Priority::Batch, b"early", 49), Ok(None));
+    assert_eq!(queue.throttle(Priority::Batch, b"late", 50), Ok(Some(limit(51))));
+}
+
+#[test]
+fn handles_move_between_threads() {
+    let made = thread::spawn(|| {
+        let config = QueueConfig { normal: 100, batch: 10, room: 10 };
+        (Chain::new(100, 200, 1).unwrap(), GrvQueue::new(config).unwrap())
+    });
+    let (mut chain, mut queue) = made.join().unwrap();
+    let ask = Ask { proxy: 0, num: 1, processed: 0, at: 5 };
+    let request = Request { priority: Priority::System, count: 1, payload: 17 };
+    assert_eq!(chain.ask(ask).unwrap().version, 200);
+    queue.offer(request).unwrap();
+    // (both are dropped there)
+    let used = thread::spawn(move || {
+        let next = chain.ask(Ask { num: 2, at: 6, ..ask }).unwrap();
+        (next.version, queue.window(1000).unwrap().started)
+    });
+    assert_eq!(used.join().unwrap(), (201, vec![request]));
 }
 
 #[test]

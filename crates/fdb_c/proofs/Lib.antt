@@ -1,3 +1,4 @@
+pub mod Rates
 pub mod Times
 pub mod Windows
 pub mod Word

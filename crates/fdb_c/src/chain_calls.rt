@@ -10,7 +10,7 @@ ghost use Rattle.fdb_c.specs.Chain.{StandsFor, ask_of, told};
 
 use crate::chain::{FdbAnswer, FdbAsk, step};
 use crate::chain_handle::FdbChain;
-use crate::parts::Parts;
+use crate::parts::{Parts, boxed};
 use crate::status::{FDB_BAD_EPOCH, FDB_MEMORY, FDB_NO_PROXY, FDB_OK};
 use fdb_chain::{ChainError, RecentChain};
 use std::alloc::Global;
@@ -35,7 +35,7 @@ pub extern "C" fn fdb_chain_new(
         ↔ (IsEpoch epoch_end recovery × ((proxies ≡ 0) ⊎ (MAX_PROXIES < proxies))) }
 {
     match RecentChain::new(alloc, epoch_end, recovery, proxies) {
-        Ok(core) => match Box::new(alloc, core) {
+        Ok(core) => match boxed(alloc, core) {
             Ok(core) => {
                 mem::replace(chain, FdbChain::of(Parts::of(core))).gone();
                 FDB_OK

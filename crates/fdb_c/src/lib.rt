@@ -20,6 +20,7 @@ mod queue;
 mod queue_array;
 mod queue_calls;
 mod queue_handle;
+mod queue_rates;
 mod queue_steps;
 mod queue_tags;
 mod queue_window;

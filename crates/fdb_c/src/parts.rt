@@ -1,10 +1,20 @@
 //! A box as a pointer and what it takes to free it.
 
-ghost use Rattle.std.specs.Prelude.{◌≡◌};
+ghost use Rattle.std.specs.Prelude.{◌≡◌, IfOk};
 ghost use Rattle.std.specs.Box.Ownership.{box_owns};
 
-use std::alloc::Allocator;
+use std::alloc::{AllocError, Allocator, Global};
 use std::marker::Model;
+
+/// A box of what C may hand to another thread, as each handle: so it has to be `Send`.
+pub(crate) fn boxed<T: Drop + Send>(alloc: Global, value: T) -> Result<Box<T>, AllocError>
+    ensures { IfOk result (λ made. made.value ≡ value) }
+{
+    match Box::new(alloc, value) {
+        Ok(made) => Ok(made),
+        Err(_) => Err(AllocError),
+    }
+}
 
 /// What was a box: the pointer to its value, and its allocator. It owns the value and the right to
 /// free its block.

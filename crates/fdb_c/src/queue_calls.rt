@@ -7,7 +7,7 @@ ghost use Rattle.fdb_queue.specs.Queue.{new_queue};
 ghost use Rattle.fdb_queue.specs.Waiting.{row};
 ghost use Rattle.fdb_c.specs.Queue.{after, config_of, IsDone, offered, started_by, told};
 
-use crate::parts::Parts;
+use crate::parts::{Parts, boxed};
 use crate::queue::{FdbOutcome, FdbQueueConfig, FdbRequest, Op, priority_of, shown};
 use crate::queue_handle::FdbQueue;
 use crate::queue_steps::{offer_shown, pop_shown};
@@ -33,7 +33,7 @@ pub extern "C" fn fdb_queue_new(alloc: Global, config: &FdbQueueConfig, queue: &
     let Ok(made) = GrvQueue::new(alloc, config) else {
         return FDB_BAD_CONFIG;
     };
-    match Box::new(alloc, made) {
+    match boxed(alloc, made) {
         Ok(made) => {
             mem::replace(queue, FdbQueue::of(Parts::of(made))).gone();
             FDB_OK

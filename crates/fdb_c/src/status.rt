@@ -1,5 +1,10 @@
 //! What a call answers: 0, or the number of a refusal.
 
+ghost use Rattle.std.specs.Prelude.{◌≡◌, Some};
+ghost use Rattle.fdb_c.specs.Queue.{status_of};
+
+use fdb_queue::QueueError;
+
 /// Done.
 pub const FDB_OK: u8 = 0;
 
@@ -68,3 +73,17 @@ pub const FDB_SOME_TIMES: u8 = 38;
 
 /// A member of a line is missing, of another kind, or not one that may stand there.
 pub const FDB_BAD_MEMBER: u8 = 39;
+
+/// The number of a queue's refusal.
+pub(crate) fn status_of(cause: QueueError) -> u8
+    ensures { result ≡ status_of (Some cause) }
+{
+    match cause {
+        QueueError::BadConfig => FDB_BAD_CONFIG,
+        QueueError::BadCount => FDB_BAD_COUNT,
+        QueueError::BatchThrottled => FDB_BATCH_THROTTLED,
+        QueueError::Full => FDB_FULL,
+        QueueError::TagTooLong => FDB_TAG_TOO_LONG,
+        QueueError::Memory => FDB_MEMORY,
+    }
+}

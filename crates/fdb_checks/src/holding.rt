@@ -1,11 +1,8 @@
 //! A gate that holds whoever passes first, with a lock, while something is done beside it.
 
-use crate::compare::{holds, same};
 use crate::waiting::{comes, stays_away};
 use fdb_history::{Gate, Place};
-use std::fmt::Display;
 use std::sync::atomic::{AtomicBool, AtomicU64, Ordering};
-use std::test::Fail;
 
 /// How often who is held looks whether the other passes meanwhile.
 const GLANCES: u32 = 100;
@@ -60,13 +57,13 @@ impl HoldsFirst {
         self.held.store(true, Ordering::SeqCst);
     }
 
-    /// Fails where the first and the second have not passed so often, or not in turn, or not at the
-    /// place, or where somebody waited in vain.
-    pub fn was_passed(&self, wanted: (u64, u64), case: &impl Display) -> Result<(), Fail> {
+    /// Whether the first and the second have passed so often, in turn and at the place, and nobody
+    /// waited in vain.
+    pub fn was_passed(&self, by_first: u64, by_second: u64) -> bool {
         let [first, second] = &self.passes;
-        let passes = (first.load(Ordering::SeqCst), second.load(Ordering::SeqCst));
-        same(&passes, &wanted, case)?;
-        holds(!self.failed.load(Ordering::SeqCst), case)
+        first.load(Ordering::SeqCst) == by_first
+            && second.load(Ordering::SeqCst) == by_second
+            && !self.failed.load(Ordering::SeqCst)
     }
 
     /// Waits for a flag of its own, and notes a failure where it does not come.

@@ -2,81 +2,112 @@
 
 use crate::case_error::CaseError;
 use crate::line::Line;
-use crate::table::Case;
+use crate::table::cases;
+use std::alloc::Global;
 use std::test::Fail;
 
 /// Something that calls of a text are made to.
 pub trait Player {
-    /// Makes a call by the rest of its line, and answers the words that the line wants, or that
-    /// memory was refused.
-    fn called(&mut self, call: &str, line: &mut Line<'_>) -> Result<String, CaseError>;
+    /// Makes a call by the rest of its line, and says there what it is answered.
+    fn called(&mut self, call: &str, line: &mut Line<'_>);
 }
 
 /// Plays the calls of a text, one of which wants something. They stand in lines or between
 /// semicolons; a `#` begins a comment.
-pub fn plays<P: Player>(player: &mut P, text: &str) -> Result<(), CaseError> {
+pub fn plays<P: Player>(alloc: Global, player: &mut P, text: &str) -> Result<(), CaseError> {
+    plays_at(alloc, player, text, 0)
+}
+
+/// The same at a number. What stands behind a star is played so often, at each place below the number,
+/// and the other lines at the number once. Lines of which several are played in turn stand between
+/// commas.
+pub fn plays_at<P: Player>(
+    alloc: Global,
+    player: &mut P,
+    text: &str,
+    number: u64,
+) -> Result<(), CaseError> {
     if !text.contains("=>") {
         return Err(CaseError::Failed(Fail::new("a text that wants nothing")));
     }
     for line in text.lines() {
-        plays_each(player, line, ';', 0)?;
+        if !line.starts_with('#') {
+            plays_line(alloc, player, line, number)?;
+        }
+    }
+    Ok(())
+}
+
+/// The same for each of some texts.
+pub fn plays_all<P: Player>(alloc: Global, player: &mut P, texts: &[&str]) -> Result<(), Fail> {
+    for text in texts {
+        plays(alloc, player, text)?;
     }
     Ok(())
 }
 
 /// The same where memory may be refused once: then the text, which begins anew, is played again.
-pub fn bears<P: Player>(player: &mut P, text: &str) -> Result<(), Fail> {
-    if let Err(error) = plays(player, text) {
+pub fn bears<P: Player>(alloc: Global, player: &mut P, text: &str) -> Result<(), Fail> {
+    if let Err(error) = plays(alloc, player, text) {
         error.was_refusal()?;
-        plays(player, text)?;
+        plays(alloc, player, text)?;
     }
     Ok(())
 }
 
-/// Plays what stands behind the calls of a case, where lines stand between semicolons. Those behind
-/// a star are played so often, at each place below the case's number, and the others at that number
-/// once. Lines of which several are played in turn stand between commas.
-pub fn plays_case<P: Player>(player: &mut P, case: Case<'_>) -> Result<(), Fail> {
-    for lines in case.of.split(';') {
-        match plays_lines(player, lines.trim(), case.number) {
-            Err(CaseError::Memory) => return case.came_to(None),
-            played => played?,
+/// Plays the cases of a table, each of which begins anew, and is to succeed.
+pub fn plays_cases<P: Player>(alloc: Global, player: &mut P, table: &str) -> Result<(), Fail> {
+    for case in cases(alloc, table)? {
+        case.ends(plays_at(alloc, player, case.of, case.number))?;
+    }
+    Ok(())
+}
+
+fn plays_line<P: Player>(
+    alloc: Global,
+    player: &mut P,
+    line: &str,
+    number: u64,
+) -> Result<(), CaseError> {
+    for part in line.split(';') {
+        match part.trim_start().strip_prefix('*') {
+            None => plays_part(alloc, player, part, number)?,
+            Some(each) => plays_each(alloc, player, each, number)?,
         }
     }
     Ok(())
 }
 
-/// Plays some lines of a case: behind a star at each place, and else once.
-fn plays_lines<P: Player>(player: &mut P, lines: &str, number: u64) -> Result<(), CaseError> {
-    let Some(each) = lines.strip_prefix('*') else {
-        return plays_each(player, lines, ',', number);
-    };
+/// Plays a part of a line at each place.
+fn plays_each<P: Player>(
+    alloc: Global,
+    player: &mut P,
+    each: &str,
+    number: u64,
+) -> Result<(), CaseError> {
     for place in 0..number {
-        plays_each(player, each, ',', place)?;
+        plays_part(alloc, player, each, place)?;
     }
     Ok(())
 }
 
-/// Plays lines, between which this character stands, at a place.
-fn plays_each<P: Player>(
+/// Plays the calls of a part of a line, between which commas stand, at a place.
+fn plays_part<P: Player>(
+    alloc: Global,
     player: &mut P,
-    lines: &str,
-    between: char,
+    part: &str,
     place: u64,
 ) -> Result<(), CaseError> {
-    for line in lines.split(between) {
-        plays_line(player, Line::at(line, place))?;
+    for call in part.split(',') {
+        plays_call(player, &mut Line::at(alloc, call, place))?;
     }
     Ok(())
 }
 
-fn plays_line<P: Player>(player: &mut P, mut line: Line<'_>) -> Result<(), CaseError> {
-    match line.next_word() {
-        None | Some("#") => {}
-        Some(call) => {
-            let found = player.called(call, &mut line)?;
-            line.wants(&found)?;
-        }
+fn plays_call<P: Player>(player: &mut P, line: &mut Line<'_>) -> Result<(), CaseError> {
+    if let Some(call) = line.next_word() {
+        player.called(call, line);
+        line.ends()?;
     }
     Ok(())
 }

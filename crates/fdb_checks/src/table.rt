@@ -7,6 +7,7 @@
 
 ghost use Rattle.std.specs.Prelude.{◌↔◌, ◌≡◌, Some, true, IsTrue, is_ok};
 
+use crate::case_error::CaseError;
 use std::alloc::Global;
 use std::test::Fail;
 
@@ -28,6 +29,14 @@ pub struct Case<'a> {
 }
 
 impl Case<'_> {
+    /// Fails where a call was refused memory, or the case failed.
+    pub fn ends(self, played: Result<(), CaseError>) -> Result<(), Fail> {
+        match played {
+            Err(CaseError::Memory) => self.came_to(None),
+            played => Ok(played?),
+        }
+    }
+
     /// Fails where a call was refused, or something came of it that should not.
     pub fn came_to(self, found: Option<bool>) -> Result<(), Fail>
         ensures { IsTrue (is_ok result) ↔ (found ≡ Some true) }

@@ -1,3 +1,4 @@
 pub mod Requests
 pub mod Batches
 pub mod Turns
+pub mod Rerated

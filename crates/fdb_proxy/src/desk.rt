@@ -1,11 +1,12 @@
 //! The desk at which requests wait for a proxy.
 
 ghost use Rattle.std.specs.Prelude.{◌≡◌, ◌<◌, ◌==◌, ◌&&◌, [], ◌∷◌, ◌++◌, IfErr, OnErr, OnOk, not};
-ghost use Rattle.std.specs.Prelude.{true, false, vec_len};
+ghost use Rattle.std.specs.Prelude.{true, false, vec_len, None, Some};
 ghost use Rattle.std.specs.List.{list_all};
 ghost use Rattle.fdb_proxy.specs.Options.{has_own_options};
 
 use crate::error::ProxyError;
+use crate::rates::Rates;
 use crate::request::Request;
 use fdb_live::Live;
 use fdb_queue::Req;
@@ -30,6 +31,9 @@ pub struct Taken<J: Live> {
     pub requests: Vec<Req<Request<J>>>,
     /// Whether the desk is closed, so that none will come after these.
     pub closed: bool,
+    /// The rates that were left there last, if any were since it was taken from before: they hold
+    /// before these requests are offered.
+    pub rates: Option<Rates>,
     pub ghost own_options: { list_all has_own_options requests.items ≡ true },
 }
 
@@ -72,6 +76,13 @@ impl<J: Live> Desk<J> {
         tray.take()
     }
 
+    /// Leaves new rates on the desk, in the place of any that were left there and not taken: they
+    /// hold from the proxy's next turn on, before what it offers there. A proxy that waits at the
+    /// desk waits on. Takes no memory.
+    pub fn set_rates<R: Wait>(&self, rt: &R, rates: Rates) {
+        self.tray.lock(rt).set_rates(rates);
+    }
+
     /// Closes the desk: from then on it refuses every request. Those that wait there stay. Takes no
     /// memory.
     pub fn close<R: Wait>(&self, rt: &R) {
@@ -90,12 +101,13 @@ impl<J: Live> Desk<J> {
     }
 }
 
-/// What the lock of a desk holds: the requests that wait there, and whether it is closed.
+/// What the lock of a desk holds: the requests that wait there, whether it is closed, and new rates.
 #[derive(Drop)]
 struct Tray<J: Live> {
     alloc: Global,
     waiting: Vec<Req<Request<J>>>,
     closed: bool,
+    rates: Option<Rates>,
     ghost own_options: { list_all has_own_options waiting.items ≡ true },
 }
 
@@ -104,11 +116,13 @@ impl<J: Live> Tray<J> {
     fn new(alloc: Global) -> Self
         ensures waiting { result.waiting.items ≡ [] }
         ensures open { result.closed ≡ false }
+        ensures rates { result.rates ≡ None }
     {
         Tray {
             alloc,
             waiting: Vec::new(alloc),
             closed: false,
+            rates: None,
         }
     }
 
@@ -125,6 +139,7 @@ impl<J: Live> Tray<J> {
         ensures handed_back { IfErr result (λ refused. refused.1 ≡ request) }
         ensures unchanged { OnErr result (self.new.waiting.items ≡ self.old.waiting.items) }
         ensures stays { self.new.closed ≡ self.old.closed }
+        ensures rates { self.new.rates ≡ self.old.rates }
     {
         if self.closed {
             return Err((ProxyError::Closed, request));
@@ -142,17 +157,30 @@ impl<J: Live> Tray<J> {
         !self.closed && self.waiting.is_empty()
     }
 
+    /// Takes new rates, in the place of those that it has.
+    fn set_rates(&mut self, rates: Rates)
+        ensures set { self.new.rates ≡ Some rates }
+        ensures same { self.new.waiting ≡ self.old.waiting }
+        ensures stays { self.new.closed ≡ self.old.closed }
+    {
+        self.rates = Some(rates);
+    }
+
     /// Takes all that is on it. An open one stays open.
     fn take(&mut self) -> Taken<J>
         ensures requests { result.requests ≡ self.old.waiting }
         ensures closed { result.closed ≡ self.old.closed }
+        ensures rates { result.rates ≡ self.old.rates }
         ensures empty { self.new.waiting.items ≡ [] }
+        ensures none { self.new.rates ≡ None }
         ensures stays { self.new.closed ≡ self.old.closed }
     {
         let requests = mem::replace(&mut self.waiting, Vec::new(self.alloc));
+        let rates = self.rates.take();
         Taken {
             requests,
             closed: self.closed,
+            rates,
         }
     }
 
@@ -160,6 +188,7 @@ impl<J: Live> Tray<J> {
     fn close(&mut self)
         ensures closed { self.new.closed ≡ true }
         ensures same { self.new.waiting ≡ self.old.waiting }
+        ensures rates { self.new.rates ≡ self.old.rates }
     {
         self.closed = true;
     }
@@ -168,6 +197,7 @@ impl<J: Live> Tray<J> {
     fn close_and_take(&mut self) -> Taken<J>
         ensures requests { result.requests ≡ self.old.waiting }
         ensures last { result.closed ≡ true }
+        ensures rates { result.rates ≡ self.old.rates }
         ensures empty { self.new.waiting.items ≡ [] }
         ensures closed { self.new.closed ≡ true }
     {

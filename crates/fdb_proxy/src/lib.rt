@@ -15,6 +15,7 @@ mod desk;
 mod error;
 mod outbox;
 mod proxy;
+mod rates;
 mod request;
 mod turn;
 
@@ -24,4 +25,5 @@ pub use cause::Cause;
 pub use desk::{Desk, Taken};
 pub use error::ProxyError;
 pub use proxy::GrvProxy;
+pub use rates::Rates;
 pub use request::Request;

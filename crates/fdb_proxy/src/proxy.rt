@@ -5,7 +5,7 @@ ghost use Rattle.std.specs.List.{FoldsTo};
 ghost use mathlib.Core.List.{IsPrefix};
 ghost use Rattle.fdb_proxy.specs.Cause.{is_of_an_offer, may_be_refused_for};
 ghost use Rattle.fdb_proxy.specs.private.Sent.{AreClosed, AreTurnedAway, IsRefused, IsServed};
-ghost use Rattle.fdb_proxy.specs.private.Sent.{IsServedOrLast};
+ghost use Rattle.fdb_proxy.specs.private.Sent.{IsRerated, IsTakenServed};
 ghost use Rattle.fdb_proxy.specs.private.Turn.{emptied};
 ghost use Rattle.fdb_queue.specs.Config.{IsElapsed};
 ghost use Rattle.fdb_queue.specs.Waiting.{row};
@@ -16,11 +16,12 @@ use crate::cause::Cause;
 use crate::desk::{Desk, Taken};
 use crate::error::ProxyError;
 use crate::outbox::{Channels, Outbox};
+use crate::rates::Rates;
 use crate::request::Request;
-use crate::turn::{Line, Turn, TurnedAway};
+use crate::turn::{Line, Turn};
 use crossbeam_channel::Sender;
 use fdb_live::{Live, LiveRecord, Seen};
-use fdb_queue::{GrvQueue, Req};
+use fdb_queue::{GrvQueue, Req, TurnedAway};
 use std::alloc::{AllocError, Global};
 use std::collections::VecDeque;
 use std::marker::Model;
@@ -83,7 +84,7 @@ impl<'a, J: Live> GrvProxy<'a, J> {
     /// Serves the desk until it is closed, and gives back the token.
     ///
     /// In each turn it takes what waits at the desk, and waits there only where its queue is
-    /// empty; it offers each request to the queue, holds one window, and serves what started as
+    /// empty. New rates hold first, and whoever may not wait under them is refused. It then offers each request to the queue, holds one window, and serves what started as
     /// one batch. Where nothing came, the windows that start nothing before the head of its
     /// queue may start are held at once, in constant time, and then one more. A request that
     /// was refused or pushed out is answered so. Once the desk is closed it has one more turn,
@@ -153,8 +154,9 @@ impl<J: Live> Server<'_, J> {
         unreachable!()
     }
 
-    /// Has one turn with what was taken from a desk. Where the desk is closed the turn is the last
-    /// one, as is answered, and all that are left are answered too.
+    /// Has one turn with what was taken from a desk, under the new rates if there are some. Where the
+    /// desk is closed the turn is the last one, as is answered, and all that are left are answered
+    /// too.
     fn serve_taken<R: Wait, O: Outbox<Answer<J>>>(
         &mut self,
         rt: &R,
@@ -162,7 +164,7 @@ impl<J: Live> Server<'_, J> {
         taken: Taken<J>,
     ) -> Result<bool, ProxyError>
         ensures last { IfOk result (λ last. last ≡ taken.closed) }
-        ensures served { OnOk result (IsServedOrLast O.sends taken.closed
+        ensures served { OnOk result (IsTakenServed O.sends taken.rates taken.closed
             self.old.line.elapsed self.old.line.queue taken.requests.items
             self.new.seen.changes self.new.line.queue out.old out.new) }
         ensures elapsed { OnOk result (self.new.line.elapsed ≡ self.old.line.elapsed) }
@@ -171,12 +173,37 @@ impl<J: Live> Server<'_, J> {
         ensures extends { IsPrefix self.old.seen.changes self.new.seen.changes }
         ensures memory { IfErr result (λ cause. cause ≡ ProxyError.Memory) }
     {
-        let Taken { requests, closed } = taken;
+        let Taken {
+            requests,
+            closed,
+            rates,
+        } = taken;
+        self.take_rates(rt, out, rates)?;
         self.serve_turn(rt, out, requests)?;
         if closed {
             close(rt, out, &mut self.line)?;
         }
         Ok(closed)
+    }
+
+    /// Takes on new rates, if there are some, and refuses all that may not wait under them.
+    fn take_rates<R: Wait, O: Outbox<Answer<J>>>(
+        &mut self,
+        rt: &R,
+        out: &mut O,
+        rates: Option<Rates>,
+    ) -> Result<(), ProxyError>
+        ensures rerated { OnOk result
+            (IsRerated O.sends rates self.old.line.queue self.new.line.queue out.old out.new) }
+        ensures elapsed { self.new.line.elapsed ≡ self.old.line.elapsed }
+        ensures seen { self.new.seen ≡ self.old.seen }
+        ensures memory { IfErr result (λ cause. cause ≡ ProxyError.Memory) }
+    {
+        let Some(rates) = rates else {
+            return Ok(());
+        };
+        let gone = self.line.set_rates(rates)?;
+        turn_away(rt, out, gone)
     }
 
     /// Has one turn with some requests, and answers all that it decides.

@@ -1,33 +1,27 @@
 //! The queue of a proxy and its turns.
 
 ghost use Rattle.std.specs.Prelude.{◌≡◌, ◌==◌, ◌+◌, ◌<◌, ◌≤◌, ◌++◌, [], All, IfOk, IfErr, OnErr};
-ghost use Rattle.std.specs.Prelude.{length, true};
+ghost use Rattle.std.specs.Prelude.{length, true, OnOk};
 ghost use Rattle.std.specs.Prelude.{option_to_list, vec_len, vec_capacity};
 ghost use Rattle.fdb_proxy.specs.Cause.{is_of_an_offer};
 ghost use Rattle.fdb_proxy.specs.private.Turn.{AreOffered, HasReady, IsReady, IsTurn, Offers};
 ghost use Rattle.fdb_proxy.specs.private.Turn.{StartsSome};
 ghost use Rattle.fdb_queue.specs.Config.{IsElapsed};
+ghost use Rattle.fdb_queue.specs.NewRates.{turned_away, under_rates, with_rates};
 ghost use Rattle.fdb_queue.specs.Waiting.{first, row, without_first};
 ghost use Rattle.fdb_queue.specs.Window.{window, after_window};
 
 use crate::error::ProxyError;
-use fdb_queue::{GrvQueue, QueueError, Req};
+use crate::rates::Rates;
+use fdb_queue::{GrvQueue, QueueError, Req, TurnedAway};
 use std::collections::VecDeque;
-
-/// A request that waits no more and does not start, and why.
-#[derive(Drop)]
-pub(crate) struct TurnedAway<T> {
-    /// What it was refused for, or `Full` where it was pushed out.
-    pub(crate) cause: QueueError,
-    pub(crate) request: Req<T>,
-}
 
 /// What a turn came to: who starts, and who waits no more without a start.
 #[derive(Drop)]
 pub(crate) struct Turn<T> {
     /// The requests that its window starts, in the order of the row.
     pub(crate) started: Vec<Req<T>>,
-    /// Those that were turned away, in the order in which they were.
+    /// Those that were turned away, in the order in which they were, as `Full` where pushed out.
     pub(crate) turned_away: Vec<TurnedAway<T>>,
 }
 
@@ -40,6 +34,33 @@ pub(crate) struct Line<T> {
 }
 
 impl<T: Drop> Line<T> {
+    /// Sets the rates of the queue, and gives out whom they turn away, in the order of the row.
+    ///
+    /// It is refused for memory alone: where some are turned away and there is none for their list.
+    /// The queue is then as it was.
+    #[tactic(auto, using(crate::proofs::Rerated::all_due))]
+    pub(crate) fn set_rates(&mut self, rates: Rates) -> Result<Vec<TurnedAway<T>>, ProxyError>
+        ensures set { OnOk result
+            (self.new.queue ≡ under_rates rates.normal rates.batch self.old.queue) }
+        ensures gone { IfOk result
+            (λ gone. gone.items ≡ turned_away
+            (with_rates rates.normal rates.batch self.old.queue.config)
+            (row self.old.queue.waiting)) }
+        ensures due { IfOk result (λ gone.
+            All (λ one. is_of_an_offer one.cause ≡ true) gone.items) }
+        ensures elapsed { self.new.elapsed ≡ self.old.elapsed }
+        ensures memory { IfErr result (λ cause. cause ≡ ProxyError.Memory) }
+        ensures some { OnErr result
+            (0 < length (turned_away (with_rates rates.normal rates.batch self.old.queue.config)
+            (row self.old.queue.waiting))) }
+        ensures unchanged { OnErr result (self.new.queue ≡ self.old.queue) }
+    {
+        match self.queue.set_rates(rates.normal, rates.batch) {
+            Ok(gone) => Ok(gone),
+            Err(_) => Err(ProxyError::Memory),
+        }
+    }
+
     /// Offers each of some requests to the queue, in order, and then holds one
     /// window. Where there is none, the windows before it that start nothing are held
     /// at once. Whoever is turned away is added to the list, which has room for all.

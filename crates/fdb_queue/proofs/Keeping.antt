@@ -89,10 +89,10 @@ swapped false true x y z apart = refl
 swapped false false x y z apart = refl
 
 -- what is found after an insertion
-abbrev keys_cmp : Vec ℕ → Vec ℕ → Ordering
+abbrev pub keys_cmp : Vec ℕ → Vec ℕ → Ordering
 keys_cmp a b = slice_cmp nat_cmp a.items b.items
 
-same_tags : (key other : Vec ℕ) (order : Ordering) → keys_cmp key other ≡ order → is_eq order ≡ bytes_eq key.items other.items
+pub same_tags : (key other : Vec ℕ) (order : Ordering) → keys_cmp key other ≡ order → is_eq order ≡ bytes_eq key.items other.items
 same_tags key other order is = ap is_eq (sym is) ∙ is_eq-slice_cmp key.items other.items
 
 apart : (key other : Vec ℕ) (tag : List ℕ) → keys_cmp key other ≡ Greater → bytes_eq tag other.items ≡ true → bytes_eq tag key.items ≡ true → ⊥

@@ -11,3 +11,5 @@ mod Examples
 pub mod Popping
 pub mod Setting
 pub mod Skipping
+pub mod Forgetting
+pub mod Rerating

@@ -6,6 +6,7 @@ pub mod Queue
 pub mod Window
 pub mod Admission
 pub mod Kept
+pub mod NewRates
 pub mod Laws
 pub mod Waits
 pub mod private

@@ -5,8 +5,8 @@ use Rattle.fdb_queue.specs.declared.budgets.Budgets.{Budgets}
 use Rattle.fdb_queue.specs.declared.config.QueueConfig.{QueueConfig}
 use Rattle.fdb_queue.specs.declared.throttles.Throttle.{Throttle}
 
--- A queue: what it was made with, the requests that wait, the budgets, and throttles that stand for
--- all that were set.
+-- A queue: its capacity and the rates that stand, the requests that wait, the budgets, and
+-- throttles that stand for all that were set and not forgotten.
 pub record Queue (T : Type 0) : Type 0 where
   pub config : QueueConfig
   pub waiting : Requests T

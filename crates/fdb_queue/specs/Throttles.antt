@@ -1,6 +1,6 @@
--- Tag throttles. (`PrioritizedTransactionTagMap` of GrvProxyServer; that one is never erased is
--- this product's own)
-use Rattle.std.specs.Prelude.{◌≡◌, ℕ, Bool, ◌&&◌, nat_eq, nat_le, nat_lt, length, if◌then◌else◌, List, [], ◌∷◌, Option, None, Some}
+-- Tag throttles. (`PrioritizedTransactionTagMap` of GrvProxyServer; that one is forgotten only where
+-- that is asked for is this product's own)
+use Rattle.std.specs.Prelude.{◌≡◌, ℕ, ◌≤◌, Bool, ◌&&◌, nat_eq, nat_le, nat_lt, length, if◌then◌else◌, List, [], ◌∷◌, Option, None, Some}
 use Rattle.std.specs.List.{flat_map}
 use Rattle.std.specs.Cmp.Lexicographic.{pointwise}
 use Rattle.fdb_history.specs.declared.grv.Priority.{Priority}
@@ -45,3 +45,20 @@ limits_of throttles priority at tags =
 abbrev pub SameThrottles : List Throttle → List Throttle → Type 0
 SameThrottles these those =
     (priority : Priority) (tag : List ℕ) → last_set these priority tag ≡ last_set those priority tag
+
+-- what was set, if it expires later than this moment
+abbrev pub still_set : ℕ → Option TagLimit → Option TagLimit
+still_set at None = None
+still_set at (Some limit) = if nat_lt at limit.expires then Some limit else None
+
+-- Of two lists of throttles one stands for all of the other that expire later than this moment.
+abbrev pub IsLeftAt : ℕ → List Throttle → List Throttle → Type 0
+IsLeftAt at left throttles =
+    (priority : Priority) (tag : List ℕ)
+    → last_set left priority tag ≡ still_set at (last_set throttles priority tag)
+
+-- Two lists of throttles give the same limits at each moment from this one on.
+abbrev pub SameFrom : ℕ → List Throttle → List Throttle → Type 0
+SameFrom at these those =
+    (priority : Priority) (moment : ℕ) (tags : List (List ℕ)) → at ≤ moment
+    → limits_of these priority moment tags ≡ limits_of those priority moment tags

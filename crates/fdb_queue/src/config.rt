@@ -4,7 +4,10 @@ ghost use Rattle.std.specs.Prelude.{◌≡◌, ◌<◌, ◌⊎◌, ◌↔◌, Is
 ghost use Rattle.std.specs.Bool.{OnTrue, OnFalse};
 ghost use Rattle.fdb_queue.specs.Admission.{is_count};
 ghost use Rattle.fdb_queue.specs.Config.{IsConfig, IsElapsed};
+ghost use Rattle.fdb_queue.specs.NewRates.{refusal_under};
 
+use crate::error::QueueError;
+use crate::request::Req;
 use fdb_history::Priority;
 
 /// The microseconds over which a rate counts. A budget counts parts of a transaction, of which
@@ -66,6 +69,21 @@ impl QueueConfig {
             Priority::System | Priority::Default => in_range,
             Priority::Batch => in_range && count <= self.normal + IDLE_BURST,
         }
+    }
+
+    /// Why a request may not wait under it, if it may not, whatever else waits.
+    #[tactic(auto, using(crate::proofs::Rerating::refusal_by_rates))]
+    pub(crate) fn refusal_of<T>(&self, request: &Req<T>) -> Option<QueueError>
+        requires { IsConfig self.now }
+        ensures { result ≡ refusal_under self.now request.now }
+    {
+        if !self.admits(request.priority, request.count) {
+            return Some(QueueError::BadCount);
+        }
+        if request.priority == Priority::Batch && self.batch == 0 {
+            return Some(QueueError::BatchThrottled);
+        }
+        None
     }
 }
 

@@ -5,10 +5,11 @@
 //! every one that keeps to `IsQueue`, as each `GrvQueue` does.
 
 ghost use Rattle.std.specs.Prelude.{◌≡◌, ℕ, ◌+◌, ◌*◌, ◌<◌, ◌≤◌, ◌⊎◌, [], ◌∷◌, ◌++◌, List, length};
-ghost use Rattle.std.specs.Prelude.{take, true, false, Some, None, option_to_list, IsPermutation};
+ghost use Rattle.std.specs.Prelude.{take, true, false, Some, None, option_to_list, IsPermutation, map, All};
 ghost use Rattle.fdb_queue.specs.Admission.{refusal_of, admitted, pushed_out};
 ghost use Rattle.fdb_queue.specs.Kept.{IsQueue};
 ghost use Rattle.fdb_queue.specs.Laws.{list_of, rank};
+ghost use Rattle.fdb_queue.specs.NewRates.{turned_away, under_rates, with_rates};
 ghost use Rattle.fdb_queue.specs.Queue.{Queue};
 ghost use Rattle.fdb_queue.specs.declared.throttles.Throttle.{Throttle};
 ghost use Rattle.fdb_queue.specs.Throttles.{SameThrottles, limits_of};
@@ -21,7 +22,7 @@ ghost use Rattle.fdb_queue.specs.Window.{may_start, fits, window, after_window};
 ghost use Rattle.fdb_queue.specs.Config.{IsConfig};
 ghost use Rattle.fdb_queue.specs.declared.config.TheConstants.{MAX_STARTED, RATE_WINDOW};
 ghost use Rattle.fdb_queue.specs.declared.request.Req.{Req};
-ghost use Rattle.fdb_history.specs.declared.grv.Priority.TheVariants.{Default};
+ghost use Rattle.fdb_history.specs.declared.grv.Priority.TheVariants.{Batch, Default};
 
 /// A window starts a prefix of the row, and so passes over nobody. Each request of it may start,
 /// given the sum of the counts before it; no longer prefix would do; and where one is left, it is
@@ -93,6 +94,27 @@ pub fn nobody_is_lost<T>()
     ensures { (queue : Queue T) (request : Req T) → refusal_of queue request ≡ None
         → IsPermutation (request ∷ row queue.waiting)
         (option_to_list (pushed_out queue request) ++ row (admitted queue request).waiting) }
+{}
+
+/// New rates lose nobody: whoever waited waits on, or is turned away. Only batch requests are, and
+/// nobody where the normal rate is no lower and the batch rate is not 0.
+pub fn new_rates_lose_nobody<T>()
+    ensures nobody { (queue : Queue T) (normal batch : ℕ)
+        → IsPermutation (row queue.waiting)
+        (map (λ gone. gone.request)
+        (turned_away (with_rates normal batch queue.config) (row queue.waiting))
+        ++ row (under_rates normal batch queue).waiting) }
+    ensures batch { (queue : Queue T) (normal batch : ℕ) → IsQueue queue
+        → IsConfig (with_rates normal batch queue.config)
+        → All (λ gone. gone.request.priority ≡ Batch)
+        (turned_away (with_rates normal batch queue.config) (row queue.waiting)) }
+    ensures higher { (queue : Queue T) (normal batch : ℕ) → IsQueue queue
+        → IsConfig (with_rates normal batch queue.config)
+        → queue.config.normal ≤ normal → 1 ≤ batch
+        → turned_away (with_rates normal batch queue.config) (row queue.waiting) ≡ [] }
+    ensures queue { (queue : Queue T) (normal batch : ℕ) → IsQueue queue
+        → IsConfig (with_rates normal batch queue.config)
+        → IsQueue (under_rates normal batch queue) }
 {}
 
 /// A request that is first in the row, in its own list, and sure to start waits no more windows of

@@ -24,6 +24,6 @@ pub use config::{
 };
 pub use error::QueueError;
 pub use queue::GrvQueue;
-pub use request::Req;
+pub use request::{Req, TurnedAway};
 pub use throttles::Throttle;
 pub use waiting::Lengths;

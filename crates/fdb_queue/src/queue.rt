@@ -2,14 +2,16 @@
 
 ghost use Rattle.std.specs.Prelude.{◌≡◌, ℕ, ◌+◌, ◌*◌, ◌<◌, ◌≤◌, ◌⊎◌, ◌↔◌, ◌∷◌, ◌++◌, ◌^◌, ◌==◌, []};
 ghost use Rattle.std.specs.Prelude.{false, length, drop, reverse, if◌then◌else◌, Err, OnOk, OnErr};
-ghost use Rattle.std.specs.Prelude.{IfOk, IfErr, IsTrue, IsSome, IfSome, IsSomeAnd, option_to_list};
+ghost use Rattle.std.specs.Prelude.{All, IfOk, IfErr, IsTrue, IsSome, IfSome, IsSomeAnd, option_to_list};
 ghost use Rattle.std.specs.List.{list_all};
 ghost use Rattle.std.specs.Int.{div_ceil};
 ghost use Rattle.fdb_queue.specs.Admission.{refusal_of, admitted, pushed_out, is_full, IsCause};
 ghost use Rattle.fdb_queue.specs.Config.{IsConfig, IsElapsed};
 ghost use Rattle.fdb_queue.specs.Kept.{IsQueue};
+ghost use Rattle.fdb_queue.specs.NewRates.{turned_away, under_rates, with_rates};
 ghost use Rattle.fdb_queue.specs.Queue.{new_queue};
-ghost use Rattle.fdb_queue.specs.Throttles.{is_throttle, limits_of, SameThrottles};
+ghost use Rattle.fdb_queue.specs.Throttles.{is_throttle, limits_of, IsLeftAt, SameFrom};
+ghost use Rattle.fdb_queue.specs.Throttles.{SameThrottles};
 ghost use Rattle.fdb_queue.specs.Waiting.{first, row, total, without_first};
 ghost use Rattle.fdb_queue.specs.Waits.{IsSure, limit_of, StartsAfter, after_windows};
 ghost use Rattle.fdb_queue.specs.private.Rates.{budget_of};
@@ -19,7 +21,7 @@ ghost use Rattle.fdb_queue.specs.Window.{window, after_window};
 use crate::budgets::{self, Budgets};
 use crate::config::{self, MAX_TAG, QueueConfig, RATE_WINDOW};
 use crate::error::QueueError;
-use crate::request::Req;
+use crate::request::{Req, TurnedAway};
 use crate::throttles::{self, Throttle, Throttles};
 use crate::waiting::{Lengths, Waiting};
 use fdb_history::{Priority, Tag, TagLimit};
@@ -197,6 +199,42 @@ impl<T> GrvQueue<T> {
         Ok(started)
     }
 
+    /// Sets the limits of the two rates, which hold from the next window on. Those that wait and
+    /// that a new queue of these limits would refuse are handed out, in the order of the row, each
+    /// with why; all others wait on. The budgets stay, and the next window cuts them as ever.
+    ///
+    /// It is refused as `BadConfig` where a limit is out of range, else for memory, which is not
+    /// taken where nobody is handed out; nothing has changed then. It takes time in proportion to
+    /// the batch requests that wait.
+    pub fn set_rates(&mut self, normal: u64, batch: u64) -> Result<Vec<TurnedAway<T>>, QueueError>
+        ensures in_range { OnOk result (IsConfig (with_rates normal batch self.old.config)) }
+        ensures set { OnOk result (self.new ≡ under_rates normal batch self.old) }
+        ensures handed_out { IfOk result
+            (λ out. out.items ≡ turned_away (with_rates normal batch self.old.config)
+            (row self.old.waiting)) }
+        ensures kept { IsQueue self.old }
+
+        ensures bad_config { (result ≡ Err QueueError.BadConfig)
+            ↔ ¬ IsConfig (with_rates normal batch self.old.config) }
+        ensures else_memory { IsConfig (with_rates normal batch self.old.config)
+            → IfErr result (λ cause. (cause ≡ QueueError.Memory)
+            × (0 < length (turned_away (with_rates normal batch self.old.config)
+            (row self.old.waiting)))) }
+        ensures unchanged { OnErr result (self.new ≡ self.old) }
+    {
+        let config = QueueConfig {
+            normal,
+            batch,
+            ..self.config
+        };
+        if !config.is_in_range() {
+            return Err(QueueError::BadConfig);
+        }
+        let out = self.waiting.turn_away(&config)?;
+        self.config = config;
+        Ok(out)
+    }
+
     /// Takes the first request of the row out, whatever the rates say of it, for a proxy that
     /// closes. The budgets stay. It takes constant time and no memory.
     pub fn pop(&mut self) -> Option<Req<T>>
@@ -207,11 +245,11 @@ impl<T> GrvQueue<T> {
         self.waiting.pop_first()
     }
 
-    /// How many windows of `elapsed` microseconds, with no offer between them, start nothing before
-    /// one starts something. It is computed from the head of the row and takes constant time and no
-    /// memory. Whatever the budgets are, it is at most the head's count times `RATE_WINDOW`,
-    /// divided by `elapsed` times the limit (the normal one for a default head, the batch one for a
-    /// batch head) and rounded up.
+    /// How many windows of `elapsed` microseconds, with no offer and no new rates between them,
+    /// start nothing before one starts something. It is computed from the head of the row and takes
+    /// constant time and no memory. Whatever the budgets are, it is at most the head's count times
+    /// `RATE_WINDOW`, divided by `elapsed` times the limit (the normal one for a default head, the
+    /// batch one for a batch head) and rounded up.
     ///
     /// It is `None` where the head does not wait for its own rate alone: in an empty row, for a
     /// system request, which any window starts, for a batch request that the normal rate may hold
@@ -325,7 +363,7 @@ impl<T> GrvQueue<T> {
 
     /// Sets the throttle of a tag at a priority, in the place of an older one: a rate in
     /// transactions per second, and the moment in microseconds from which on it holds no longer. It
-    /// is never erased.
+    /// is kept until [`GrvQueue::forget_throttles`] is told a moment from which it holds no longer.
     ///
     /// It is refused as `TagTooLong` where the tag has more than `MAX_TAG` bytes, else for memory;
     /// nothing has changed then. It takes logarithmic time.
@@ -361,6 +399,18 @@ impl<T> GrvQueue<T> {
             expires,
         })?;
         Ok(())
+    }
+
+    /// Forgets each throttle that expires at a moment in microseconds or before: at that moment
+    /// and from then on each answer is as if none were forgotten. It takes time in proportion to
+    /// the throttles that are kept, and no memory.
+    pub fn forget_throttles(&mut self, at: u64)
+        ensures left { IsLeftAt at self.new.throttles self.old.throttles }
+        ensures forgotten { All (λ throttle. at < throttle.expires) self.new.throttles }
+        ensures answers { SameFrom at self.new.throttles self.old.throttles }
+        ensures rest { self.new ≡ record self.old { throttles = self.new.throttles } }
+    {
+        self.throttles.forget(at);
     }
 
     /// The limits of some tags at a priority and a moment: for each tag in order, also for one that

@@ -1,5 +1,6 @@
-//! A request that waits for its start.
+//! A request that waits for its start, and one that waits no more.
 
+use crate::error::QueueError;
 use fdb_history::Priority;
 
 /// A request for a read version, as the queue sees it. Its payload comes out as it went in.
@@ -10,4 +11,11 @@ pub struct Req<T> {
     /// How many transactions start with it, which is what the rates count.
     pub count: u64,
     pub payload: T,
+}
+
+/// A request that waits no more and does not start, and why.
+#[derive(Debug, PartialEq, Eq, Drop)]
+pub struct TurnedAway<T> {
+    pub cause: QueueError,
+    pub request: Req<T>,
 }

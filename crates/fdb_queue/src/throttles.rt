@@ -1,10 +1,12 @@
 //! The throttles of tags: what was last set for each priority and tag.
 
 ghost use Rattle.std.specs.Prelude.{◌≡◌, ◌<◌, [], ◌∷◌, length, reverse, OnOk, OnErr, IfOk};
-ghost use Rattle.std.specs.Prelude.{option_map, option_to_list};
+ghost use Rattle.std.specs.Prelude.{option_map, option_to_list, ℕ, List, All};
 ghost use Rattle.std.specs.List.{list_all};
 ghost use Rattle.fdb_queue.specs.Throttles.{is_throttle, last_set, limits_of, unexpired};
-ghost use Rattle.fdb_queue.specs.Throttles.{SameThrottles};
+ghost use Rattle.fdb_queue.specs.Throttles.{IsLeftAt, SameThrottles, still_set};
+ghost use Rattle.fdb_queue.specs.private.Kinds.{kept_for};
+ghost use Rattle.fdb_history.specs.declared.grv.Priority.{Priority};
 
 use crate::config::MAX_TAG;
 use fdb_history::{Priority, Tag, TagLimit};
@@ -117,6 +119,16 @@ impl Throttles {
         Ok(())
     }
 
+    /// Forgets each throttle that holds no longer at a moment. Takes no memory.
+    pub(crate) fn forget(&mut self, at: u64)
+        ensures left { IsLeftAt at self.new self.old }
+        ensures forgotten { All (λ throttle. at < throttle.expires) self.new }
+    {
+        forget_in(&mut self.system, at);
+        forget_in(&mut self.default_, at);
+        forget_in(&mut self.batch, at);
+    }
+
     /// What was last set for a priority and a tag: the rate and the expiry.
     fn get(&self, priority: Priority, tag: &Tag) -> Option<Limit>
         ensures { option_map
@@ -171,4 +183,14 @@ impl Throttles {
         }
         Ok(limits)
     }
+}
+
+/// Forgets what holds no longer at a moment.
+fn forget_in(kept: &mut BTreeMap<Vec<u8>, Limit>, at: u64)
+    ensures left { (priority : Priority) (tag : List ℕ)
+        → last_set (kept_for priority kept.new.entries) priority tag
+        ≡ still_set at (last_set (kept_for priority kept.old.entries) priority tag) }
+    ensures forgotten { All (λ entry. at < entry.1.expires) kept.new.entries }
+{
+    kept.retain(|_, limit| limit.expires > at);
 }

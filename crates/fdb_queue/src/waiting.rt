@@ -5,13 +5,15 @@ ghost use Rattle.std.specs.Prelude.{vec_len, vec_capacity, IsOk, IfOk, ◌≤◌
 ghost use Rattle.std.specs.Prelude.{OnErr, IfErr};
 ghost use Rattle.std.specs.Option.{option_copied};
 ghost use Rattle.fdb_queue.specs.Admission.{below, without_oldest};
+ghost use Rattle.fdb_queue.specs.Config.{IsConfig};
 ghost use Rattle.fdb_queue.specs.Kept.{IsQueue};
+ghost use Rattle.fdb_queue.specs.NewRates.{staying, turned_away};
 ghost use Rattle.fdb_queue.specs.private.Reach.{IsReach};
 ghost use Rattle.fdb_queue.specs.Waiting.{nothing, row, first, with_last, without_first};
 
 use crate::budgets::Budgets;
 use crate::config::QueueConfig;
-use crate::request::Req;
+use crate::request::{Req, TurnedAway};
 use crate::walk::Walk;
 use fdb_history::Priority;
 use std::alloc::{AllocError, AllocFailed, Global};
@@ -215,6 +217,64 @@ impl<T> Waiting<T> {
         move_front(&mut self.default_, counts.default_, &mut taken);
         move_front(&mut self.batch, counts.batch, &mut taken);
         Ok(taken)
+    }
+
+    /// Takes out the batch requests that may not wait under a configuration, in order, each with
+    /// why. The memory for them is asked for first: where it is refused, all is as it was.
+    pub(crate) fn turn_away(
+        &mut self,
+        config: &QueueConfig,
+    ) -> Result<Vec<TurnedAway<T>>, AllocError>
+        requires { IsConfig config.now }
+        ensures out { IfOk result (λ out. out.items ≡ turned_away config.now self.old.batch) }
+        ensures left { OnOk result
+            (self.new ≡ record self.old { batch = staying config.now self.old.batch }) }
+        ensures err { OnErr result (self.new ≡ self.old) }
+        ensures some { OnErr result (0 < length (turned_away config.now self.old.batch)) }
+    {
+        let count = count_turned_away(&self.batch, config);
+        let mut out = Vec::with_capacity(self.allocator(), count)?;
+        move_turned_away(&mut self.batch, config, &mut out);
+        Ok(out)
+    }
+}
+
+/// How many of some requests may not wait under a configuration.
+fn count_turned_away<T>(list: &VecDeque<Req<T>>, config: &QueueConfig) -> usize
+    requires { IsConfig config.now }
+    ensures { result ≡ length (turned_away config.now list.now.items) }
+{
+    let mut count = 0;
+    for request in list.iter() {
+        if config.refusal_of(request).is_some() {
+            count += 1;
+        }
+    }
+    count
+}
+
+/// Moves those requests out of a list that may not wait under a configuration, each with why.
+fn move_turned_away<T>(
+    list: &mut VecDeque<Req<T>>,
+    config: &QueueConfig,
+    out: &mut Vec<TurnedAway<T>>,
+)
+    requires config { IsConfig config.now }
+    requires room { vec_len out.old + length (turned_away config.now list.old.items)
+        ≤ vec_capacity out.old }
+    ensures out { out.new.items ≡ out.old.items ++ turned_away config.now list.old.items }
+    ensures left { list.new.items ≡ staying config.now list.old.items }
+{
+    for _ in 0..list.len() {
+        if let Some(next) = list.pop_front() {
+            match config.refusal_of(&next) {
+                Some(cause) => out.push_reserved(TurnedAway {
+                    cause,
+                    request: next,
+                }),
+                None => list.push_back_reserved(next),
+            }
+        }
     }
 }
 

@@ -7,8 +7,7 @@ mod kinds;
 pub mod running;
 
 use crate::proxy::kinds::{Fate, each_kind};
-use crate::stand::{Case, play, play_text};
-use crate::templates::filled;
+use crate::stand::play_texts;
 use std::test::Fail;
 
 /// Two requests, the second of a client that has seen a report and with a number above 2^32. Limits
@@ -20,7 +19,7 @@ ask 0 0 1000
 ask 0 0 3000
 ask 0 0 3100
 leave 1 0 0 default 1 0 0 => in
-report 0 2 0 => raised, changed at 1
+report 0 2 0 => raised changed at 1
 see => 1
 leave 1 1 4294967299 default 1 0 0 ahead => in
 serve => 2 2100 unlocked none at 1
@@ -28,8 +27,8 @@ serve => 2 2100 unlocked none at 1
 leave 1 2 7 default 1 4999 2 u => in
 leave 1 2 8 default 1 5000 1 ahead => in
 leave 1 3 9 batch 1 4999 1 => in
-report 0 3 0 locked => raised, changed at 2
-serve => 1 2200 locked 08080808080808080808 at 2, 2 t 5 5000; 2 2200 locked 08080808080808080808 at 2
+report 0 3 0 locked => raised changed at 2
+serve => 1 2200 locked 08080808080808080808 at 2 with 2 t 5 5000 / 2 2200 locked 08080808080808080808 at 2
 leave 101 0 0 batch 101 0 0
 leave 64 1 0 system 10001 0 0
 serve => 165 2200 locked 08080808080808080808 at 2
@@ -50,7 +49,7 @@ leave 1 1 0 default 2 0 0 => in
 leave 1 0 1 system 1 0 0 => in
 close => ok
 leave 1 2 5 default 1 0 0 => the proxy's desk is closed
-run 2 1 9 => 1 100 unlocked none at 0; 1 closed; 1 100 unlocked none at 0
+run 2 1 9 => 1 100 unlocked none at 0 / 1 closed / 1 100 unlocked none at 0
 leave 1 2 6 default 1 0 0 => the proxy's desk is closed
 # a proxy whose desk was closed before
 run 1 1 9 =>
@@ -62,14 +61,14 @@ const ROOM_FOR_ONE: [&str; 2] = [
 leave 1 0 0 batch 1 0 0
 leave 1 1 0 default 1 0 0
 leave 1 2 0 system 1 0 0
-run 1 1 1 => 2 the queue is full; 1 100 unlocked none at 0
+run 1 1 1 => 2 the queue is full / 1 100 unlocked none at 0
 ",
     "
 leave 1 0 0 system 1 0 0
 leave 1 1 0 default 1 0 0
 leave 1 2 0 batch 1 0 0
 close
-run 1 1 1 => 1 100 unlocked none at 0; 2 the queue is full
+run 1 1 1 => 1 100 unlocked none at 0 / 2 the queue is full
 ",
 ];
 
@@ -79,8 +78,8 @@ const NOT_LET_IN: &str = "
 leave 1 0 0 default 0 0 0
 leave 1 0 1 batch 1 0 0
 leave 1 0 2 default 1 4999 1
-run 1 0 1 => 1 the request's count is out of range; 1 batch requests are not let in; \
-1 100 unlocked none at 0, 1 t 5 5000
+run 1 0 1 => 1 the request's count is out of range / 1 batch requests are not let in / \
+1 100 unlocked none at 0 with 1 t 5 5000
 ";
 
 /// Several that are left at a desk that is closed, of each priority and of several counts, some
@@ -99,7 +98,7 @@ leave 1 0 4294967303 batch 10012 0 0
 leave 1 0 8 default 100000 0 0
 leave 1 0 9 system 100000 0 0
 close => ok
-run 10001 10001 99 => 4 closed; 1 100 unlocked none at 0; 3 closed; 1 the request's count is out of range; 1 closed; 1 100 unlocked none at 0
+run 10001 10001 99 => 4 closed / 1 100 unlocked none at 0 / 3 closed / 1 the request's count is out of range / 1 closed / 1 100 unlocked none at 0
 ";
 
 /// A window starts 10,000 requests and no more, and as many system requests as there is room for
@@ -108,14 +107,14 @@ const MANY: [&str; 2] = [
     "
 leave 10001 0 0 system 1 0 0
 close
-run 1 1 100000 => 10000 100 unlocked none at 0; 1 closed
+run 1 1 100000 => 10000 100 unlocked none at 0 / 1 closed
 ",
     "
 leave 101 0 0 batch 1 0 0
 leave 64 0 0 default 1 0 0
 leave 165 0 0 system 1 0 0
 close
-run 1 1 165 => 165 the queue is full; 165 100 unlocked none at 0
+run 1 1 165 => 165 the queue is full / 165 100 unlocked none at 0
 ",
 ];
 
@@ -132,71 +131,60 @@ run 1 1 3 => 1 100 unlocked none at 0
 
 #[test]
 fn batches(rt: HostRuntime) -> Result<(), Fail> {
-    for text in BATCHES {
-        play_text(&rt, rt.alloc(), text)?;
-    }
-    Ok(())
+    play_texts(&rt, rt.alloc(), &BATCHES, 0)
 }
 
 #[test]
 fn whoever_waits_hears_what_comes_of_it(rt: HostRuntime) -> Result<(), Fail> {
-    for text in [CLOSED, NOT_LET_IN, LEFT, GONE] {
-        play_text(&rt, rt.alloc(), text)?;
-    }
-    for text in ROOM_FOR_ONE {
-        play_text(&rt, rt.alloc(), text)?;
-    }
-    for text in MANY {
-        play_text(&rt, rt.alloc(), text)?;
-    }
-    Ok(())
+    play_texts(&rt, rt.alloc(), &[CLOSED, NOT_LET_IN, LEFT, GONE], 0)?;
+    play_texts(&rt, rt.alloc(), &ROOM_FOR_ONE, 0)?;
+    play_texts(&rt, rt.alloc(), &MANY, 0)
 }
 
 /// So many requests of one priority at a closed desk. One starts; of those that are let in the
 /// others are closed, and who is not let in hears that the queue is full.
 const FEW_AND_MANY: &str = "
 leave 1 0 0 default 100 0 0
-leave @ 0 1 default 100 0 0
+leave @0 0 1 default 100 0 0
 close
-run 100 1 100000 => 1 100 unlocked none at 0; @ closed
+run 100 1 100000 => 1 100 unlocked none at 0 / @0 closed
 ";
 
 /// A system request that comes while so many default ones wait in the queue. The first three
 /// answers are handed over one by one, so that the proxy gets no further than the test has heard.
 const LATE: &str = "
 leave 3 0 0 default 1 4999 1 held
-leave @ 0 3 default 1 4999 2
+leave @0 0 3 default 1 4999 2
 leave 1 1 0 system 1 0 0 later
-run 1 1 100000 hear 0 late hear 1 look => 3 100 unlocked none at 0, 1 t 5 5000; \
-@ 100 unlocked none at 0, 2 t 5 5000; 1 100 unlocked none at 0
+run 1 1 100000 hear 0 late hear 1 look => 3 100 unlocked none at 0 with 1 t 5 5000 / \
+@0 100 unlocked none at 0 with 2 t 5 5000 / 1 100 unlocked none at 0
 ";
 
 #[test]
 fn a_request_that_comes_while_others_wait(rt: HostRuntime) -> Result<(), Fail> {
     for waiting in [1, 64, 101, 10_001] {
-        for text in [FEW_AND_MANY, LATE] {
-            play_text(&rt, rt.alloc(), &filled(rt.alloc(), text, waiting)?)?;
-        }
+        play_texts(&rt, rt.alloc(), &[FEW_AND_MANY, LATE], waiting)?;
     }
     Ok(())
 }
 
+const FATES: [Fate; 5] = [
+    Fate::Start,
+    Fate::Starve,
+    Fate::NoBatch,
+    Fate::NoRoom,
+    Fate::Wait,
+];
+
 #[test]
 fn a_desk_is_closed_while_each_kind_of_options_waits(rt: HostRuntime) -> Result<(), Fail> {
-    for fate in [
-        Fate::Start,
-        Fate::Starve,
-        Fate::NoBatch,
-        Fate::NoRoom,
-        Fate::Wait,
-    ] {
-        play_text(&rt, rt.alloc(), &each_kind(rt.alloc(), fate)?)?;
+    for fate in FATES {
+        play_texts(&rt, rt.alloc(), &[&each_kind(rt.alloc(), fate)?], 0)?;
     }
     Ok(())
 }
 
 #[test]
 fn six_clients_and_two_proxies(rt: HostRuntime) -> Result<(), Fail> {
-    play(&rt, rt.alloc(), Case::Crowd, true)?;
-    Ok(())
+    play_texts(&rt, rt.alloc(), &["crowd => answered"], 0)
 }

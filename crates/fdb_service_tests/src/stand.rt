@@ -1,16 +1,14 @@
-//! A service with its clients, who play the lines of a text, each of which is a call. What stands
-//! behind `=>`, if it does, is what comes of the call.
+//! A service with its clients, who play a text, each line of which is a call. What stands behind
+//! `=>`, if it does, is what comes of the call.
 
 ghost use Rattle.std.specs.Prelude.{◌≡◌, true};
+ghost use Rattle.std.specs.Thread.{IsSync, IsSend};
 ghost use Rattle.fdb_live.specs.Seen.{origin_of};
 
 pub mod lines;
 
-use crate::proxy::crowd::ask_all;
 use crate::proxy::desks::Waiter;
-use crate::refused_memory::proxies::run_refused;
-use crate::stand::lines::play_lines;
-use fdb_checks::CaseError;
+use fdb_checks::{CaseError, plays_at};
 use fdb_client::{Client, clients_of};
 use fdb_history::Record;
 use fdb_live::{Epoch, Fetched, Live, LiveRecord, Master, Opened, Seen};
@@ -19,29 +17,18 @@ use fdb_queue::Req;
 use std::alloc::Global;
 use std::marker::Brand;
 use std::sync::Wait;
-use std::sync::atomic::AtomicU64;
 use std::test::Fail;
 use std::thread::Threads;
 
 /// How many clients there are, beside a witness who hears nothing.
 const CLIENTS: u32 = 6;
 
-/// What a test does at a service.
+/// A text that is played at a number. Memory is refused at most once, or to more than one.
 #[derive(Clone, Copy)]
-pub(crate) enum Case<'t> {
-    /// Plays the lines of a text.
-    Lines(&'t str),
-    /// The clients ask two proxies, each in a thread of its own.
-    Crowd,
-    /// A proxy is run that may be refused memory, with a queue that has had requests before or
-    /// none. Its answers go over channels with room for one, or over unbounded ones, to which a
-    /// send needs memory. Where one request alone was refused it, its number goes into the note,
-    /// counted from 1.
-    Refused {
-        used: bool,
-        unbounded: bool,
-        alone: &'t AtomicU64,
-    },
+pub(crate) struct Told<'t> {
+    pub(crate) text: &'t str,
+    pub(crate) number: u64,
+    pub(crate) once: bool,
 }
 
 /// What clients call: the master, and the desk of a GRV proxy.
@@ -54,17 +41,13 @@ pub(crate) struct Service<J: Live> {
 
 /// The clients of a service, and what else calls it.
 #[derive(Drop)]
-pub(crate) struct Stand<'a, J: Live> {
+pub(crate) struct Stand<'a, J: Live, R> {
+    pub(crate) rt: &'a R,
     pub(crate) service: &'a Service<J>,
     pub(crate) clients: Vec<Client<'a, J>>,
     /// What was told and not learnt yet.
     pub(crate) told: Option<Seen<J>>,
-    /// What those have seen who leave requests on the desk: nothing, or what they read last.
-    pub(crate) seen: Seen<J>,
-    pub(crate) ahead: Seen<J>,
-    /// What a proxy has seen, or who serves a desk in its place.
-    pub(crate) served: Seen<J>,
-    witness: Seen<J>,
+    pub(crate) tokens: Tokens<J>,
     /// Who waits for answers, in the order of the requests.
     pub(crate) waiters: Vec<Waiter<J>>,
     /// A request that is left on the desk while a proxy runs.
@@ -73,92 +56,122 @@ pub(crate) struct Stand<'a, J: Live> {
     pub(crate) back: Option<Vec<Req<Request<J>>>>,
     /// Whether memory is refused at most once.
     pub(crate) once: bool,
+    /// The number of the request that alone was refused memory in its offer, counted from 1, or 0.
+    pub(crate) alone: u64,
+    pub(crate) ghost shared: { IsSync R.row × IsSync J.row × IsSend J.row },
 }
 
-impl<'a, J: Live> Stand<'a, J> {
-    /// The last of some clients gives the tokens of those who are none.
-    fn new(service: &'a Service<J>, mut clients: Vec<Client<'a, J>>, once: bool) -> Option<Self> {
-        let (_, mut token) = clients.pop()?.finish();
-        let live = service.master.record();
-        Some(Stand {
-            service,
-            clients,
-            told: None,
+/// The tokens of those who are no clients.
+#[derive(Drop)]
+pub(crate) struct Tokens<J: Live> {
+    /// What those have seen who leave requests on the desk: nothing, or what they read last.
+    pub(crate) seen: Seen<J>,
+    pub(crate) ahead: Seen<J>,
+    /// What a proxy has seen, or who serves a desk in its place.
+    pub(crate) served: Seen<J>,
+    witness: Seen<J>,
+}
+
+impl<J: Live> Tokens<J> {
+    /// Copies of one.
+    fn of(master: &Master<J>, mut token: Seen<J>) -> Self {
+        let live = master.record();
+        Tokens {
             seen: live.split(&mut token),
             ahead: live.split(&mut token),
             served: live.split(&mut token),
             witness: live.split(&mut token),
+        }
+    }
+}
+
+impl<'a, J: Live + Send + Sync, R: Threads + Wait + Sync> Stand<'a, J, R> {
+    /// The last of some clients gives the tokens of those who are none.
+    fn new(
+        rt: &'a R,
+        service: &'a Service<J>,
+        mut clients: Vec<Client<'a, J>>,
+        once: bool,
+    ) -> Option<Self> {
+        let (_, token) = clients.pop()?.finish();
+        Some(Stand {
+            rt,
+            service,
+            clients,
+            told: None,
+            tokens: Tokens::of(&service.master, token),
             waiters: Vec::new(service.alloc),
             later: None,
             back: None,
             once,
+            alone: 0,
         })
     }
+}
 
+impl<J: Live, R: Wait> Stand<'_, J, R> {
     /// How many calls are logged, how far the clients and the proxy have come in all, and what a
     /// witness reads. A call that is refused memory leaves that as it was.
-    pub(crate) fn state<R: Wait>(&mut self, rt: &R) -> (usize, u64, Fetched) {
-        let (mut calls, mut positions) = (0usize, self.served.position());
+    pub(crate) fn state(&mut self) -> (usize, u64, Fetched) {
+        let (mut calls, mut positions) = (0usize, self.tokens.served.position());
         for client in &self.clients {
             calls = calls.saturating_add(client.calls().len());
             positions = positions.saturating_add(client.position());
         }
         let live = self.service.master.record();
-        (calls, positions, live.read(rt, &mut self.witness))
+        (calls, positions, live.read(self.rt, &mut self.tokens.witness))
     }
 }
 
-/// Plays a case under the name of the service.
+/// Plays a text under the name of the service.
 fn play_named<J: Live + Send + Sync, R: Threads + Wait + Sync>(
     rt: &R,
     alloc: Global,
     opened: Opened,
-    case: Case<'_>,
-    once: bool,
-) -> Result<(), CaseError>
-    requires { opened ≡ origin_of J.table J.start J.reporters J.chained J.epoch_end J.recovery }
-    requires { J.chained ≡ true }
+    told: Told<'_>,
+) -> Result<u64, CaseError>
+    requires opened {
+        opened ≡ origin_of J.table J.start J.reporters J.chained J.epoch_end J.recovery }
+    requires chained { J.chained ≡ true }
 {
-    let (master, _, tokens) = opened.master::<J>()?;
-    if tokens.len() > 64 {
-        return Err(CaseError::Failed(Fail::new("64 tokens at most")));
-    }
+    let Ok((master, _, tokens)) = opened.master::<J>() else {
+        return Err(CaseError::Memory);
+    };
     let service = Service {
         alloc,
         master,
         desk: Desk::new(alloc),
     };
-    let clients = clients_of(alloc, &service.master, tokens)?;
-    let Some(mut stand) = Stand::new(&service, clients, once) else {
-        return Err(CaseError::Failed(Fail::new("no client")));
-    };
-    play_at(rt, &mut stand, case)
+    play_at(rt, &service, tokens, told)
 }
 
+/// Plays a text at a service with a client for each token.
 fn play_at<J: Live + Send + Sync, R: Threads + Wait + Sync>(
     rt: &R,
-    stand: &mut Stand<'_, J>,
-    case: Case<'_>,
-) -> Result<(), CaseError> {
-    match case {
-        Case::Lines(text) => play_lines(rt, stand, text),
-        Case::Crowd => ask_all(rt, stand),
-        Case::Refused {
-            used,
-            unbounded,
-            alone,
-        } => run_refused(rt, stand, used, unbounded, alone),
+    service: &Service<J>,
+    tokens: Vec<Seen<J>>,
+    told: Told<'_>,
+) -> Result<u64, CaseError> {
+    if tokens.len() > 64 {
+        return Err(CaseError::Failed(Fail::new("64 tokens at most")));
+    }
+    let clients = clients_of(service.alloc, &service.master, tokens)?;
+    match Stand::new(rt, service, clients, told.once) {
+        Some(mut stand) => {
+            plays_at(service.alloc, &mut stand, told.text, told.number)?;
+            Ok(stand.alone)
+        }
+        None => Err(CaseError::Failed(Fail::new("no client"))),
     }
 }
 
-/// Plays a case at a new service, whose first commit version is 100. Memory is refused at most once,
-/// or to more than one. It fails where memory is refused, and passes else.
+/// Plays a text at a new service, whose first commit version is 100. It fails where memory is refused,
+/// and passes else. Answers which request of a proxy alone was refused memory.
 pub(crate) fn play<R: Threads + Wait + Sync>(
     rt: &R,
     alloc: Global,
-    case: Case<'_>,
-    once: bool,
-) -> Result<(), CaseError> {
+    told: Told<'_>,
+) -> Result<u64, CaseError> {
     let start = Record {
         version: 100,
         locked: false,
@@ -169,15 +182,29 @@ pub(crate) fn play<R: Threads + Wait + Sync>(
         before: 0,
         recovery: 100,
     };
-    let opened = LiveRecord::<Brand>::open(rt, alloc, start, CLIENTS + 1, Some(epoch))?;
-    play_named::<Brand, R>(rt, alloc, opened, case, once)
+    match LiveRecord::<Brand>::open(rt, alloc, start, CLIENTS + 1, Some(epoch)) {
+        Ok(opened) => play_named::<Brand, R>(rt, alloc, opened, told),
+        Err(_) => Err(CaseError::Memory),
+    }
 }
 
-/// Plays the lines of a text, with ample memory.
-pub(crate) fn play_text<R: Threads + Wait + Sync>(
+/// Plays some texts, each at a service of its own and at a number, with ample memory.
+pub(crate) fn play_texts<R: Threads + Wait + Sync>(
     rt: &R,
     alloc: Global,
-    text: &str,
-) -> Result<(), CaseError> {
-    play(rt, alloc, Case::Lines(text), true)
+    texts: &[&str],
+    number: u64,
+) -> Result<(), Fail> {
+    for text in texts {
+        play(
+            rt,
+            alloc,
+            Told {
+                text,
+                number,
+                once: true,
+            },
+        )?;
+    }
+    Ok(())
 }

@@ -1,14 +1,16 @@
 //! Workloads at a cluster: calls of each client, a desk that is closed, and clients out of place.
 
-ghost use Rattle.std.specs.Prelude.{◌≡◌};
+ghost use Rattle.std.specs.Prelude.{◌≡◌, IfSome};
+ghost use Rattle.fdb_client.specs.Cluster.{IsClusterConfig};
 ghost use Rattle.std.specs.List.{list_all};
+ghost use Rattle.std.specs.Thread.{IsSync};
 ghost use Rattle.fdb_queue.specs.Throttles.{is_throttle};
 
-use fdb_checks::{same, tag};
+use fdb_checks::{Line, Player, plays_cases, tag};
 use fdb_client::{
-    Client, ClientError, Cluster, ClusterConfig, FinishError, SettledRun, Workload, run_workload,
+    Client, ClientError, Cluster, ClusterConfig, SettledRun, Workload, FinishError, run_workload,
 };
-use fdb_history::{GrvOpts, MAX_VERSION, OpenGate, Priority, Record, Sequence, Tag, TagLimit};
+use fdb_history::{GrvOpts, Issued, MAX_VERSION, OpenGate, Priority, Record, Sequence, Tag, TagLimit};
 use fdb_live::Live;
 use fdb_queue::{QueueConfig, Throttle};
 use std::alloc::{AllocError, Global};
@@ -16,16 +18,42 @@ use std::sync::Wait;
 use std::test::Fail;
 use std::thread::Threads;
 
+/// Clusters at which workloads are made: `visits` has how many clients, GRV proxies and throttles there
+/// are, the first version, how often each client reads through each GRV proxy, and how many tags and
+/// transactions a read has. Behind that may stand `swaps`: two clients are left at one another's places.
+/// `closes` has how many GRV proxies there are, each of whose desks is closed in turn.
+#[derive(Drop)]
+pub(crate) struct Clusters<'a, R> {
+    rt: &'a R,
+    ghost shared: { IsSync R.row },
+}
+
+impl<'a, R: Sync> Clusters<'a, R> {
+    pub(crate) fn new(rt: &'a R) -> Self {
+        Clusters { rt }
+    }
+}
+
+impl<R: Threads + Wait + Sync> Player for Clusters<'_, R> {
+    fn called(&mut self, call: &str, line: &mut Line<'_>) {
+        match call {
+            "visits" => visit(self.rt, line),
+            "closes" => close_each(self.rt, line),
+            _ => line.fails("no call"),
+        }
+    }
+}
+
 /// Each client in turn draws a commit version, reports it with a lock, and reads through each GRV
 /// proxy, and once more through the first.
 #[derive(Drop)]
-pub(crate) struct Visits {
+struct Visits {
     alloc: Global,
     /// How often it reads through each.
-    pub(crate) reads: u64,
+    reads: u64,
     /// Of how many transactions, and with the tag `t` how often.
-    pub(crate) count: u64,
-    pub(crate) tags: u64,
+    tags: u64,
+    count: u64,
     /// The desk that is closed before.
     closed: Option<u32>,
     /// Whether two clients are left at one another's places.
@@ -57,18 +85,6 @@ impl<R: Wait> Workload<R> for Visits {
 }
 
 impl Visits {
-    /// So many reads of one transaction with one tag through each GRV proxy.
-    pub(crate) fn new(alloc: Global, reads: u64) -> Visits {
-        Visits {
-            alloc,
-            reads,
-            count: 1,
-            tags: 1,
-            closed: None,
-            swaps: false,
-        }
-    }
-
     /// The calls of one client.
     fn visits<J: Live, R: Wait>(
         &self,
@@ -165,48 +181,81 @@ fn throttles_of(alloc: Global, number: u64) -> Result<Vec<Throttle>, AllocError>
     Ok(throttles)
 }
 
-/// What comes of a workload at a cluster that begins with a locked record of this version. It has so
-/// many clients, GRV proxies and throttles.
-pub(crate) fn ran<R: Threads + Wait + Sync>(
-    rt: &R,
-    alloc: Global,
-    version: u64,
-    (clients, grv_proxies): (u64, u64),
+/// How much there is at a cluster.
+#[derive(Clone, Copy)]
+struct Size {
+    clients: u64,
+    grv_proxies: u64,
     throttles: u64,
-    visits: Visits,
-) -> Result<bool, FinishError> {
-    let throttles = throttles_of(alloc, throttles)?;
-    let begins = version > 0 && version <= MAX_VERSION;
-    let serves = (1..=64).contains(&clients) && (1..=16).contains(&grv_proxies);
-    if !begins || !serves || !are_in_range(&throttles) {
-        return Ok(false);
+    /// The version of the record that it begins with.
+    version: u64,
+}
+
+/// What is made at a cluster that begins with a locked record, if that may be.
+fn config_of(size: Size, throttles: &[Throttle]) -> Option<ClusterConfig<'_>>
+    ensures { IfSome result IsClusterConfig }
+{
+    let begins = size.version > 0 && size.version <= MAX_VERSION;
+    let serves = (1..=64).contains(&size.clients) && (1..=16).contains(&size.grv_proxies);
+    if !begins || !serves || !are_in_range(throttles) {
+        return None;
     }
-    let config = ClusterConfig {
-        epoch_end: version - 1,
+    Some(ClusterConfig {
+        epoch_end: size.version - 1,
         start: Record {
-            version,
+            version: size.version,
             locked: true,
             metadata: Some([1, 2, 3, 4, 5, 6, 7, 8, 9, 10]),
-            min_known: version / 2,
+            min_known: size.version / 2,
         },
-        clients: clients as u32,
-        grv_proxies: grv_proxies as u32,
+        clients: size.clients as u32,
+        grv_proxies: size.grv_proxies as u32,
         queue: QueueConfig {
             normal: 100_000,
             batch: 100_000,
             room: 100_000,
         },
-        throttles: &throttles,
+        throttles,
         elapsed: 10_000_000,
-    };
-    let reads = visits.reads.saturating_mul(grv_proxies.saturating_add(1));
-    let closes = visits.closed.is_some();
+    })
+}
+
+/// Whether all that comes of a workload is right, unless it is refused.
+fn ran<R: Threads + Wait + Sync>(
+    rt: &R,
+    alloc: Global,
+    size: Size,
+    visits: Visits,
+) -> Result<bool, FinishError> {
+    let throttles = throttles_of(alloc, size.throttles)?;
+    match config_of(size, &throttles) {
+        Some(config) => ran_at(rt, alloc, config, visits),
+        None => Ok(false),
+    }
+}
+
+fn ran_at<R: Threads + Wait + Sync>(
+    rt: &R,
+    alloc: Global,
+    config: ClusterConfig<'_>,
+    visits: Visits,
+) -> Result<bool, FinishError>
+    requires { IsClusterConfig config }
+{
+    let reads = visits.reads.saturating_mul(u64::from(config.grv_proxies) + 1);
+    let (clients, closes) = (u64::from(config.clients), visits.closed.is_some());
     let ran = run_workload(rt, alloc, config, visits)?;
-    match ran.output {
-        Ok(right) if ran.ends.all_served() => {
-            Ok(right && explained(alloc, &ran.run, clients, reads, closes)?)
-        }
-        Err(ClientError::ProxyClosed) if ran.ends.all_served() => Ok(false),
+    if !came_to(ran.output, ran.ends.all_served())? {
+        return Ok(false);
+    }
+    Ok(explained(alloc, &ran.run, clients, reads, closes)?)
+}
+
+/// Whether each read came to what it should. A GRV proxy that was refused memory has closed its desk.
+fn came_to(output: Result<bool, ClientError>, served: bool) -> Result<bool, FinishError> {
+    match output {
+        Ok(right) if served => Ok(right),
+        Err(ClientError::ProxyClosed) if served => Ok(false),
         Ok(_) | Err(ClientError::Memory | ClientError::ProxyClosed) => Err(FinishError::Memory),
         Err(_) => Ok(false),
     }
@@ -221,48 +270,97 @@ fn explained(
     reads: u64,
     closes: bool,
 ) -> Result<bool, AllocError> {
-    let chain = run.chain(alloc)?;
-    let mut right = run.logs.len() as u64 == clients && run.drawn == clients;
-    for (place, issued) in chain.iter().enumerate() {
-        let own = (issued.proxy as usize, issued.num, issued.ordinal as usize);
-        right &= own == (place, 1, place);
-    }
-    for log in &run.logs {
-        right &= log.calls.len() as u64 == reads.saturating_add(2);
-    }
     let events = run.history(alloc)?.events.len() as u64;
-    Ok(right && (closes || events == clients.saturating_mul(reads.saturating_add(1))))
+    let wanted = clients.saturating_mul(reads.saturating_add(1));
+    Ok(has_logs(run, clients, reads)
+        && are_own(run.chain(alloc)?.as_slice())
+        && (closes || events == wanted))
+}
+
+fn has_logs(run: &SettledRun, clients: u64, reads: u64) -> bool {
+    let are_whole = run
+        .logs
+        .iter()
+        .all(|log| log.calls.len() as u64 == reads.saturating_add(2));
+    are_whole && run.logs.len() as u64 == clients && run.drawn == clients
+}
+
+/// Whether each version was drawn by the commit proxy of its place, with its first request.
+fn are_own(chain: &[Issued]) -> bool {
+    chain.iter().enumerate().all(|(place, issued)| {
+        issued.proxy as usize == place && issued.ordinal as usize == place && issued.num == 1
+    })
+}
+
+/// Says what comes of a workload.
+fn say_ran<R: Threads + Wait + Sync>(rt: &R, line: &mut Line<'_>, size: Size, visits: Visits) {
+    match ran(rt, line.alloc, size, visits) {
+        Ok(true) => line.say("explained"),
+        Ok(false) => line.say("wrong"),
+        Err(FinishError::Memory) => line.refuse(),
+        Err(cause) => line.say(cause),
+    }
+}
+
+fn visit<R: Threads + Wait + Sync>(rt: &R, line: &mut Line<'_>) {
+    let size = Size {
+        clients: line.number(),
+        grv_proxies: line.number(),
+        throttles: line.number(),
+        version: line.number(),
+    };
+    let visits = Visits {
+        alloc: line.alloc,
+        reads: line.number(),
+        tags: line.number(),
+        count: line.number(),
+        closed: None,
+        swaps: line.text.contains(" swaps"),
+    };
+    say_ran(rt, line, size, visits);
+}
+
+/// Closes each desk of so many in turn, before a client visits all.
+fn close_each<R: Threads + Wait + Sync>(rt: &R, line: &mut Line<'_>) {
+    let grv_proxies = line.who();
+    for closed in 0..grv_proxies {
+        let size = Size {
+            clients: 1,
+            grv_proxies: u64::from(grv_proxies),
+            throttles: 2,
+            version: 100,
+        };
+        let visits = Visits {
+            alloc: line.alloc,
+            reads: 1,
+            tags: 1,
+            count: 1,
+            closed: Some(closed),
+            swaps: false,
+        };
+        let found = ran(rt, line.alloc, size, visits);
+        line.holds(found == Ok(true), "a desk that is closed");
+    }
+    line.say("explained");
 }
 
 /// Each desk of 1 to 16 is another one, and the one after the last is the first.
+const DESKS: &str = "
+run_workload | *closes @1 => explained | 16
+";
+
 #[test]
 fn each_desk_is_closed_alone(rt: HostRuntime) -> Result<(), Fail> {
-    let alloc = rt.alloc();
-    for proxies in 1..=16 {
-        for closed in 0..proxies {
-            let mut visits = Visits::new(alloc, 1);
-            visits.closed = Some(closed as u32);
-            let found = ran(&rt, alloc, 100, (1, proxies), 2, visits);
-            same(&found, &Ok(true), &closed)?;
-        }
-    }
-    Ok(())
+    plays_cases(rt.alloc(), &mut Clusters::new(&rt), DESKS)
 }
 
 /// Clients that are not where they were are refused, and others are not.
+const PLACES: &str = "
+run_workload | *visits @1 1 2 100 1 1 1 => explained | 64
+run_workload | *visits @2 1 2 100 1 1 1 swaps => a client is not in its place | 63
+";
+
 #[test]
 fn each_client_stays_in_its_place(rt: HostRuntime) -> Result<(), Fail> {
-    let alloc = rt.alloc();
-    for clients in 1..=64 {
-        let mut visits = Visits::new(alloc, 1);
-        visits.swaps = clients % 2 == 0;
-        let wanted = if visits.swaps {
-            Err(FinishError::Astray)
-        } else {
-            Ok(true)
-        };
-        let found = ran(&rt, alloc, 100, (clients, 1), 2, visits);
-        same(&found, &wanted, &clients)?;
-    }
-    Ok(())
+    plays_cases(rt.alloc(), &mut Clusters::new(&rt), PLACES)
 }

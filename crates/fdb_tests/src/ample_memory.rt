@@ -10,42 +10,42 @@ use crate::chain::Chain;
 use crate::lists::Lists;
 use crate::live::Opener;
 use crate::queue::Queue;
-use fdb_checks::{cases, plays_case};
+use fdb_checks::plays_cases;
 use std::test::Fail;
 
 /// Where `fdb_history` allocates beside the audit: lists, their copies, and the replies that are
 /// kept.
 const LISTS: &str = "
-Sequence::push, Sequence::clone | *push @0;list => @0 | 0 few many
-GrvOpts::clone | *tag 1;opts => @0 | 0 few many
-GrvOpts::clone | tag @0;opts => 1 | 0 few 15 16 17 many
-TagLimit::clone | limit @0 => @0 | 0 few 15 16 17 many
-Replies::of_each, Replies::keep_among | of_each @0;*keep @0 1 0;*kept @0 1 => @0 | 0 few 63 65 many
-Replies::keep_among | of_each 1;*keep 0 @1 @0,kept 0 @1 => @0 | 65538
-Replies::keep | of_each 1;*keep_own @0 0;*kept 0 @1 => @0 | 65538
-Replies::keep | of_each 1;*keep_own @0 @0,kept 0 @1 => @0 | 65538
+Sequence::push, Sequence::clone | clear;*push @0;list => @0 | 0 few many
+GrvOpts::clone | clear;*tag 1;opts => @0 | 0 few many
+GrvOpts::clone | clear;tag @0;opts => 1 | 0 few 15 16 17 many
+TagLimit::clone | clear;limit @0 => @0 | 0 few 15 16 17 many
+Replies::of_each, Replies::keep_among | clear;of_each @0;*keep @0 1 0;*kept @0 1 => @0 | 0 few 63 65 many
+Replies::keep_among | clear;of_each 1;*keep 0 @1 @0,kept 0 @1 => @0 | 65538
+Replies::keep | clear;of_each 1;*keep_own @0 0;*kept 0 @1 => @0 | 65538
+Replies::keep | clear;of_each 1;*keep_own @0 @0,kept 0 @1 => @0 | 65538
 ";
 
 /// The audit, which finds an event for each read and each report: logs, reads, limits of a read,
 /// raises by one client and by several, raises of the minimum, repeats, tells and refusals.
 const AUDITS: &str = "
-audit, history_of | *log,reads 0 0 100;events => @0 again | 0 few 65 many
-audit, history_of | log;*reads 0 0 100;events => @0 again | 0 few many
-audit, history_of | log;limited 0 0 100 @0;events => 1 again | 0 few many
-audit, history_of | log;*entry @0 0 @1 0 @100 @101 0 fresh,draws @0 @0 0 @1 0 @100 @101 0 fresh,\
+audit, history_of | clear;*log,reads 0 0 100;events => @0 again | 0 few 65 many
+audit, history_of | clear;log;*reads 0 0 100;events => @0 again | 0 few many
+audit, history_of | clear;log;limited 0 0 100 @0;events => 1 again | 0 few many
+audit, history_of | clear;log;*entry @0 0 @1 0 @100 @101 0 fresh,draws @0 @0 0 @1 0 @100 @101 0 fresh,\
 raises @0 @1 @1 @101;events => @0 again | 0 few many
-audit, history_of | start 1000000 unlocked none;entry 0 0 1 0 99 1000000 0 fresh;log;\
+audit, history_of | clear;start 1000000 unlocked none;entry 0 0 1 0 99 1000000 0 fresh;log;\
 draws 0 0 0 1 0 99 1000000 0 fresh;*min_raises @0 @1 1 1000000 min @1;events => @0 again \
 | 0 few many
-audit, history_of | *log,entry @0 @0 1 0 @100 @101 0 fresh,draws 0 @0 @0 1 0 @100 @101 0 fresh,\
+audit, history_of | clear;*log,entry @0 @0 1 0 @100 @101 0 fresh,draws 0 @0 @0 1 0 @100 @101 0 fresh,\
 raises 0 @1 1 @101;events => @0 again | 0 few 65 many
-audit, history_of | log;entry 0 0 1 0 99 100 0 fresh;draws 0 0 0 1 0 99 100 0 fresh;\
+audit, history_of | clear;log;entry 0 0 1 0 99 100 0 fresh;draws 0 0 0 1 0 99 100 0 fresh;\
 *draws 0 0 0 1 0 99 100 0 kept;events => 0 again | 0 few many
-audit, history_of | log;*tells 0 1;events => 0 again | 0 few many
-audit, history_of | log;*reports @1 NotIssued;events => 0 again | 0 few many
-audit, history_of | start @0 unlocked none min @0;log;reads 0 0 @0 min @0;events => 1 again \
+audit, history_of | clear;log;*tells 0 1;events => 0 again | 0 few many
+audit, history_of | clear;log;*reports @1 NotIssued;events => 0 again | 0 few many
+audit, history_of | clear;start @0 unlocked none min @0;log;reads 0 0 @0 min @0;events => 1 again \
 | 0 few many 9223372036854775807
-audit, history_of | start @0 unlocked none;log;reads 0 0 @0;events => 1 again \
+audit, history_of | clear;start @0 unlocked none;log;reads 0 0 @0;events => 1 again \
 | 0 few many 9223372036854775807
 ";
 
@@ -76,6 +76,10 @@ offer system 1 0 => in;starts 1 => 10000 | 3334 10000 10001 33333
 GrvQueue::window | new 1 1 1 => ok;*offer system 1 @0 => in,starts 1 => 1 | 65538
 GrvQueue::window | new 1 1 1 => ok;offer default 1 0 => in;starts @0 => 1 \
 | few many 9999999 10000000
+GrvQueue::set_rates | new 100000 1 100000 => ok;*offer batch 1 0 => in;turns 1 0 => @0 \
+| few many 99999 100000
+GrvQueue::set_rates | new 100000 1 1 => ok;offer batch 1 0 => in;turns @0 0 => 1 \
+| few many 99999 100000
 ";
 
 /// The same at each priority: requests that are let in and start, at most 10,000 in one window, and
@@ -134,51 +138,34 @@ Master::ask | master 100 64 @0 => fresh | 0 few
 
 #[test]
 fn lists_have_memory(rt: HostRuntime) -> Result<(), Fail> {
-    for case in cases(rt.alloc(), LISTS)? {
-        plays_case(&mut Lists::new(rt.alloc()), case)?;
-    }
-    Ok(())
+    plays_cases(rt.alloc(), &mut Lists::new(rt.alloc()), LISTS)
 }
 
 #[test]
 fn audits_have_memory(rt: HostRuntime) -> Result<(), Fail> {
-    for case in cases(rt.alloc(), AUDITS)? {
-        plays_case(&mut Audits::new(rt.alloc()), case)?;
-    }
-    Ok(())
+    plays_cases(rt.alloc(), &mut Audits::new(rt.alloc()), AUDITS)
 }
 
 #[test]
 fn chains_have_memory(rt: HostRuntime) -> Result<(), Fail> {
-    for case in cases(rt.alloc(), CHAINS)? {
-        plays_case(&mut Chain::new(&rt, rt.alloc()), case)?;
-    }
-    Ok(())
+    plays_cases(rt.alloc(), &mut Chain::new(&rt), CHAINS)
 }
 
 #[test]
 fn queues_have_memory(rt: HostRuntime) -> Result<(), Fail> {
-    for case in cases(rt.alloc(), QUEUES)? {
-        plays_case(&mut Queue::new(rt.alloc())?, case)?;
-    }
-    Ok(())
+    plays_cases(rt.alloc(), &mut Queue::new(rt.alloc())?, QUEUES)
 }
 
 #[test]
 fn queues_have_memory_at_each_priority(rt: HostRuntime) -> Result<(), Fail> {
+    let (alloc, mut queue) = (rt.alloc(), Queue::new(rt.alloc())?);
     for priority in ["system", "default", "batch"] {
-        let table = PRIORITIES.replace(rt.alloc(), "PRIORITY", priority)?;
-        for case in cases(rt.alloc(), &table)? {
-            plays_case(&mut Queue::new(rt.alloc())?, case)?;
-        }
+        plays_cases(alloc, &mut queue, &PRIORITIES.replace(alloc, "PRIORITY", priority)?)?;
     }
     Ok(())
 }
 
 #[test]
 fn records_have_memory(rt: HostRuntime) -> Result<(), Fail> {
-    for case in cases(rt.alloc(), RECORDS)? {
-        plays_case(&mut Opener::new(&rt, rt.alloc()), case)?;
-    }
-    Ok(())
+    plays_cases(rt.alloc(), &mut Opener::new(&rt), RECORDS)
 }

@@ -10,13 +10,16 @@
 
 pub mod words;
 
-use fdb_checks::{CaseError, Line, Player, plays};
+use fdb_checks::{Line, Player, plays_all};
 use fdb_history::{
     AuditFault, ClientLog, Event, History, Issued, Record, Sequence, audit, history_of,
     register_after,
 };
 use std::alloc::{AllocError, Global};
 use std::test::Fail;
+
+/// The most logs that an audit takes.
+const MOST: usize = 100_000;
 
 /// A chain, and the logs to be audited with it, client 0's first.
 #[derive(Drop)]
@@ -38,106 +41,136 @@ impl Audits {
         }
     }
 
-    /// The history, or the fault. There may be no more logs than an audit takes.
-    fn audited(&self) -> Result<Result<History, AuditFault>, CaseError> {
-        if self.logs.len() > 100_000 {
-            return Err(CaseError::Failed(Fail::new("more logs than an audit takes")));
+    fn clear(&mut self) {
+        *self = Audits::new(self.alloc);
+    }
+
+    /// The history, or the fault. More logs than an audit takes are refused as want of memory is.
+    fn audited(&self) -> Result<History, AuditFault> {
+        if self.logs.len() > MOST {
+            return Err(AuditFault::Memory);
         }
-        match audit(self.alloc, self.start, &self.chain, &self.logs) {
-            Err(AuditFault::Memory) => Err(CaseError::Memory),
-            found => Ok(found),
+        audit(self.alloc, self.start, &self.chain, &self.logs)
+    }
+
+    /// The history of logs, in which no fault is looked for.
+    fn found_again(&self) -> Result<History, AllocError> {
+        if self.logs.len() > MOST {
+            return Err(AllocError);
         }
+        history_of(self.alloc, &self.logs)
+    }
+
+    fn fault(&mut self, line: &mut Line<'_>) {
+        match self.audited() {
+            Ok(_) => line.say("ok"),
+            Err(AuditFault::Memory) => line.refuse(),
+            Err(fault) => line.say(fault),
+        }
+        self.clear();
     }
 
     /// The history of logs that have one.
-    fn history(&self) -> Result<History, CaseError> {
-        match self.audited()? {
-            Ok(history) => Ok(history),
-            Err(fault) => Err(CaseError::Failed(Fail::new(fault))),
-        }
-    }
-
-    fn fault(&mut self) -> Result<String, CaseError> {
-        let found = self.audited()?.err();
-        *self = Audits::new(self.alloc);
-        match found {
-            None => Ok(String::from_str(self.alloc, "ok")?),
-            Some(fault) => Ok(fault.to_string(self.alloc)?),
+    fn history(&self, line: &mut Line<'_>) -> Option<History> {
+        match self.audited() {
+            Ok(history) => Some(history),
+            Err(fault) => {
+                match fault {
+                    AuditFault::Memory => line.refuse(),
+                    _ => line.fails("a fault"),
+                }
+                None
+            }
         }
     }
 
     /// How many events there are, and whether they are found again where no fault is looked for.
-    fn events(&self) -> Result<String, CaseError> {
-        let history = self.history()?;
-        let again = found_again(self.alloc, &self.logs)?;
-        let word = if again.events == history.events {
-            "again"
-        } else {
-            "others"
-        };
-        Ok(format!(in self.alloc; "{} {word}", history.events.len())?)
-    }
-
-    fn event(&self, place: u64) -> Result<String, CaseError> {
-        match self.history()?.events.as_slice().get(place as usize) {
-            None => Ok(String::from_str(self.alloc, "none")?),
-            Some(event) => Ok(event_text(self.alloc, event)?),
+    fn events(&self, line: &mut Line<'_>) {
+        if let Some(history) = self.history(line) {
+            line.say(history.events.len());
+            self.say_again(line, &history);
         }
     }
 
-    fn register(&self) -> Result<String, CaseError> {
-        let history = self.history()?;
-        let after = register_after(self.start, history.events.as_slice());
-        Ok(after.to_string(self.alloc)?)
+    fn say_again(&self, line: &mut Line<'_>, history: &History) {
+        match self.found_again() {
+            Ok(again) => line.say(if again.events == history.events {
+                "again"
+            } else {
+                "others"
+            }),
+            Err(_) => line.refuse(),
+        }
+    }
+
+    fn event(&self, line: &mut Line<'_>) {
+        let place = line.number() as usize;
+        if let Some(history) = self.history(line) {
+            match history.events.as_slice().get(place) {
+                None => line.say("none"),
+                Some(event) => say_event(line, event),
+            }
+        }
+    }
+
+    fn register(&self, line: &mut Line<'_>) {
+        if let Some(history) = self.history(line) {
+            line.say(register_after(self.start, history.events.as_slice()));
+        }
+    }
+
+    fn begin(&mut self, line: &mut Line<'_>) {
+        self.start = words::record(line);
+    }
+
+    fn entry(&mut self, line: &mut Line<'_>) {
+        let issued = words::issued(line);
+        line.takes(self.chain.push(issued));
+    }
+
+    fn log(&mut self, line: &mut Line<'_>) {
+        let log = ClientLog {
+            calls: Sequence::new(self.alloc),
+        };
+        line.takes(self.logs.push(log));
     }
 
     /// Adds a call to the last log.
-    fn add(&mut self, kind: &str, line: &mut Line<'_>) -> Result<(), CaseError> {
-        let call = words::call(self.alloc, kind, line)?;
+    fn add(&mut self, kind: &str, line: &mut Line<'_>) {
+        let call = words::call(kind, line);
         match self.logs.last_mut() {
-            Some(log) => Ok(log.calls.push(call)?),
-            None => Err(CaseError::Failed(line.fail("no log"))),
+            Some(log) => line.takes(log.calls.push(call)),
+            None => line.fails("no log"),
         }
     }
 }
 
 impl Player for Audits {
-    fn called(&mut self, call: &str, line: &mut Line<'_>) -> Result<String, CaseError> {
+    fn called(&mut self, call: &str, line: &mut Line<'_>) {
         match call {
-            "start" => self.start = words::record(line)?,
-            "entry" => self.chain.push(words::issued(line)?)?,
-            "log" => self.logs.push(ClientLog {
-                calls: Sequence::new(self.alloc),
-            })?,
-            "clear" => *self = Audits::new(self.alloc),
-            "audit" => return self.fault(),
-            "events" => return self.events(),
-            "event" => return self.event(line.number()?),
-            "register" => return self.register(),
-            kind => self.add(kind, line)?,
+            "start" => self.begin(line),
+            "entry" => self.entry(line),
+            "log" => self.log(line),
+            "clear" => self.clear(),
+            "audit" => self.fault(line),
+            "events" => self.events(line),
+            "event" => self.event(line),
+            "register" => self.register(line),
+            kind => self.add(kind, line),
         }
-        Ok(String::new(self.alloc))
     }
 }
 
-/// The history of logs, of which there may be no more than an audit takes.
-fn found_again(alloc: Global, logs: &[ClientLog]) -> Result<History, CaseError> {
-    if logs.len() > 100_000 {
-        return Err(CaseError::Failed(Fail::new("more logs than an audit takes")));
-    }
-    Ok(history_of(alloc, logs)?)
-}
-
-fn event_text(alloc: Global, event: &Event) -> Result<String, AllocError> {
+fn say_event(line: &mut Line<'_>, event: &Event) {
     match event {
-        Event::Read { client, call, rec } => format!(in alloc; "read {client} {call} {rec}"),
+        Event::Read { client, call, rec } => line.say(format_args!("read {client} {call} {rec}")),
         Event::Report {
             client,
             call,
             rec,
             raised,
             changed,
-        } => format!(in alloc; "report {client} {call} {rec} {raised} {changed}"),
+        } => line.say(format_args!("report {client} {call} {rec} {raised} {changed}")),
     }
 }
 
@@ -223,8 +256,5 @@ asks 2 Exhausted; audit => ok
 
 #[test]
 fn histories_and_faults(rt: HostRuntime) -> Result<(), Fail> {
-    let mut audits = Audits::new(rt.alloc());
-    plays(&mut audits, HISTORIES)?;
-    plays(&mut audits, FAULTS)?;
-    Ok(())
+    plays_all(rt.alloc(), &mut Audits::new(rt.alloc()), &[HISTORIES, FAULTS])
 }

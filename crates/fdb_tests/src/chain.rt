@@ -8,16 +8,19 @@
 //! why there is none;
 //! - `round` has a number and how many proxies: whether each is given a fresh version for it;
 //! - `patient` has nothing: from here on each request that is refused memory is made once more;
+//! - `held` has nothing: from here on each request passes the gate once, and another one comes that
+//! has to wait;
 //! - `stand` has nothing: how many answers stand, once the lock is gone.
+
+ghost use Rattle.std.specs.Thread.{IsSync};
 
 mod rows;
 
 use fdb_chain::{ChainCore, ChainError, RecentChain, Sequencer};
-use fdb_checks::{CaseError, HoldsFirst, Line, Player, same};
+use fdb_checks::{HoldsFirst, Line, Player};
 use fdb_history::{Ask, Issued, OpenGate, Place, Service};
-use std::alloc::{AllocError, Global};
+use std::alloc::Global;
 use std::sync::Wait;
-use std::test::Fail;
 use std::thread;
 use std::thread::Threads;
 
@@ -47,56 +50,45 @@ enum Asked {
     Behind(Sequencer<FromHundred>),
 }
 
-/// What is asked, and whether a request that is refused memory is made once more.
+/// What is asked, and whether a request that is refused memory is made once more, or each is held.
 #[derive(Drop)]
 pub(crate) struct Chain<'a, R> {
     rt: &'a R,
-    alloc: Global,
     asked: Asked,
     patient: bool,
+    held: bool,
+    ghost shared: { IsSync R.row },
 }
 
-impl<'a, R: Wait> Chain<'a, R> {
+impl<'a, R: Threads + Wait + Sync> Chain<'a, R> {
     /// Nothing that could be asked yet.
-    pub(crate) fn new(rt: &'a R, alloc: Global) -> Self {
+    pub(crate) fn new(rt: &'a R) -> Self {
         Chain {
             rt,
-            alloc,
             asked: Asked::Nobody,
             patient: false,
+            held: false,
         }
     }
 
-    fn word(&self, word: &str) -> Result<String, CaseError> {
-        Ok(String::from_str(self.alloc, word)?)
-    }
-
-    /// The cause of a refusal, or that memory was refused.
-    fn cause(&self, cause: ChainError) -> Result<String, CaseError> {
-        match cause {
-            ChainError::Memory => Err(CaseError::Memory),
-            cause => Ok(cause.to_string(self.alloc)?),
-        }
-    }
-
-    fn open(&mut self, line: &mut Line<'_>) -> Result<String, CaseError> {
-        let (epoch_end, recovery) = (line.number()?, line.number()?);
-        match ChainCore::new(self.alloc, epoch_end, recovery, line.who()?) {
+    fn open(&mut self, line: &mut Line<'_>) {
+        let (epoch_end, recovery) = (line.number(), line.number());
+        match ChainCore::new(line.alloc, epoch_end, recovery, line.who()) {
             Ok(core) => {
                 self.asked = Asked::Core(core);
-                self.word("ok")
+                line.say("ok");
             }
-            Err(cause) => self.cause(cause),
+            Err(cause) => say_cause(line, cause),
         }
     }
 
-    fn open_behind(&mut self, proxies: u32) -> Result<String, CaseError> {
-        match RecentChain::new(self.alloc, 0, 100, proxies) {
+    fn open_behind(&mut self, line: &mut Line<'_>) {
+        match RecentChain::new(line.alloc, 0, 100, line.who()) {
             Ok(core) => {
                 self.asked = Asked::Behind(Sequencer::new(core));
-                self.word("ok")
+                line.say("ok");
             }
-            Err(cause) => self.cause(cause),
+            Err(cause) => say_cause(line, cause),
         }
     }
 
@@ -109,147 +101,118 @@ impl<'a, R: Wait> Chain<'a, R> {
         }
     }
 
-    fn ask(&mut self, line: &mut Line<'_>) -> Result<String, CaseError> {
-        let ask = ask_of(line)?;
-        let found = match self.answer(ask) {
-            Err(ChainError::Memory) if self.patient => self.answer(ask),
-            found => found,
-        };
-        self.told(found)
+    /// The same once more where it is refused memory, if that is called for.
+    fn answer_patiently(&mut self, ask: Ask) -> Result<Issued, ChainError> {
+        let found = self.answer(ask);
+        if self.patient && found == Err(ChainError::Memory) {
+            return self.answer(ask);
+        }
+        found
     }
 
-    /// Some members of an answer, or why there is none.
-    fn told(&self, found: Result<Issued, ChainError>) -> Result<String, CaseError> {
+    fn ask(&mut self, line: &mut Line<'_>) {
+        let ask = Ask {
+            proxy: line.who(),
+            num: line.number(),
+            processed: line.number(),
+            at: line.number(),
+        };
+        let found = if self.held {
+            self.answer_held(line, ask)
+        } else {
+            self.answer_patiently(ask)
+        };
         match found {
-            Ok(issued) => Ok(issued_text(self.alloc, issued)?),
-            Err(cause) => self.cause(cause),
+            Ok(issued) => say_issued(line, issued),
+            Err(cause) => say_cause(line, cause),
+        }
+    }
+
+    /// Asks a sequencer. While the request is at the gate, with the lock, another one comes.
+    fn answer_held(&self, line: &mut Line<'_>, ask: Ask) -> Result<Issued, ChainError> {
+        match &self.asked {
+            Asked::Behind(sequencer) => {
+                let (found, in_turn) = held(self.rt, sequencer, ask);
+                line.holds(in_turn, "one waits for the other");
+                found
+            }
+            _ => Err(ChainError::NoProxy),
         }
     }
 
     /// Has each of so many proxies ask under a number, once it has processed all before it.
-    fn round(&mut self, num: u64, proxies: u32) -> Result<String, CaseError> {
+    fn round(&mut self, line: &mut Line<'_>) {
+        let (num, proxies) = (line.number(), line.who());
         for proxy in 0..proxies {
-            let ask = Ask {
+            let found = self.answer(Ask {
                 proxy,
                 num,
                 processed: num.saturating_sub(1),
                 at: 0,
-            };
-            match self.answer(ask) {
-                Ok(issued) if issued.fresh => {}
-                Ok(_) => return self.word("kept"),
-                Err(cause) => return self.cause(cause),
+            });
+            match found {
+                Ok(issued) => line.holds(issued.fresh, "kept"),
+                Err(cause) => say_cause(line, cause),
             }
         }
-        self.word("fresh")
+        line.say("fresh");
     }
 
-    fn stand(&mut self) -> Result<String, CaseError> {
-        let standing = match std::mem::replace(&mut self.asked, Asked::Nobody) {
-            Asked::Nobody => 0,
-            Asked::Core(core) => core.into_answers().len(),
-            Asked::Behind(sequencer) => sequencer.close().drawn() as usize,
-        };
-        Ok(standing.to_string(self.alloc)?)
+    fn stand(&mut self, line: &mut Line<'_>) {
+        match std::mem::replace(&mut self.asked, Asked::Nobody) {
+            Asked::Nobody => line.fails("nobody is asked"),
+            Asked::Core(core) => line.say(core.into_answers().len()),
+            Asked::Behind(sequencer) => line.say(sequencer.close().drawn()),
+        }
     }
 }
 
-impl<R: Wait> Player for Chain<'_, R> {
-    fn called(&mut self, call: &str, line: &mut Line<'_>) -> Result<String, CaseError> {
+impl<R: Threads + Wait + Sync> Player for Chain<'_, R> {
+    fn called(&mut self, call: &str, line: &mut Line<'_>) {
         match call {
             "new" => self.open(line),
-            "behind" => self.open_behind(line.who()?),
+            "behind" => self.open_behind(line),
             "ask" => self.ask(line),
-            "round" => self.round(line.number()?, line.who()?),
-            "stand" => self.stand(),
-            "patient" => {
-                self.patient = true;
-                Ok(String::new(self.alloc))
-            }
-            _ => Err(CaseError::Failed(line.fail("no call"))),
+            "round" => self.round(line),
+            "stand" => self.stand(line),
+            "patient" => self.patient = true,
+            "held" => self.held = true,
+            _ => line.fails("no call"),
         }
     }
 }
 
-/// The members of a request.
-fn ask_of(line: &mut Line<'_>) -> Result<Ask, Fail> {
-    Ok(Ask {
-        proxy: line.who()?,
-        num: line.number()?,
-        processed: line.number()?,
-        at: line.number()?,
-    })
-}
-
-/// Plays a text in which each request passes the gate once, and another one comes that has to wait.
-fn play_held<R: Threads + Wait + Sync>(
-    chain: &mut Chain<'_, R>,
-    text: &str,
-) -> Result<(), CaseError> {
-    for line in text.lines() {
-        play_line(chain, line)?;
+/// Says the cause of a refusal, or notes that memory was refused.
+fn say_cause(line: &mut Line<'_>, cause: ChainError) {
+    match cause {
+        ChainError::Memory => line.refuse(),
+        cause => line.say(cause),
     }
-    Ok(())
 }
 
-fn play_line<R: Threads + Wait + Sync>(
-    chain: &mut Chain<'_, R>,
-    line: &str,
-) -> Result<(), CaseError> {
-    for text in line.split(';') {
-        let mut line = Line::new(text);
-        let found = match line.next_word() {
-            None => continue,
-            Some("ask") => ask_held(chain, &mut line)?,
-            Some(call) => chain.called(call, &mut line)?,
-        };
-        line.wants(&found)?;
-    }
-    Ok(())
+/// Says some members of an answer.
+fn say_issued(line: &mut Line<'_>, issued: Issued) {
+    line.say(issued.ordinal);
+    line.say(issued.prev);
+    line.say(issued.version);
+    line.say(issued.at);
+    line.say(if issued.fresh { "fresh" } else { "kept" });
 }
 
-/// Asks a sequencer, with another one behind it.
-fn ask_held<R: Threads + Wait + Sync>(
-    chain: &mut Chain<'_, R>,
-    line: &mut Line<'_>,
-) -> Result<String, CaseError> {
-    let ask = ask_of(line)?;
-    let Asked::Behind(sequencer) = &chain.asked else {
-        return Err(CaseError::Failed(line.fail("no lock")));
-    };
-    let found = held(chain.rt, sequencer, ask, line.text)?;
-    chain.told(found)
-}
-
-/// Some members of an answer.
-fn issued_text(alloc: Global, issued: Issued) -> Result<String, AllocError> {
-    let word = if issued.fresh { "fresh" } else { "kept" };
-    let Issued {
-        ordinal,
-        prev,
-        version,
-        at,
-        ..
-    } = issued;
-    format!(in alloc; "{ordinal} {prev} {version} {at} {word}")
-}
-
-/// Asks a sequencer. While the request is at the gate, with the lock, another one comes.
+/// Asks a sequencer while another one comes. Answers too whether that one waited, and was refused.
 fn held<R: Threads + Wait + Sync>(
     rt: &R,
     sequencer: &Sequencer<FromHundred>,
     ask: Ask,
-    case: &str,
-) -> Result<Result<Issued, ChainError>, Fail> {
+) -> (Result<Issued, ChainError>, bool) {
     let gate = HoldsFirst::new(Place::SequencerHeld, ask.proxy, STRANGER);
     let (found, behind) = thread::join(
         rt,
         || answered(rt, sequencer, &gate, ask),
         || refused_behind(rt, sequencer, &gate, ask),
     );
-    same(&behind, &Err(ChainError::UnknownProxy), &case)?;
-    gate.was_passed((1, 1), &case)?;
-    Ok(found)
+    let refused = behind == Err(ChainError::UnknownProxy);
+    (found, refused && gate.was_passed(1, 1))
 }
 
 /// Asks a sequencer, and tells the gate that the answer has come.

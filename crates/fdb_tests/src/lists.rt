@@ -10,7 +10,7 @@
 
 use crate::audits::words::limit_of;
 use crate::queue::tag_of_bytes;
-use fdb_checks::{CaseError, Line, Player, plays};
+use fdb_checks::{Line, Player, plays};
 use fdb_history::{GrvOpts, Issued, Priority, Replies, Sequence};
 use std::alloc::Global;
 use std::test::Fail;
@@ -44,81 +44,115 @@ impl Lists {
         }
     }
 
-    /// The length of a copy, where it is the same.
-    fn copied(&self, length: usize, same: bool) -> Result<String, CaseError> {
-        match same {
-            true => Ok(length.to_string(self.alloc)?),
-            false => Ok(String::from_str(self.alloc, "other")?),
+    fn clear(&mut self) {
+        *self = Lists::new(self.alloc);
+    }
+
+    fn push(&mut self, line: &mut Line<'_>) {
+        let number = line.number();
+        line.takes(self.list.push(number));
+    }
+
+    fn copy_list(&self, line: &mut Line<'_>) {
+        match self.list.clone() {
+            Ok(copy) => say_copied(line, copy == self.list, copy.len()),
+            Err(_) => line.refuse(),
         }
     }
 
-    fn keep(&mut self, line: &mut Line<'_>) -> Result<(), CaseError> {
+    fn copy_opts(&self, line: &mut Line<'_>) {
+        match self.opts.clone() {
+            Ok(copy) => say_copied(line, copy == self.opts, copy.tags.len()),
+            Err(_) => line.refuse(),
+        }
+    }
+
+    fn tag(&mut self, line: &mut Line<'_>) {
+        let bytes = line.number();
+        let tag = tag_of_bytes(line, bytes);
+        line.takes(self.opts.tags.push(tag));
+    }
+
+    fn open(&mut self, line: &mut Line<'_>) {
+        match Replies::of_each(self.alloc, line.who()) {
+            Ok(replies) => self.replies = replies,
+            Err(_) => line.refuse(),
+        }
+    }
+
+    fn keep(&mut self, line: &mut Line<'_>) {
         let answer = Issued {
             ordinal: self.kept,
-            proxy: line.who()?,
-            num: line.number()?,
-            processed: line.number()?,
+            proxy: line.who(),
+            num: line.number(),
+            processed: line.number(),
             prev: 0,
             version: 100,
             at: 0,
             fresh: true,
         };
         if answer.proxy as usize >= self.replies.len() {
-            return Err(CaseError::Failed(line.fail("no such proxy")));
+            line.fails("no such proxy");
+            return;
         }
-        Replies::keep_among(self.replies.as_mut_slice(), &answer)?;
+        line.takes(Replies::keep_among(self.replies.as_mut_slice(), &answer));
         self.kept = self.kept.saturating_add(1);
-        Ok(())
     }
 
     /// Keeps the answer at a place for the first commit proxy alone.
-    fn keep_own(&mut self, place: u64, processed: u64) -> Result<(), CaseError> {
+    fn keep_own(&mut self, line: &mut Line<'_>) {
+        let (place, processed) = (line.number(), line.number());
         match self.replies.first_mut() {
-            Some(own) => Ok(own.keep(place as usize, processed)?),
-            None => Err(CaseError::Failed(Fail::new("no proxy"))),
+            Some(own) => line.takes(own.keep(place as usize, processed)),
+            None => line.fails("no proxy"),
         }
     }
 
     /// The place of the answer under a number of a commit proxy, if it is kept.
-    fn place(&self, proxy: u64, num: u64) -> Result<String, CaseError> {
-        match self
-            .replies
-            .get(proxy as usize)
-            .and_then(|own| own.place_of(num))
-        {
-            Some(place) => Ok(place.to_string(self.alloc)?),
-            None => Ok(String::from_str(self.alloc, "none")?),
+    fn place(&self, line: &mut Line<'_>) {
+        let (proxy, num) = (line.number(), line.number());
+        let Some(own) = self.replies.get(proxy as usize) else {
+            line.say("none");
+            return;
+        };
+        match own.place_of(num) {
+            Some(place) => line.say(place),
+            None => line.say("none"),
         }
     }
 }
 
+/// Says the length of a copy, which is the same.
+fn say_copied(line: &mut Line<'_>, same: bool, length: usize) {
+    line.holds(same, "another copy");
+    line.say(length);
+}
+
+/// Copies a limit whose tag has so many bytes.
+fn copy_limit(line: &mut Line<'_>) {
+    let bytes = line.number();
+    let limit = limit_of(line, bytes);
+    match limit.clone() {
+        Ok(copy) => say_copied(line, copy == limit, copy.tag.len()),
+        Err(_) => line.refuse(),
+    }
+}
+
 impl Player for Lists {
-    fn called(&mut self, call: &str, line: &mut Line<'_>) -> Result<String, CaseError> {
-        let alloc = self.alloc;
+    fn called(&mut self, call: &str, line: &mut Line<'_>) {
         match call {
-            "clear" => *self = Lists::new(alloc),
-            "push" => self.list.push(line.number()?)?,
-            "list" => {
-                let copy = self.list.clone()?;
-                return self.copied(copy.len(), copy == self.list);
-            }
-            "tag" => self.opts.tags.push(tag_of_bytes(alloc, line.number()?)?)?,
-            "opts" => {
-                let copy = self.opts.clone()?;
-                return self.copied(copy.tags.len(), copy == self.opts);
-            }
-            "limit" => {
-                let limit = limit_of(alloc, line.number()?)?;
-                let copy = limit.clone()?;
-                return self.copied(copy.tag.len(), copy == limit);
-            }
-            "of_each" => self.replies = Replies::of_each(alloc, line.who()?)?,
-            "keep" => self.keep(line)?,
-            "keep_own" => self.keep_own(line.number()?, line.number()?)?,
-            "kept" => return self.place(line.number()?, line.number()?),
-            _ => return Err(CaseError::Failed(line.fail("no call"))),
+            "clear" => self.clear(),
+            "push" => self.push(line),
+            "list" => self.copy_list(line),
+            "tag" => self.tag(line),
+            "opts" => self.copy_opts(line),
+            "limit" => copy_limit(line),
+            "of_each" => self.open(line),
+            "keep" => self.keep(line),
+            "keep_own" => self.keep_own(line),
+            "kept" => self.place(line),
+            _ => line.fails("no call"),
         }
-        Ok(String::new(alloc))
     }
 }
 
@@ -134,6 +168,5 @@ keep_own 4 0; keep_own 5 0; keep_own 6 0; keep_own 7 0; keep_own 8 2; kept 0 3 =
 
 #[test]
 fn lists_and_replies(rt: HostRuntime) -> Result<(), Fail> {
-    plays(&mut Lists::new(rt.alloc()), LISTS)?;
-    Ok(())
+    Ok(plays(rt.alloc(), &mut Lists::new(rt.alloc()), LISTS)?)
 }

@@ -4,7 +4,9 @@
 //! - `open` has the first record and, behind `for`, how many reporters there are: how many have
 //! tokens. What is done with these stands in texts of its own (`holders`);
 //! - `master` has a recovery version, how many commit proxies there are, and how often each asks:
-//! whether all answers are fresh.
+//! whether all answers are fresh;
+//! - `gather` has the versions that two reporters report: how far the first token has come before what
+//! they have seen is gathered, and how far all have come then.
 
 ghost use Rattle.std.specs.Prelude.{◌≡◌, false};
 ghost use Rattle.fdb_live.specs.Seen.{origin_of};
@@ -17,10 +19,10 @@ mod rows;
 mod threads;
 
 use crate::audits::words::{plain, record};
-use fdb_checks::{CaseError, Line, Player};
+use fdb_checks::{CaseError, Line, Player, plays};
 use fdb_history::Record;
 use fdb_live::{Live, LiveError, LiveRecord, Opened};
-use holders::{Holders, play};
+use holders::Holders;
 use std::alloc::Global;
 use std::marker::Brand;
 use std::sync::Wait;
@@ -31,38 +33,39 @@ use std::thread::Threads;
 #[derive(Drop)]
 pub(crate) struct Opener<'a, R> {
     rt: &'a R,
-    alloc: Global,
 }
 
 impl<'a, R: Wait> Opener<'a, R> {
-    pub(crate) fn new(rt: &'a R, alloc: Global) -> Self {
-        Opener { rt, alloc }
+    pub(crate) fn new(rt: &'a R) -> Self {
+        Opener { rt }
     }
 
-    fn open(&self, line: &mut Line<'_>) -> Result<String, CaseError> {
-        let start = record(line)?;
-        let reporters = match line.word()? {
-            "for" => line.who()?,
-            _ => return Err(CaseError::Failed(line.fail("for how many?"))),
-        };
-        match opened(self.rt, self.alloc, start, reporters) {
-            Ok(tokens) => Ok(tokens.to_string(self.alloc)?),
-            Err(LiveError::Memory) => Err(CaseError::Memory),
-            Err(cause) => Ok(cause.to_string(self.alloc)?),
+    fn open(&self, line: &mut Line<'_>) {
+        let start = record(line);
+        let reporters = u32::try_from(line.number_behind("for")).unwrap_or_default();
+        match opened(self.rt, line.alloc, start, reporters) {
+            Ok(tokens) => line.say(tokens),
+            Err(cause) => say_cause(line, cause),
         }
     }
 }
 
 impl<R: Wait> Player for Opener<'_, R> {
-    fn called(&mut self, call: &str, line: &mut Line<'_>) -> Result<String, CaseError> {
+    fn called(&mut self, call: &str, line: &mut Line<'_>) {
         match call {
             "open" => self.open(line),
-            "master" => {
-                let (recovery, members) = (line.number()?, line.who()?);
-                master::asked(self.rt, self.alloc, recovery, members, line.number()?)
-            }
-            _ => Err(CaseError::Failed(line.fail("no call"))),
+            "master" => master::ask(self.rt, line),
+            "gather" => gathered::gather(self.rt, line),
+            _ => line.fails("no call"),
         }
+    }
+}
+
+/// Says the cause of a refusal, or notes that memory was refused.
+pub(crate) fn say_cause(line: &mut Line<'_>, cause: LiveError) {
+    match cause {
+        LiveError::Memory => line.refuse(),
+        cause => line.say(cause),
     }
 }
 
@@ -99,15 +102,7 @@ pub(crate) fn played<R: Threads + Wait + Sync>(
     }
     match LiveRecord::<Brand>::open(rt, alloc, plain(100), reporters, None) {
         Ok(opened) => played_named::<Brand, R>(rt, alloc, opened, Text { text }),
-        Err(cause) => Err(refusal(cause)),
-    }
-}
-
-/// That memory was refused, or a failure that says what else a live record was refused for.
-pub(crate) fn refusal(cause: LiveError) -> CaseError {
-    match cause {
-        LiveError::Memory => CaseError::Memory,
-        _ => CaseError::Failed(Fail::new(cause)),
+        Err(_) => Err(CaseError::Memory),
     }
 }
 
@@ -127,10 +122,9 @@ fn played_named<J: Live + Send + Sync, R: Threads + Wait + Sync>(
     requires bare { J.chained ≡ false }
     requires opened { opened ≡ origin_of J.table J.start J.reporters J.chained J.epoch_end J.recovery }
 {
-    let (live, first, tokens) = match opened.parts::<J>() {
-        Ok(parts) => parts,
-        Err(cause) => return Err(refusal(cause)),
+    let Ok((live, first, tokens)) = opened.parts::<J>() else {
+        return Err(CaseError::Memory);
     };
     let mut holders = Holders::of(rt, alloc, live, first, tokens)?;
-    play(&mut holders, played.text)
+    plays(alloc, &mut holders, played.text)
 }

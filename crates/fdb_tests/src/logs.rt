@@ -10,19 +10,22 @@ use std::test::Fail;
 
 /// The names of a log in the order of their numbers, and then its lines, or the error.
 fn shown(alloc: Global, read: &Result<NamedLog, ReadError>) -> Result<String, AllocError> {
-    let named = match read {
-        Ok(named) => named,
-        Err(error) => return format!(in alloc; "{error}"),
-    };
     let mut text = String::new(alloc);
-    for client in 0..u32::try_from(named.names.count()).unwrap_or_default() {
-        let name = named.names.name(client).unwrap_or("nobody");
-        text.push_str(&format!(in alloc; "{name} ")?)?;
-    }
-    for line in named.log.lines() {
-        text.push_str(&format!(in alloc; "{:?} {:?} {:?}; ", line.client, line.call, line.times)?)?;
+    match read {
+        Ok(named) => push_log(&mut text, named)?,
+        Err(error) => write!(text, "{error}")?,
     }
     Ok(text)
+}
+
+fn push_log(text: &mut String, named: &NamedLog) -> Result<(), AllocError> {
+    for client in 0..u32::try_from(named.names.count()).unwrap_or_default() {
+        write!(text, "{} ", named.names.name(client).unwrap_or("nobody"))?;
+    }
+    for line in named.log.lines() {
+        write!(text, "{:?} {:?} {:?}; ", line.client, line.call, line.times)?;
+    }
+    Ok(())
 }
 
 /// What is read of some bytes, byte by byte.
@@ -66,21 +69,25 @@ fn each_text_stands_for_its_log(rt: HostRuntime) -> Result<(), Fail> {
 /// The order that explains the lines of a text, if one does: the act, the line, and whether it
 /// shares the act above.
 fn order_text(alloc: Global, bytes: &[u8]) -> Result<String, AllocError> {
-    let mut text = String::new(alloc);
     let opts = AuditOpts {
         complete: None,
         margin: 0,
     };
-    let Ok(named) = read_log(alloc, bytes) else {
-        return Ok(text);
-    };
-    match order(alloc, &named.log, &opts)? {
+    match read_log(alloc, bytes) {
+        Ok(named) => turns_text(alloc, order(alloc, &named.log, &opts)?),
+        Err(_) => String::from_str(alloc, "no log"),
+    }
+}
+
+fn turns_text(alloc: Global, turns: Option<Vec<Turn>>) -> Result<String, AllocError> {
+    let mut text = String::new(alloc);
+    match turns {
+        None => text.push_str("none")?,
         Some(turns) => {
             for Turn { act, line, shared } in turns {
-                text.push_str(&format!(in alloc; "{act:?} {line:?} {shared}; ")?)?;
+                write!(text, "{act:?} {line:?} {shared}; ")?;
             }
         }
-        None => text.push_str("none")?,
     }
     Ok(text)
 }

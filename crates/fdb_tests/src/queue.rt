@@ -7,8 +7,11 @@
 //! - `starts` has a time: how many requests start in a window;
 //! - `waits` has a time: a number, or `none`;
 //! - `skip` has a time: how many idle windows were held at once, and behind a bar the budgets;
+//! - `rates` has a normal and a batch limit: how many are turned away, and behind a bar the payload
+//! and the cause of each; `turns` has the same: how many;
 //! - `lengths` has nothing: how many system, default and batch requests wait;
 //! - `throttle` has a priority, a tag, a rate and an expiry;
+//! - `forget` has a moment, by which throttles are forgotten;
 //! - `limits` has a priority and a moment: how many limits the tags of the `tag` lines before it
 //! have, and the rate and the expiry of the last.
 //!
@@ -17,12 +20,11 @@
 
 mod rows;
 
-use fdb_checks::{CaseError, Line, Player, tag};
+use fdb_checks::{Line, Player};
 use fdb_history::{Sequence, Tag};
-use fdb_queue::{GrvQueue, QueueConfig, QueueError, Req, Throttle};
-use std::alloc::{AllocError, Global};
+use fdb_queue::{GrvQueue, QueueConfig, QueueError, Req, Throttle, TurnedAway};
+use std::alloc::Global;
 use std::mem;
-use std::test::Fail;
 
 /// A queue, and what the next one is made with or the next limits are asked for.
 #[derive(Drop)]
@@ -49,192 +51,243 @@ impl Queue {
         })
     }
 
-    fn word(&self, word: &str) -> Result<String, CaseError> {
-        Ok(String::from_str(self.alloc, word)?)
-    }
-
-    /// The cause of a refusal, or that memory was refused.
-    fn cause(&self, cause: QueueError) -> Result<String, CaseError> {
-        match cause {
-            QueueError::Memory => Err(CaseError::Memory),
-            cause => Ok(cause.to_string(self.alloc)?),
-        }
-    }
-
     /// Puts a queue in the place of another.
-    fn open(&mut self, made: Result<GrvQueue<u32>, QueueError>) -> Result<String, CaseError> {
+    fn open(&mut self, line: &mut Line<'_>, made: Result<GrvQueue<u32>, QueueError>) {
         match made {
             Ok(made) => {
                 self.queue = made;
                 self.tags = Vec::new(self.alloc);
-                self.word("ok")
+                line.say("ok");
             }
-            Err(cause) => self.cause(cause),
+            Err(cause) => say_cause(line, cause),
         }
+    }
+
+    fn opens(&mut self, line: &mut Line<'_>) {
+        let made = GrvQueue::new(self.alloc, config(line));
+        self.open(line, made);
+    }
+
+    /// Tells a throttle of the queue that is made next.
+    fn tell(&mut self, line: &mut Line<'_>) {
+        let throttle = throttle(line);
+        line.takes(self.throttles.push(throttle));
     }
 
     /// Makes a queue with the throttles that were told.
-    fn made(&mut self, config: QueueConfig) -> Result<String, CaseError> {
+    fn made(&mut self, line: &mut Line<'_>) {
         let throttles = mem::replace(&mut self.throttles, Vec::new(self.alloc));
-        let made = GrvQueue::with_throttles(self.alloc, config, &throttles);
-        self.open(made)
+        let made = GrvQueue::with_throttles(self.alloc, config(line), &throttles);
+        self.open(line, made);
     }
 
     /// Copies the throttles that were told.
-    fn copied(&self) -> Result<String, CaseError> {
-        let copy = self.throttles.clone()?;
-        self.word(if copy == self.throttles {
-            "same"
-        } else {
-            "other"
-        })
+    fn copied(&self, line: &mut Line<'_>) {
+        match self.throttles.clone() {
+            Ok(copy) => line.say(if copy == self.throttles {
+                "same"
+            } else {
+                "other"
+            }),
+            Err(_) => line.refuse(),
+        }
     }
 
-    fn offer(&mut self, line: &mut Line<'_>) -> Result<String, CaseError> {
+    fn offer(&mut self, line: &mut Line<'_>) {
         let request = Req {
-            priority: line.priority()?,
-            count: line.number()?,
-            payload: line.who()?,
+            priority: line.priority(),
+            count: line.number(),
+            payload: line.who(),
         };
         match self.queue.offer(request) {
-            Ok(None) => self.word("in"),
-            Ok(Some(Req { payload, .. })) => Ok(format!(in self.alloc; "out {payload}")?),
-            Err((cause, _)) => self.cause(cause),
+            Ok(None) => line.say("in"),
+            Ok(Some(Req { payload, .. })) => line.say(format_args!("out {payload}")),
+            Err((cause, _)) => say_cause(line, cause),
         }
     }
 
-    fn window(&mut self, elapsed: u64) -> Result<String, CaseError> {
-        let started = match self.queue.window(elapsed) {
-            Ok(started) => payloads_text(self.alloc, &started)?,
-            Err(cause) => self.cause(cause)?,
-        };
-        Ok(self.with_budgets(started.as_str())?)
+    fn window(&mut self, line: &mut Line<'_>) {
+        match self.queue.window(line.number()) {
+            Ok(started) => say_payloads(line, &started),
+            Err(cause) => say_cause(line, cause),
+        }
+        self.say_budgets(line);
     }
 
-    /// A text, and behind a bar the budgets.
-    fn with_budgets(&self, text: &str) -> Result<String, AllocError> {
+    /// Says a bar, and behind it the budgets.
+    fn say_budgets(&self, line: &mut Line<'_>) {
         let budgets = self.queue.budgets();
-        format!(in self.alloc; "{text} | {} {}", budgets.normal, budgets.batch)
+        line.say(format_args!("| {} {}", budgets.normal, budgets.batch));
     }
 
-    fn starts(&mut self, elapsed: u64) -> Result<String, CaseError> {
-        match self.queue.window(elapsed) {
-            Ok(started) => Ok(started.len().to_string(self.alloc)?),
-            Err(cause) => self.cause(cause),
+    fn starts(&mut self, line: &mut Line<'_>) {
+        match self.queue.window(line.number()) {
+            Ok(started) => line.say(started.len()),
+            Err(cause) => say_cause(line, cause),
         }
     }
 
-    fn waits(&self, elapsed: u64) -> Result<String, CaseError> {
-        match self.queue.waits(elapsed) {
-            None => self.word("none"),
-            Some(windows) => Ok(windows.to_string(self.alloc)?),
+    fn rates(&mut self, line: &mut Line<'_>) {
+        let (normal, batch) = (line.number(), line.number());
+        match self.queue.set_rates(normal, batch) {
+            Ok(turned_away) => say_turned_away(line, &turned_away),
+            Err(cause) => say_cause(line, cause),
         }
     }
 
-    fn skip(&mut self, elapsed: u64) -> Result<String, CaseError> {
-        let windows = self.queue.skip_idle(elapsed).to_string(self.alloc)?;
-        Ok(self.with_budgets(windows.as_str())?)
+    fn turns(&mut self, line: &mut Line<'_>) {
+        let (normal, batch) = (line.number(), line.number());
+        match self.queue.set_rates(normal, batch) {
+            Ok(turned_away) => line.say(turned_away.len()),
+            Err(cause) => say_cause(line, cause),
+        }
     }
 
-    fn lengths(&self) -> Result<String, CaseError> {
+    fn waits(&self, line: &mut Line<'_>) {
+        match self.queue.waits(line.number()) {
+            None => line.say("none"),
+            Some(windows) => line.say(windows),
+        }
+    }
+
+    fn skip(&mut self, line: &mut Line<'_>) {
+        let windows = self.queue.skip_idle(line.number());
+        line.say(windows);
+        self.say_budgets(line);
+    }
+
+    fn lengths(&self, line: &mut Line<'_>) {
         let lengths = self.queue.lengths();
-        let (system, default, batch) = (lengths.system, lengths.default_, lengths.batch);
-        Ok(format!(in self.alloc; "{system} {default} {batch}")?)
+        line.say(lengths.system);
+        line.say(lengths.default_);
+        line.say(lengths.batch);
     }
 
-    fn throttle(&mut self, throttle: Throttle) -> Result<String, CaseError> {
+    fn throttle(&mut self, line: &mut Line<'_>) {
         let Throttle {
             priority,
             tag,
             rate,
             expires,
-        } = throttle;
+        } = throttle(line);
         match self.queue.set_throttle(priority, tag, rate, expires) {
-            Ok(()) => self.word("ok"),
-            Err(cause) => self.cause(cause),
+            Ok(()) => line.say("ok"),
+            Err(cause) => say_cause(line, cause),
         }
     }
 
-    fn limits(&mut self, line: &mut Line<'_>) -> Result<String, CaseError> {
+    fn tag(&mut self, line: &mut Line<'_>) {
+        let tag = tag_of(line);
+        line.takes(self.tags.push(tag));
+    }
+
+    fn limits(&mut self, line: &mut Line<'_>) {
         let tags = mem::replace(&mut self.tags, Vec::new(self.alloc));
-        match self
-            .queue
-            .throttles(line.priority()?, &tags, line.number()?)
-        {
+        let priority = line.priority();
+        match self.queue.throttles(priority, &tags, line.number()) {
             Ok(limits) => {
-                let last = limits
-                    .last()
-                    .map_or((0, 0), |limit| (limit.rate, limit.expires));
-                Ok(format!(in self.alloc; "{} {} {}", limits.len(), last.0, last.1)?)
+                line.say(limits.len());
+                line.say(limits.last().map_or(0, |limit| limit.rate));
+                line.say(limits.last().map_or(0, |limit| limit.expires));
             }
-            Err(cause) => self.cause(cause),
+            Err(cause) => say_cause(line, cause),
         }
     }
 }
 
 impl Player for Queue {
-    fn called(&mut self, call: &str, line: &mut Line<'_>) -> Result<String, CaseError> {
-        let alloc = self.alloc;
+    fn called(&mut self, call: &str, line: &mut Line<'_>) {
         match call {
-            "new" => return self.open(GrvQueue::new(alloc, config(line)?)),
-            "with" => self.throttles.push(throttle(alloc, line)?)?,
-            "made" => return self.made(config(line)?),
-            "copy" => return self.copied(),
-            "offer" => return self.offer(line),
-            "window" => return self.window(line.number()?),
-            "starts" => return self.starts(line.number()?),
-            "waits" => return self.waits(line.number()?),
-            "skip" => return self.skip(line.number()?),
-            "lengths" => return self.lengths(),
-            "throttle" => return self.throttle(throttle(alloc, line)?),
-            "tag" => self.tags.push(tag_of(alloc, line)?)?,
-            "limits" => return self.limits(line),
-            _ => return Err(CaseError::Failed(line.fail("no call"))),
+            "new" => self.opens(line),
+            "with" => self.tell(line),
+            "made" => self.made(line),
+            "copy" => self.copied(line),
+            "offer" => self.offer(line),
+            "window" => self.window(line),
+            "starts" => self.starts(line),
+            "rates" => self.rates(line),
+            "turns" => self.turns(line),
+            "waits" => self.waits(line),
+            "skip" => self.skip(line),
+            "lengths" => self.lengths(line),
+            "throttle" => self.throttle(line),
+            "forget" => self.queue.forget_throttles(line.number()),
+            "tag" => self.tag(line),
+            "limits" => self.limits(line),
+            _ => line.fails("no call"),
         }
-        Ok(String::new(alloc))
     }
 }
 
-fn config(line: &mut Line<'_>) -> Result<QueueConfig, Fail> {
-    Ok(QueueConfig {
-        normal: line.number()?,
-        batch: line.number()?,
-        room: line.number()?,
-    })
-}
-
-fn throttle(alloc: Global, line: &mut Line<'_>) -> Result<Throttle, CaseError> {
-    Ok(Throttle {
-        priority: line.priority()?,
-        tag: tag_of(alloc, line)?,
-        rate: line.number()?,
-        expires: line.number()?,
-    })
-}
-
-fn tag_of(alloc: Global, line: &mut Line<'_>) -> Result<Tag, CaseError> {
-    match line.word()? {
-        "of" => Ok(tag_of_bytes(alloc, line.number()?)?),
-        "nr" => Ok(tag(alloc, line.number()?.to_string(alloc)?.as_str())?),
-        word => Ok(tag(alloc, word)?),
+/// Says the cause of a refusal, or notes that memory was refused.
+fn say_cause(line: &mut Line<'_>, cause: QueueError) {
+    match cause {
+        QueueError::Memory => line.refuse(),
+        cause => line.say(cause),
     }
 }
 
-/// A tag of so many bytes, each of which is a `t`.
-pub(crate) fn tag_of_bytes(alloc: Global, bytes: u64) -> Result<Tag, CaseError> {
-    let mut tag = Sequence::new(alloc);
+fn config(line: &mut Line<'_>) -> QueueConfig {
+    QueueConfig {
+        normal: line.number(),
+        batch: line.number(),
+        room: line.number(),
+    }
+}
+
+fn throttle(line: &mut Line<'_>) -> Throttle {
+    Throttle {
+        priority: line.priority(),
+        tag: tag_of(line),
+        rate: line.number(),
+        expires: line.number(),
+    }
+}
+
+fn tag_of(line: &mut Line<'_>) -> Tag {
+    match line.word() {
+        "of" => {
+            let bytes = line.number();
+            tag_of_bytes(line, bytes)
+        }
+        "nr" => tag_of_number(line),
+        word => line.tag(word),
+    }
+}
+
+/// A tag of the digits of a number.
+fn tag_of_number(line: &mut Line<'_>) -> Tag {
+    match line.number().to_string(line.alloc) {
+        Ok(digits) => line.tag(digits.as_str()),
+        Err(_) => {
+            line.lacks();
+            Sequence::new(line.alloc)
+        }
+    }
+}
+
+/// A tag of so many bytes, each of which is a `t`, unless memory is refused.
+pub(crate) fn tag_of_bytes(line: &mut Line<'_>, bytes: u64) -> Tag {
+    let mut tag = Sequence::new(line.alloc);
     for _ in 0..bytes {
-        tag.push(b't')?;
+        line.takes(tag.push(b't'));
     }
-    Ok(tag)
+    tag
 }
 
-/// The payloads of requests, between blanks.
-fn payloads_text(alloc: Global, started: &[Req<u32>]) -> Result<String, AllocError> {
-    let mut text = String::new(alloc);
+/// Says the payloads of requests.
+fn say_payloads(line: &mut Line<'_>, started: &[Req<u32>]) {
     for request in started {
-        let payload = request.payload;
-        text.push_str(&format!(in alloc; "{payload} ")?)?;
+        line.say(request.payload);
     }
-    Ok(text)
+}
+
+/// Says how many requests were turned away, and the payload and the cause of each.
+fn say_turned_away(line: &mut Line<'_>, turned_away: &[TurnedAway<u32>]) {
+    line.say(turned_away.len());
+    line.say("|");
+    for gone in turned_away {
+        line.say(gone.request.payload);
+        line.say(gone.cause);
+    }
 }

@@ -5,10 +5,9 @@
 use crate::audits::Audits;
 use crate::chain::Chain;
 use crate::lists::{LISTS, Lists};
-use crate::live::gathered::gather_two;
 use crate::live::{Opener, played};
 use crate::queue::Queue;
-use fdb_checks::bears;
+use fdb_checks::{bears, plays};
 use std::test::Fail;
 
 /// The first client has raised the register twice, and the second has read it and then draws a
@@ -29,12 +28,12 @@ event 1 => read 1 0 200 unlocked none; events => 3 again; audit => ok
 
 #[test]
 fn an_audit_bears_it(rt: HostRuntime) -> Result<(), Fail> {
-    bears(&mut Audits::new(rt.alloc()), AUDITS)
+    bears(rt.alloc(), &mut Audits::new(rt.alloc()), AUDITS)
 }
 
 #[test]
 fn lists_bear_it(rt: HostRuntime) -> Result<(), Fail> {
-    bears(&mut Lists::new(rt.alloc()), LISTS)
+    bears(rt.alloc(), &mut Lists::new(rt.alloc()), LISTS)
 }
 
 /// Requests behind a lock. One that is refused memory is made once more, and has drawn no version:
@@ -50,7 +49,7 @@ ask 1 1 0 0 => 2 101 102 0 kept; ask 0 8 8 0 => the answer is not kept any more;
 
 #[test]
 fn a_sequencer_bears_it(rt: HostRuntime) -> Result<(), Fail> {
-    bears(&mut Chain::new(&rt, rt.alloc()), CHAIN)
+    bears(rt.alloc(), &mut Chain::new(&rt), CHAIN)
 }
 
 /// Requests of each priority, of which a window starts some, and throttles that are set, so that
@@ -59,7 +58,7 @@ const QUEUE: &str = "
 new 3 2 6 => ok
 offer batch 1 0 => in; offer batch 1 1 => in; offer default 1 2 => in; offer default 1 3 => in
 offer system 1 4 => in; offer system 1 5 => in; offer system 1 6 => out 0; window 1 => 4 5 6 | 0 0
-lengths => 0 2 1
+lengths => 0 2 1; rates 3 0 => 1 | 1 batch requests are not let in; lengths => 0 2 0
 throttle batch a 1 9 => ok; throttle batch b 2 9 => ok; throttle batch c 3 9 => ok
 throttle batch d 4 9 => ok; throttle batch e 5 9 => ok; throttle batch f 6 9 => ok
 throttle batch g 7 9 => ok; throttle batch a 8 9 => ok; throttle system b 9 9 => ok
@@ -69,7 +68,7 @@ with batch a 4 9; with batch b 6 9; copy => same; made 1 1 1 => ok; tag b; limit
 
 #[test]
 fn a_queue_bears_it(rt: HostRuntime) -> Result<(), Fail> {
-    bears(&mut Queue::new(rt.alloc())?, QUEUE)
+    bears(rt.alloc(), &mut Queue::new(rt.alloc())?, QUEUE)
 }
 
 /// Calls of two reporters on the record.
@@ -85,27 +84,27 @@ fn a_live_record_bears_it(rt: HostRuntime) -> Result<(), Fail> {
         error.was_refusal()?;
         played(&rt, rt.alloc(), 2, RECORD)?;
     }
-    bears(&mut Opener::new(&rt, rt.alloc()), "master 100 2 3 => fresh")
+    Ok(())
 }
 
 /// What all have seen is gathered without memory.
+const OPENED: &str = "
+master 100 2 3 => fresh
+gather 200 150 => 0 1 1 1 1
+gather 200 300 => 0 2 2 2 2
+";
+
 #[test]
-fn gathering_bears_it(rt: HostRuntime) -> Result<(), Fail> {
-    for (reported, position) in [((200, 150), 1), ((200, 300), 2)] {
-        if let Err(error) = gather_two(&rt, rt.alloc(), reported, position) {
-            error.was_refusal()?;
-            gather_two(&rt, rt.alloc(), reported, position)?;
-        }
-    }
-    Ok(())
+fn opening_bears_it(rt: HostRuntime) -> Result<(), Fail> {
+    bears(rt.alloc(), &mut Opener::new(&rt), OPENED)
 }
 
 /// Passes also where every allocation is refused from one on: then the record or its tokens are not
 /// to be had, or all calls on them answer as ever.
 #[test]
 fn without_memory(rt: HostRuntime) -> Result<(), Fail> {
-    if let Err(error) = gather_two(&rt, rt.alloc(), (200, 300), 2) {
-        error.was_refusal()?;
+    match plays(rt.alloc(), &mut Opener::new(&rt), "gather 200 300 => 0 2 2 2 2") {
+        Err(error) => error.was_refusal(),
+        Ok(()) => Ok(()),
     }
-    Ok(())
 }

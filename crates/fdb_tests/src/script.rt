@@ -2,7 +2,7 @@
 //! with all.
 
 use fdb_checks::same_text;
-use fdb_script::{Script, read_script};
+use fdb_script::{Script, Setup, read_script};
 use std::alloc::{AllocError, Global};
 use std::test::Fail;
 
@@ -39,20 +39,25 @@ round
 
 /// The parts of a script: its numbers, its throttles, and its rounds with their commands.
 fn script_text(alloc: Global, script: &Script) -> Result<String, AllocError> {
-    let setup = script.setup();
-    let (epoch_end, recovery, clients) = (setup.epoch_end, setup.recovery, setup.clients);
-    let (elapsed, config) = (setup.elapsed, setup.config);
-    let mut text = format!(in alloc; "{epoch_end} {recovery} {clients} {elapsed} {config:?}\n")?;
-    for throttle in &setup.throttles {
-        text.push_str(&format!(in alloc; "{throttle:?}\n")?)?;
-    }
+    let mut text = String::new(alloc);
+    push_setup(&mut text, script.setup())?;
     for round in script.rounds() {
         text.push_str("round\n")?;
         for command in round {
-            text.push_str(&format!(in alloc; "{} {:?}\n", command.client, command.act)?)?;
+            writeln!(text, "{} {:?}", command.client, command.act)?;
         }
     }
     Ok(text)
+}
+
+fn push_setup(text: &mut String, setup: &Setup) -> Result<(), AllocError> {
+    write!(text, "{} {} ", setup.epoch_end, setup.recovery)?;
+    write!(text, "{} {} ", setup.clients, setup.elapsed)?;
+    writeln!(text, "{:?}", setup.config)?;
+    for throttle in &setup.throttles {
+        writeln!(text, "{throttle:?}")?;
+    }
+    Ok(())
 }
 
 #[test]

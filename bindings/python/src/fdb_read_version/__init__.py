@@ -5,7 +5,7 @@ what belongs to it, and `GrvQueue` says which requests for a read version wait a
 which start. `answers` and `outcomes` take all requests of a run at once. `audit` finds the faults of
 a log of calls, of any system, and `audit_text` says what it found.
 
-A handle is used by one thread at a time, and by the one that made it.
+A handle is used by one thread at a time; any thread may use and close it.
 """
 from ._status import Refused, Status
 from .chain import Ask, Chain, Issued, answers
@@ -18,6 +18,7 @@ from .grv_queue import (
     Priority,
     QueueConfig,
     Request,
+    TurnedAway,
     Window,
     outcomes,
 )
@@ -58,6 +59,7 @@ __all__ = [
     "Refused",
     "Request",
     "Status",
+    "TurnedAway",
     "Window",
     "answers",
     "audit",

@@ -102,6 +102,10 @@ class RawOutcome(Structure):
     ]
 
 
+class RawTurnedAway(Structure):
+    _fields_ = [("request", RawRequest), ("cause", c_uint8)]
+
+
 class RawLimit(Structure):
     _fields_ = [("rate", c_uint64), ("expires", c_uint64), ("holds", c_bool)]
 
@@ -178,6 +182,17 @@ _DECLARED = {
         [POINTER(RawHandle), c_uint64, POINTER(RawOutcome), POINTER(RawRequest), c_size_t],
     ),
     "fdb_queue_pop": (None, [POINTER(RawHandle), POINTER(RawOutcome)]),
+    "fdb_queue_set_rates": (
+        c_uint8,
+        [
+            POINTER(RawHandle),
+            c_uint64,
+            c_uint64,
+            POINTER(RawTurnedAway),
+            c_size_t,
+            POINTER(c_uint64),
+        ],
+    ),
     "fdb_queue_waits": (c_bool, [POINTER(RawHandle), c_uint64, POINTER(c_uint64)]),
     "fdb_queue_set_throttle": (
         c_uint8,
@@ -187,6 +202,7 @@ _DECLARED = {
         c_uint8,
         [POINTER(RawHandle), c_uint8, c_char_p, c_size_t, c_uint64, POINTER(RawLimit)],
     ),
+    "fdb_queue_forget_throttles": (None, [POINTER(RawHandle), c_uint64]),
     "fdb_queue_free": (None, [POINTER(RawHandle)]),
     "fdb_queue_outcomes": (
         c_uint8,

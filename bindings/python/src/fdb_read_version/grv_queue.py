@@ -12,6 +12,7 @@ from ._library import (
     RawOp,
     RawOutcome,
     RawRequest,
+    RawTurnedAway,
     library,
     number,
 )
@@ -85,6 +86,14 @@ class Outcome:
     started: Tuple[Request, ...] = ()
     out: Optional[Request] = None
     status: Status = Status.OK
+
+
+@dataclass(frozen=True)
+class TurnedAway:
+    """A batch request that new rates turned away: BAD_COUNT or BATCH_THROTTLED, and the request."""
+
+    cause: Status
+    request: Request
 
 
 @dataclass(frozen=True)
@@ -166,6 +175,23 @@ class GrvQueue:
         library.fdb_queue_pop(byref(self._open()), byref(raw))
         return _outcome(raw)
 
+    def set_rates(self, normal: int, batch: int) -> List[TurnedAway]:
+        """Sets the two rates, from the next window on; capacity, budgets and throttles stay.
+
+        It gives the batch requests that wait and that a new queue of these rates would refuse, in
+        order; all others wait on. `Refused` says BAD_CONFIG, for a rate out of range, or MEMORY; the
+        queue is then as it was.
+        """
+        queue, size = byref(self._open()), c_uint64()
+        rates = number("normal", normal), number("batch", batch)
+        status = int(Status.ROOM)
+        while status == Status.ROOM:
+            gone = (RawTurnedAway * size.value)()
+            status = library.fdb_queue_set_rates(queue, *rates, gone, len(gone), byref(size))
+        if status:
+            raise Refused(status)
+        return [TurnedAway(Status(it.cause), _request(it.request)) for it in gone[: size.value]]
+
     def waits(self, elapsed: int) -> Optional[int]:
         """How many windows of this length start nothing before one starts the first of the row.
 
@@ -201,6 +227,13 @@ class GrvQueue:
         if status:
             raise Refused(status)
         return Limit(raw.rate, raw.expires) if raw.holds else None
+
+    def forget_throttles(self, at: int) -> None:
+        """Forgets each throttle that expires at this moment or before.
+
+        From it on all answers are as if none were forgotten.
+        """
+        library.fdb_queue_forget_throttles(byref(self._open()), number("at", at))
 
     def close(self) -> None:
         """Frees the queue. A second call does nothing."""

@@ -1,5 +1,5 @@
 -- What a proxy sends. (this product's own)
-use Rattle.std.specs.Prelude.{◌≡◌, ℕ, Bool, true, false, List}
+use Rattle.std.specs.Prelude.{◌≡◌, ℕ, Bool, true, false, List, Option, None, Some}
 use Rattle.std.specs.List.{AllZip, FoldsTo}
 use Rattle.fdb_history.specs.declared.service.Service.{Ghosts as ServiceGhosts}
 use Rattle.fdb_live.specs.declared.live.Live.{Ghosts as LiveGhosts}
@@ -12,11 +12,13 @@ use Rattle.fdb_proxy.specs.declared.cause.Cause.{Cause}
 use Rattle.fdb_proxy.specs.declared.cause.Cause.TheVariants.{Closed}
 use Rattle.fdb_proxy.specs.declared.cause.Cause.TheVariants as cause
 use Rattle.fdb_proxy.specs.declared.request.Request.{Request}
-use Rattle.fdb_proxy.specs.declared.turn.TurnedAway.{TurnedAway}
+use Rattle.fdb_proxy.specs.declared.rates.Rates.{Rates}
 use Rattle.fdb_proxy.specs.private.Turn.{IsTurn, emptied}
+use Rattle.fdb_queue.specs.NewRates.{turned_away, under_rates, with_rates}
 use Rattle.fdb_queue.specs.Queue.{Queue}
 use Rattle.fdb_queue.specs.Waiting.{row}
 use Rattle.fdb_queue.specs.declared.request.Req.{Req}
+use Rattle.fdb_queue.specs.declared.request.TurnedAway.{TurnedAway}
 
 module _ {J : Type 0} {live : LiveGhosts J} {service : ServiceGhosts J} where
   -- A refusal answers a request, with this cause: it has the request's client, serial number and
@@ -50,6 +52,17 @@ module _ {J : Type 0} {live : LiveGhosts J} {service : ServiceGhosts J} where
         FoldsTo (λ one gone next. IsRefused (cause.Queue gone.cause) gone.request.payload one next)
         before turned_away after
 
+    -- Where there are new rates, they lead from one queue to another: whoever may not wait under them
+    -- was sent the refusal, once and in the order of the row, and nothing else was. Where there are
+    -- none, nothing is done.
+    abbrev pub IsRerated : Option Rates → Queue (Request J live service)
+        → Queue (Request J live service) → O → O → Type 0
+    IsRerated None before after one next = (after ≡ before) × (next ≡ one)
+    IsRerated (Some rates) before after one next =
+        (after ≡ under_rates rates.normal rates.batch before)
+        × AreTurnedAway one
+        (turned_away (with_rates rates.normal rates.batch before.config) (row before.waiting)) next
+
     -- One turn with some requests leads from one queue to another, and all that it decides is sent,
     -- and nothing else: whoever it turned away gets a refusal, and then whoever it started a reply,
     -- from one read that saw these changes.
@@ -77,3 +90,12 @@ module _ {J : Type 0} {live : LiveGhosts J} {service : ServiceGhosts J} where
         × IsServed elapsed before offered changes turned one between
         × AreClosed between (row turned.waiting) next
         × (after ≡ emptied turned)
+
+    -- What was taken from a desk is served: new rates hold first, and then there is a turn.
+    abbrev pub IsTakenServed : Option Rates → Bool → ℕ → Queue (Request J live service)
+        → List (Req (Request J live service)) → List Change
+        → Queue (Request J live service) → O → O → Type 0
+    IsTakenServed rates closed elapsed before offered changes after one next =
+        (rerated : Queue (Request J live service)) × (between : O)
+        × IsRerated rates before rerated one between
+        × IsServedOrLast closed elapsed rerated offered changes after between next

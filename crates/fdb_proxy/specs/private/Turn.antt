@@ -1,10 +1,10 @@
 -- A turn of a proxy, by the definitions of its queue.
 use Rattle.std.specs.Prelude.{◌≡◌, ◌⊎◌, ℕ, List, [], ◌∷◌, ◌++◌, Option, None, Some, IfSome, ◌<◌, length, map, option_to_list}
 use Rattle.std.specs.List.{FoldsTo}
-use Rattle.fdb_proxy.specs.declared.turn.TurnedAway.{TurnedAway}
 use Rattle.fdb_queue.specs.declared.error.QueueError.{QueueError}
 use Rattle.fdb_queue.specs.declared.error.QueueError.TheVariants.{Full, Memory}
 use Rattle.fdb_queue.specs.declared.request.Req.{Req}
+use Rattle.fdb_queue.specs.declared.request.TurnedAway.{TurnedAway}
 use Rattle.fdb_queue.specs.Admission.{refusal_of, admitted, pushed_out}
 use Rattle.fdb_queue.specs.Queue.{Queue}
 use Rattle.fdb_queue.specs.Waiting.{first, nothing, row}

@@ -1,133 +1,139 @@
-//! Calls of a client, and what comes of each, or nothing where it is refused memory.
+//! Calls of a client, and what comes of each.
+
+ghost use Rattle.std.specs.Prelude.{◌≡◌, None};
 
 use crate::stand::Stand;
-use fdb_checks::{CaseError, Line, holds};
+use fdb_checks::Line;
 use fdb_client::{Client, ClientError};
-use fdb_history::OpenGate;
-use fdb_live::Live;
-use std::alloc::Global;
+use fdb_history::{Issued, OpenGate};
+use fdb_live::{Ack, Live, Seen};
 use std::sync::Wait;
-use std::test::Fail;
 
 /// The client whose number is the next word.
-fn client_at<'s, 'a, J: Live>(
-    stand: &'s mut Stand<'a, J>,
+pub(crate) fn client_at<'s, 'a, J: Live>(
+    clients: &'s mut [Client<'a, J>],
     line: &mut Line<'_>,
-) -> Result<&'s mut Client<'a, J>, Fail> {
-    match stand.clients.get_mut(line.who()? as usize) {
-        Some(client) => Ok(client),
-        None => Err(line.fail("no client")),
+) -> Option<&'s mut Client<'a, J>> {
+    let client = clients.get_mut(line.who() as usize);
+    line.holds(client.is_some(), "no client");
+    client
+}
+
+/// Says why a call is refused, or notes that it is refused memory.
+pub(crate) fn say_cause(line: &mut Line<'_>, cause: ClientError) {
+    match cause {
+        ClientError::Memory => line.refuse(),
+        cause => line.say(cause),
     }
 }
 
-/// Why a call is refused, unless that is for memory.
-pub(crate) fn why(alloc: Global, cause: ClientError) -> Result<Option<String>, CaseError> {
-    if cause == ClientError::Memory {
-        return Ok(None);
+/// A request for a commit version.
+pub(crate) fn ask<J: Live, R: Wait>(stand: &mut Stand<'_, J, R>, line: &mut Line<'_>) {
+    if let Some(client) = client_at(&mut stand.clients, line) {
+        let (processed, at) = (line.number(), line.number());
+        let found = client.ask(stand.rt, &OpenGate, processed, at);
+        say_issued(line, found);
     }
-    Ok(Some(cause.to_string(alloc)?))
 }
 
-/// A request for a commit version, which may be one again.
-pub(crate) fn asked<J: Live, R: Wait>(
-    rt: &R,
-    stand: &mut Stand<'_, J>,
-    line: &mut Line<'_>,
-    again: bool,
-) -> Result<Option<String>, CaseError> {
-    let alloc = stand.service.alloc;
-    let client = client_at(stand, line)?;
-    let num = if again { line.number()? } else { 0 };
-    let (processed, at) = (line.number()?, line.number()?);
-    let found = if again {
-        client.reask(rt, &OpenGate, num, processed, at)
-    } else {
-        client.ask(rt, &OpenGate, processed, at)
-    };
+/// The same again.
+pub(crate) fn reask<J: Live, R: Wait>(stand: &mut Stand<'_, J, R>, line: &mut Line<'_>) {
+    if let Some(client) = client_at(&mut stand.clients, line) {
+        let (num, processed, at) = (line.number(), line.number(), line.number());
+        let found = client.reask(stand.rt, &OpenGate, num, processed, at);
+        say_issued(line, found);
+    }
+}
+
+fn say_issued(line: &mut Line<'_>, found: Result<Issued, ClientError>) {
     match found {
         Ok(issued) => {
-            let fresh = if issued.fresh { "fresh" } else { "kept" };
-            Ok(Some(format!(in alloc; "{} after {}, {fresh}", issued.version, issued.prev)?))
+            line.say(format_args!("{} after {}", issued.version, issued.prev));
+            line.say(if issued.fresh { "fresh" } else { "kept" });
         }
-        Err(cause) => why(alloc, cause),
+        Err(cause) => say_cause(line, cause),
     }
 }
 
 /// A report of the version under a number.
-pub(crate) fn reported<J: Live, R: Wait>(
-    rt: &R,
-    stand: &mut Stand<'_, J>,
-    line: &mut Line<'_>,
-) -> Result<Option<String>, CaseError> {
-    let alloc = stand.service.alloc;
-    let client = client_at(stand, line)?;
-    let (num, least) = (line.number()?, line.number()?);
-    let locked = line.text.contains(" locked");
-    let metadata = locked.then_some([8; 10]);
-    match client.report(rt, &OpenGate, num, locked, metadata, least) {
+pub(crate) fn report<J: Live, R: Wait>(stand: &mut Stand<'_, J, R>, line: &mut Line<'_>) {
+    if let Some(client) = client_at(&mut stand.clients, line) {
+        let (num, least) = (line.number(), line.number());
+        let locked = line.text.contains(" locked");
+        let metadata = locked.then_some([8; 10]);
+        let found = client.report(stand.rt, &OpenGate, num, locked, metadata, least);
+        say_ack(line, found);
+    }
+}
+
+fn say_ack(line: &mut Line<'_>, found: Result<Ack, ClientError>) {
+    match found {
         Ok(ack) => {
-            let what = if ack.raised { "raised" } else { "not raised" };
-            let changed = if ack.changed {
-                "changed"
-            } else {
-                "not changed"
-            };
-            Ok(Some(format!(in alloc; "{what}, {changed} at {}", ack.position)?))
+            line.say(if ack.raised { "raised" } else { "not raised" });
+            line.say(if ack.changed { "changed" } else { "not changed" });
+            line.say(format_args!("at {}", ack.position));
         }
-        Err(cause) => why(alloc, cause),
+        Err(cause) => say_cause(line, cause),
     }
 }
 
 /// A client tells another, which is the next word.
-pub(crate) fn told<J: Live>(
-    stand: &mut Stand<'_, J>,
-    line: &mut Line<'_>,
-) -> Result<Option<String>, CaseError> {
-    let alloc = stand.service.alloc;
-    match client_at(stand, line)?.tell(line.who()?) {
-        Ok(token) => {
-            let position = token.position();
-            stand.told = Some(token);
-            Ok(Some(format!(in alloc; "at {position}")?))
+pub(crate) fn tell<J: Live, R: Wait>(stand: &mut Stand<'_, J, R>, line: &mut Line<'_>) {
+    if let Some(client) = client_at(&mut stand.clients, line) {
+        match client.tell(line.who()) {
+            Ok(token) => {
+                line.say(format_args!("at {}", token.position()));
+                stand.told = Some(token);
+            }
+            Err(cause) => say_cause(line, cause),
         }
-        Err(cause) => why(alloc, cause),
     }
 }
 
 /// A client learns what was told last, by another, which is the next word. A token that comes back
 /// is kept.
-pub(crate) fn learnt<J: Live, R: Wait>(
-    rt: &R,
-    stand: &mut Stand<'_, J>,
-    line: &mut Line<'_>,
-) -> Result<Option<String>, CaseError> {
-    let alloc = stand.service.alloc;
+pub(crate) fn learn<J: Live, R: Wait>(stand: &mut Stand<'_, J, R>, line: &mut Line<'_>) {
     let Some(token) = stand.told.take() else {
-        return Err(CaseError::Failed(line.fail("nothing was told")));
+        line.fails("nothing was told");
+        return;
     };
-    if token.number().is_some() {
-        return Err(CaseError::Failed(line.fail("a commit proxy's token")));
+    if token.reporter().is_some() {
+        line.fails("a commit proxy's token");
+        return;
     }
-    let client = client_at(stand, line)?;
-    match client.learn(rt, line.who()?, token) {
-        Ok(()) => Ok(Some(format!(in alloc; "at {}", client.position())?)),
+    if let Some(client) = client_at(&mut stand.clients, line) {
+        stand.told = learn_token(stand.rt, client, token, line);
+    }
+}
+
+/// Has a client learn what a token has seen. Answers a token that comes back.
+fn learn_token<J: Live, R: Wait>(
+    rt: &R,
+    client: &mut Client<'_, J>,
+    token: Seen<J>,
+    line: &mut Line<'_>,
+) -> Option<Seen<J>>
+    requires { token.reporter ≡ None }
+{
+    match client.learn(rt, line.who(), token) {
+        Ok(()) => {
+            line.say(format_args!("at {}", client.position()));
+            None
+        }
         Err((cause, token)) => {
-            stand.told = Some(token);
-            why(alloc, cause)
+            say_cause(line, cause);
+            Some(token)
         }
     }
 }
 
 /// How many calls a client has logged, and the position that it has come to, by its last call and
 /// by its token.
-pub(crate) fn logged<J: Live>(
-    stand: &mut Stand<'_, J>,
-    line: &mut Line<'_>,
-) -> Result<Option<String>, CaseError> {
-    let alloc = stand.service.alloc;
-    let client = client_at(stand, line)?;
-    let (calls, position) = (client.calls(), client.position());
-    let last = calls.last().map_or(client.begun(), |call| call.position);
-    holds(last == position, &line.text)?;
-    Ok(Some(format!(in alloc; "{} calls, at {position}", calls.len())?))
+pub(crate) fn log<J: Live, R: Wait>(stand: &mut Stand<'_, J, R>, line: &mut Line<'_>) {
+    if let Some(client) = client_at(&mut stand.clients, line) {
+        let (calls, position) = (client.calls(), client.position());
+        let last = calls.last().map_or(client.begun(), |call| call.position);
+        line.holds(last == position, "the position of the last call");
+        line.say(format_args!("{} calls at {position}", calls.len()));
+    }
 }

@@ -1,10 +1,7 @@
 //! A gate that counts passes.
 
-use fdb_checks::same;
 use fdb_history::{Gate, Place};
-use std::fmt::Display;
 use std::sync::atomic::{AtomicU64, Ordering};
-use std::test::Fail;
 
 /// Counts how often a client passes at each place, and how often others do.
 #[derive(Drop)]
@@ -27,21 +24,13 @@ impl Counting {
         }
     }
 
-    /// Checks how often the client has passed with the sequencer's lock, with that of the reports,
-    /// and where an answer to a read has come, and that nobody else has passed.
-    pub(crate) fn was_passed(
-        &self,
-        wanted: (u64, u64, u64),
-        case: &impl Display,
-    ) -> Result<(), Fail> {
-        let asks = self.asks.load(Ordering::SeqCst);
-        let reports = self.reports.load(Ordering::SeqCst);
-        same(
-            &(asks, reports, self.answers.load(Ordering::SeqCst)),
-            &wanted,
-            case,
-        )?;
-        same(&self.others.load(Ordering::SeqCst), &0, case)
+    /// Whether the client has passed so often with the sequencer's lock, with that of the reports, and
+    /// where an answer to a read has come, and nobody else has passed.
+    pub(crate) fn was_passed(&self, asks: u64, reports: u64, answers: u64) -> bool {
+        self.asks.load(Ordering::SeqCst) == asks
+            && self.reports.load(Ordering::SeqCst) == reports
+            && self.answers.load(Ordering::SeqCst) == answers
+            && self.others.load(Ordering::SeqCst) == 0
     }
 }
 

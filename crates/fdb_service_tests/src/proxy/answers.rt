@@ -4,61 +4,55 @@
 use crate::proxy::desks::Waiter;
 use fdb_history::TagLimit;
 use fdb_live::Live;
-use fdb_proxy::{Answer, Cause, Reply};
+use fdb_proxy::{Answer, Cause, Refused, Reply};
 use std::alloc::{AllocError, Global};
+use std::fmt::Display;
 use std::str::from_utf8;
 
-/// What one who waits has heard.
-pub(crate) fn answer_text<J: Live>(
-    alloc: Global,
-    waiter: &Waiter<J>,
-    again: bool,
-) -> Result<String, AllocError> {
-    let (whom, text) = match &waiter.heard {
-        _ if again => return String::from_str(alloc, "several answers"),
-        None => return String::from_str(alloc, "no answer"),
-        Some(Answer::Reply(reply)) => {
-            (
-                (reply.client, reply.serial, reply.asked),
-                reply_text(alloc, reply)?,
-            )
-        }
-        Some(Answer::Refused(refused)) => {
-            let text = match refused.cause {
-                Cause::Queue(cause) => cause.to_string(alloc)?,
-                Cause::Closed => String::from_str(alloc, "closed")?,
-            };
-            ((refused.client, refused.serial, refused.asked), text)
-        }
-    };
-    if whom == waiter.own {
-        Ok(text)
-    } else {
-        format!(in alloc; "to {whom:?}: {text}")
-    }
+/// Adds what one who waits has heard.
+pub(crate) fn add_answer<J: Live>(rows: &mut Rows, waiter: &Waiter<J>) -> Result<(), AllocError> {
+    match &waiter.heard {
+        None => rows.say("no answer"),
+        Some(Answer::Reply(reply)) => add_reply(rows, reply, waiter.own),
+        Some(Answer::Refused(refused)) => add_refused(rows, refused, waiter.own),
+    }?;
+    rows.ends_row()
 }
 
-fn reply_text<J: Live>(alloc: Global, reply: &Reply<J>) -> Result<String, AllocError> {
+fn add_reply<J: Live>(
+    rows: &mut Rows,
+    reply: &Reply<J>,
+    own: (u32, u64, u64),
+) -> Result<(), AllocError> {
+    rows.say_whom((reply.client, reply.serial, reply.asked), own)?;
+    rows.say(format_args!("{} at {}", reply.rec, reply.position))?;
     let limits = reply.limits.as_slice();
     match limits.first() {
-        None => format!(in alloc; "{} at {}", reply.rec, reply.position),
-        Some(first) => format!(in alloc;
-            "{} at {}, {} {}",
-            reply.rec,
-            reply.position,
-            limits.len(),
-            limit_text(alloc, first, limits)?
-        ),
+        None => Ok(()),
+        Some(first) => say_limits(rows, first, limits),
     }
 }
 
-/// The first of some limits, or that they are not all the same.
-fn limit_text(alloc: Global, first: &TagLimit, limits: &[TagLimit]) -> Result<String, AllocError> {
+fn add_refused<J: Live>(
+    rows: &mut Rows,
+    refused: &Refused<J>,
+    own: (u32, u64, u64),
+) -> Result<(), AllocError> {
+    rows.say_whom((refused.client, refused.serial, refused.asked), own)?;
+    match refused.cause {
+        Cause::Queue(cause) => rows.say(cause),
+        Cause::Closed => rows.say("closed"),
+    }
+}
+
+/// How many limits there are, and the first of them, or that they are not all the same.
+fn say_limits(rows: &mut Rows, first: &TagLimit, limits: &[TagLimit]) -> Result<(), AllocError> {
     if limits.iter().any(|limit| limit != first) {
-        return String::from_str(alloc, "several");
+        return rows.say(" with several");
     }
     let tag = from_utf8(first.tag.as_slice()).unwrap_or("no text");
-    format!(in alloc; "{tag} {} {}", first.rate, first.expires)
+    rows.say(format_args!(" with {} {tag}", limits.len()))?;
+    rows.say(format_args!(" {} {}", first.rate, first.expires))
 }
 
 /// What was said, the last of it so often in a row.
@@ -68,6 +62,8 @@ pub(crate) struct Rows {
     before: String,
     last: String,
     times: u64,
+    /// What is said just now.
+    next: String,
 }
 
 impl Rows {
@@ -77,24 +73,44 @@ impl Rows {
             before: String::new(alloc),
             last: String::new(alloc),
             times: 0,
+            next: String::new(alloc),
         }
     }
 
-    /// Adds what was said next, to the row that goes on or as the first of another.
-    pub(crate) fn add(&mut self, said: String) -> Result<(), AllocError> {
-        if said != self.last {
-            self.ends()?;
-            self.last = said;
+    /// Adds to what is said just now.
+    pub(crate) fn say<D: Display + Drop>(&mut self, said: D) -> Result<(), AllocError> {
+        write!(self.next, "{said}")
+    }
+
+    /// Says whom an answer goes to, unless that is as it should be.
+    fn say_whom(&mut self, whom: (u32, u64, u64), own: (u32, u64, u64)) -> Result<(), AllocError> {
+        if whom != own {
+            self.say("to another: ")?;
         }
+        Ok(())
+    }
+
+    /// Ends what is said just now: the row goes on, or another begins.
+    pub(crate) fn ends_row(&mut self) -> Result<(), AllocError> {
+        if self.next != self.last {
+            self.push_row()?;
+            std::mem::swap(&mut self.next, &mut self.last);
+        }
+        self.next = String::new(self.alloc);
         self.times = self.times.saturating_add(1);
         Ok(())
     }
 
-    fn ends(&mut self) -> Result<(), AllocError> {
+    /// Adds what one says.
+    pub(crate) fn add(&mut self, said: &str) -> Result<(), AllocError> {
+        self.say(said)?;
+        self.ends_row()
+    }
+
+    fn push_row(&mut self) -> Result<(), AllocError> {
         if self.times > 0 {
-            let part = if self.before.is_empty() { "" } else { "; " };
-            let row = format!(in self.alloc; "{part}{} {}", self.times, self.last)?;
-            self.before.push_str(&row)?;
+            let part = if self.before.is_empty() { "" } else { " / " };
+            write!(self.before, "{part}{} {}", self.times, self.last)?;
             self.times = 0;
         }
         Ok(())
@@ -102,7 +118,7 @@ impl Rows {
 
     /// The whole of it.
     pub(crate) fn ended(mut self) -> Result<String, AllocError> {
-        self.ends()?;
+        self.push_row()?;
         Ok(self.before)
     }
 }

@@ -1,13 +1,12 @@
 //! Clients and two proxies, each in a thread of its own.
 
-use crate::proxy::desks::{Waiter, queue_of, request_of, submit};
+use crate::proxy::desks::{Waiter, add_waiter, queue_of, request_of, submit};
 use crate::stand::{Service, Stand};
-use fdb_checks::{CaseError, holds, same};
+use fdb_checks::Line;
 use fdb_client::Client;
 use fdb_history::{GrvOpts, OpenGate, Priority, Sequence};
 use fdb_live::{Live, Seen};
-use fdb_proxy::{Answer, Desk, GrvProxy};
-use std::alloc::AllocError;
+use fdb_proxy::{Answer, Desk, GrvProxy, ProxyError};
 use std::sync::Wait;
 use std::thread::Threads;
 use std::{mem, thread};
@@ -58,20 +57,19 @@ impl<J: Live> Asker<'_, J> {
         rt: &R,
         seen: &mut Seen<J>,
         first: u64,
-    ) -> Result<Vec<Waiter<J>>, AllocError> {
+    ) -> Result<Vec<Waiter<J>>, ProxyError> {
         let mut waiters = Vec::new(self.service.alloc);
         for place in 0..REQUESTS {
             let whom = (self.client.number(), first.saturating_add(place));
             let opts = self.opts(place);
-            let (request, waiter) = request_of(self.service, seen, whom, opts, "")?;
             let desk = if place % 2 == 0 {
                 &self.service.desk
             } else {
                 self.other
             };
-            if submit(rt, desk, request).is_ok() {
-                waiters.push(waiter)?;
-            }
+            let (request, waiter) = request_of(self.service, seen, whom, opts, "")?;
+            submit(rt, desk, request)?;
+            add_waiter(&mut waiters, waiter)?;
         }
         Ok(waiters)
     }
@@ -105,56 +103,75 @@ impl<J: Live> Asker<'_, J> {
 
 /// The clients ask two proxies, and each of their requests is answered.
 pub(crate) fn ask_all<J: Live + Send + Sync, R: Threads + Wait + Sync>(
-    rt: &R,
-    stand: &mut Stand<'_, J>,
-) -> Result<(), CaseError> {
-    let service = stand.service;
-    let (alloc, other) = (service.alloc, &Desk::new(service.alloc));
-    let mut askers = Vec::new(alloc);
-    for client in mem::replace(&mut stand.clients, Vec::new(alloc)) {
-        askers.push(Asker {
-            service,
-            other,
-            client,
-            answered: 0,
-            failed: false,
-        })?;
-    }
-    let first = proxy_at(service, &service.desk, &mut stand.served)?;
-    let second = proxy_at(service, other, &mut stand.served)?;
+    stand: &mut Stand<'_, J, R>,
+    line: &mut Line<'_>,
+) {
+    let (rt, service) = (stand.rt, stand.service);
+    let other = &Desk::new(line.alloc);
+    let clients = mem::replace(&mut stand.clients, Vec::new(line.alloc));
+    let mut askers = askers_of(service, other, clients, line);
+    let first = proxy_at(service, &service.desk, &mut stand.tokens.served);
+    let second = proxy_at(service, other, &mut stand.tokens.served);
     let (ended, ()) = thread::join(
         rt,
         || run_both(rt, first, second),
         || ask_side_by_side(rt, service, other, askers.as_mut_slice()),
     );
-    holds(ended, &"the proxies have memory")?;
+    line.holds(ended, "the proxies have memory");
     for asker in &askers {
-        let found = (asker.answered, asker.failed);
-        same(&found, &(TURNS.saturating_mul(REQUESTS), false), &"answers")?;
+        line.holds(asker.answered == TURNS.saturating_mul(REQUESTS), "answers");
+        line.holds(!asker.failed, "a call of a client");
     }
-    Ok(())
+    line.say("answered");
 }
 
-/// A proxy that lets 100,000 transactions start in each window.
+fn askers_of<'a, J: Live>(
+    service: &'a Service<J>,
+    other: &'a Desk<J>,
+    clients: Vec<Client<'a, J>>,
+    line: &mut Line<'_>,
+) -> Vec<Asker<'a, J>> {
+    let mut askers = Vec::new(line.alloc);
+    for client in clients {
+        line.takes(askers.push(Asker {
+            service,
+            other,
+            client,
+            answered: 0,
+            failed: false,
+        }));
+    }
+    askers
+}
+
+/// A proxy that lets 100,000 transactions start in each window, if there is memory.
 fn proxy_at<'a, J: Live>(
     service: &'a Service<J>,
     desk: &'a Desk<J>,
     seen: &mut Seen<J>,
-) -> Result<GrvProxy<'a, J>, AllocError> {
+) -> Option<GrvProxy<'a, J>> {
     let (alloc, live) = (service.alloc, service.master.record());
     let queue = queue_of(alloc, 100_000, 100_000, 100_000)?;
-    Ok(GrvProxy::new(alloc, live, desk, queue, 10_000_000, live.split(seen)))
+    Some(GrvProxy::new(alloc, live, desk, queue, 10_000_000, live.split(seen)))
 }
 
 /// Runs two proxies, each in a thread of its own. Answers whether both ended as their desks were
 /// closed.
 fn run_both<J: Live + Send + Sync, R: Threads + Wait + Sync>(
     rt: &R,
-    first: GrvProxy<'_, J>,
-    second: GrvProxy<'_, J>,
+    first: Option<GrvProxy<'_, J>>,
+    second: Option<GrvProxy<'_, J>>,
 ) -> bool {
-    let (first, second) = thread::join(rt, || first.run(rt).is_ok(), || second.run(rt).is_ok());
+    let (first, second) = thread::join(rt, || ends(rt, first), || ends(rt, second));
     first && second
+}
+
+/// Whether a proxy ends as its desk is closed.
+fn ends<J: Live, R: Wait>(rt: &R, proxy: Option<GrvProxy<'_, J>>) -> bool {
+    match proxy {
+        Some(proxy) => proxy.run(rt).is_ok(),
+        None => false,
+    }
 }
 
 /// Lets each client work in a thread of its own, and closes the desks.

@@ -1,9 +1,9 @@
 //! Requests that are left on a desk, and served there.
 
-use crate::proxy::answers::{Rows, answer_text};
+use crate::proxy::answers::{Rows, add_answer};
 use crate::stand::{Service, Stand};
-use crossbeam_channel::{Receiver, bounded, unbounded};
-use fdb_checks::{CaseError, Line, holds, same, tag};
+use crossbeam_channel::{Receiver, Sender, bounded, unbounded};
+use fdb_checks::{Line, tag};
 use fdb_history::{GrvOpts, Priority, Sequence, Tag};
 use fdb_live::{Live, Seen};
 use fdb_proxy::{Answer, Desk, ProxyError, Request, serve_batch};
@@ -31,8 +31,18 @@ impl<J: Live> Waiter<J> {
     }
 }
 
-/// A request with what a token has seen, and who waits for its answer. The channel has no room where
-/// that is `held`, and any where it is `unbounded`.
+/// A channel for an answer. It has no room where that is `held`, and any where it is `unbounded`.
+type Channel<J> = (Sender<Answer<J>>, Receiver<Answer<J>>);
+
+fn channel<J: Live>(alloc: Global, words: &str) -> Result<Channel<J>, AllocError> {
+    if words.contains(" unbounded") {
+        unbounded(alloc)
+    } else {
+        bounded(alloc, usize::from(!words.contains(" held")))
+    }
+}
+
+/// A request with what a token has seen, and who waits for its answer.
 pub(crate) fn request_of<J: Live>(
     service: &Service<J>,
     seen: &mut Seen<J>,
@@ -40,12 +50,7 @@ pub(crate) fn request_of<J: Live>(
     opts: GrvOpts,
     words: &str,
 ) -> Result<(Request<J>, Waiter<J>), AllocError> {
-    let alloc = service.alloc;
-    let (reply, receiver) = if words.contains(" unbounded") {
-        unbounded(alloc)?
-    } else {
-        bounded(alloc, usize::from(!words.contains(" held")))?
-    };
+    let (reply, receiver) = channel(service.alloc, words)?;
     let asked = seen.position();
     let request = Request {
         client,
@@ -76,92 +81,103 @@ pub(crate) fn submit<J: Live, R: Wait>(
     };
     match desk.submit(rt, request) {
         Ok(()) => Ok(()),
-        Err((ProxyError::Memory, request)) => match desk.submit(rt, request) {
-            Ok(()) => Ok(()),
-            Err((cause, _)) => Err(cause),
-        },
+        Err((ProxyError::Memory, request)) => submit_again(rt, desk, request),
+        Err((cause, _)) => Err(cause),
+    }
+}
+
+fn submit_again<J: Live, R: Wait>(
+    rt: &R,
+    desk: &Desk<J>,
+    request: Req<Request<J>>,
+) -> Result<(), ProxyError> {
+    match desk.submit(rt, request) {
+        Ok(()) => Ok(()),
         Err((cause, _)) => Err(cause),
     }
 }
 
 /// The options of a request: its priority, its count, the moment, and so many tags `t`. Behind them
 /// may stand the tag `u`, `aware` of locks, and `min`.
-pub(crate) fn opts_of(alloc: Global, line: &mut Line<'_>) -> Result<GrvOpts, CaseError> {
-    let (priority, count, at) = (line.priority()?, line.number()?, line.number()?);
-    let mut tags: Sequence<Tag> = Sequence::new(alloc);
-    for _ in 0..line.number()? {
-        tags.push(tag(alloc, "t")?)?;
+pub(crate) fn opts_of(line: &mut Line<'_>) -> GrvOpts {
+    GrvOpts {
+        priority: line.priority(),
+        count: line.number(),
+        at: line.number(),
+        tags: tags_of(line),
+        lock_aware: line.text.contains(" aware"),
+        use_min: line.text.contains(" min"),
+    }
+}
+
+fn tags_of(line: &mut Line<'_>) -> Sequence<Tag> {
+    let mut tags = Sequence::new(line.alloc);
+    for _ in 0..line.number() {
+        add_tag(&mut tags, line, "t");
     }
     if line.text.contains(" u ") {
-        tags.push(tag(alloc, "u")?)?;
+        add_tag(&mut tags, line, "u");
     }
-    Ok(GrvOpts {
-        priority,
-        count,
-        tags,
-        lock_aware: line.text.contains(" aware"),
-        at,
-        use_min: line.text.contains(" min"),
-    })
+    tags
 }
 
-/// Leaves so many requests on the desk.
-pub(crate) fn left<J: Live, R: Wait>(
-    rt: &R,
-    stand: &mut Stand<'_, J>,
-    line: &mut Line<'_>,
-) -> Result<Option<String>, CaseError> {
-    let alloc = stand.service.alloc;
-    let (number, client, first) = (line.number()?, line.who()?, line.number()?);
-    let opts = opts_of(alloc, line)?;
+fn add_tag(tags: &mut Sequence<Tag>, line: &mut Line<'_>, word: &str) {
+    let tag = line.tag(word);
+    if tags.push(tag).is_err() {
+        line.lacks();
+    }
+}
+
+/// Leaves so many requests on the desk, until it refuses one.
+pub(crate) fn leave<J: Live, R: Wait>(stand: &mut Stand<'_, J, R>, line: &mut Line<'_>) {
+    let (number, client, first) = (line.number(), line.who(), line.number());
+    let opts = opts_of(line);
     let mut left = Ok(());
     for place in 0..number {
-        let whom = (client, first.saturating_add(place));
-        left = leave(rt, stand, whom, opts.clone()?, line.text)?;
+        if left.is_ok() {
+            left = leave_one(stand, (client, first.saturating_add(place)), &opts, line.text);
+        }
     }
     match left {
-        Ok(()) => Ok(Some(String::from_str(alloc, "in")?)),
-        Err(cause) => Ok(Some(cause.to_string(alloc)?)),
+        Ok(()) => line.say("in"),
+        Err(ProxyError::Memory) => line.lacks(),
+        Err(cause) => line.say(cause),
     }
-}
-
-/// The first of two tokens, or the second.
-fn of_two<'t, J: Live>(
-    first: &'t mut Seen<J>,
-    second: &'t mut Seen<J>,
-    is_first: bool,
-) -> &'t mut Seen<J> {
-    if is_first { first } else { second }
 }
 
 /// Leaves a request: with what those who are `ahead` have seen, as the one that is left `later`, or
-/// for one who is `gone` and waits for no answer. Answers why the desk refuses it.
-fn leave<J: Live, R: Wait>(
-    rt: &R,
-    stand: &mut Stand<'_, J>,
+/// for one who is `gone` and waits for no answer.
+fn leave_one<J: Live, R: Wait>(
+    stand: &mut Stand<'_, J, R>,
     whom: (u32, u64),
-    opts: GrvOpts,
+    opts: &GrvOpts,
     words: &str,
-) -> Result<Result<(), ProxyError>, CaseError> {
-    let seen = of_two(&mut stand.ahead, &mut stand.seen, words.contains(" ahead"));
-    let (request, waiter) = request_of(stand.service, seen, whom, opts, words)?;
+) -> Result<(), ProxyError> {
+    let seen = if words.contains(" ahead") {
+        &mut stand.tokens.ahead
+    } else {
+        &mut stand.tokens.seen
+    };
+    let (request, waiter) = request_of(stand.service, seen, whom, opts.clone()?, words)?;
     if words.contains(" later") {
         stand.later = Some(request);
-        stand.waiters.push(waiter)?;
-        return Ok(Ok(()));
+    } else {
+        submit(stand.rt, &stand.service.desk, request)?;
     }
-    match submit(rt, &stand.service.desk, request) {
-        Err(ProxyError::Memory) => {
-            holds(!stand.once, &words)?;
-            return Err(CaseError::Memory);
-        }
-        Err(cause) => return Ok(Err(cause)),
-        Ok(()) => {}
+    if words.contains(" gone") {
+        return Ok(());
     }
-    if !words.contains(" gone") {
-        stand.waiters.push(waiter)?;
+    add_waiter(&mut stand.waiters, waiter)
+}
+
+pub(crate) fn add_waiter<J: Live>(
+    waiters: &mut Vec<Waiter<J>>,
+    waiter: Waiter<J>,
+) -> Result<(), ProxyError> {
+    match waiters.push(waiter) {
+        Ok(()) => Ok(()),
+        Err(_) => Err(ProxyError::Memory),
     }
-    Ok(Ok(()))
 }
 
 /// A queue of these limits and this room, with no request in it, and with the throttle of `t`.
@@ -170,57 +186,82 @@ pub(crate) fn queue_of<J: Live>(
     normal: u64,
     batch: u64,
     room: u64,
-) -> Result<GrvQueue<Request<J>>, AllocError> {
+) -> Option<GrvQueue<Request<J>>> {
     let config = QueueConfig {
         normal,
         batch,
         room,
     };
-    let mut queue = GrvQueue::new(alloc, config).ok().ok_or(AllocError)?;
-    let tag = tag(alloc, "t")?;
-    let set = queue.set_throttle(Priority::Default, tag, 5, 5_000);
-    set.ok().ok_or(AllocError)?;
-    Ok(queue)
+    let mut queue = GrvQueue::new(alloc, config).ok()?;
+    let tag = tag(alloc, "t").ok()?;
+    queue.set_throttle(Priority::Default, tag, 5, 5_000).ok()?;
+    Some(queue)
 }
 
-/// The answers to what waits at the desk, as one batch, or nothing where that is refused memory.
-pub(crate) fn served<J: Live, R: Wait>(
-    rt: &R,
-    stand: &mut Stand<'_, J>,
-) -> Result<Option<String>, CaseError> {
-    let service = stand.service;
-    let (alloc, live) = (service.alloc, service.master.record());
-    let queue = queue_of(alloc, 1, 1, 1)?;
+/// Says the answers to what waits at the desk, as one batch, which may be refused memory.
+pub(crate) fn serve<J: Live, R: Wait>(stand: &mut Stand<'_, J, R>, line: &mut Line<'_>) {
     let requests = match stand.back.take() {
         Some(back) => back,
-        None => service.desk.take(rt, false).requests,
+        None => stand.service.desk.take(stand.rt, false).requests,
     };
-    match serve_batch(rt, alloc, live, &mut stand.served, &queue, requests) {
+    match queue_of(line.alloc, 1, 1, 1) {
+        Some(queue) => serve_requests(stand, &queue, requests, line),
+        None => line.lacks(),
+    }
+}
+
+fn serve_requests<J: Live, R: Wait>(
+    stand: &mut Stand<'_, J, R>,
+    queue: &GrvQueue<Request<J>>,
+    requests: Vec<Req<Request<J>>>,
+    line: &mut Line<'_>,
+) {
+    let (rt, live, served) = (
+        stand.rt,
+        stand.service.master.record(),
+        &mut stand.tokens.served,
+    );
+    match serve_batch(rt, line.alloc, live, served, queue, requests) {
         Ok(answers) => {
-            same(&answers.len(), &stand.waiters.len(), &"answers")?;
-            for (waiter, answer) in stand.waiters.iter_mut().zip(answers) {
-                waiter.heard = Some(answer);
-            }
-            Ok(Some(answers_of(rt, stand)?))
+            line.holds(answers.len() == stand.waiters.len(), "answers");
+            hear(&mut stand.waiters, answers);
+            say_answers(stand, line);
         }
         Err((_, back)) => {
             stand.back = Some(back);
-            Ok(None)
+            line.refuse();
         }
     }
 }
 
-/// The answers to all who wait, of whom none does then.
-pub(crate) fn answers_of<J: Live, R: Wait>(
+/// Has each hear its answer.
+fn hear<J: Live>(waiters: &mut [Waiter<J>], answers: Vec<Answer<J>>) {
+    for (waiter, answer) in waiters.iter_mut().zip(answers) {
+        waiter.heard = Some(answer);
+    }
+}
+
+/// Says the answers to all who wait, of whom none does then.
+pub(crate) fn say_answers<J: Live, R: Wait>(stand: &mut Stand<'_, J, R>, line: &mut Line<'_>) {
+    let waiters = mem::replace(&mut stand.waiters, Vec::new(line.alloc));
+    match rows_of(stand.rt, line.alloc, waiters) {
+        Ok(text) => line.say(text),
+        Err(_) => line.lacks(),
+    }
+}
+
+fn rows_of<J: Live, R: Wait>(
     rt: &R,
-    stand: &mut Stand<'_, J>,
+    alloc: Global,
+    waiters: Vec<Waiter<J>>,
 ) -> Result<String, AllocError> {
-    let alloc = stand.service.alloc;
     let mut rows = Rows::new(alloc);
-    for mut waiter in mem::replace(&mut stand.waiters, Vec::new(alloc)) {
+    for mut waiter in waiters {
         waiter.hears(rt);
-        let again = waiter.receiver.recv(rt).is_ok();
-        rows.add(answer_text(alloc, &waiter, again)?)?;
+        if waiter.receiver.recv(rt).is_ok() {
+            rows.add("several answers")?;
+        }
+        add_answer(&mut rows, &waiter)?;
     }
     rows.ended()
 }

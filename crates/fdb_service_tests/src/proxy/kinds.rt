@@ -46,48 +46,65 @@ fn choice<'w>(words: &[&'w str], digit: u64) -> &'w str {
 pub(crate) fn each_kind(alloc: Global, fate: Fate) -> Result<String, AllocError> {
     let mut text = String::from_str(
         alloc,
-        "ask 0 0 1000\nask 0 0 3000\nreport 0 2 0 locked => raised, changed at 1\nsee => 1\n",
+        "ask 0 0 1000\nask 0 0 3000\nreport 0 2 0 locked => raised changed at 1\nsee => 1\n",
     )?;
     let mut answers = Rows::new(alloc);
     for serial in 0..KINDS {
-        let priority = choice(&["system", "default", "batch"], serial);
-        let tags = choice(&["0", "1", "2 u"], serial / 3);
-        let (at, count) = (4_999 + serial / 9 % 2, 1 + serial / 18 % 2);
-        let aware = choice(&["", "aware"], serial / 36);
-        let least = choice(&["", "min"], serial / 72);
-        let ahead = choice(&["", "ahead"], serial / 144);
-        text.push_str(&format!(in alloc;
-            "leave 1 3 {serial} {priority} {count} {at} {tags} {aware} {least} {ahead}\n"
-        )?)?;
-        let limits = if priority == "default" && at < 5_000 {
-            tags
-        } else {
-            "0"
-        };
-        answers.add(String::from_str(alloc, due(fate, serial, priority, limits))?)?;
+        push_kind(&mut text, serial)?;
+        answers.add(due(fate, serial))?;
     }
     if fate == Fate::Wait {
-        answers.add(String::from_str(alloc, STARTED)?)?;
-        answers.add(String::from_str(alloc, STARTED)?)?;
+        answers.add(STARTED)?;
+        answers.add(STARTED)?;
     }
-    text.push_str(&format!(in alloc; "{} => {}", run_of(fate), answers.ended()?)?)?;
+    write!(text, "{} => {}", run_of(fate), answers.ended()?)?;
     Ok(text)
+}
+
+/// Adds a line in which a request of a kind is left.
+fn push_kind(text: &mut String, serial: u64) -> Result<(), AllocError> {
+    let (at, count) = (at_of(serial), 1 + serial / 18 % 2);
+    write!(text, "leave 1 3 {serial} {} {count} {at} {}", priority_of(serial), tags_of(serial))?;
+    let aware = choice(&["", "aware"], serial / 36);
+    let least = choice(&["", "min"], serial / 72);
+    let ahead = choice(&["", "ahead"], serial / 144);
+    writeln!(text, " {aware} {least} {ahead}")
+}
+
+fn priority_of(serial: u64) -> &'static str {
+    choice(&["system", "default", "batch"], serial)
+}
+
+fn tags_of(serial: u64) -> &'static str {
+    choice(&["0", "1", "2 u"], serial / 3)
+}
+
+fn at_of(serial: u64) -> u64 {
+    4_999 + serial / 9 % 2
 }
 
 const STARTED: &str = "2100 locked 08080808080808080808 at 1";
 
 /// What a request is answered.
-fn due(fate: Fate, serial: u64, priority: &str, limits: &str) -> &'static str {
+fn due(fate: Fate, serial: u64) -> &'static str {
+    let priority = priority_of(serial);
     match fate {
-        Fate::NoRoom if serial > 0 => return "the queue is full",
-        Fate::NoBatch if priority == "batch" => return "batch requests are not let in",
-        Fate::Starve if priority != "system" => return "closed",
-        Fate::Wait if priority != "system" && serial != 1 => return "closed",
-        _ => {}
+        Fate::NoRoom if serial > 0 => "the queue is full",
+        Fate::NoBatch if priority == "batch" => "batch requests are not let in",
+        Fate::Starve if priority != "system" => "closed",
+        Fate::Wait if priority != "system" && serial != 1 => "closed",
+        _ => started(serial),
     }
-    match limits {
-        "1" => "2100 locked 08080808080808080808 at 1, 1 t 5 5000",
-        "2 u" => "2100 locked 08080808080808080808 at 1, 2 t 5 5000",
+}
+
+/// The reply to a request that starts, with its limits.
+fn started(serial: u64) -> &'static str {
+    if priority_of(serial) != "default" || at_of(serial) >= 5_000 {
+        return STARTED;
+    }
+    match tags_of(serial) {
+        "1" => "2100 locked 08080808080808080808 at 1 with 1 t 5 5000",
+        "2 u" => "2100 locked 08080808080808080808 at 1 with 2 t 5 5000",
         _ => STARTED,
     }
 }

@@ -16,86 +16,81 @@
 //! - `close`: the desk is closed;
 //! - `serve`: what waits there is served as one batch;
 //! - `run`: a proxy with these limits and this room runs until all have heard, beside what the
-//!   words after that say.
+//!   words after that say;
+//! - `proxy`: one runs that may be refused memory (`refused_memory/proxies.rt`), and `crowd`: all clients
+//!   ask two, each in a thread of its own (`proxy/crowd.rt`).
 
-use crate::client::calls::{asked, learnt, logged, reported, told};
+use crate::client::calls::{ask, learn, log, reask, report, tell};
 use crate::client::served::read;
-use crate::proxy::desks::{left, served};
+use crate::proxy::crowd::ask_all;
+use crate::proxy::desks::{leave, serve};
 use crate::proxy::running::run;
+use crate::refused_memory::proxies::run_refused;
 use crate::stand::Stand;
-use fdb_checks::{CaseError, Line, calls, same};
-use fdb_live::Live;
-use std::alloc::AllocError;
+use fdb_checks::{Line, Player};
+use fdb_live::{Fetched, Live};
 use std::sync::Wait;
-use std::test::Fail;
 use std::thread::Threads;
 
-/// Plays the lines of a text, and compares what comes of each call.
-pub(crate) fn play_lines<J: Live + Send + Sync, R: Threads + Wait + Sync>(
-    rt: &R,
-    stand: &mut Stand<'_, J>,
-    text: &str,
-) -> Result<(), CaseError> {
-    for (_, line) in calls(stand.service.alloc, text)? {
-        play_line(rt, stand, line.text)?;
-    }
-    Ok(())
-}
-
-/// Makes a call, once more where it is refused memory, which has then changed nothing.
-fn play_line<J: Live + Send + Sync, R: Threads + Wait + Sync>(
-    rt: &R,
-    stand: &mut Stand<'_, J>,
-    text: &str,
-) -> Result<(), CaseError> {
-    let before = stand.state(rt);
-    let mut found = called(rt, stand, &mut Line::new(text))?;
-    if found.is_none() {
-        same(&stand.state(rt), &before, &text)?;
-        found = called(rt, stand, &mut Line::new(text))?;
-    }
-    match found {
-        Some(found) if text.contains("=>") => Ok(Line::new(text).wants(&found)?),
-        Some(_) => Ok(()),
-        None if stand.once => Err(CaseError::Failed(Line::new(text).fail("refused again"))),
-        None => Err(CaseError::Memory),
-    }
-}
-
-/// What comes of a call, or nothing where it is refused memory.
-fn called<J: Live + Send + Sync, R: Threads + Wait + Sync>(
-    rt: &R,
-    stand: &mut Stand<'_, J>,
-    line: &mut Line<'_>,
-) -> Result<Option<String>, CaseError> {
-    match line.word()? {
-        "ask" => asked(rt, stand, line, false),
-        "reask" => asked(rt, stand, line, true),
-        "report" => reported(rt, stand, line),
-        "read" => read(rt, stand, line),
-        "tell" => told(stand, line),
-        "learn" => learnt(rt, stand, line),
-        "log" => logged(stand, line),
-        "leave" => left(rt, stand, line),
-        "serve" => served(rt, stand),
-        "run" => run(rt, stand, line),
-        word => Ok(said(rt, stand, word)?),
-    }
-}
-
-/// What comes of a call of one word, but for a `serve`.
-fn said<J: Live, R: Wait>(
-    rt: &R,
-    stand: &mut Stand<'_, J>,
-    word: &str,
-) -> Result<Option<String>, AllocError> {
-    let (alloc, live) = (stand.service.alloc, stand.service.master.record());
-    match word {
-        "see" => Ok(Some(live.read(rt, &mut stand.ahead).position.to_string(alloc)?)),
-        "close" => {
-            stand.service.desk.close(rt);
-            Ok(Some(String::from_str(alloc, "ok")?))
+/// Makes a call, once more where it is refused memory, which has then changed nothing. What comes of
+/// it is compared where the line has an arrow.
+impl<J: Live + Send + Sync, R: Threads + Wait + Sync> Player for Stand<'_, J, R> {
+    fn called(&mut self, call: &str, line: &mut Line<'_>) {
+        let before = self.state();
+        make(self, call, line);
+        if line.was_refused() {
+            make_again(self, before, line);
         }
-        _ => Ok(Some(String::from_str(alloc, "no such call")?)),
+        if !line.text.contains("=>") {
+            line.hush();
+        }
     }
+}
+
+/// Makes a call once more that was refused memory.
+fn make_again<J: Live + Send + Sync, R: Threads + Wait + Sync>(
+    stand: &mut Stand<'_, J, R>,
+    before: (usize, u64, Fetched),
+    line: &mut Line<'_>,
+) {
+    line.holds(stand.state() == before, "a refused call changed something");
+    line.again();
+    let call = line.word();
+    make(stand, call, line);
+    line.holds(!stand.once || !line.was_refused(), "refused again");
+}
+
+/// Makes a call, and says what comes of it.
+fn make<J: Live + Send + Sync, R: Threads + Wait + Sync>(
+    stand: &mut Stand<'_, J, R>,
+    call: &str,
+    line: &mut Line<'_>,
+) {
+    match call {
+        "ask" => ask(stand, line),
+        "reask" => reask(stand, line),
+        "report" => report(stand, line),
+        "read" => read(stand, line),
+        "tell" => tell(stand, line),
+        "learn" => learn(stand, line),
+        "log" => log(stand, line),
+        "leave" => leave(stand, line),
+        "serve" => serve(stand, line),
+        "run" => run(stand, line),
+        "see" => see(stand, line),
+        "close" => close(stand, line),
+        "crowd" => ask_all(stand, line),
+        "proxy" => run_refused(stand, line),
+        _ => line.fails("no such call"),
+    }
+}
+
+fn see<J: Live, R: Wait>(stand: &mut Stand<'_, J, R>, line: &mut Line<'_>) {
+    let live = stand.service.master.record();
+    line.say(live.read(stand.rt, &mut stand.tokens.ahead).position);
+}
+
+fn close<J: Live, R: Wait>(stand: &mut Stand<'_, J, R>, line: &mut Line<'_>) {
+    stand.service.desk.close(stand.rt);
+    line.say("ok");
 }

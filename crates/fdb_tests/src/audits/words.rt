@@ -8,79 +8,85 @@
 //! members; `asks` and `reports` a number and a refusal; `tells` a position and another client.
 
 use crate::queue::tag_of_bytes;
-use fdb_checks::{CaseError, Line, says};
+use fdb_checks::{Line, says};
 use fdb_history::{
     AuditFault, Call, CallAnswer, GrvOpts, Input, Issued, Priority, Record, Refusal, Sequence,
     TagLimit,
 };
 use hex::FromHex;
-use std::alloc::Global;
 use std::test::Fail;
 
 /// A call of a kind, by the rest of its words.
-pub(crate) fn call(alloc: Global, kind: &str, line: &mut Line<'_>) -> Result<Call, CaseError> {
+pub(crate) fn call(kind: &str, line: &mut Line<'_>) -> Call {
     match kind {
-        "reads" => read(alloc, line, false),
-        "limited" => read(alloc, line, true),
-        "raises" => Ok(reported(line, true, true)?),
-        "min_raises" => Ok(reported(line, false, true)?),
-        "stays" => Ok(reported(line, false, false)?),
-        "draws" => Ok(drawn(line)?),
-        "asks" => Ok(refused_ask(line)?),
-        "reports" => Ok(refused_report(line)?),
-        "tells" => Ok(told(line)?),
-        _ => Err(CaseError::Failed(line.fail("no item"))),
+        "reads" => read(line, false),
+        "limited" => read(line, true),
+        "raises" => reported(line, true, true),
+        "min_raises" => reported(line, false, true),
+        "stays" => reported(line, false, false),
+        "draws" => drawn(line),
+        "asks" => refused_ask(line),
+        "reports" => refused_report(line),
+        "tells" => told(line),
+        _ => {
+            line.fails("no item");
+            told(line)
+        }
     }
 }
 
 /// A read of a plain record at default priority.
-fn read(alloc: Global, line: &mut Line<'_>, limited: bool) -> Result<Call, CaseError> {
-    let (asked, position) = (line.number()?, line.number()?);
-    let rec = plain_record(line)?;
-    let count = if limited { line.number()? } else { 0 };
-    let opts = GrvOpts {
-        priority: Priority::Default,
-        count: 1,
-        tags: Sequence::new(alloc),
-        lock_aware: false,
-        at: 0,
-        use_min: false,
-    };
-    Ok(Call {
-        input: Input::Grv(opts),
+fn read(line: &mut Line<'_>, limited: bool) -> Call {
+    let (asked, position) = (line.number(), line.number());
+    let rec = plain_record(line);
+    let count = if limited { line.number() } else { 0 };
+    Call {
+        input: plain_read(line),
         asked,
         position,
         answer: CallAnswer::Version {
             rec,
-            limits: limits(alloc, count)?,
+            limits: limits(line, count),
             locked_out: false,
         },
+    }
+}
+
+fn plain_read(line: &Line<'_>) -> Input {
+    Input::Grv(GrvOpts {
+        priority: Priority::Default,
+        count: 1,
+        tags: Sequence::new(line.alloc),
+        lock_aware: false,
+        at: 0,
+        use_min: false,
     })
 }
 
 /// So many limits of a tag.
-fn limits(alloc: Global, count: u64) -> Result<Sequence<TagLimit>, CaseError> {
-    let mut limits = Sequence::new(alloc);
+fn limits(line: &mut Line<'_>, count: u64) -> Sequence<TagLimit> {
+    let mut limits = Sequence::new(line.alloc);
     for _ in 0..count {
-        limits.push(limit_of(alloc, 1)?)?;
+        let limit = limit_of(line, 1);
+        line.takes(limits.push(limit));
     }
-    Ok(limits)
+    limits
 }
 
 /// A limit of a tag of so many bytes.
-pub(crate) fn limit_of(alloc: Global, bytes: u64) -> Result<TagLimit, CaseError> {
-    Ok(TagLimit {
-        tag: tag_of_bytes(alloc, bytes)?,
+pub(crate) fn limit_of(line: &mut Line<'_>, bytes: u64) -> TagLimit {
+    TagLimit {
+        tag: tag_of_bytes(line, bytes),
         rate: 5,
         expires: 5_000,
-    })
+    }
 }
 
 /// A report of a plain record that is answered by just that record, with these flags.
-fn reported(line: &mut Line<'_>, raised: bool, changed: bool) -> Result<Call, Fail> {
-    let (asked, position, num) = (line.number()?, line.number()?, line.number()?);
-    let rec = plain_record(line)?;
-    Ok(Call {
+fn reported(line: &mut Line<'_>, raised: bool, changed: bool) -> Call {
+    let (asked, position, num) = (line.number(), line.number(), line.number());
+    let rec = plain_record(line);
+    Call {
         input: report(num, rec.min_known),
         asked,
         position,
@@ -89,7 +95,7 @@ fn reported(line: &mut Line<'_>, raised: bool, changed: bool) -> Result<Call, Fa
             raised,
             changed,
         },
-    })
+    }
 }
 
 fn report(num: u64, min_known: u64) -> Input {
@@ -102,44 +108,44 @@ fn report(num: u64, min_known: u64) -> Input {
 }
 
 /// A request with the members of its answer.
-fn drawn(line: &mut Line<'_>) -> Result<Call, Fail> {
-    let asked = line.number()?;
-    let issued = issued(line)?;
+fn drawn(line: &mut Line<'_>) -> Call {
+    let asked = line.number();
+    let issued = issued(line);
     let input = Input::Ask {
         num: issued.num,
         processed: issued.processed,
         at: issued.at,
     };
-    Ok(Call {
+    Call {
         input,
         asked,
         position: asked,
         answer: CallAnswer::Answered(issued),
-    })
+    }
 }
 
-fn refused_ask(line: &mut Line<'_>) -> Result<Call, Fail> {
+fn refused_ask(line: &mut Line<'_>) -> Call {
     let input = Input::Ask {
-        num: line.number()?,
+        num: line.number(),
         processed: 0,
         at: 0,
     };
-    Ok(at_start(input, CallAnswer::Refused(refusal(line)?)))
+    at_start(input, CallAnswer::Refused(refusal(line)))
 }
 
-fn refused_report(line: &mut Line<'_>) -> Result<Call, Fail> {
-    let num = line.number()?;
-    Ok(at_start(report(num, 0), CallAnswer::Refused(refusal(line)?)))
+fn refused_report(line: &mut Line<'_>) -> Call {
+    let num = line.number();
+    at_start(report(num, 0), CallAnswer::Refused(refusal(line)))
 }
 
-fn told(line: &mut Line<'_>) -> Result<Call, Fail> {
-    let asked = line.number()?;
-    Ok(Call {
-        input: Input::Tell { to: line.who()? },
+fn told(line: &mut Line<'_>) -> Call {
+    let asked = line.number();
+    Call {
+        input: Input::Tell { to: line.who() },
         asked,
         position: asked,
         answer: CallAnswer::Told,
-    })
+    }
 }
 
 /// A call of a client that has seen nothing.
@@ -153,12 +159,12 @@ fn at_start(input: Input, answer: CallAnswer) -> Call {
 }
 
 /// A record with no lock and no metadata version, and with a minimum where the line tells one.
-fn plain_record(line: &mut Line<'_>) -> Result<Record, Fail> {
-    let version = line.number()?;
-    Ok(Record {
-        min_known: line.number_behind("min")?,
+fn plain_record(line: &mut Line<'_>) -> Record {
+    let version = line.number();
+    Record {
+        min_known: line.number_behind("min"),
         ..plain(version)
-    })
+    }
 }
 
 /// A record with no lock, no metadata version and no minimum.
@@ -173,34 +179,34 @@ pub(crate) fn plain(version: u64) -> Record {
 
 /// A record: its version, `locked` or `unlocked`, its metadata version in hex or `none`, and
 /// perhaps `min` and its minimum.
-pub(crate) fn record(line: &mut Line<'_>) -> Result<Record, Fail> {
-    Ok(Record {
-        version: line.number()?,
-        locked: line.is("locked", "unlocked")?,
-        metadata: <[u8; 10]>::from_hex(line.word()?).ok(),
-        min_known: line.number_behind("min")?,
-    })
+pub(crate) fn record(line: &mut Line<'_>) -> Record {
+    Record {
+        version: line.number(),
+        locked: line.is("locked", "unlocked"),
+        metadata: <[u8; 10]>::from_hex(line.word()).ok(),
+        min_known: line.number_behind("min"),
+    }
 }
 
 /// An answer or an entry of the chain: its members in their order, the last as `fresh` or `kept`.
-pub(crate) fn issued(line: &mut Line<'_>) -> Result<Issued, Fail> {
-    Ok(Issued {
-        ordinal: line.number()?,
-        proxy: line.who()?,
-        num: line.number()?,
-        processed: line.number()?,
-        prev: line.number()?,
-        version: line.number()?,
-        at: line.number()?,
-        fresh: line.is("fresh", "kept")?,
-    })
+pub(crate) fn issued(line: &mut Line<'_>) -> Issued {
+    Issued {
+        ordinal: line.number(),
+        proxy: line.who(),
+        num: line.number(),
+        processed: line.number(),
+        prev: line.number(),
+        version: line.number(),
+        at: line.number(),
+        fresh: line.is("fresh", "kept"),
+    }
 }
 
 /// A refusal by the name of its variant, and behind `Early` the number that was due.
-fn refusal(line: &mut Line<'_>) -> Result<Refusal, Fail> {
-    Ok(match line.word()? {
+fn refusal(line: &mut Line<'_>) -> Refusal {
+    match line.word() {
         "Early" => Refusal::Early {
-            expected: line.number()?,
+            expected: line.number(),
         },
         "Forgotten" => Refusal::Forgotten,
         "UnknownProxy" => Refusal::UnknownProxy,
@@ -212,9 +218,11 @@ fn refusal(line: &mut Line<'_>) -> Result<Refusal, Fail> {
         "NotIssued" => Refusal::NotIssued,
         "Stranger" => Refusal::Stranger,
         "TooLarge" => Refusal::TooLarge,
-        "MinAbove" => Refusal::MinAbove,
-        _ => return Err(line.fail("no refusal")),
-    })
+        word => {
+            line.holds(word == "MinAbove", "no refusal");
+            Refusal::MinAbove
+        }
+    }
 }
 
 /// Each refusal, as the words that it is read from.
@@ -224,8 +232,7 @@ ProxyClosed;NotIssued;Stranger;TooLarge;MinAbove";
 #[test]
 fn refusals_as_text(rt: HostRuntime) -> Result<(), Fail> {
     for text in REFUSALS.split(';') {
-        let refusal = refusal(&mut Line::new(text))?;
-        says(rt.alloc(), &refusal, text)?;
+        says(rt.alloc(), &refusal(&mut Line::new(rt.alloc(), text)), text)?;
     }
     says(rt.alloc(), &AuditFault::Memory, "want of memory")
 }

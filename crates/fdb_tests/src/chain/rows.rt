@@ -1,8 +1,8 @@
 //! Requests for commit versions, by values worked out by hand, and two threads that ask at once.
 
-use crate::chain::{Chain, FromHundred, play_held};
+use crate::chain::{Chain, FromHundred};
 use fdb_chain::{ChainError, RecentChain, Sequencer};
-use fdb_checks::{cases, plays, plays_case, same, says};
+use fdb_checks::{plays, plays_all, plays_cases, same, says};
 use fdb_history::{Ask, OpenGate};
 use std::alloc::Global;
 use std::sync::Wait;
@@ -55,14 +55,13 @@ new 0 9223372036854775808 4 => the recovery version is out of range
 
 #[test]
 fn requests_for_commit_versions(rt: HostRuntime) -> Result<(), Fail> {
-    let mut chain = Chain::new(&rt, rt.alloc());
-    plays(&mut chain, ROWS)?;
-    plays(&mut chain, BOUNDS)?;
+    plays_all(rt.alloc(), &mut Chain::new(&rt), &[ROWS, BOUNDS])?;
     says(rt.alloc(), &ChainError::Memory, "want of memory")
 }
 
-/// Other proxies than the first.
+/// Other proxies than the first, each held.
 const OTHERS: &str = "
+held
 behind 64 => ok
 ask 63 1 0 0 => 0 0 100 0 fresh; ask 1 1 0 0 => 1 100 101 0 fresh; ask 63 2 1 7 => 2 101 108 7 fresh
 ask 63 1 0 0 => the answer is not kept any more; ask 1 1 0 9 => 1 100 101 0 kept; stand => 3
@@ -70,11 +69,9 @@ ask 63 1 0 0 => the answer is not kept any more; ask 1 1 0 9 => 1 100 101 0 kept
 
 #[test]
 fn requests_through_the_lock(rt: HostRuntime) -> Result<(), Fail> {
-    let text = ROWS.replace(rt.alloc(), "new 0 100", "behind")?;
-    let mut chain = Chain::new(&rt, rt.alloc());
-    play_held(&mut chain, &text)?;
-    play_held(&mut chain, OTHERS)?;
-    Ok(())
+    let (alloc, mut chain) = (rt.alloc(), Chain::new(&rt));
+    plays(alloc, &mut chain, OTHERS)?;
+    Ok(plays(alloc, &mut chain, &ROWS.replace(alloc, "new 0 100", "behind")?)?)
 }
 
 /// Proxy 0 and 63 others ask behind a lock. No time passes, so that each version is one above the
@@ -89,10 +86,7 @@ ask 0 1 0 0 => 0 0 100 0 kept;ask 0 2 0 0 => 190 289 290 0 fresh;stand => 191 | 
 
 #[test]
 fn each_of_64_proxies_processes(rt: HostRuntime) -> Result<(), Fail> {
-    for case in cases(rt.alloc(), OF_64)? {
-        plays_case(&mut Chain::new(&rt, rt.alloc()), case)?;
-    }
-    Ok(())
+    plays_cases(rt.alloc(), &mut Chain::new(&rt), OF_64)
 }
 
 /// Asks for a proxy's numbers 1 to 100. Answers the last version.

@@ -3,13 +3,42 @@
 //! all reporters, so that none of them can be held meanwhile.)
 
 use crate::audits::words::{plain, record};
-use crate::live::holders::{Bare, Holders, ack_text};
-use fdb_checks::{CaseError, HoldsFirst, Line, same};
+use crate::live::holders::{Bare, Holders, say_ack};
+use fdb_checks::{HoldsFirst, Line};
 use fdb_history::{Place, Record};
 use fdb_live::{Ack, Fetched, Live, LiveError, Seen};
 use std::sync::Wait;
 use std::thread;
 use std::thread::Threads;
+
+/// Three tokens that their holders call with side by side.
+#[derive(Drop)]
+struct Three<J: Live> {
+    first: Seen<J>,
+    second: Seen<J>,
+    third: Seen<J>,
+}
+
+impl<J: Live> Three<J> {
+    /// The tokens at three places.
+    fn take<R: Wait>(
+        holders: &mut Holders<'_, J, R>,
+        line: &mut Line<'_>,
+        places: (u32, u32, u32),
+    ) -> Option<Self> {
+        Some(Three {
+            first: holders.take(line, places.0)?,
+            second: holders.take(line, places.1)?,
+            third: holders.take(line, places.2)?,
+        })
+    }
+
+    fn put<R: Wait>(self, holders: &mut Holders<'_, J, R>, places: (u32, u32, u32)) {
+        holders.put(places.0, self.first);
+        holders.put(places.1, self.second);
+        holders.put(places.2, self.third);
+    }
+}
 
 /// Has a reporter report, which passes the gate once, unless it is refused. While it is at the gate
 /// a reader sees nothing of that, and a second one, who reports the same behind it, changes nothing
@@ -17,30 +46,58 @@ use std::thread::Threads;
 pub(crate) fn report_held<J: Live + Send + Sync, R: Threads + Wait + Sync>(
     holders: &mut Holders<'_, J, R>,
     line: &mut Line<'_>,
-) -> Result<String, CaseError> {
-    let (place, who, behind, beside) = (line.who()?, line.who()?, line.who()?, line.who()?);
-    let rec = record(line)?;
-    let (mut first, mut second) = (holders.take(place)?, holders.take(behind)?);
-    let mut reader = holders.take(beside)?;
-    let (rt, live) = (holders.rt, &holders.live);
-    let before = live.record.read(rt, &mut reader);
-    let gate = HoldsFirst::new(Place::ReportHeld, who, behind);
+) {
+    let (place, who) = (line.who(), line.who());
+    let places = (place, line.who(), line.who());
+    let rec = record(line);
+    let Some(mut tokens) = Three::take(holders, line, places) else {
+        line.fails("no such token");
+        return;
+    };
+    let gate = HoldsFirst::new(Place::ReportHeld, who, places.1);
+    report_both(holders.rt, &holders.live, &gate, &mut tokens, (who, rec), line);
+    tokens.put(holders, places);
+}
+
+/// Has the first report, the second behind it, and the third read meanwhile.
+fn report_both<J: Live + Send + Sync, R: Threads + Wait + Sync>(
+    rt: &R,
+    live: &Bare<J>,
+    gate: &HoldsFirst,
+    tokens: &mut Three<J>,
+    (who, rec): (u32, Record),
+    line: &mut Line<'_>,
+) {
+    let Three {
+        first,
+        second,
+        third,
+    } = tokens;
+    let before = live.record.read(rt, third);
     let (found, (seen, again)) = thread::join(
         rt,
-        || reported(rt, live, &gate, who, &mut first, rec),
-        || reported_behind(rt, live, &gate, &mut reader, &mut second, rec),
+        || reported(rt, live, gate, who, first, rec),
+        || reported_behind(rt, live, gate, third, second, rec),
     );
+    line.holds(seen == before, "a reader sees a report that is held");
+    say_both(line, gate, found, again);
+}
+
+/// Says what the first was answered. The second has changed nothing more.
+fn say_both(
+    line: &mut Line<'_>,
+    gate: &HoldsFirst,
+    found: Option<Result<Ack, LiveError>>,
+    again: Option<Result<Ack, LiveError>>,
+) {
     let Some(found) = found else {
-        return Err(CaseError::Failed(line.fail("no reporter")));
+        line.fails("no reporter");
+        return;
     };
-    same(&seen, &before, &line.text)?;
-    same(&again, &Some(once_more(found)), &line.text)?;
+    line.holds(again == Some(once_more(found)), "the same report again");
     let passes = u64::from(found.is_ok());
-    gate.was_passed((passes, passes), &line.text)?;
-    holders.put(place, first);
-    holders.put(behind, second);
-    holders.put(beside, reader);
-    Ok(ack_text(holders.alloc, found)?)
+    line.holds(gate.was_passed(passes, passes), "passes of the gate");
+    say_ack(line, found);
 }
 
 /// Reports, and says so once that is done. Answers nothing where the token is nobody's.
@@ -86,30 +143,44 @@ fn once_more(found: Result<Ack, LiveError>) -> Result<Ack, LiveError> {
 }
 
 /// Makes a call with two tokens while reporter 0 is held at the gate.
-pub(crate) fn beside<J: Live + Send + Sync, R: Threads + Wait + Sync>(
+pub(crate) fn call_beside<J: Live + Send + Sync, R: Threads + Wait + Sync>(
     holders: &mut Holders<'_, J, R>,
     line: &mut Line<'_>,
-) -> Result<String, CaseError> {
-    let (call, one, other) = (line.word()?, line.who()?, line.who()?);
-    let rec = plain(line.number()?);
-    let (mut token, mut second) = (holders.take(one)?, holders.take(other)?);
-    let mut zero = holders.take(0)?;
-    let (rt, live, gate) = (
-        holders.rt,
-        &holders.live,
-        HoldsFirst::new(Place::ReportHeld, 0, 1),
-    );
-    let (acked, found) = thread::join(
+) {
+    let call = line.word();
+    let places = (0, line.who(), line.who());
+    let rec = plain(line.number());
+    let Some(mut tokens) = Three::take(holders, line, places) else {
+        line.fails("no such token");
+        return;
+    };
+    let gate = HoldsFirst::new(Place::ReportHeld, 0, 1);
+    let (held, position) = beside(holders.rt, &holders.live, &gate, &mut tokens, call, rec);
+    line.holds(held && gate.was_passed(1, 0), "reporter 0 is held");
+    line.say(position);
+    tokens.put(holders, places);
+}
+
+/// Makes a call with two tokens while the first is held. Answers whether that one reports, and the
+/// position.
+fn beside<J: Live + Send + Sync, R: Threads + Wait + Sync>(
+    rt: &R,
+    live: &Bare<J>,
+    gate: &HoldsFirst,
+    tokens: &mut Three<J>,
+    call: &str,
+    rec: Record,
+) -> (bool, u64) {
+    let Three {
+        first,
+        second,
+        third,
+    } = tokens;
+    thread::join(
         rt,
-        || matches!(reported(rt, live, &gate, 0, &mut zero, rec), Some(Ok(_))),
-        || called(rt, live, &gate, call, (&mut token, &mut second)),
-    );
-    same(&acked, &true, &line.text)?;
-    gate.was_passed((1, 0), &line.text)?;
-    holders.put(one, token);
-    holders.put(other, second);
-    holders.put(0, zero);
-    Ok(found.to_string(holders.alloc)?)
+        || matches!(reported(rt, live, gate, 0, first, rec), Some(Ok(_))),
+        || called(rt, live, gate, call, second, third),
+    )
 }
 
 /// Makes a call once the reporter is held. Answers the position of what it reads or splits off, or
@@ -119,23 +190,28 @@ fn called<J: Live, R: Wait>(
     live: &Bare<J>,
     gate: &HoldsFirst,
     call: &str,
-    (one, other): (&mut Seen<J>, &mut Seen<J>),
+    one: &mut Seen<J>,
+    other: &mut Seen<J>,
 ) -> u64 {
     gate.waits_until_held();
     let position = match call {
         "read" => live.record.read(rt, one).position,
         "split" => live.record.split(one).position(),
-        "learn" => {
-            let told = live.record.split(other);
-            live.record.learn(rt, one, told);
-            one.position()
-        }
-        "meet" => {
-            live.record.meet(rt, one, other);
-            one.position()
-        }
+        "learn" => learn(rt, live, one, other),
+        "meet" => meet(rt, live, one, other),
         _ => u64::MAX,
     };
     gate.is_done_beside();
     position
+}
+
+fn learn<J: Live, R: Wait>(rt: &R, live: &Bare<J>, one: &mut Seen<J>, other: &mut Seen<J>) -> u64 {
+    let told = live.record.split(other);
+    live.record.learn(rt, one, told);
+    one.position()
+}
+
+fn meet<J: Live, R: Wait>(rt: &R, live: &Bare<J>, one: &mut Seen<J>, other: &mut Seen<J>) -> u64 {
+    live.record.meet(rt, one, other);
+    one.position()
 }

@@ -9,19 +9,20 @@
 //! - `split` has a token, `learns` and `meets` have two, and `at` one: the number or `nobody`, and
 //! the position, of the new token or of the first;
 //! - `beside` has a call and two tokens, and what reporter 0 reports meanwhile: the position;
-//! - `threads` has how many readers there are beside all reporters: how often the record is raised.
+//! - `threads` has how many readers there are beside all reporters and the first one: the last record.
 
 ghost use Rattle.std.specs.Prelude.{◌≡◌, false};
+ghost use Rattle.std.specs.Thread.{IsSync, IsSend};
 
 use crate::audits::words::record;
-use crate::live::held::{beside, report_held};
+use crate::live::held::{call_beside, report_held};
+use crate::live::say_cause;
 use crate::live::threads::run_all;
-use fdb_checks::{CaseError, Line};
+use fdb_checks::{Line, Player};
 use fdb_history::OpenGate;
 use fdb_live::{Ack, Live, LiveError, LiveRecord, Seen};
 use std::alloc::{AllocError, Global};
 use std::sync::Wait;
-use std::test::Fail;
 use std::thread::Threads;
 
 /// The live record of a service with no chain.
@@ -35,12 +36,12 @@ pub(crate) struct Bare<J: Live> {
 #[derive(Drop)]
 pub(crate) struct Holders<'a, J: Live, R> {
     pub(crate) rt: &'a R,
-    pub(crate) alloc: Global,
     pub(crate) live: Bare<J>,
     pub(crate) tokens: Vec<Option<Seen<J>>>,
+    pub(crate) ghost shared: { IsSync R.row × IsSync J.row × IsSend J.row },
 }
 
-impl<'a, J: Live, R: Wait> Holders<'a, J, R> {
+impl<'a, J: Live + Send + Sync, R: Threads + Wait + Sync> Holders<'a, J, R> {
     /// The holders of all tokens that a record is opened with.
     pub(crate) fn of(
         rt: &'a R,
@@ -58,22 +59,18 @@ impl<'a, J: Live, R: Wait> Holders<'a, J, R> {
         tokens.push(Some(first))?;
         Ok(Holders {
             rt,
-            alloc,
             live: Bare { record },
             tokens,
         })
     }
+}
 
+impl<J: Live, R: Wait> Holders<'_, J, R> {
     /// The token at a place, which nobody else has until it is put back.
-    pub(crate) fn take(&mut self, place: u32) -> Result<Seen<J>, Fail> {
-        match self
-            .tokens
-            .get_mut(place as usize)
-            .and_then(|token| token.take())
-        {
-            Some(token) => Ok(token),
-            None => Err(Fail::new(format_args!("there is no token {place}"))),
-        }
+    pub(crate) fn take(&mut self, line: &mut Line<'_>, place: u32) -> Option<Seen<J>> {
+        let token = self.tokens.get_mut(place as usize)?.take();
+        line.holds(token.is_some(), "somebody has the token");
+        token
     }
 
     pub(crate) fn put(&mut self, place: u32, token: Seen<J>) {
@@ -82,124 +79,93 @@ impl<'a, J: Live, R: Wait> Holders<'a, J, R> {
         }
     }
 
-    fn read(&mut self, place: u32) -> Result<String, CaseError> {
-        let mut token = self.take(place)?;
-        let fetched = self.live.record.read(self.rt, &mut token);
-        self.put(place, token);
-        Ok(format!(in self.alloc; "{} at {}", fetched.rec, fetched.position)?)
-    }
-
-    fn report(&mut self, line: &mut Line<'_>) -> Result<String, CaseError> {
-        let place = line.who()?;
-        let rec = record(line)?;
-        let mut token = self.take(place)?;
-        let Some(who) = token.reporter() else {
-            return Err(CaseError::Failed(line.fail("no reporter")));
+    /// Makes a call with the token at a place.
+    fn call(&mut self, call: &str, line: &mut Line<'_>) {
+        let place = line.who();
+        let Some(mut token) = self.take(line, place) else {
+            line.fails("no such token");
+            return;
         };
-        let found = self
-            .live
-            .record
-            .report(self.rt, &OpenGate, who, &mut token, rec);
+        match call {
+            "read" => self.read(&mut token, line),
+            "report" => self.report(&mut token, line),
+            "split" => self.split(&mut token, line),
+            "learns" => self.learn(&mut token, line),
+            "meets" => self.meet(&mut token, line),
+            "at" => say_token(line, &token),
+            _ => line.fails("no call"),
+        }
         self.put(place, token);
-        Ok(ack_text(self.alloc, found)?)
     }
 
-    fn split(&mut self, place: u32) -> Result<String, CaseError> {
-        let mut token = self.take(place)?;
-        let other = self.live.record.split(&mut token);
-        self.put(place, token);
-        let text = token_text(self.alloc, &other)?;
-        self.tokens.push(Some(other))?;
-        Ok(text)
+    fn read(&self, token: &mut Seen<J>, line: &mut Line<'_>) {
+        let fetched = self.live.record.read(self.rt, token);
+        line.say(fetched.rec);
+        line.say(format_args!("at {}", fetched.position));
     }
 
-    /// The holder of the first token learns what that of the second has seen.
-    fn learns(&mut self, place: u32, teller: u32) -> Result<String, CaseError> {
-        let (mut token, mut other) = (self.take(place)?, self.take(teller)?);
-        let told = self.live.record.split(&mut other);
-        self.live.record.learn(self.rt, &mut token, told);
-        self.put(teller, other);
-        self.put(place, token);
-        self.at(place)
-    }
-
-    fn meets(&mut self, place: u32, met: u32) -> Result<String, CaseError> {
-        let (mut token, mut other) = (self.take(place)?, self.take(met)?);
-        self.live.record.meet(self.rt, &mut token, &mut other);
-        self.put(met, other);
-        self.put(place, token);
-        self.at(place)
-    }
-
-    fn at(&mut self, place: u32) -> Result<String, CaseError> {
-        let token = self.take(place)?;
-        let text = token_text(self.alloc, &token)?;
-        self.put(place, token);
-        Ok(text)
-    }
-}
-
-/// Plays a text: its calls stand in lines or between semicolons.
-pub(crate) fn play<J: Live + Send + Sync, R: Threads + Wait + Sync>(
-    holders: &mut Holders<'_, J, R>,
-    text: &str,
-) -> Result<(), CaseError> {
-    for line in text.lines() {
-        play_line(holders, line)?;
-    }
-    Ok(())
-}
-
-fn play_line<J: Live + Send + Sync, R: Threads + Wait + Sync>(
-    holders: &mut Holders<'_, J, R>,
-    line: &str,
-) -> Result<(), CaseError> {
-    for text in line.split(';') {
-        let mut line = Line::new(text);
-        match line.next_word() {
-            None | Some("#") => {}
-            Some(call) => {
-                let found = called(holders, call, &mut line)?;
-                line.wants(&found)?;
-            }
+    fn report(&self, token: &mut Seen<J>, line: &mut Line<'_>) {
+        let rec = record(line);
+        match token.reporter() {
+            Some(who) => say_ack(
+                line,
+                self.live.record.report(self.rt, &OpenGate, who, token, rec),
+            ),
+            None => line.fails("no reporter"),
         }
     }
-    Ok(())
-}
 
-/// Makes a call, and answers the words that its line wants.
-fn called<J: Live + Send + Sync, R: Threads + Wait + Sync>(
-    holders: &mut Holders<'_, J, R>,
-    call: &str,
-    line: &mut Line<'_>,
-) -> Result<String, CaseError> {
-    match call {
-        "read" => holders.read(line.who()?),
-        "report" => holders.report(line),
-        "held" => report_held(holders, line),
-        "split" => holders.split(line.who()?),
-        "learns" => holders.learns(line.who()?, line.who()?),
-        "meets" => holders.meets(line.who()?, line.who()?),
-        "at" => holders.at(line.who()?),
-        "beside" => beside(holders, line),
-        "threads" => run_all(holders, line.number()?),
-        _ => Err(CaseError::Failed(line.fail("no call"))),
+    fn split(&mut self, token: &mut Seen<J>, line: &mut Line<'_>) {
+        let other = self.live.record.split(token);
+        say_token(line, &other);
+        line.takes(self.tokens.push(Some(other)));
+    }
+
+    /// The holder of a token learns what that of another has seen, which the next word names.
+    fn learn(&mut self, token: &mut Seen<J>, line: &mut Line<'_>) {
+        if let Some(Some(teller)) = self.tokens.get_mut(line.who() as usize) {
+            let told = self.live.record.split(teller);
+            self.live.record.learn(self.rt, token, told);
+            say_token(line, token);
+        }
+    }
+
+    fn meet(&mut self, token: &mut Seen<J>, line: &mut Line<'_>) {
+        if let Some(Some(met)) = self.tokens.get_mut(line.who() as usize) {
+            self.live.record.meet(self.rt, token, met);
+            say_token(line, token);
+        }
     }
 }
 
-/// The number and the position of a token.
-fn token_text<J: Live>(alloc: Global, token: &Seen<J>) -> Result<String, AllocError> {
+impl<J: Live + Send + Sync, R: Threads + Wait + Sync> Player for Holders<'_, J, R> {
+    fn called(&mut self, call: &str, line: &mut Line<'_>) {
+        match call {
+            "held" => report_held(self, line),
+            "beside" => call_beside(self, line),
+            "threads" => run_all(self, line),
+            call => self.call(call, line),
+        }
+    }
+}
+
+/// Says the number and the position of a token.
+fn say_token<J: Live>(line: &mut Line<'_>, token: &Seen<J>) {
     match token.reporter() {
-        Some(number) => format!(in alloc; "{number} at {}", token.position()),
-        None => format!(in alloc; "nobody at {}", token.position()),
+        Some(number) => line.say(number),
+        None => line.say("nobody"),
     }
+    line.say(format_args!("at {}", token.position()));
 }
 
-/// What a report is answered.
-pub(crate) fn ack_text(alloc: Global, found: Result<Ack, LiveError>) -> Result<String, AllocError> {
+/// Says what a report is answered.
+pub(crate) fn say_ack(line: &mut Line<'_>, found: Result<Ack, LiveError>) {
     match found {
-        Ok(ack) => format!(in alloc; "{} at {}", word_of(ack), ack.position),
-        Err(cause) => cause.to_string(alloc),
+        Ok(ack) => {
+            line.say(word_of(ack));
+            line.say(format_args!("at {}", ack.position));
+        }
+        Err(cause) => say_cause(line, cause),
     }
 }
 

@@ -4,25 +4,33 @@ ghost use Rattle.std.specs.Prelude.{◌≡◌, true};
 ghost use Rattle.fdb_live.specs.Seen.{origin_of};
 
 use fdb_chain::ChainError;
-use fdb_checks::CaseError;
+use fdb_checks::Line;
 use fdb_history::{Ask, MAX_VERSION, OpenGate, Record};
 use fdb_live::{Epoch, Live, LiveRecord, Master, Opened, Seen};
 use std::alloc::Global;
 use std::marker::Brand;
 use std::sync::Wait;
-use std::test::Fail;
 
-/// Opens a master for so many commit proxies, and asks it so often for each. Answers whether each is
+/// Opens a master for so many commit proxies, and asks it so often for each. Says whether each is
 /// given as many versions.
-pub(crate) fn asked<R: Wait>(
+pub(crate) fn ask<R: Wait>(rt: &R, line: &mut Line<'_>) {
+    let (recovery, members, asks) = (line.number(), line.who(), line.number());
+    match asked(rt, line.alloc, recovery, members, asks) {
+        Ok(true) => line.say("fresh"),
+        Ok(false) => line.say("other"),
+        Err(_) => line.refuse(),
+    }
+}
+
+fn asked<R: Wait>(
     rt: &R,
     alloc: Global,
     recovery: u64,
     members: u32,
     asks: u64,
-) -> Result<String, CaseError> {
+) -> Result<bool, ChainError> {
     if members == 0 || members > 64 || recovery == 0 || recovery > MAX_VERSION {
-        return Err(CaseError::Failed(Fail::new("no master is of these")));
+        return Ok(false);
     }
     let start = Record {
         version: 0,
@@ -35,28 +43,24 @@ pub(crate) fn asked<R: Wait>(
         recovery,
     };
     match LiveRecord::<Brand>::open(rt, alloc, start, members, Some(epoch)) {
-        Ok(opened) => asked_named::<Brand, R>(rt, alloc, opened, asks),
-        Err(_) => Err(CaseError::Memory),
+        Ok(opened) => asked_named::<Brand, R>(rt, opened, asks),
+        Err(_) => Err(ChainError::Memory),
     }
 }
 
 /// The same under the name of the service.
-fn asked_named<J: Live, R: Wait>(
-    rt: &R,
-    alloc: Global,
-    opened: Opened,
-    asks: u64,
-) -> Result<String, CaseError>
+fn asked_named<J: Live, R: Wait>(rt: &R, opened: Opened, asks: u64) -> Result<bool, ChainError>
     requires chained { J.chained ≡ true }
     requires opened { opened ≡ origin_of J.table J.start J.reporters J.chained J.epoch_end J.recovery }
 {
-    let (master, _, tokens) = opened.master::<J>()?;
-    for mut token in tokens {
-        if !are_fresh(rt, &master, &mut token, asks)? {
-            return Ok(String::from_str(alloc, "other")?);
-        }
+    let Ok((master, _, mut tokens)) = opened.master::<J>() else {
+        return Err(ChainError::Memory);
+    };
+    let mut fresh = true;
+    for token in tokens.iter_mut() {
+        fresh &= are_fresh(rt, &master, token, asks)?;
     }
-    Ok(String::from_str(alloc, "fresh")?)
+    Ok(fresh)
 }
 
 /// Whether so many requests for the proxy of a token get fresh answers.
@@ -65,23 +69,29 @@ fn are_fresh<J: Live, R: Wait>(
     master: &Master<J>,
     token: &mut Seen<J>,
     asks: u64,
-) -> Result<bool, CaseError> {
+) -> Result<bool, ChainError> {
+    let mut fresh = true;
     for processed in 0..asks {
-        let Some(proxy) = token.reporter() else {
-            return Ok(false);
-        };
-        let num = processed + 1;
-        let ask = Ask {
-            proxy,
-            num,
-            processed,
-            at: 0,
-        };
-        match master.ask(rt, &OpenGate, token, ask) {
-            Ok(issued) if issued.fresh => {}
-            Err(ChainError::Memory) => return Err(CaseError::Memory),
-            _ => return Ok(false),
-        }
+        fresh &= is_fresh(rt, master, token, processed)?;
     }
-    Ok(true)
+    Ok(fresh)
+}
+
+/// Whether the request behind those that were processed gets a fresh answer.
+fn is_fresh<J: Live, R: Wait>(
+    rt: &R,
+    master: &Master<J>,
+    token: &mut Seen<J>,
+    processed: u64,
+) -> Result<bool, ChainError> {
+    let Some(proxy) = token.reporter() else {
+        return Ok(false);
+    };
+    let ask = Ask {
+        proxy,
+        num: processed.saturating_add(1),
+        processed,
+        at: 0,
+    };
+    Ok(master.ask(rt, &OpenGate, token, ask)?.fresh)
 }

@@ -1,6 +1,5 @@
 //! Reads and reports, by values worked out by hand.
 
-use crate::live::gathered::gather_two;
 use crate::live::{Opener, played};
 use fdb_checks::{CaseError, plays, says};
 use fdb_live::LiveError;
@@ -71,7 +70,7 @@ open 9223372036854775808 unlocked none min 9223372036854775809 for 2 => the vers
 
 #[test]
 fn versions_in_and_out_of_range(rt: HostRuntime) -> Result<(), Fail> {
-    plays(&mut Opener::new(&rt, rt.alloc()), OPENED)?;
+    plays(rt.alloc(), &mut Opener::new(&rt), OPENED)?;
     says(rt.alloc(), &LiveError::Memory, "want of memory")
 }
 
@@ -164,17 +163,18 @@ fn no_call_but_a_report_waits_for_one(rt: HostRuntime) -> Result<(), Fail> {
     Ok(())
 }
 
+/// Two reporters and two readers, and eight and five: the greatest of 500 versions of each.
 #[test]
 fn reporters_and_readers_in_threads(rt: HostRuntime) -> Result<(), Fail> {
-    played(&rt, rt.alloc(), 2, "threads 1 => 2")?;
-    played(&rt, rt.alloc(), 8, "threads 4 => 8")?;
+    played(&rt, rt.alloc(), 2, "threads 1 => 1100 unlocked none")?;
+    played(&rt, rt.alloc(), 8, "threads 4 => 4100 unlocked none")?;
     Ok(())
 }
 
 /// Of two reporters the second raises nothing, and then raises what the first has not seen.
+const GATHERED: &str = "gather 200 150 => 0 1 1 1 1; gather 200 300 => 0 2 2 2 2";
+
 #[test]
 fn all_that_was_seen_is_gathered(rt: HostRuntime) -> Result<(), Fail> {
-    gather_two(&rt, rt.alloc(), (200, 150), 1)?;
-    gather_two(&rt, rt.alloc(), (200, 300), 2)?;
-    Ok(())
+    Ok(plays(rt.alloc(), &mut Opener::new(&rt), GATHERED)?)
 }

@@ -1,11 +1,12 @@
 //! Reporters and readers, each in a thread of its own.
 
+ghost use Rattle.std.specs.Prelude.{◌≡◌, Some};
+
 use crate::audits::words::plain;
 use crate::live::holders::{Bare, Holders};
-use fdb_checks::{CaseError, holds, same, stays_away};
+use fdb_checks::{Line, stays_away};
 use fdb_history::{Gate, Place};
 use fdb_live::{Live, Seen};
-use std::alloc::AllocError;
 use std::sync::Wait;
 use std::sync::atomic::{AtomicBool, AtomicU64, Ordering};
 use std::thread;
@@ -25,6 +26,16 @@ struct OneByOne {
     numbers: AtomicU64,
     /// Somebody was not alone, or passed another place.
     failed: AtomicBool,
+}
+
+impl OneByOne {
+    /// Checks that each of so many reporters has passed as often as it should, and alone.
+    fn was_passed(&self, line: &mut Line<'_>, reporters: u64) {
+        let sum = reporters.saturating_mul(reporters.saturating_add(1));
+        let passed = self.numbers.load(Ordering::SeqCst);
+        line.holds(passed == sum.saturating_mul(TURNS / 2), "who passed");
+        line.holds(!self.failed.load(Ordering::SeqCst), "each passes alone");
+    }
 }
 
 impl Gate for OneByOne {
@@ -58,15 +69,27 @@ impl<J: Live> Worker<J> {
             match self.token.reporter() {
                 Some(who) => {
                     let version = turn.saturating_mul(reporters).saturating_add(101);
-                    let rec = plain(version.saturating_add(u64::from(who)));
-                    match live.record.report(rt, gate, who, &mut self.token, rec) {
-                        Ok(ack) => self.raises = self.raises.saturating_add(u64::from(ack.raised)),
-                        Err(_) => self.failed = true,
-                    }
+                    self.report(rt, live, gate, who, version.saturating_add(u64::from(who)));
                 }
                 None => self.read(rt, live),
             }
             self.failed |= self.token.position() < before;
+        }
+    }
+
+    fn report<R: Wait>(
+        &mut self,
+        rt: &R,
+        live: &Bare<J>,
+        gate: &OneByOne,
+        who: u32,
+        version: u64,
+    )
+        requires { self.old.token.reporter ≡ Some who }
+    {
+        match live.record.report(rt, gate, who, &mut self.token, plain(version)) {
+            Ok(ack) => self.raises = self.raises.saturating_add(u64::from(ack.raised)),
+            Err(_) => self.failed = true,
         }
     }
 
@@ -77,82 +100,86 @@ impl<J: Live> Worker<J> {
     }
 }
 
-/// A worker for each reporter, and for so many readers.
+/// A worker for each token, and for so many readers beside that of the last one.
 fn workers_of<J: Live, R: Wait>(
     holders: &mut Holders<'_, J, R>,
+    line: &mut Line<'_>,
     readers: u64,
-) -> Result<Vec<Worker<J>>, CaseError> {
-    let reporters = u32::try_from(holders.tokens.len())
-        .unwrap_or_default()
-        .saturating_sub(1);
-    let mut workers = Vec::new(holders.alloc);
-    for place in 0..reporters {
-        add_worker(&mut workers, holders.take(place)?)?;
+) -> Vec<Worker<J>> {
+    let mut workers = Vec::new(line.alloc);
+    for token in holders.tokens.iter_mut() {
+        if let Some(token) = token.take() {
+            add_worker(&mut workers, line, token);
+        }
     }
-    let mut first = holders.take(reporters)?;
     for _ in 0..readers {
-        add_worker(&mut workers, holders.live.record.split(&mut first))?;
+        if let Some(last) = workers.last_mut() {
+            let token = holders.live.record.split(&mut last.token);
+            add_worker(&mut workers, line, token);
+        }
     }
-    holders.put(reporters, first);
-    Ok(workers)
+    workers
 }
 
-fn add_worker<J: Live>(workers: &mut Vec<Worker<J>>, token: Seen<J>) -> Result<(), AllocError> {
-    let worker = Worker {
+fn add_worker<J: Live>(workers: &mut Vec<Worker<J>>, line: &mut Line<'_>, token: Seen<J>) {
+    line.takes(workers.push(Worker {
         token,
         version: 0,
         raises: 0,
         failed: false,
-    };
-    Ok(workers.push(worker)?)
+    }));
 }
 
-/// Every reporter reports rising versions that no other has, and readers read beside them. Then
-/// the greatest version stands, at the position that counts the raises.
+/// Every reporter reports rising versions that no other has, and readers read beside them: the first
+/// token's, and so many more. Then the greatest version stands, at the position that counts the
+/// raises.
 pub(crate) fn run_all<J: Live + Send + Sync, R: Threads + Wait + Sync>(
     holders: &mut Holders<'_, J, R>,
-    readers: u64,
-) -> Result<String, CaseError> {
-    let mut workers = workers_of(holders, readers)?;
-    let reporters = (workers.len() as u64).saturating_sub(readers);
+    line: &mut Line<'_>,
+) {
+    let reporters = (holders.tokens.len() as u64).saturating_sub(1);
+    let readers = line.number();
+    let mut workers = workers_of(holders, line, readers);
     let gate = OneByOne {
         passed: AtomicU64::new(0),
         numbers: AtomicU64::new(0),
         failed: AtomicBool::new(false),
     };
-    let (rt, live, threads) = (holders.rt, &holders.live, workers.len().max(1));
+    work_all(holders.rt, &holders.live, &gate, &mut workers, reporters);
+    gate.was_passed(line, reporters);
+    let raises = raises_of(line, &workers);
+    if let Some(worker) = workers.last_mut() {
+        let fetched = holders.live.record.read(holders.rt, &mut worker.token);
+        line.holds(fetched.position == raises, "its position");
+        line.say(fetched.rec);
+    }
+}
+
+/// Has each work in a thread of its own.
+fn work_all<J: Live + Send + Sync, R: Threads + Wait + Sync>(
+    rt: &R,
+    live: &Bare<J>,
+    gate: &OneByOne,
+    workers: &mut [Worker<J>],
+    reporters: u64,
+) {
+    let threads = workers.len().max(1);
     thread::for_each_mut(
         rt,
-        workers.as_mut_slice(),
+        workers,
         threads,
         &|_, worker| {
-            worker.work(rt, live, &gate, reporters);
+            worker.work(rt, live, gate, reporters);
         },
     );
-    let numbers = reporters
-        .saturating_mul(reporters.saturating_add(1))
-        .saturating_mul(TURNS / 2);
-    same(
-        &gate.numbers.load(Ordering::SeqCst),
-        &numbers,
-        &"who passed",
-    )?;
-    holds(!gate.failed.load(Ordering::SeqCst), &"each passes alone")?;
-    let raises = raises_of(&workers)?;
-    let mut first = holders.take(u32::try_from(reporters).unwrap_or_default())?;
-    let fetched = holders.live.record.read(rt, &mut first);
-    let greatest = TURNS.saturating_mul(reporters).saturating_add(100);
-    same(&fetched.rec, &plain(greatest), &"the greatest")?;
-    same(&fetched.position, &raises, &"its position")?;
-    Ok(reporters.to_string(holders.alloc)?)
 }
 
 /// How many reports raised the record. No worker failed.
-fn raises_of<J: Live>(workers: &[Worker<J>]) -> Result<u64, CaseError> {
+fn raises_of<J: Live>(line: &mut Line<'_>, workers: &[Worker<J>]) -> u64 {
     let mut raises = 0u64;
     for worker in workers {
-        holds(!worker.failed, &"what was seen fell, or was refused")?;
+        line.holds(!worker.failed, "what was seen fell, or was refused");
         raises = raises.saturating_add(worker.raises);
     }
-    Ok(raises)
+    raises
 }

@@ -1,7 +1,7 @@
-//! Offers, windows, throttles and how long requests wait, by values worked out by hand.
+//! Offers, windows, new rates, throttles and how long requests wait, by values worked out by hand.
 
 use crate::queue::Queue;
-use fdb_checks::{plays, says};
+use fdb_checks::{plays_all, says};
 use fdb_queue::QueueError;
 use std::test::Fail;
 
@@ -112,13 +112,40 @@ offer batch 11 3 => in; waits 1 => none
 skip 1 => 20000000 | 20000000 20000000; window 1 => 3 | 20000000 19999990
 ";
 
-const TEXTS: &[&str] = &[RATES, OFFERS, RANGES, LIMITS, WAITS];
+/// Batch requests of up to the normal limit and 10, and a default one, under new limits. Those of the
+/// queue do not reset its budgets.
+const NEW_RATES: &str = "
+new 5 3 10 => ok
+offer batch 15 0 => in; offer default 9 1 => in; offer batch 14 2 => in; offer batch 15 3 => in
+rates 0 3 => the configuration is out of range; rates 100001 3 => the configuration is out of range
+rates 5 100001 => the configuration is out of range
+rates 5 3 => 0 |; rates 6 1 => 0 |; rates 5 3 => 0 |; lengths => 0 1 3
+rates 4 3 => 2 | 0 the request's count is out of range 3 the request's count is out of range
+lengths => 0 1 1; window 1000000 => | 4000000 3000000; waits 1000000 => 2
+rates 100000 0 => 1 | 2 batch requests are not let in; lengths => 0 1 0
+offer batch 1 4 => batch requests are not let in; waits 1000000 => 0
+window 1000000 => 1 | 20000000 0
+rates 1 100000 => 0 |
+offer batch 12 5 => the request's count is out of range; offer batch 11 6 => in
+";
+
+/// A throttle goes at the moment at which it expires, and at each priority.
+const FORGOTTEN: &str = "
+new 1 1 1 => ok
+throttle system t 1 50 => ok; throttle default t 2 50 => ok; throttle batch t 3 50 => ok
+throttle batch u 4 51 => ok; forget 49; tag t; tag u; limits batch 49 => 2 4 51
+forget 50; tag t; tag u; limits batch 0 => 1 4 51
+tag t; limits system 0 => 0 0 0; tag t; limits default 0 => 0 0 0
+throttle batch t 5 60 => ok; tag t; limits batch 59 => 1 5 60
+forget 18446744073709551615; tag t; tag u; limits batch 0 => 0 0 0
+";
+
+const TEXTS: &[&str] = &[
+    RATES, OFFERS, RANGES, LIMITS, WAITS, NEW_RATES, FORGOTTEN,
+];
 
 #[test]
 fn offers_windows_and_throttles(rt: HostRuntime) -> Result<(), Fail> {
-    let mut queue = Queue::new(rt.alloc())?;
-    for text in TEXTS {
-        plays(&mut queue, text)?;
-    }
+    plays_all(rt.alloc(), &mut Queue::new(rt.alloc())?, TEXTS)?;
     says(rt.alloc(), &QueueError::Memory, "want of memory")
 }

@@ -1,13 +1,13 @@
 use Rattle.std.proofs.Common.{◌≡◌, Bool, true, false, if◌then◌else◌, ◌&&◌, ◌==◌, not, List, [], ◌∷◌, ◌++◌, Option, None, Some, length, refl, inl, inr}
 use Rattle.std.proofs.lemmas.List.Elements.{All-push}
 use Rattle.fdb_proxy.specs.Cause.{is_of_an_offer}
-use Rattle.fdb_proxy.specs.declared.turn.TurnedAway.{TurnedAway}
 use Rattle.fdb_proxy.specs.private.Turn.{IsOutcome, Offering}
 use Rattle.fdb_queue.specs.Admission.{IsCause, admitted, below, is_count, is_full, is_throttled, pushed_out, refusal_of}
 use Rattle.fdb_queue.specs.Queue.{Queue}
 use Rattle.fdb_queue.specs.declared.error.QueueError.{QueueError}
 use Rattle.fdb_queue.specs.declared.error.QueueError.TheVariants.{BadCount, BatchThrottled, Full}
 use Rattle.fdb_queue.specs.declared.request.Req.{Req}
+use Rattle.fdb_queue.specs.declared.request.TurnedAway.{TurnedAway}
 use Rattle.fdb_proxy.proofs.turn.Line.offer.Goals.{in-Ok-Some, in-Err}
 use Rattle.fdb_proxy.proofs.turn.Line.offer.Goals as goal
 

@@ -1,5 +1,5 @@
 use Rattle.std.proofs.Common.{false}
-use Rattle.fdb_tests.proofs.live.gathered.gather_two.Given as goal
+use Rattle.fdb_tests.proofs.live.gathered.gather.Given as goal
 
 -- the service that was just opened
 abbrev pub ghosts-gather_named-J-Live : goal.ghosts-gather_named-J-Live
