@@ -20,7 +20,7 @@ OF_MEMORY = re.compile(
 )
 # The clause by which a call is not refused memory, though the type of its errors has one for it.
 NOT_REFUSED = {
-    "GrvQueue::new": "bad_config", "LiveRecord::report": "no_memory",
+    "GrvQueue::new": "bad_config", "LiveRecord::report": "refused",
 }
 # The call that answers a status.
 BY_STATUS = {"drive"}
@@ -31,7 +31,7 @@ ENDS = re.compile(r"\n *(?:requires|ensures|ghost)\b|\{")
 DERIVED = re.compile(r"^#\[derive\(([^)]*)\)\]\npub (?:struct|enum) (\w+)", re.MULTILINE)
 # A line of a table, which may go on behind a backslash: calls, how they are made, and numbers.
 LINE = re.compile(r"^([\w:]+(?:, [\w:]+)*) \|(?:[^|\\\n]|\\\n)+\| [\w ]+$", re.MULTILINE)
-TABLES = re.compile(r"use fdb_checks::(?:\{[^}]*\bcases\b[^}]*\}|cases);")
+TABLES = re.compile(r"use fdb_checks::(?:\{[^}]*\bplays_cases\b[^}]*\}|plays_cases);")
 
 
 def sources(folder):

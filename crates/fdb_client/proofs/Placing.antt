@@ -17,7 +17,6 @@ use Rattle.fdb_history.specs.declared.log.CallAnswer.TheVariants.{Version, Answe
 use Rattle.fdb_history.specs.declared.log.ClientLog.{ClientLog}
 use Rattle.fdb_history.specs.declared.log.Input.{Input}
 use Rattle.fdb_history.specs.declared.log.Input.TheVariants as input
-use Rattle.fdb_history.proofs.chains.SameIssued.{is_same-equal}
 use Rattle.fdb_client.specs.Merging.{all_placed, answers_of_logs, chain_in, no_answer, placed}
 
 -- ---- lists
@@ -147,7 +146,7 @@ module _ (answers : List Issued) (k : ℕ) (entry : Issued) (at : slice_get answ
 abbrev pub EachIsNext : Type 0
 EachIsNext = (epoch_end recovery : ℕ) (answers : List Issued) (place : ℕ) (answer : Issued) → IsChain epoch_end recovery answers → slice_get answers place ≡ Some answer → IsNext epoch_end recovery (take place answers) answer
 
-module _ (each_is_next : EachIsNext) (epoch_end recovery : ℕ) (logs : List ClientLog) (answers : List Issued) (one : IsChain epoch_end recovery answers) (none : Nowhere (IsStray answers logs)) where
+module _ (same_are_equal : (one other : Issued) → is_same one other ≡ true → one ≡ other) (each_is_next : EachIsNext) (epoch_end recovery : ℕ) (logs : List ClientLog) (answers : List Issued) (one : IsChain epoch_end recovery answers) (none : Nowhere (IsStray answers logs)) where
   ordinal_of : (k : ℕ) (entry : Issued) → slice_get answers k ≡ Some entry → (entry.ordinal ≡ k) × (entry.fresh ≡ true)
   ordinal_of k entry at =
       let next = each_is_next epoch_end recovery answers k entry one at in
@@ -157,7 +156,7 @@ module _ (each_is_next : EachIsNext) (epoch_end recovery : ℕ) (logs : List Cli
   of_entry : (issued : Issued) (entry : Option Issued) → slice_get answers issued.ordinal ≡ entry → option_map_or (λ (entry : Issued). is_same issued (record entry { fresh = issued.fresh })) entry false ≡ true → issued.fresh ≡ true → entry ≡ Some issued
   of_entry issued None at is fresh = absurd (false≢true is)
   of_entry issued (Some entry) at is fresh =
-      let same : issued ≡ record entry { fresh = issued.fresh } = is_same-equal issued (record entry { fresh = issued.fresh }) is in
+      let same : issued ≡ record entry { fresh = issued.fresh } = same_are_equal issued (record entry { fresh = issued.fresh }) is in
       let its = ordinal_of issued.ordinal entry at in
       ap Some (sym (same ∙ ap (λ (b : Bool). record entry { fresh = b }) (fresh ∙ sym its.1)))
 
@@ -212,7 +211,7 @@ module _ (each_is_next : EachIsNext) (epoch_end recovery : ℕ) (logs : List Cli
       let entry_is : record entry { ordinal = k; fresh = true } ≡ entry = ap (λ (p : ℕ × Bool). record entry { ordinal = p.0; fresh = p.1 }) (λ i. (sym its.0 i, sym its.1 i)) in
       let drawn : is_drawn (calls_of logs entry.proxy) k entry ≡ true = is_true (is_drawn (calls_of logs entry.proxy) k entry) (λ not. none entry.proxy (length (calls_of logs entry.proxy)) (inr (refl, (k, entry, at, refl, not)))) in
       comes answers k entry at chain (answers_of_logs logs) test count its.0 its.1
-      (λ issued same. is_same-equal issued (record entry { ordinal = k; fresh = true }) same ∙ entry_is)
+      (λ issued same. same_are_equal issued (record entry { ordinal = k; fresh = true }) same ∙ entry_is)
       each_of (among entry.proxy test drawn)
 
   -- The chain that logs tell is the one by which none of their answers is stray.

@@ -83,8 +83,9 @@ pub(crate) fn close<J: Live, R: Wait>(
     ensures justified { Nowhere (IsStray (chain_in result.drawn logs.now) logs.now) }
     ensures one_chain { IsChain J.epoch_end J.recovery (chain_in result.drawn logs.now) }
 {
-    // The check learns here that each answer of a chain stands at its ordinal.
+    // The check learns here that each answer of a chain stands at its ordinal, and is alike no other.
     laws::each_is_next();
+    laws::same_are_equal();
     let changes = settle(rt, &master, first, tokens, logs);
     let drawn = master.close(rt, tokens);
     Closed { drawn, changes }

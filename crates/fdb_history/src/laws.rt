@@ -16,7 +16,7 @@ ghost use Rattle.fdb_history.specs.Faults.{IsFaultless};
 ghost use Rattle.fdb_history.specs.Laws.{HaveMinimaWithin, seen_at, reports_of};
 ghost use Rattle.fdb_history.specs.Linear.{IsLinear};
 ghost use Rattle.fdb_history.specs.Log.{calls_of, fresh_answers};
-ghost use Rattle.fdb_history.specs.Strays.{is_justified, logged_as};
+ghost use Rattle.fdb_history.specs.Strays.{is_justified, is_same, logged_as};
 ghost use Rattle.fdb_history.specs.declared.grv.TagLimit.{TagLimit};
 ghost use Rattle.fdb_history.specs.declared.log.Call.{Call};
 ghost use Rattle.fdb_history.specs.declared.log.CallAnswer.TheVariants.{Acked, Version};
@@ -40,6 +40,11 @@ pub fn each_is_next()
     ensures { (epoch_end recovery : ℕ) (answers : List Issued) (place : ℕ) (answer : Issued)
         → IsChain epoch_end recovery answers → slice_get answers place ≡ Some answer
         → IsNext epoch_end recovery (take place answers) answer }
+{}
+
+/// Answers that are the same in each member are equal.
+pub fn same_are_equal()
+    ensures { (one other : Issued) → is_same one other ≡ true → one ≡ other }
 {}
 
 /// A chain has no gap and no fork: it begins at the end of the epoch before, each answer

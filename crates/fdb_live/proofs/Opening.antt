@@ -5,7 +5,7 @@ use Rattle.fdb_chain.specs.Recent.{Recent, IsStateOf}
 use Rattle.fdb_history.specs.declared.register.Record.{Record}
 use Rattle.fdb_live.specs.private.Token.{IsMadeFor}
 use Rattle.std.specs.Prelude.{is_some}
-use Rattle.fdb_live.specs.Seen.{Sight, epoch_of}
+use Rattle.fdb_live.specs.Seen.{Sight, before_of, epoch_of, recovery_of}
 use Rattle.fdb_live.specs.declared.epoch.Epoch.{Epoch}
 
 abbrev pub token_of : ℕ → Sight
@@ -13,15 +13,6 @@ token_of number = record { reporter = Some number; changes = []; answers = [] }
 
 abbrev pub AreTokens : List Sight → ℕ → Type 0
 AreTokens items n = (k : ℕ) → k < n → slice_get items k ≡ Some (token_of k)
-
--- the numbers of an epoch, for the name of a service
-abbrev pub before_of : Option Epoch → ℕ
-before_of None = 0
-before_of (Some epoch) = epoch.before
-
-abbrev pub recovery_of : Option Epoch → ℕ
-recovery_of None = 0
-recovery_of (Some epoch) = epoch.recovery
 
 pub epoch_of_is : (epoch : Option Epoch) → epoch ≡ epoch_of (is_some epoch) (before_of epoch) (recovery_of epoch)
 epoch_of_is None = refl

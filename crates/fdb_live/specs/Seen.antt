@@ -127,6 +127,15 @@ abbrev pub epoch_of : Bool → ℕ → ℕ → Option Epoch
 epoch_of true before recovery = Some (epoch_from before recovery)
 epoch_of false before recovery = None
 
+-- The numbers of an epoch, and 0 where there is none, for who picks a name.
+abbrev pub before_of : Option Epoch → ℕ
+before_of None = 0
+before_of (Some epoch) = epoch.before
+
+abbrev pub recovery_of : Option Epoch → ℕ
+recovery_of None = 0
+recovery_of (Some epoch) = epoch.recovery
+
 -- A chain of this epoch may begin beside a live record with this first record and these reporters.
 pub record MayBegin (epoch : Epoch) (start : Record) (reporters : ℕ) : Type 0 where
   pub legal : IsEpoch epoch.before epoch.recovery

@@ -24,7 +24,7 @@ returns g c =
     let all = settled.each k token at in
     let whose = c.requires.numbered k token at in
     ap (λ who. answers_among who chain) (sym (all.number ∙ whose)) ∙ ((closed.each k all.now all.at).own ∙ (all.own_answers ∙ ap (λ who. answers_among who token.answers) whose))) in
-    let told : chain_in drawn logs ≡ chain = told_is_chain c.each_is_next.ensures epoch_end recovery logs chain closed.one_chain none drawn c.close-drawn.ensures.closed.2 in
+    let told : chain_in drawn logs ≡ chain = told_is_chain c.same_are_equal.ensures c.each_is_next.ensures epoch_end recovery logs chain closed.one_chain none drawn c.close-drawn.ensures.closed.2 in
     record {
       changes = settled.changes;
       faultless = settled.faultless;

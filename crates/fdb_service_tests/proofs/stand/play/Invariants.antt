@@ -1,5 +1,5 @@
 use Rattle.std.proofs.Common.{true}
-use Rattle.fdb_live.proofs.Opening.{recovery_of}
+use Rattle.fdb_live.specs.Seen.{recovery_of}
 use Rattle.fdb_service_tests.proofs.stand.play.Given as goal
 
 -- the service that was just opened

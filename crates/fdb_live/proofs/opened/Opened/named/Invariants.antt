@@ -1,5 +1,5 @@
 use Rattle.std.proofs.Common.{is_some}
-use Rattle.fdb_live.proofs.Opening.{before_of, recovery_of}
+use Rattle.fdb_live.specs.Seen.{before_of, recovery_of}
 use Rattle.fdb_live.proofs.opened.Opened.named.Given as goal
 
 -- the service that was just opened
