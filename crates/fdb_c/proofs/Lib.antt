@@ -1,4 +1,3 @@
-pub mod Rates
 pub mod Times
 pub mod Windows
 pub mod Word
