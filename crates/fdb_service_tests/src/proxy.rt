@@ -168,6 +168,45 @@ fn a_request_that_comes_while_others_wait(rt: HostRuntime) -> Result<(), Fail> {
     Ok(())
 }
 
+/// New rates that are left twice while a proxy hands its first answer over: it takes the last ones, by
+/// which batch requests have 14 transactions at most, and then none is let in. It serves on.
+const NEW_RATES: &str = "
+leave 1 0 0 system 1 0 0 held
+leave 1 0 1 batch 15 0 0
+leave 1 0 2 batch 14 0 0
+leave @0 1 0 default 100 0 0
+leave 1 2 0 system 1 0 0 later
+run 5 1 100000 rates 5 1 rates 4 0 hear 0 hear 1 hear 2 late look => 1 100 unlocked none at 0 / \
+1 the request's count is out of range / 1 batch requests are not let in / @1 100 unlocked none at 0
+";
+
+/// The last rates that were left before the proxy begins hold for what waits at the desk, also where
+/// that is closed.
+const RATES_AT_FIRST: [&str; 2] = [
+    "
+leave 1 0 0 batch 13 0 0
+leave 1 0 1 batch 12 0 0
+rates 9 9
+rates 2 1
+run 1 1 2 => 1 the request's count is out of range / 1 100 unlocked none at 0
+",
+    "
+leave 1 0 0 batch 1 0 0
+close
+rates 2 0
+run 1 1 1 => 1 batch requests are not let in
+",
+];
+
+#[test]
+fn new_rates_of_a_running_proxy(rt: HostRuntime) -> Result<(), Fail> {
+    play_texts(&rt, rt.alloc(), &RATES_AT_FIRST, 0)?;
+    for waiting in [1, 64, 101] {
+        play_texts(&rt, rt.alloc(), &[NEW_RATES], waiting)?;
+    }
+    Ok(())
+}
+
 const FATES: [Fate; 5] = [
     Fate::Start,
     Fate::Starve,

@@ -4,7 +4,7 @@ use crate::proxy::desks::{Waiter, queue_of, say_answers, submit};
 use crate::stand::{Service, Stand};
 use fdb_checks::Line;
 use fdb_live::Live;
-use fdb_proxy::{GrvProxy, Request};
+use fdb_proxy::{GrvProxy, Rates, Request};
 use fdb_queue::GrvQueue;
 use std::sync::Wait;
 use std::thread;
@@ -79,7 +79,7 @@ fn hear_beside<J: Live, R: Wait>(
 }
 
 /// Does what a word says: `hear` who waits at a place, leave what comes `late`, `look` whether that is
-/// answered, or `close` the desk.
+/// answered, leave new `rates`, or `close` the desk.
 fn act<J: Live, R: Wait>(
     rt: &R,
     service: &Service<J>,
@@ -93,6 +93,7 @@ fn act<J: Live, R: Wait>(
         "look" => look(rt, waiters, line),
         "hear" => hear(rt, waiters, line),
         "late" => leave_late(rt, service, later, line),
+        "rates" => leave_rates(rt, service, line),
         // a word of the call itself
         "used" => {}
         _ => line.fails("nothing to do"),
@@ -118,6 +119,14 @@ fn leave_late<J: Live, R: Wait>(
             line.holds(left.is_ok(), "an open desk refuses");
         }
         None => line.fails("nothing comes later"),
+    }
+}
+
+/// Leaves new rates on the desk.
+pub(crate) fn leave_rates<J: Live, R: Wait>(rt: &R, service: &Service<J>, line: &mut Line<'_>) {
+    match Rates::new(line.number(), line.number()) {
+        Some(rates) => service.desk.set_rates(rt, rates),
+        None => line.fails("rates out of range"),
     }
 }
 

@@ -15,6 +15,7 @@
 //!   moment, how many tags `t`, and perhaps words that `proxy/desks.rt` tells;
 //! - `close`: the desk is closed;
 //! - `serve`: what waits there is served as one batch;
+//! - `rates`: new limits of a proxy's two rates are left there;
 //! - `run`: a proxy with these limits and this room runs until all have heard, beside what the
 //!   words after that say;
 //! - `proxy`: one runs that may be refused memory (`refused_memory/proxies.rt`), and `crowd`: all clients
@@ -24,7 +25,7 @@ use crate::client::calls::{ask, learn, log, reask, report, tell};
 use crate::client::served::read;
 use crate::proxy::crowd::ask_all;
 use crate::proxy::desks::{leave, serve};
-use crate::proxy::running::run;
+use crate::proxy::running::{leave_rates, run};
 use crate::refused_memory::proxies::run_refused;
 use crate::stand::Stand;
 use fdb_checks::{Line, Player};
@@ -76,6 +77,7 @@ fn make<J: Live + Send + Sync, R: Threads + Wait + Sync>(
         "log" => log(stand, line),
         "leave" => leave(stand, line),
         "serve" => serve(stand, line),
+        "rates" => leave_rates(stand.rt, stand.service, line),
         "run" => run(stand, line),
         "see" => see(stand, line),
         "close" => close(stand, line),
