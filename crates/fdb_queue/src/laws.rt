@@ -5,7 +5,8 @@
 //! every one that keeps to `IsQueue`, as each `GrvQueue` does.
 
 ghost use Rattle.std.specs.Prelude.{◌≡◌, ℕ, ◌+◌, ◌*◌, ◌<◌, ◌≤◌, ◌⊎◌, [], ◌∷◌, ◌++◌, List, length};
-ghost use Rattle.std.specs.Prelude.{take, true, false, Some, None, option_to_list, IsPermutation, map, All};
+ghost use Rattle.std.specs.Prelude.{take, true, false, Some, None, option_to_list};
+ghost use Rattle.std.specs.Prelude.{IsPermutation, map, All};
 ghost use Rattle.fdb_queue.specs.Admission.{refusal_of, admitted, pushed_out};
 ghost use Rattle.fdb_queue.specs.Kept.{IsQueue};
 ghost use Rattle.fdb_queue.specs.Laws.{list_of, rank};
