@@ -10,7 +10,7 @@ use crate::parts::Parts;
 use crate::queue::{FdbRequest, request_of};
 use crate::queue_handle::FdbQueue;
 use crate::status::{FDB_BAD_CONFIG, FDB_MEMORY, FDB_OK, FDB_ROOM, status_of};
-use fdb_queue::{GrvQueue, QueueError, TurnedAway};
+use fdb_queue::{GrvQueue, QueueError, TurnedAway, laws};
 use std::alloc::Global;
 use std::mem;
 
@@ -48,7 +48,6 @@ fn write_all(turned_away: &mut [FdbTurnedAway], out: &[TurnedAway<u64>])
 /// Sets the rates, if there is room for all batch requests that wait, and writes those that are
 /// turned away to the start of a slice, and how many they are. Where there is no room, it says how
 /// much it takes. Refused, nothing else has changed.
-#[tactic(auto, using(crate::proofs::Rates::no_more))]
 fn set_told(
     queue: &mut GrvQueue<u64>,
     normal: u64,
@@ -74,6 +73,8 @@ fn set_told(
         → (queue.new ≡ queue.old) × (turned_away.new ≡ turned_away.old) }
     ensures size_stays { (result ≡ FDB_OK → ⊥) → (result ≡ FDB_ROOM → ⊥) → size.new ≡ size.old }
 {
+    // The check learns here that new rates turn away batch requests alone.
+    laws::new_rates_lose_nobody::<u64>();
     let waiting = queue.lengths().batch;
     if turned_away.len() < waiting {
         *size = waiting as u64;

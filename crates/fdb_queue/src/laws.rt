@@ -109,6 +109,10 @@ pub fn new_rates_lose_nobody<T>()
         → IsConfig (with_rates normal batch queue.config)
         → All (λ gone. gone.request.priority ≡ Batch)
         (turned_away (with_rates normal batch queue.config) (row queue.waiting)) }
+    ensures few { (queue : Queue T) (normal batch : ℕ) → IsQueue queue
+        → IsConfig (with_rates normal batch queue.config)
+        → length (turned_away (with_rates normal batch queue.config) (row queue.waiting))
+        ≤ length queue.waiting.batch }
     ensures higher { (queue : Queue T) (normal batch : ℕ) → IsQueue queue
         → IsConfig (with_rates normal batch queue.config)
         → queue.config.normal ≤ normal → 1 ≤ batch
