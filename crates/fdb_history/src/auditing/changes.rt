@@ -24,17 +24,18 @@ pub(crate) fn changes_of(alloc: Global, events: &[Placed]) -> Result<Vec<PlacedC
 {
     let mut changes = Vec::new(alloc);
     for placed in events {
-        if let Event::Report {
+        let Event::Report {
             rec,
             changed: true,
             ..
         } = &placed.event
-        {
-            changes.push(PlacedChange {
-                position: placed.position,
-                rec: *rec,
-            })?;
-        }
+        else {
+            continue;
+        };
+        changes.push(PlacedChange {
+            position: placed.position,
+            rec: *rec,
+        })?;
     }
     Ok(changes)
 }
