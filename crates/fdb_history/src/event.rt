@@ -8,7 +8,7 @@ use crate::sequence::Sequence;
 
 /// One step of the register. Clients are numbered from 0,
 /// and so are the calls of each client's log.
-#[derive(Clone, Copy, Debug)]
+#[derive(Clone, Copy, Debug, PartialEq, Eq)]
 pub enum Event {
     /// A client reported a record (`reportLiveCommittedVersion`),
     /// and was told whether it raised the register, and whether it changed it.
