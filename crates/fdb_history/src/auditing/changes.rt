@@ -24,18 +24,17 @@ pub(crate) fn changes_of(alloc: Global, events: &[Placed]) -> Result<Vec<PlacedC
 {
     let mut changes = Vec::new(alloc);
     for placed in events {
-        let Event::Report {
+        if let Event::Report {
             rec,
             changed: true,
             ..
         } = &placed.event
-        else {
-            continue;
-        };
-        changes.push(PlacedChange {
-            position: placed.position,
-            rec: *rec,
-        })?;
+        {
+            changes.push(PlacedChange {
+                position: placed.position,
+                rec: *rec,
+            })?;
+        }
     }
     Ok(changes)
 }
