@@ -30,7 +30,9 @@ FUNCTION = re.compile(r"^ *(pub )?fn (\w+)", re.MULTILINE)
 ENDS = re.compile(r"\n *(?:requires|ensures|ghost)\b|\{")
 DERIVED = re.compile(r"^#\[derive\(([^)]*)\)\]\npub (?:struct|enum) (\w+)", re.MULTILINE)
 # A line of a table, which may go on behind a backslash: calls, how they are made, and numbers.
-LINE = re.compile(r"^([\w:]+(?:, [\w:]+)*) \|(?:[^|\\\n]|\\\n)+\| [\w ]+$", re.MULTILINE)
+LINE = re.compile(r"^([\w:]+(?:, [\w:]+)*) (?:\\\n)?\|(?:[^|\\\n]|\\\n)+\| [\w ]+$", re.MULTILINE)
+# The calls that each line of a table makes, as its comment names them.
+NAMED = re.compile(r"(?<=\()`[\w:]+`(?:,\s(?:/// )?`[\w:]+`)*(?=\))")
 TABLES = re.compile(r"use fdb_checks::(?:\{[^}]*\bplays_cases\b[^}]*\}|plays_cases);")
 
 
@@ -78,7 +80,12 @@ def tabled():
         code for crate in crates() for code in sources(f"crates/{crate}/src")
         if TABLES.search(code)
     ]
-    return {call for code in tables for names in LINE.findall(code) for call in names.split(", ")}
+    # (a table of scripts, which stand in raw texts, names its calls in its comment alone)
+    plain = [re.sub(r'r#".*?"#', "", code, flags=re.DOTALL) for code in tables]
+    by_line = {call for code in plain for it in LINE.findall(code) for call in it.split(", ")}
+    by_table = {call for code in tables for it in NAMED.findall(code)
+                for call in re.findall(r"`([\w:]+)`", it)}
+    return by_line | by_table
 
 
 def tables(_program):

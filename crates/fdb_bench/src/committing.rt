@@ -136,7 +136,8 @@ fn draw_named<J: Live + Send + Sync, R: Clock + Threads + Wait + Sync>(
     opened: Opened,
 ) -> Result<Measured>
     requires chained { J.chained ≡ true }
-    requires opened { opened ≡ origin_of J.table J.start J.reporters J.chained J.epoch_end J.recovery }
+    requires opened { opened
+        ≡ origin_of J.table J.start J.reporters J.chained J.epoch_end J.recovery }
 {
     let (master, _, tokens) = opened.master::<J>()?;
     let asks = job.size / job.threads.max(1);

@@ -56,7 +56,8 @@ fn measure_named<J: Live + Send + Sync, R: Clock + CpuClock + Threads + Wait + S
     opened: Opened,
 ) -> Result<Measured>
     requires bare { J.chained ≡ false }
-    requires opened { opened ≡ origin_of J.table J.start J.reporters J.chained J.epoch_end J.recovery }
+    requires opened { opened
+        ≡ origin_of J.table J.start J.reporters J.chained J.epoch_end J.recovery }
 {
     let (live, reader, reporters) = opened.parts::<J>()?;
     let shared = Shared {

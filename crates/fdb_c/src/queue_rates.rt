@@ -73,6 +73,7 @@ fn set_told(
         → (queue.new ≡ queue.old) × (turned_away.new ≡ turned_away.old) }
     ensures size_stays { (result ≡ FDB_OK → ⊥) → (result ≡ FDB_ROOM → ⊥) → size.new ≡ size.old }
 {
+    // The check learns here that new rates turn away batch requests alone.
     laws::new_rates_lose_nobody::<u64>();
     let waiting = queue.lengths().batch;
     if turned_away.len() < waiting {

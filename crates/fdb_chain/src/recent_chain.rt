@@ -5,10 +5,12 @@ ghost use Rattle.std.specs.Prelude.{IsSome, IfSome, Some, OnOk, OnErr, IfOk, IfE
 ghost use Rattle.std.specs.Option.{ForSome};
 ghost use Rattle.fdb_history.specs.Issuing.{Chain, answer_to, kept_answer, with_answer};
 ghost use Rattle.fdb_history.specs.Chain.{IsChain, prev_after};
-ghost use Rattle.fdb_chain.specs.ChainCore.{IsAnswer, IsEpoch, IsFor, IsOf, IsProxyCount, MayRefuse};
+ghost use Rattle.fdb_chain.specs.ChainCore.{IsAnswer, IsEpoch, IsFor, IsOf};
+ghost use Rattle.fdb_chain.specs.ChainCore.{IsProxyCount, MayRefuse};
 ghost use Rattle.fdb_chain.specs.ChainCore.{new_chain};
 ghost use Rattle.fdb_chain.specs.Recent.{IsStateOf, answer_under, latest_num, next_ordinal, own_of};
-ghost use Rattle.fdb_chain.specs.private.Recent.{IsNextOf, answer_of, fresh_of, next_of, state_after};
+ghost use Rattle.fdb_chain.specs.private.Recent.{IsNextOf, answer_of, fresh_of};
+ghost use Rattle.fdb_chain.specs.private.Recent.{next_of, state_after};
 
 use crate::chain_core::MAX_PROXIES;
 use crate::error::ChainError;

@@ -76,7 +76,8 @@ impl<'c> OpenedCluster<'c> {
     /// the cluster is then given up.
     pub fn parts<J: Live>(self, alloc: Global) -> Result<ClusterParts<'c, J>, AllocError>
         requires chained { J.chained ≡ true }
-        requires opened { self.founding ≡ origin_of J.table J.start J.reporters J.chained J.epoch_end J.recovery }
+        requires opened { self.founding
+            ≡ origin_of J.table J.start J.reporters J.chained J.epoch_end J.recovery }
         ensures config { IfOk result (λ parts. parts.cluster.config ≡ self.entry.config) }
         ensures first { IfOk result
             (λ parts. parts.first ≡ record { reporter = None; changes = []; answers = [] }) }

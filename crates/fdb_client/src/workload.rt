@@ -88,7 +88,8 @@ fn run_named<J: Live + Send + Sync, R: Threads + Wait + Sync, W: Workload<R> + D
     workload: W,
 ) -> Result<WorkloadOutcome<W::Output>, FinishError>
     requires chained { J.chained ≡ true }
-    requires opened { opened.founding ≡ origin_of J.table J.start J.reporters J.chained J.epoch_end J.recovery }
+    requires opened { opened.founding
+        ≡ origin_of J.table J.start J.reporters J.chained J.epoch_end J.recovery }
     ensures gives { IfOk result (λ ran. W.gives workload ran.output) }
     ensures epoch_end { IfOk result (λ ran. ran.run.epoch_end ≡ opened.entry.config.epoch_end) }
     ensures start { IfOk result (λ ran. ran.run.start ≡ opened.entry.founding.start) }

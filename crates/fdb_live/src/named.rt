@@ -22,7 +22,8 @@ pub trait UnderName<R> {
     fn run<J: Live + Send + Sync>(self, rt: &R, opened: Opened) -> Self::Output
         requires takes { takes self opened }
         requires chained { J.chained ≡ is_some opened.epoch }
-        requires opened { opened ≡ origin_of J.table J.start J.reporters J.chained J.epoch_end J.recovery }
+        requires opened { opened
+            ≡ origin_of J.table J.start J.reporters J.chained J.epoch_end J.recovery }
         ensures gives { gives self opened result };
 }
 
@@ -45,7 +46,8 @@ fn run_under<J: Live + Send + Sync, R, U: UnderName<R>>(
 ) -> U::Output
     requires takes { U.takes uses opened }
     requires chained { J.chained ≡ is_some opened.epoch }
-    requires opened { opened ≡ origin_of J.table J.start J.reporters J.chained J.epoch_end J.recovery }
+    requires opened { opened
+        ≡ origin_of J.table J.start J.reporters J.chained J.epoch_end J.recovery }
     ensures gives { U.gives uses opened result }
 {
     uses.run::<J>(rt, opened)

@@ -1,6 +1,7 @@
 //! A service that was opened, before it has a name.
 
-ghost use Rattle.std.specs.Prelude.{◌≡◌, ◌+◌, ◌<◌, ◌≤◌, ◌↔◌, ℕ, [], Some, None, IfOk, IfErr, IsSome};
+ghost use Rattle.std.specs.Prelude.{◌≡◌, ◌+◌, ◌<◌, ◌≤◌, ◌↔◌, ℕ, [], Some};
+ghost use Rattle.std.specs.Prelude.{None, IfOk, IfErr, IsSome};
 ghost use Rattle.std.specs.Prelude.{option_map, vec_len, slice_get, true};
 ghost use Rattle.std.specs.Option.{ForSome};
 ghost use Rattle.crossbeam_utils.specs.Seq.{cell_view};
@@ -155,7 +156,8 @@ impl Opened {
     /// live record.
     pub fn master<J: Live>(self) -> Result<(Master<J>, Seen<J>, Vec<Seen<J>>), LiveError>
         requires chained { J.chained ≡ true }
-        requires opened { self ≡ origin_of J.table J.start J.reporters J.chained J.epoch_end J.recovery }
+        requires opened { self
+            ≡ origin_of J.table J.start J.reporters J.chained J.epoch_end J.recovery }
         ensures memory { IfErr result (λ cause. cause ≡ LiveError.Memory) }
         ensures first { IfOk result (λ parts.
             parts.1 ≡ record { reporter = None; changes = []; answers = [] }) }

@@ -256,11 +256,6 @@ pub batch_alone : {T : Type 0} (queue : Queue T) (normal batch : ℕ) → IsQueu
 batch_alone queue normal batch h is =
     rw (only_batch normal batch queue h is) (away_own queue.config (with_rates normal batch queue.config) Batch queue.waiting.batch h.batch)
 
-pub no_more : {T : Type 0} (queue : Queue T) (normal batch : ℕ) → IsQueue queue → IsConfig (with_rates normal batch queue.config)
-    → length (turned_away (with_rates normal batch queue.config) (row queue.waiting)) ≤ length queue.waiting.batch
-no_more queue normal batch h is =
-    rw (only_batch normal batch queue h is) (turned_away-le (with_rates normal batch queue.config) queue.waiting.batch)
-
 no_less : (config : QueueConfig) (normal batch count : ℕ) → config.normal ≤ normal → is_count config Batch count ≡ true → is_count (with_rates normal batch config) Batch count ≡ true
 no_less config normal batch count least is = grind (arith, nat_tests)
 
@@ -273,3 +268,10 @@ none_for_higher queue normal batch h is least some =
     let other = with_rates normal batch queue.config in
     only_batch normal batch queue h is
     ∙ (all_stay queue.config other Batch queue.waiting.batch is.room_some (λ count same. no_less queue.config normal batch count least same) (some_batch batch some) h.batch).1
+
+-- so no more are turned away than there are batch requests
+pub few_away : {T : Type 0} (queue : Queue T) (normal batch : ℕ) → IsQueue queue → IsConfig (with_rates normal batch queue.config)
+    → length (turned_away (with_rates normal batch queue.config) (row queue.waiting)) ≤ length queue.waiting.batch
+few_away queue normal batch h is =
+    rw (only_batch normal batch queue h is)
+    (turned_away-le (with_rates normal batch queue.config) queue.waiting.batch)

@@ -5,7 +5,8 @@
 //! every one that keeps to `IsQueue`, as each `GrvQueue` does.
 
 ghost use Rattle.std.specs.Prelude.{◌≡◌, ℕ, ◌+◌, ◌*◌, ◌<◌, ◌≤◌, ◌⊎◌, [], ◌∷◌, ◌++◌, List, length};
-ghost use Rattle.std.specs.Prelude.{take, true, false, Some, None, option_to_list, IsPermutation, map, All};
+ghost use Rattle.std.specs.Prelude.{take, true, false, Some, None, option_to_list};
+ghost use Rattle.std.specs.Prelude.{IsPermutation, map, All};
 ghost use Rattle.fdb_queue.specs.Admission.{refusal_of, admitted, pushed_out};
 ghost use Rattle.fdb_queue.specs.Kept.{IsQueue};
 ghost use Rattle.fdb_queue.specs.Laws.{list_of, rank};
@@ -96,8 +97,8 @@ pub fn nobody_is_lost<T>()
         (option_to_list (pushed_out queue request) ++ row (admitted queue request).waiting) }
 {}
 
-/// New rates lose nobody: whoever waited waits on, or is turned away. Only batch requests are, so no
-/// more than wait, and nobody where the normal rate is no lower and the batch rate is not 0.
+/// New rates lose nobody: whoever waited waits on, or is turned away. Only batch requests are, and
+/// nobody where the normal rate is no lower and the batch rate is not 0.
 pub fn new_rates_lose_nobody<T>()
     ensures nobody { (queue : Queue T) (normal batch : ℕ)
         → IsPermutation (row queue.waiting)
@@ -108,7 +109,7 @@ pub fn new_rates_lose_nobody<T>()
         → IsConfig (with_rates normal batch queue.config)
         → All (λ gone. gone.request.priority ≡ Batch)
         (turned_away (with_rates normal batch queue.config) (row queue.waiting)) }
-    ensures no_more { (queue : Queue T) (normal batch : ℕ) → IsQueue queue
+    ensures few { (queue : Queue T) (normal batch : ℕ) → IsQueue queue
         → IsConfig (with_rates normal batch queue.config)
         → length (turned_away (with_rates normal batch queue.config) (row queue.waiting))
         ≤ length queue.waiting.batch }

@@ -2,7 +2,8 @@
 
 ghost use Rattle.std.specs.Prelude.{◌≡◌, ℕ, ◌+◌, ◌*◌, ◌<◌, ◌≤◌, ◌⊎◌, ◌↔◌, ◌∷◌, ◌++◌, ◌^◌, ◌==◌, []};
 ghost use Rattle.std.specs.Prelude.{false, length, drop, reverse, if◌then◌else◌, Err, OnOk, OnErr};
-ghost use Rattle.std.specs.Prelude.{All, IfOk, IfErr, IsTrue, IsSome, IfSome, IsSomeAnd, option_to_list};
+ghost use Rattle.std.specs.Prelude.{All, IfOk, IfErr, IsTrue, IsSome};
+ghost use Rattle.std.specs.Prelude.{IfSome, IsSomeAnd, option_to_list};
 ghost use Rattle.std.specs.List.{list_all};
 ghost use Rattle.std.specs.Int.{div_ceil};
 ghost use Rattle.fdb_queue.specs.Admission.{refusal_of, admitted, pushed_out, is_full, IsCause};

@@ -80,7 +80,8 @@ fn run_named<J: Live + Send + Sync, R: Threads + Wait + Sync, G: Gate>(
     requires chained { J.chained ≡ true }
     requires plan { IsPlan script.now }
     requires config { IsConfigFor script.now opened.config }
-    requires founding { opened.founding ≡ origin_of J.table J.start J.reporters J.chained J.epoch_end J.recovery }
+    requires founding { opened.founding
+        ≡ origin_of J.table J.start J.reporters J.chained J.epoch_end J.recovery }
     ensures { IfOk result (IsRunOf script.now) }
 {
     let ClusterParts {

@@ -120,7 +120,8 @@ fn played_named<J: Live + Send + Sync, R: Threads + Wait + Sync>(
     played: Text<'_>,
 ) -> Result<(), CaseError>
     requires bare { J.chained ≡ false }
-    requires opened { opened ≡ origin_of J.table J.start J.reporters J.chained J.epoch_end J.recovery }
+    requires opened { opened
+        ≡ origin_of J.table J.start J.reporters J.chained J.epoch_end J.recovery }
 {
     let Ok((live, first, tokens)) = opened.parts::<J>() else {
         return Err(CaseError::Memory);

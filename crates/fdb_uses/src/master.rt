@@ -30,7 +30,8 @@ fn draw_named<J: Live + Send + Sync, R: Print + Threads + Wait + Sync>(
     opened: Opened,
 ) -> Result<()>
     requires chained { J.chained ≡ true }
-    requires opened { opened ≡ origin_of J.table J.start J.reporters J.chained J.epoch_end J.recovery }
+    requires opened { opened
+        ≡ origin_of J.table J.start J.reporters J.chained J.epoch_end J.recovery }
 {
     let (master, _, mut tokens) = opened.master::<J>()?;
     draw_both(rt, &master, tokens.as_mut_slice())

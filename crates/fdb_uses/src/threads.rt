@@ -34,7 +34,8 @@ fn read_side_by_side<J: Live + Send + Sync, R: Print + Threads + Wait + Sync>(
     opened: OpenedCluster<'_>,
 ) -> Result<(SettledRun, History)>
     requires chained { J.chained ≡ true }
-    requires founding { opened.founding ≡ origin_of J.table J.start J.reporters J.chained J.epoch_end J.recovery }
+    requires founding { opened.founding
+        ≡ origin_of J.table J.start J.reporters J.chained J.epoch_end J.recovery }
     ensures { IfOk result (λ left. IsLinear J.start left.0.logs.items left.1.events) }
 {
     let ClusterParts {

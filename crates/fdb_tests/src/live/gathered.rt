@@ -23,7 +23,8 @@ pub(crate) fn gather<R: Wait>(rt: &R, line: &mut Line<'_>) {
 /// The same under the name of the service.
 fn gather_named<J: Live, R: Wait>(rt: &R, opened: Opened, line: &mut Line<'_>)
     requires bare { J.chained ≡ false }
-    requires opened { opened ≡ origin_of J.table J.start J.reporters J.chained J.epoch_end J.recovery }
+    requires opened { opened
+        ≡ origin_of J.table J.start J.reporters J.chained J.epoch_end J.recovery }
     requires two { opened.reporters ≡ 2 }
 {
     match opened.parts::<J>() {

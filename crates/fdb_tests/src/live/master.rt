@@ -51,7 +51,8 @@ fn asked<R: Wait>(
 /// The same under the name of the service.
 fn asked_named<J: Live, R: Wait>(rt: &R, opened: Opened, asks: u64) -> Result<bool, ChainError>
     requires chained { J.chained ≡ true }
-    requires opened { opened ≡ origin_of J.table J.start J.reporters J.chained J.epoch_end J.recovery }
+    requires opened { opened
+        ≡ origin_of J.table J.start J.reporters J.chained J.epoch_end J.recovery }
 {
     let Ok((master, _, mut tokens)) = opened.master::<J>() else {
         return Err(ChainError::Memory);

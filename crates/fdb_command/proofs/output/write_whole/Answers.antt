@@ -1,3 +1,4 @@
+use Rattle.std.proofs.Common.{rules}
 use Rattle.std.proofs.Common.{◌≡◌, ℕ, ◌-◌, List, ◌++◌, length, take, drop, sym, ap, ◌∙◌, arith, append_assoc, take-append-drop, length-drop}
 use Rattle.std.proofs.lemmas.List.{take_rest}
 use Rattle.std.proofs.KnownBytes.{Appends-trans}
@@ -16,3 +17,9 @@ loop-preserved g c =
       some_left = simp (length-drop, take_rest) (omega (arith, c.in_ok-count.ensures.bound));
       taken = (done ++ take n rest, moves_front _ done rest n split, Appends-trans _ _ _ _ _ appended c.in_ok-count.ensures.ok);
     }
+
+pub returns-in_err-count : goal.returns-in_err-count
+returns-in_err-count g c = search rules
+
+pub returns : goal.returns
+returns g c = search rules

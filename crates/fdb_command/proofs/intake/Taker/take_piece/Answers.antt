@@ -1,3 +1,4 @@
+use Rattle.std.proofs.Common.{rules}
 use Rattle.std.proofs.Common.{◌≡◌, ℕ, ◌≤◌, List, [], inr, length, refl, take, arith}
 use Rattle.std.proofs.lemmas.List.{length-take}
 use Rattle.std.proofs.KnownBytes.{Consumes-kept, Consumes-nil}
@@ -36,3 +37,6 @@ returns-in_err-intake-clause-stops g c =
     passed_on c.from_residual-in_err-intake.result c.in_err-intake.field-0.0 (StopsAt g.P.Program.promise c.args.intake (length c.args.room.now) (g.I.Read.remaining c.args.input.now) (g.I.Read.remaining c.read_piece.new.input))
     c.from_residual-in_err-intake.ensures.1
     (record { bytes = take count room; few = omega (arith, counted count room within, c.read_piece.ensures.room, within); gone = gone; stops = inr c.in_err-intake.ensures.stops })
+
+pub returns-in_err-count : goal.returns-in_err-count
+returns-in_err-count g c = search rules

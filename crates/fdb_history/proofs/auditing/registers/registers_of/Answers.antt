@@ -1,3 +1,4 @@
+use Rattle.std.proofs.Common.{rules}
 use Rattle.std.proofs.Common.{◌∙◌, arith}
 use Rattle.fdb_history.specs.declared.auditing.changes.PlacedChange.{PlacedChange}
 use Rattle.fdb_history.proofs.faults.ChangeFaults.{none-at-zero, no-clash, gap-least, no-gap}
@@ -27,3 +28,9 @@ returns-clause-ok c = λ position reached.
     let within = c.greatest_position.ensures.above position reached in
     table-right c.args.start c.args.logs.now c.args.changes.now c.in_ok-table.table.items c.first_missing-position.result c.requires.same
     (no-clash c.args.logs.now c.args.changes.now c.requires.same c.in_default.ensures) c.first_missing-position.ensures.in_turn c.in_ok-table.ensures position (omega arith)
+
+pub returns-in_err-table : goal.returns-in_err-table
+returns-in_err-table c = search rules
+
+pub returns-in-Some : goal.returns-in-Some
+returns-in-Some c = search rules

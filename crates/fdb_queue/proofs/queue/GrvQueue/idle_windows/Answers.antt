@@ -1,3 +1,4 @@
+use Rattle.std.proofs.Common.{rules}
 use Rattle.std.proofs.Common.{sym, ◌∙◌, ap}
 use Rattle.std.specs.Option.{option_copied}
 use Rattle.fdb_queue.proofs.Skipping.{batch_grants, system_goes, default_held, batch_held}
@@ -28,3 +29,6 @@ returns-in-Batch-clause-exact g c =
     let head = sym c.head.ensures ∙ ap option_copied c.in-Some.is in
     rw (← c.self.view_is) (rw head (batch_held _ c.in-Some.head.now c.args.elapsed c.windows_held-normal.result c.windows_held-batch.result c.max.result c.self.invariant c.requires.some head c.in-Batch.is
     c.windows_held-normal.ensures c.windows_held-batch.ensures c.max.ensures))
+
+pub returns-in_default : goal.returns-in_default
+returns-in_default g c = search rules

@@ -1,3 +1,4 @@
+use Rattle.std.proofs.Common.{rules}
 use Rattle.std.proofs.Common.{refl, sym, ◌∙◌}
 use Rattle.fdb_queue.proofs.Admitting.{IsQueue-admitted, IsQueue-pushed_out, let_in}
 use Rattle.fdb_queue.proofs.queue.GrvQueue.offer.Goals as goal
@@ -24,3 +25,9 @@ invariant_of-self-2 g c =
 
 pub returns-clause-let_in : goal.returns-clause-let_in
 returns-clause-let_in g c = sym c.refusal_of.ensures ∙ c.in_default.is
+
+pub returns-in-Some : goal.returns-in-Some
+returns-in-Some g c = search rules
+
+pub returns-in-Err : goal.returns-in-Err
+returns-in-Err g c = search rules

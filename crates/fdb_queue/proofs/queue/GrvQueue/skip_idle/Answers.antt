@@ -1,3 +1,4 @@
+use Rattle.std.proofs.Common.{rules}
 use Rattle.std.proofs.Common.{arith}
 use Rattle.fdb_queue.proofs.Leaving.{few_wait}
 use Rattle.fdb_queue.proofs.Skipping.{idle_by, skipped_by}
@@ -21,3 +22,6 @@ overflow_add-unbatched g c = let few = few_wait _ c.self.invariant in omega (ari
 
 pub overflow_add-unbatched-2 : goal.overflow_add-unbatched-2
 overflow_add-unbatched-2 g c = let few = few_wait _ c.self.invariant in omega (arith, few, c.lengths-lengths.ensures.system, c.lengths-lengths.ensures.default_, c.lengths-lengths.ensures.batch)
+
+pub returns-then-not-is_elapsed : goal.returns-then-not-is_elapsed
+returns-then-not-is_elapsed g c = search rules

@@ -25,3 +25,12 @@ returns-clause-bounded g c =
     let head = sym c.head.ensures ∙ ap option_copied c.in_ok-head.was in
     rw (← c.self.view_is) (rw head (within _ c.in_ok-head.head.now c.args.elapsed c.in_ok-limit.limit c.in_ok-limit.budget c.div_ceil.result c.self.invariant time.some (sure.0 refl) rate.0
     (c.div_ceil.ensures ∙ ap (λ it. div_ceil it (c.args.elapsed * c.in_ok-limit.limit)) c.saturating_sub-missing.ensures)))
+
+pub returns-then-not-is_elapsed : goal.returns-then-not-is_elapsed
+returns-then-not-is_elapsed g c = search rules
+
+pub returns-in_err-head : goal.returns-in_err-head
+returns-in_err-head g c = search rules
+
+pub returns-in_err-limit : goal.returns-in_err-limit
+returns-in_err-limit g c = search rules

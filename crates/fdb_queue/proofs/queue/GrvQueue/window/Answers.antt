@@ -42,3 +42,6 @@ overflow_add-unbatched-2 g c =
     let few = few_wait _ c.self.invariant in
     let lengths = c.lengths-left.ensures in
     omega (arith, few, rw c.in_ok-started.ensures.left at lengths.system, rw c.in_ok-started.ensures.left at lengths.default_, length-drop c.reach-reach.result.counts.system c.self.inside.waiting.system, length-drop c.reach-reach.result.counts.default_ c.self.inside.waiting.default_, rw c.in_ok-started.ensures.left at lengths.batch, length-drop c.reach-reach.result.counts.batch c.self.inside.waiting.batch)
+
+pub returns-then-not-is_elapsed : goal.returns-then-not-is_elapsed
+returns-then-not-is_elapsed g c = search rules

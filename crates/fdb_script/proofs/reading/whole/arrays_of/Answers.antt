@@ -1,4 +1,4 @@
-use Rattle.std.proofs.Common.{◌≡◌, ◌∙◌, sym, None, Some, List, [], ◌∷◌, map}
+use Rattle.std.proofs.Common.{◌∙◌, List, [], ◌∷◌, map, sym}
 use Rattle.std.proofs.lemmas.List.{map-append}
 use Rattle.std.specs.Borrow.{Bor}
 use Rattle.serde_json.specs.View.{view}

@@ -1,0 +1,14 @@
+use Rattle.std.proofs.Common.{rules}
+use Rattle.fdb_command.proofs.output.count_written.Goals as goal
+
+pub returns-in-Ok : goal.returns-in-Ok
+returns-in-Ok c = search rules
+
+pub returns-in-Err-2 : goal.returns-in-Err-2
+returns-in-Err-2 c = search rules
+
+pub returns-in-Err : goal.returns-in-Err
+returns-in-Err c = search rules
+
+pub returns-in-Ok-eq0 : goal.returns-in-Ok-eq0
+returns-in-Ok-eq0 c = search rules
