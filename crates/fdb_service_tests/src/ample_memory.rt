@@ -61,6 +61,7 @@ run_workload, Cluster::new, serve_while, SettledRun::history \
 run_workload, serve_while | visits 1 1 @0 100 1 1 1 => explained | few 999 1000 1001 many
 run_workload, ClusterConfig::open | visits 1 1 2 @0 1 1 1 => explained \
 | few many 9223372036854775807
+Client::ask, SettledRun::chain, SettledRun::history | visits 1 1 2 100 1 1 1 asks @0 => explained | 65538
 Client::read_version, SettledRun::history | visits 1 1 2 100 @0 1 1 => explained | 65538
 Client::read_version, SettledRun::history | visits 1 1 2 100 1 @0 1 => explained | few many
 Client::read_version, SettledRun::history | visits 1 1 2 100 1 1 @0 => explained \

@@ -118,6 +118,18 @@ run 1 1 165 => 165 the queue is full / 165 100 unlocked none at 0
 ",
 ];
 
+/// What is taken from a desk that is closed, where no proxy serves it.
+const TAKEN: &str = "
+ask 0 0 1000
+ask 0 0 3000
+report 0 2 0
+see => 1
+leave 1 3 4294967299 batch 7 9 1 aware min ahead
+leave 1 4 0 system 1 0 0
+close
+take => 3 4294967299 at 1 Batch 7 9 1 true true 4 0 at 0 System 1 0 0 false false
+";
+
 /// One that started, one that is pushed out and one that is closed, none of which is waited for, and
 /// another.
 const GONE: &str = "
@@ -136,7 +148,7 @@ fn batches(rt: HostRuntime) -> Result<(), Fail> {
 
 #[test]
 fn whoever_waits_hears_what_comes_of_it(rt: HostRuntime) -> Result<(), Fail> {
-    play_texts(&rt, rt.alloc(), &[CLOSED, NOT_LET_IN, LEFT, GONE], 0)?;
+    play_texts(&rt, rt.alloc(), &[CLOSED, NOT_LET_IN, LEFT, TAKEN, GONE], 0)?;
     play_texts(&rt, rt.alloc(), &ROOM_FOR_ONE, 0)?;
     play_texts(&rt, rt.alloc(), &MANY, 0)
 }
@@ -148,6 +160,14 @@ leave 1 0 0 default 100 0 0
 leave @0 0 1 default 100 0 0
 close
 run 100 1 100000 => 1 100 unlocked none at 0 / @0 closed
+";
+
+/// The same of batch requests alone.
+const FEW_AND_MANY_BATCH: &str = "
+leave 1 0 0 batch 100 0 0
+leave @0 0 1 batch 100 0 0
+close
+run 100 100 100000 => 1 100 unlocked none at 0 / @0 closed
 ";
 
 /// A system request that comes while so many default ones wait in the queue. The first three
@@ -163,7 +183,7 @@ run 1 1 100000 hear 0 late hear 1 look => 3 100 unlocked none at 0 with 1 t 5 50
 #[test]
 fn a_request_that_comes_while_others_wait(rt: HostRuntime) -> Result<(), Fail> {
     for waiting in [1, 64, 101, 10_001] {
-        play_texts(&rt, rt.alloc(), &[FEW_AND_MANY, LATE], waiting)?;
+        play_texts(&rt, rt.alloc(), &[FEW_AND_MANY, FEW_AND_MANY_BATCH, LATE], waiting)?;
     }
     Ok(())
 }

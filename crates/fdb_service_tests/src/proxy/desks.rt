@@ -198,6 +198,18 @@ pub(crate) fn queue_of<J: Live>(
     Some(queue)
 }
 
+/// Says what is taken from a desk that is closed: whose each request is, its options, and how many tags
+/// it has.
+pub(crate) fn take<J: Live, R: Wait>(stand: &mut Stand<'_, J, R>, line: &mut Line<'_>) {
+    for request in &stand.service.desk.take(stand.rt, true).requests {
+        let asker = &request.payload;
+        line.say(format_args!("{} {} at {}", asker.client, asker.serial, asker.asked));
+        let opts = &asker.opts;
+        line.say(format_args!("{:?} {} {}", opts.priority, opts.count, opts.at));
+        line.say(format_args!("{} {} {}", opts.tags.len(), opts.lock_aware, opts.use_min));
+    }
+}
+
 /// Says the answers to what waits at the desk, as one batch, which may be refused memory.
 pub(crate) fn serve<J: Live, R: Wait>(stand: &mut Stand<'_, J, R>, line: &mut Line<'_>) {
     let requests = match stand.back.take() {

@@ -13,7 +13,7 @@
 //! - `see`: who is `ahead` reads the record;
 //! - `leave`: so many requests of a client, with serial numbers from one on, a priority, a count, a
 //!   moment, how many tags `t`, and perhaps words that `proxy/desks.rt` tells;
-//! - `close`: the desk is closed;
+//! - `close`: the desk is closed; `take`: what is taken from it then;
 //! - `serve`: what waits there is served as one batch;
 //! - `run`: a proxy with these limits and this room runs until all have heard, beside what the
 //!   words after that say;
@@ -23,7 +23,7 @@
 use crate::client::calls::{ask, learn, log, reask, report, tell};
 use crate::client::served::read;
 use crate::proxy::crowd::ask_all;
-use crate::proxy::desks::{leave, serve};
+use crate::proxy::desks::{leave, serve, take};
 use crate::proxy::running::run;
 use crate::refused_memory::proxies::run_refused;
 use crate::stand::Stand;
@@ -76,6 +76,7 @@ fn make<J: Live + Send + Sync, R: Threads + Wait + Sync>(
         "log" => log(stand, line),
         "leave" => leave(stand, line),
         "serve" => serve(stand, line),
+        "take" => take(stand, line),
         "run" => run(stand, line),
         "see" => see(stand, line),
         "close" => close(stand, line),
