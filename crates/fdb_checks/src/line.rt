@@ -26,7 +26,7 @@ pub struct Line<'a> {
     refused: bool,
     lacking: bool,
     /// What was not as it should be, or nothing.
-    why: &'static str,
+    why: &'a str,
 }
 
 impl<'a> Line<'a> {
@@ -162,12 +162,12 @@ impl<'a> Line<'a> {
     }
 
     /// Notes what is not as it should be.
-    pub fn fails(&mut self, why: &'static str) {
+    pub fn fails(&mut self, why: &'a str) {
         self.why = why;
     }
 
     /// Notes what does not hold, if it does not.
-    pub fn holds(&mut self, condition: bool, why: &'static str) {
+    pub fn holds(&mut self, condition: bool, why: &'a str) {
         if !condition {
             self.fails(why);
         }

@@ -3,7 +3,7 @@
 use crate::case_error::CaseError;
 use crate::line::Line;
 use crate::table::cases;
-use std::alloc::Global;
+use std::alloc::{AllocError, Global};
 use std::test::Fail;
 
 /// Something that calls of a text are made to.
@@ -21,7 +21,7 @@ pub fn plays<P: Player>(alloc: Global, player: &mut P, text: &str) -> Result<(),
 /// The same at a number. What stands behind a star is played so often, at each place below the number,
 /// and the other lines at the number once. Lines of which several are played in turn stand between
 /// commas.
-pub fn plays_at<P: Player>(
+fn plays_at<P: Player>(
     alloc: Global,
     player: &mut P,
     text: &str,
@@ -38,7 +38,60 @@ pub fn plays_at<P: Player>(
     Ok(())
 }
 
-/// The same for each of some texts.
+/// The calls of a text at a number, one after another, for those who share what they call among threads:
+/// no method of a trait may do that.
+pub fn lines_of(alloc: Global, text: &str, number: u64) -> Result<Vec<Line<'_>>, AllocError> {
+    let mut lines = Vec::new(alloc);
+    for line in text.lines() {
+        if !line.starts_with('#') {
+            add_line(&mut lines, alloc, line, number)?;
+        }
+    }
+    Ok(lines)
+}
+
+fn add_line<'t>(
+    lines: &mut Vec<Line<'t>>,
+    alloc: Global,
+    line: &'t str,
+    number: u64,
+) -> Result<(), AllocError> {
+    for part in line.split(';') {
+        match part.trim_start().strip_prefix('*') {
+            None => add_part(lines, alloc, part, number)?,
+            Some(each) => add_each(lines, alloc, each, number)?,
+        }
+    }
+    Ok(())
+}
+
+fn add_each<'t>(
+    lines: &mut Vec<Line<'t>>,
+    alloc: Global,
+    each: &'t str,
+    number: u64,
+) -> Result<(), AllocError> {
+    for place in 0..number {
+        add_part(lines, alloc, each, place)?;
+    }
+    Ok(())
+}
+
+fn add_part<'t>(
+    lines: &mut Vec<Line<'t>>,
+    alloc: Global,
+    part: &'t str,
+    place: u64,
+) -> Result<(), AllocError> {
+    for call in part.split(',') {
+        if !call.trim().is_empty() {
+            lines.push(Line::at(alloc, call, place))?;
+        }
+    }
+    Ok(())
+}
+
+/// Plays each of some texts.
 pub fn plays_all<P: Player>(alloc: Global, player: &mut P, texts: &[&str]) -> Result<(), Fail> {
     for text in texts {
         plays(alloc, player, text)?;

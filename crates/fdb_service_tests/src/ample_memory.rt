@@ -7,8 +7,8 @@
 mod scripts;
 
 use crate::stand::{Told, play};
-use crate::workload::Clusters;
-use fdb_checks::{CaseError, cases, holds, plays_cases};
+use crate::workload::play_workloads;
+use fdb_checks::{CaseError, cases, holds};
 use scripts::{is_played, is_printed};
 use std::alloc::Global;
 use std::sync::Wait;
@@ -142,7 +142,10 @@ fn clients_have_memory(rt: HostRuntime) -> Result<(), Fail> {
 
 #[test]
 fn clusters_have_memory(rt: HostRuntime) -> Result<(), Fail> {
-    plays_cases(rt.alloc(), &mut Clusters::new(&rt), CLUSTERS)
+    for case in cases(rt.alloc(), CLUSTERS)? {
+        case.ends(play_workloads(&rt, rt.alloc(), case.of, case.number))?;
+    }
+    Ok(())
 }
 
 #[test]

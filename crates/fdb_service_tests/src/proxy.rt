@@ -127,7 +127,7 @@ see => 1
 leave 1 3 4294967299 batch 7 9 1 aware min ahead
 leave 1 4 0 system 1 0 0
 close
-take => 3 4294967299 at 1 Batch 7 9 1 true true 4 0 at 0 System 1 0 0 false false
+take => 3 4294967299 1 true 7 9 1 true true 4 0 0 false 1 0 0 false false
 ";
 
 /// One that started, one that is pushed out and one that is closed, none of which is waited for, and

@@ -6,8 +6,7 @@
 pub mod proxies;
 
 use crate::stand::{Told, play};
-use crate::workload::Clusters;
-use fdb_checks::plays;
+use crate::workload::play_workloads;
 use std::alloc::Global;
 use std::sync::Wait;
 use std::test::Fail;
@@ -100,7 +99,11 @@ const VISITS: &str = "visits 2 2 2 100 1 1 1 => explained";
 
 #[test]
 fn a_workload_bears_it(rt: HostRuntime) -> Result<(), Fail> {
-    fdb_checks::bears(rt.alloc(), &mut Clusters::new(&rt), VISITS)
+    if let Err(error) = play_workloads(&rt, rt.alloc(), VISITS, 0) {
+        error.was_refusal()?;
+        play_workloads(&rt, rt.alloc(), VISITS, 0)?;
+    }
+    Ok(())
 }
 
 /// Plays a text, which may be refused memory from some call on.
@@ -127,7 +130,7 @@ fn without_memory(rt: HostRuntime) -> Result<(), Fail> {
     for text in [CALLS, BATCH, UNUSED, UNBOUNDED] {
         ends_without_memory(&rt, rt.alloc(), text)?;
     }
-    match plays(rt.alloc(), &mut Clusters::new(&rt), VISITS) {
+    match play_workloads(&rt, rt.alloc(), VISITS, 0) {
         Ok(()) => Ok(()),
         Err(error) => error.was_refusal(),
     }

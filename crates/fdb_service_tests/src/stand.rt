@@ -7,7 +7,8 @@ ghost use Rattle.fdb_live.specs.Seen.{epoch_of};
 pub mod lines;
 
 use crate::proxy::desks::Waiter;
-use fdb_checks::{CaseError, plays_at};
+use crate::stand::lines::play_lines;
+use fdb_checks::CaseError;
 use fdb_client::{Client, clients_of};
 use fdb_history::Record;
 use fdb_live::{Epoch, Fetched, Live, LiveRecord, Master, Opened, Seen};
@@ -158,7 +159,7 @@ fn play_at<J: Live + Send + Sync, R: Threads + Wait + Sync>(
     let clients = clients_of(service.alloc, &service.master, tokens)?;
     match Stand::new(rt, service, clients, told.once) {
         Some(mut stand) => {
-            plays_at(service.alloc, &mut stand, told.text, told.number)?;
+            play_lines(service.alloc, &mut stand, told.text, told.number)?;
             Ok(stand.alone)
         }
         None => Err(CaseError::Failed(Fail::new("no client"))),

@@ -5,7 +5,7 @@ ghost use Rattle.fdb_client.specs.Cluster.{IsClusterConfig};
 ghost use Rattle.std.specs.List.{list_all};
 ghost use Rattle.fdb_queue.specs.Throttles.{is_throttle};
 
-use fdb_checks::{Line, Player, plays_cases, tag};
+use fdb_checks::{CaseError, Line, lines_of, tag};
 use fdb_client::{
     Client, ClientError, Cluster, ClusterConfig, SettledRun, Workload, WorkloadError, run_workload,
 };
@@ -17,30 +17,26 @@ use std::sync::Wait;
 use std::test::Fail;
 use std::thread::Threads;
 
-/// Clusters at which workloads are made: `visits` has how many clients, GRV proxies and throttles there
-/// are, the first version, how often each client reads through each GRV proxy, and how many tags and
-/// transactions a read has. Behind that may stand `asks` and how many versions each draws, else one, and
-/// `swaps`: two clients are left at one another's places.
-/// `closes` has how many GRV proxies there are, each of whose desks is closed in turn.
-#[derive(Drop)]
-pub(crate) struct Clusters<'a, R> {
-    rt: &'a R,
-}
-
-impl<'a, R> Clusters<'a, R> {
-    pub(crate) fn new(rt: &'a R) -> Self {
-        Clusters { rt }
-    }
-}
-
-impl<R: Threads + Wait + Sync> Player for Clusters<'_, R> {
-    fn called(&mut self, call: &str, line: &mut Line<'_>) {
-        match call {
-            "visits" => visit(self.rt, line),
-            "closes" => close_each(self.rt, line),
+/// Plays a text at a number, whose calls are workloads: `visits` has how many clients, GRV proxies and
+/// throttles there are, the first version, how often each client reads through each GRV proxy, and how
+/// many tags and transactions a read has. Behind that may stand `asks` and how many versions each client
+/// draws, else one, and `swaps`: two clients are left at one another's places. `closes` has how many GRV
+/// proxies there are, each of whose desks is closed in turn.
+pub(crate) fn play_workloads<R: Threads + Wait + Sync>(
+    rt: &R,
+    alloc: Global,
+    text: &str,
+    number: u64,
+) -> Result<(), CaseError> {
+    for mut line in lines_of(alloc, text, number)? {
+        match line.word() {
+            "visits" => visit(rt, &mut line),
+            "closes" => close_each(rt, &mut line),
             _ => line.fails("no call"),
         }
+        line.ends()?;
     }
+    Ok(())
 }
 
 /// Each client in turn draws commit versions, reports the first with a lock, and reads through each GRV
@@ -356,22 +352,15 @@ fn close_each<R: Threads + Wait + Sync>(rt: &R, line: &mut Line<'_>) {
 }
 
 /// Each desk of 1 to 16 is another one, and the one after the last is the first.
-const DESKS: &str = "
-run_workload | *closes @1 => explained | 16
-";
-
 #[test]
 fn each_desk_is_closed_alone(rt: HostRuntime) -> Result<(), Fail> {
-    plays_cases(rt.alloc(), &mut Clusters::new(&rt), DESKS)
+    Ok(play_workloads(&rt, rt.alloc(), "*closes @1 => explained", 16)?)
 }
 
 /// Clients that are not where they were are refused, and others are not.
-const PLACES: &str = "
-run_workload | *visits @1 1 2 100 1 1 1 => explained | 64
-run_workload | *visits @2 1 2 100 1 1 1 swaps => a client is not in its place | 63
-";
-
 #[test]
 fn each_client_stays_in_its_place(rt: HostRuntime) -> Result<(), Fail> {
-    plays_cases(rt.alloc(), &mut Clusters::new(&rt), PLACES)
+    let swaps = "*visits @2 1 2 100 1 1 1 swaps => a client is not in its place";
+    play_workloads(&rt, rt.alloc(), swaps, 63)?;
+    Ok(play_workloads(&rt, rt.alloc(), "*visits @1 1 2 100 1 1 1 => explained", 64)?)
 }

@@ -12,7 +12,7 @@ use crate::audits::words::limit_of;
 use crate::queue::tag_of_bytes;
 use fdb_checks::{Line, Player, plays};
 use fdb_history::{GrvOpts, Issued, Priority, Replies, Sequence};
-use std::alloc::{AllocError, Global};
+use std::alloc::Global;
 use std::test::Fail;
 
 #[derive(Drop)]
@@ -51,6 +51,20 @@ impl Lists {
     fn push(&mut self, line: &mut Line<'_>) {
         let number = line.number();
         line.takes(self.list.push(number));
+    }
+
+    fn copy_list(&self, line: &mut Line<'_>) {
+        match self.list.clone() {
+            Ok(copy) => say_copied(line, copy == self.list, copy.len()),
+            Err(_) => line.refuse(),
+        }
+    }
+
+    fn copy_opts(&self, line: &mut Line<'_>) {
+        match self.opts.clone() {
+            Ok(copy) => say_copied(line, copy == self.opts, copy.tags.len()),
+            Err(_) => line.refuse(),
+        }
     }
 
     fn tag(&mut self, line: &mut Line<'_>) {
@@ -108,27 +122,20 @@ impl Lists {
     }
 }
 
-/// Says the length of a list whose copy is the same.
-fn say_copied<T: PartialEq + Drop>(
-    line: &mut Line<'_>,
-    own: &T,
-    copy: Result<T, AllocError>,
-    length: usize,
-) {
-    match copy {
-        Ok(copy) => {
-            line.holds(copy == *own, "another copy");
-            line.say(length);
-        }
-        Err(_) => line.refuse(),
-    }
+/// Says the length of a copy, which is the same.
+fn say_copied(line: &mut Line<'_>, same: bool, length: usize) {
+    line.holds(same, "another copy");
+    line.say(length);
 }
 
 /// Copies a limit whose tag has so many bytes.
 fn copy_limit(line: &mut Line<'_>) {
     let bytes = line.number();
     let limit = limit_of(line, bytes);
-    say_copied(line, &limit, limit.clone(), limit.tag.len());
+    match limit.clone() {
+        Ok(copy) => say_copied(line, copy == limit, copy.tag.len()),
+        Err(_) => line.refuse(),
+    }
 }
 
 impl Player for Lists {
@@ -136,9 +143,9 @@ impl Player for Lists {
         match call {
             "clear" => self.clear(),
             "push" => self.push(line),
-            "list" => say_copied(line, &self.list, self.list.clone(), self.list.len()),
+            "list" => self.copy_list(line),
             "tag" => self.tag(line),
-            "opts" => say_copied(line, &self.opts, self.opts.clone(), self.opts.tags.len()),
+            "opts" => self.copy_opts(line),
             "limit" => copy_limit(line),
             "of_each" => self.open(line),
             "keep" => self.keep(line),

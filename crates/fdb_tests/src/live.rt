@@ -19,10 +19,10 @@ mod rows;
 mod threads;
 
 use crate::audits::words::{plain, record};
-use fdb_checks::{CaseError, Line, Player, plays};
+use fdb_checks::{CaseError, Line, Player};
 use fdb_history::Record;
 use fdb_live::{Live, LiveError, LiveRecord, Opened};
-use holders::Holders;
+use holders::{Holders, play};
 use std::alloc::Global;
 use std::marker::Brand;
 use std::sync::Wait;
@@ -42,7 +42,7 @@ impl<'a, R: Wait> Opener<'a, R> {
 
     fn open(&self, line: &mut Line<'_>) {
         let start = record(line);
-        let reporters = line.number_behind("for") as u32;
+        let reporters = u32::try_from(line.number_behind("for")).unwrap_or_default();
         match opened(self.rt, line.alloc, start, reporters) {
             Ok(tokens) => line.say(tokens),
             Err(cause) => say_cause(line, cause),
@@ -136,5 +136,5 @@ fn played_named<J: Live + Send + Sync, R: Threads + Wait + Sync>(
         return Err(CaseError::Memory);
     };
     let mut holders = Holders::of(rt, alloc, live, first, tokens)?;
-    plays(alloc, &mut holders, played.text)
+    play(alloc, &mut holders, played.text)
 }

@@ -198,16 +198,27 @@ pub(crate) fn queue_of<J: Live>(
     Some(queue)
 }
 
-/// Says what is taken from a desk that is closed: whose each request is, its options, and how many tags
-/// it has.
-pub(crate) fn take<J: Live, R: Wait>(stand: &mut Stand<'_, J, R>, line: &mut Line<'_>) {
-    for request in &stand.service.desk.take(stand.rt, true).requests {
-        let asker = &request.payload;
-        line.say(format_args!("{} {} at {}", asker.client, asker.serial, asker.asked));
-        let opts = &asker.opts;
-        line.say(format_args!("{:?} {} {}", opts.priority, opts.count, opts.at));
-        line.say(format_args!("{} {} {}", opts.tags.len(), opts.lock_aware, opts.use_min));
+/// Says what is taken from a desk that is closed.
+pub(crate) fn take<J: Live, R: Wait>(stand: &Stand<'_, J, R>, line: &mut Line<'_>) {
+    let taken = stand.service.desk.take(stand.rt, true);
+    for request in &taken.requests {
+        say_request(&request.payload, line);
     }
+}
+
+/// Says whose a request is, from which position, and whether it is a batch request; then how many
+/// transactions, which moment and how many tags it has, and its flags.
+fn say_request<J: Live>(request: &Request<J>, line: &mut Line<'_>) {
+    let opts = &request.opts;
+    line.say(request.client);
+    line.say(request.serial);
+    line.say(request.asked);
+    line.say(opts.priority == Priority::Batch);
+    line.say(opts.count);
+    line.say(opts.at);
+    line.say(opts.tags.len());
+    line.say(opts.lock_aware);
+    line.say(opts.use_min);
 }
 
 /// Says the answers to what waits at the desk, as one batch, which may be refused memory.

@@ -27,23 +27,40 @@ use crate::proxy::desks::{leave, serve, take};
 use crate::proxy::running::run;
 use crate::refused_memory::proxies::run_refused;
 use crate::stand::Stand;
-use fdb_checks::{Line, Player};
+use fdb_checks::{CaseError, Line, lines_of};
 use fdb_live::{Fetched, Live};
+use std::alloc::Global;
 use std::sync::Wait;
 use std::thread::Threads;
 
+/// Plays the lines of a text at a number.
+pub(crate) fn play_lines<J: Live + Send + Sync, R: Threads + Wait + Sync>(
+    alloc: Global,
+    stand: &mut Stand<'_, J, R>,
+    text: &str,
+    number: u64,
+) -> Result<(), CaseError> {
+    for mut line in lines_of(alloc, text, number)? {
+        play_line(stand, &mut line);
+        line.ends()?;
+    }
+    Ok(())
+}
+
 /// Makes a call, once more where it is refused memory, which has then changed nothing. What comes of
 /// it is compared where the line has an arrow.
-impl<J: Live + Send + Sync, R: Threads + Wait + Sync> Player for Stand<'_, J, R> {
-    fn called(&mut self, call: &str, line: &mut Line<'_>) {
-        let before = self.state();
-        make(self, call, line);
-        if line.was_refused() {
-            make_again(self, before, line);
-        }
-        if !line.text.contains("=>") {
-            line.hush();
-        }
+fn play_line<J: Live + Send + Sync, R: Threads + Wait + Sync>(
+    stand: &mut Stand<'_, J, R>,
+    line: &mut Line<'_>,
+) {
+    let before = stand.state();
+    let call = line.word();
+    make(stand, call, line);
+    if line.was_refused() {
+        make_again(stand, before, line);
+    }
+    if !line.text.contains("=>") {
+        line.hush();
     }
 }
 

@@ -1,8 +1,8 @@
 //! Requests for commit versions, by values worked out by hand, and two threads that ask at once.
 
-use crate::chain::{Chain, FromHundred};
+use crate::chain::{Chain, FromHundred, play_held};
 use fdb_chain::{ChainError, RecentChain, Sequencer};
-use fdb_checks::{plays, plays_all, plays_cases, same, says};
+use fdb_checks::{plays_all, plays_cases, same, says};
 use fdb_history::{Ask, OpenGate};
 use std::alloc::Global;
 use std::sync::Wait;
@@ -61,7 +61,6 @@ fn requests_for_commit_versions(rt: HostRuntime) -> Result<(), Fail> {
 
 /// Other proxies than the first, each held.
 const OTHERS: &str = "
-held
 behind 64 => ok
 ask 63 1 0 0 => 0 0 100 0 fresh; ask 1 1 0 0 => 1 100 101 0 fresh; ask 63 2 1 7 => 2 101 108 7 fresh
 ask 63 1 0 0 => the answer is not kept any more; ask 1 1 0 9 => 1 100 101 0 kept; stand => 3
@@ -70,8 +69,8 @@ ask 63 1 0 0 => the answer is not kept any more; ask 1 1 0 9 => 1 100 101 0 kept
 #[test]
 fn requests_through_the_lock(rt: HostRuntime) -> Result<(), Fail> {
     let (alloc, mut chain) = (rt.alloc(), Chain::new(&rt));
-    plays(alloc, &mut chain, OTHERS)?;
-    Ok(plays(alloc, &mut chain, &ROWS.replace(alloc, "new 0 100", "behind")?)?)
+    play_held(alloc, &mut chain, OTHERS)?;
+    Ok(play_held(alloc, &mut chain, &ROWS.replace(alloc, "new 0 100", "behind")?)?)
 }
 
 /// Proxy 0 and 63 others ask behind a lock. No time passes, so that each version is one above the

@@ -17,7 +17,7 @@ use crate::audits::words::record;
 use crate::live::held::{call_beside, report_held};
 use crate::live::say_cause;
 use crate::live::threads::run_all;
-use fdb_checks::{Line, Player};
+use fdb_checks::{CaseError, Line, lines_of};
 use fdb_history::OpenGate;
 use fdb_live::{Ack, Live, LiveError, LiveRecord, Seen};
 use std::alloc::{AllocError, Global};
@@ -62,7 +62,7 @@ impl<'a, J: Live, R: Wait> Holders<'a, J, R> {
         })
     }
 
-    /// The token at a place that the next word names, which nobody else has until it is put back.
+    /// The token at a place, which nobody else has until it is put back.
     pub(crate) fn take(&mut self, line: &mut Line<'_>, place: u32) -> Option<Seen<J>> {
         let token = self.tokens.get_mut(place as usize)?.take();
         line.holds(token.is_some(), "somebody has the token");
@@ -134,15 +134,22 @@ impl<'a, J: Live, R: Wait> Holders<'a, J, R> {
     }
 }
 
-impl<J: Live + Send + Sync, R: Threads + Wait + Sync> Player for Holders<'_, J, R> {
-    fn called(&mut self, call: &str, line: &mut Line<'_>) {
-        match call {
-            "held" => report_held(self, line),
-            "beside" => call_beside(self, line),
-            "threads" => run_all(self, line),
-            call => self.call(call, line),
+/// Plays a text.
+pub(crate) fn play<J: Live + Send + Sync, R: Threads + Wait + Sync>(
+    alloc: Global,
+    holders: &mut Holders<'_, J, R>,
+    text: &str,
+) -> Result<(), CaseError> {
+    for mut line in lines_of(alloc, text, 0)? {
+        match line.word() {
+            "held" => report_held(holders, &mut line),
+            "beside" => call_beside(holders, &mut line),
+            "threads" => run_all(holders, &mut line),
+            call => holders.call(call, &mut line),
         }
+        line.ends()?;
     }
+    Ok(())
 }
 
 /// Says the number and the position of a token.
