@@ -1,5 +1,7 @@
 //! Requests that are left on a desk, and served there.
 
+ghost use Rattle.std.specs.Prelude.{◌≡◌};
+
 use crate::proxy::answers::{Rows, add_answer};
 use crate::stand::{Service, Stand};
 use crossbeam_channel::{Receiver, Sender, bounded, unbounded};
@@ -90,7 +92,10 @@ fn submit_again<J: Live, R: Wait>(
     rt: &R,
     desk: &Desk<J>,
     request: Req<Request<J>>,
-) -> Result<(), ProxyError> {
+) -> Result<(), ProxyError>
+    requires priority { request.priority ≡ request.payload.opts.priority }
+    requires count { request.count ≡ request.payload.opts.count }
+{
     match desk.submit(rt, request) {
         Ok(()) => Ok(()),
         Err((cause, _)) => Err(cause),
