@@ -102,9 +102,7 @@ GRV proxies | {"epoch_end":0,"recovery":100,"clients":1,"rounds":[~,[{"do":"grv"
 "#;
 
 /// `fdb_script`: what is printed of a history of so many events.
-const EVENTS: &str = "
-push_verdict | events | 0 few many
-";
+const EVENTS: &str = "push_verdict | events | 0 few many";
 
 /// Plays the text of each case of a table.
 fn all_succeed<R: Threads + Wait + Sync>(rt: &R, alloc: Global, table: &str) -> Result<(), Fail> {
@@ -174,5 +172,8 @@ fn verdicts_have_memory(rt: HostRuntime) -> Result<(), Fail> {
         case.came_to(is_printed(rt.alloc(), case.number, 0))?;
         case.came_to(is_printed(rt.alloc(), 1, case.number))?;
     }
-    holds(is_printed(rt.alloc(), 1, u64::MAX) == Some(true), &"versions")
+    holds(
+        is_printed(rt.alloc(), 1, u64::MAX) == Some(true),
+        &"versions",
+    )
 }

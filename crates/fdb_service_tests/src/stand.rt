@@ -116,7 +116,11 @@ impl<'a, J: Live, R: Wait> Stand<'a, J, R> {
             positions = positions.saturating_add(client.position());
         }
         let live = self.service.master.record();
-        (calls, positions, live.read(self.rt, &mut self.tokens.witness))
+        (
+            calls,
+            positions,
+            live.read(self.rt, &mut self.tokens.witness),
+        )
     }
 }
 

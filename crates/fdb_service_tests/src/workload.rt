@@ -9,7 +9,9 @@ use fdb_checks::{CaseError, Line, lines_of, tag};
 use fdb_client::{
     Client, ClientError, Cluster, ClusterConfig, SettledRun, Workload, WorkloadError, run_workload,
 };
-use fdb_history::{GrvOpts, Issued, MAX_VERSION, OpenGate, Priority, Record, Sequence, Tag, TagLimit};
+use fdb_history::{
+    GrvOpts, Issued, MAX_VERSION, OpenGate, Priority, Record, Sequence, Tag, TagLimit,
+};
 use fdb_live::Live;
 use fdb_queue::{QueueConfig, Throttle};
 use std::alloc::{AllocError, Global};
@@ -241,7 +243,9 @@ fn ran_at<R: Threads + Wait + Sync>(
 ) -> Result<bool, WorkloadError>
     requires { IsClusterConfig config }
 {
-    let reads = visits.reads.saturating_mul(u64::from(config.grv_proxies) + 1);
+    let reads = visits
+        .reads
+        .saturating_mul(u64::from(config.grv_proxies) + 1);
     let (clients, closes) = (u64::from(config.clients), visits.closed.is_some());
     let asks = visits.asks;
     let ran = run_workload(rt, alloc, config, visits)?;
@@ -272,9 +276,11 @@ fn explained(
 ) -> Result<bool, AllocError> {
     let events = run.history(alloc)?.events.len() as u64;
     let wanted = clients.saturating_mul(reads.saturating_add(1));
-    Ok(has_logs(run, clients, (asks, reads))
-        && are_own(run.chain(alloc)?.as_slice(), asks)
-        && (closes || events == wanted))
+    Ok(
+        has_logs(run, clients, (asks, reads))
+            && are_own(run.chain(alloc)?.as_slice(), asks)
+            && (closes || events == wanted),
+    )
 }
 
 fn has_logs(run: &SettledRun, clients: u64, (asks, reads): (u64, u64)) -> bool {

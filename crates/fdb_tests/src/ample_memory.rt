@@ -159,7 +159,11 @@ fn queues_have_memory(rt: HostRuntime) -> Result<(), Fail> {
 fn queues_have_memory_at_each_priority(rt: HostRuntime) -> Result<(), Fail> {
     let (alloc, mut queue) = (rt.alloc(), Queue::new(rt.alloc())?);
     for priority in ["system", "default", "batch"] {
-        plays_cases(alloc, &mut queue, &PRIORITIES.replace(alloc, "PRIORITY", priority)?)?;
+        plays_cases(
+            alloc,
+            &mut queue,
+            &PRIORITIES.replace(alloc, "PRIORITY", priority)?,
+        )?;
     }
     Ok(())
 }

@@ -140,7 +140,12 @@ pub(crate) fn leave<J: Live, R: Wait>(stand: &mut Stand<'_, J, R>, line: &mut Li
     let mut left = Ok(());
     for place in 0..number {
         if left.is_ok() {
-            left = leave_one(stand, (client, first.saturating_add(place)), &opts, line.text);
+            left = leave_one(
+                stand,
+                (client, first.saturating_add(place)),
+                &opts,
+                line.text,
+            );
         }
     }
     match left {
@@ -148,6 +153,15 @@ pub(crate) fn leave<J: Live, R: Wait>(stand: &mut Stand<'_, J, R>, line: &mut Li
         Err(ProxyError::Memory) => line.lacks(),
         Err(cause) => line.say(cause),
     }
+}
+
+/// The first of two tokens, or the second.
+fn of_two<'t, J: Live>(
+    first: &'t mut Seen<J>,
+    second: &'t mut Seen<J>,
+    is_first: bool,
+) -> &'t mut Seen<J> {
+    if is_first { first } else { second }
 }
 
 /// Leaves a request: with what those who are `ahead` have seen, as the one that is left `later`, or
@@ -158,11 +172,12 @@ fn leave_one<J: Live, R: Wait>(
     opts: &GrvOpts,
     words: &str,
 ) -> Result<(), ProxyError> {
-    let seen = if words.contains(" ahead") {
-        &mut stand.tokens.ahead
-    } else {
-        &mut stand.tokens.seen
-    };
+    let tokens = &mut stand.tokens;
+    let seen = of_two(
+        &mut tokens.ahead,
+        &mut tokens.seen,
+        words.contains(" ahead"),
+    );
     let (request, waiter) = request_of(stand.service, seen, whom, opts.clone()?, words)?;
     if words.contains(" later") {
         stand.later = Some(request);
