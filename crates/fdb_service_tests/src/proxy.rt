@@ -144,7 +144,12 @@ run 1 1 100000 hear 0 late hear 1 look => 3 100 unlocked none at 0 with 1 t 5 50
 #[test]
 fn a_request_that_comes_while_others_wait(rt: HostRuntime) -> Result<(), Fail> {
     for waiting in [1, 64, 101, 10_001] {
-        play_texts(&rt, rt.alloc(), &[FEW_AND_MANY, FEW_AND_MANY_BATCH, LATE], waiting)?;
+        play_texts(
+            &rt,
+            rt.alloc(),
+            &[FEW_AND_MANY, FEW_AND_MANY_BATCH, LATE],
+            waiting,
+        )?;
     }
     Ok(())
 }

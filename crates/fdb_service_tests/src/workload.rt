@@ -285,10 +285,7 @@ fn explained(
 
 fn has_logs(run: &SettledRun, clients: u64, (asks, reads): (u64, u64)) -> bool {
     let calls = asks.saturating_add(reads).saturating_add(1);
-    let are_whole = run
-        .logs
-        .iter()
-        .all(|log| log.calls.len() as u64 == calls);
+    let are_whole = run.logs.iter().all(|log| log.calls.len() as u64 == calls);
     are_whole && run.logs.len() as u64 == clients && run.drawn == clients.saturating_mul(asks)
 }
 
