@@ -14,6 +14,6 @@ pub use case_error::CaseError;
 pub use compare::{holds, same, same_text, says};
 pub use holding::HoldsFirst;
 pub use line::{Line, tag};
-pub use player::{Player, bears, plays, plays_all, plays_at, plays_cases};
+pub use player::{Player, bears, lines_of, plays, plays_all, plays_cases};
 pub use table::{Case, cases};
 pub use waiting::{comes, stays_away};

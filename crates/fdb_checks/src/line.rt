@@ -243,7 +243,10 @@ impl<'a> Line<'a> {
     /// A failure for this reason, which shows the line, its place and what was said.
     fn fail(&self, why: &str) -> Fail {
         let Line {
-            text, place, said, ..
+            text,
+            place,
+            said,
+            ..
         } = self;
         Fail::new(format_args!("{why}: {said}: {text} at {place}"))
     }

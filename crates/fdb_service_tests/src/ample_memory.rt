@@ -7,8 +7,8 @@
 mod scripts;
 
 use crate::stand::{Told, play};
-use crate::workload::Clusters;
-use fdb_checks::{CaseError, cases, holds, plays_cases};
+use crate::workload::play_workloads;
+use fdb_checks::{CaseError, cases, holds};
 use scripts::{is_played, is_printed};
 use std::alloc::Global;
 use std::sync::Wait;
@@ -61,6 +61,7 @@ run_workload, Cluster::new, serve_while, SettledRun::history \
 run_workload, serve_while | visits 1 1 @0 100 1 1 1 => explained | few 999 1000 1001 many
 run_workload, ClusterConfig::open | visits 1 1 2 @0 1 1 1 => explained \
 | few many 9223372036854775807
+Client::ask, SettledRun::chain, SettledRun::history | visits 1 1 2 100 1 1 1 asks @0 => explained | 65538
 Client::read_version, SettledRun::history | visits 1 1 2 100 @0 1 1 => explained | 65538
 Client::read_version, SettledRun::history | visits 1 1 2 100 1 @0 1 => explained | few many
 Client::read_version, SettledRun::history | visits 1 1 2 100 1 1 @0 => explained \
@@ -101,9 +102,7 @@ GRV proxies | {"epoch_end":0,"recovery":100,"clients":1,"rounds":[~,[{"do":"grv"
 "#;
 
 /// `fdb_script`: what is printed of a history of so many events.
-const EVENTS: &str = "
-push_verdict | events | 0 few many
-";
+const EVENTS: &str = "push_verdict | events | 0 few many";
 
 /// Plays the text of each case of a table.
 fn all_succeed<R: Threads + Wait + Sync>(rt: &R, alloc: Global, table: &str) -> Result<(), Fail> {
@@ -141,7 +140,10 @@ fn clients_have_memory(rt: HostRuntime) -> Result<(), Fail> {
 
 #[test]
 fn clusters_have_memory(rt: HostRuntime) -> Result<(), Fail> {
-    plays_cases(rt.alloc(), &mut Clusters::new(&rt), CLUSTERS)
+    for case in cases(rt.alloc(), CLUSTERS)? {
+        case.ends(play_workloads(&rt, rt.alloc(), case.of, case.number))?;
+    }
+    Ok(())
 }
 
 #[test]
@@ -170,5 +172,8 @@ fn verdicts_have_memory(rt: HostRuntime) -> Result<(), Fail> {
         case.came_to(is_printed(rt.alloc(), case.number, 0))?;
         case.came_to(is_printed(rt.alloc(), 1, case.number))?;
     }
-    holds(is_printed(rt.alloc(), 1, u64::MAX) == Some(true), &"versions")
+    holds(
+        is_printed(rt.alloc(), 1, u64::MAX) == Some(true),
+        &"versions",
+    )
 }

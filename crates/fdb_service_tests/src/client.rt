@@ -9,53 +9,33 @@ use std::test::Fail;
 /// Reads whose answers are another call's, never come, or are refusals; after each the client goes
 /// on. Each passes the gate once where an answer has come, whatever that says, else not at all.
 const READS: &str = "
-read 0 served => 100 at 0
-read 0 serial => the answer is another call's
-read 0 client => the answer is another call's
-ask 0 0 1000 => 100 after 0 fresh
-ask 0 0 3000 => 2100 after 100 fresh
-report 0 2 100 => raised changed at 1
+read 0 served => 100 at 0; read 0 serial => the answer is another call's
+read 0 client => the answer is another call's; ask 0 0 1000 => 100 after 0 fresh
+ask 0 0 3000 => 2100 after 100 fresh; report 0 2 100 => raised changed at 1
 # the server sees the raise, and answers a request that asked from position 1
-read 1 asked => the answer is another call's
-log 1 => 1 calls at 0
-read 1 dropped => the GRV proxy is closed
-read 1 closed => the GRV proxy is closed
-read 1 full => the queue is full
-read 1 stray => the answer is another call's
-read 1 memory => want of memory
-log 1 => 5 calls at 0
+read 1 asked => the answer is another call's; log 1 => 1 calls at 0
+read 1 dropped => the GRV proxy is closed; read 1 closed => the GRV proxy is closed
+read 1 full => the queue is full; read 1 stray => the answer is another call's
+read 1 memory => want of memory; log 1 => 5 calls at 0
 ";
 
 const MORE_READS: &str = "
-ask 0 0 1000 => 100 after 0 fresh
-ask 0 0 3000 => 2100 after 100 fresh
-report 0 2 100 => raised changed at 1
-read 1 served => 2100 at 1
-read 1 served min => 100 of 2100 and 100 at 1
-ask 0 0 4000 => 3100 after 2100 fresh
+ask 0 0 1000 => 100 after 0 fresh; ask 0 0 3000 => 2100 after 100 fresh
+report 0 2 100 => raised changed at 1; read 1 served => 2100 at 1
+read 1 served min => 100 of 2100 and 100 at 1; ask 0 0 4000 => 3100 after 2100 fresh
 report 0 3 0 locked => raised changed at 2
-read 1 served => the database is locked at version 3100
-read 1 served aware => 3100 at 2
-read 1 shut aware => the GRV proxy is closed
-ask 0 0 5000 => 4100 after 3100 fresh
-report 0 4 2000 => raised changed at 3
-log 1 => 5 calls at 2
+read 1 served => the database is locked at version 3100; read 1 served aware => 3100 at 2
+read 1 shut aware => the GRV proxy is closed; ask 0 0 5000 => 4100 after 3100 fresh
+report 0 4 2000 => raised changed at 3; log 1 => 5 calls at 2
 # client 1 goes on, with calls that need no proxy and at another desk
 reask 1 2 0 6000 => the next request number is 1
-report 1 1 0 => no commit version was issued under this number
-tell 1 0 => at 2
-learn 5 1 => at 2
-log 5 => 1 calls at 2
-read 1 served => 4100 at 3
-read 1 served min => 2000 of 4100 and 2000 at 3
-read 1 shut => the GRV proxy is closed
-read 1 full => the queue is full
-ask 1 0 7000 => 6100 after 4100 fresh
-report 1 1 0 => raised changed at 4
-report 0 4 2001 => not raised changed at 5
+report 1 1 0 => no commit version was issued under this number; tell 1 0 => at 2
+learn 5 1 => at 2; log 5 => 1 calls at 2; read 1 served => 4100 at 3
+read 1 served min => 2000 of 4100 and 2000 at 3; read 1 shut => the GRV proxy is closed
+read 1 full => the queue is full; ask 1 0 7000 => 6100 after 4100 fresh
+report 1 1 0 => raised changed at 4; report 0 4 2001 => not raised changed at 5
 report 0 4 7000 => the minimum known committed version is above the version
-report 0 1 0 => not raised not changed at 5
-log 1 => 14 calls at 4
+report 0 1 0 => not raised not changed at 5; log 1 => 14 calls at 4
 ";
 
 #[test]

@@ -42,34 +42,25 @@ fn replayed<R: Threads + Wait + Sync, G: Gate>(
 /// client 1 has raised the record, so that its reads come with what it has seen.
 const BESIDE_READS: [&str; 2] = [
     r#"{"epoch_end":0,"recovery":100,"clients":2,"rounds":[[
-{"do":"ask","client":0,"at":1000},
-{"do":"report","client":0,"num":1},
-{"do":"grv","client":1},
+{"do":"ask","client":0,"at":1000},{"do":"report","client":0,"num":1},{"do":"grv","client":1},
 {"do":"grv","client":1}]]}"#,
     r#"{"epoch_end":0,"recovery":100,"clients":2,"rounds":[[
-{"do":"ask","client":1,"at":1000},
-{"do":"ask","client":1,"at":2000},
-{"do":"report","client":1,"num":2}],[
-{"do":"ask","client":0,"at":3000,"processed":1},
-{"do":"report","client":0,"num":1,"min_known":50},
-{"do":"grv","client":1},
+{"do":"ask","client":1,"at":1000},{"do":"ask","client":1,"at":2000},
+{"do":"report","client":1,"num":2}],[{"do":"ask","client":0,"at":3000,"processed":1},
+{"do":"report","client":0,"num":1,"min_known":50},{"do":"grv","client":1},
 {"do":"grv","client":1}]]}"#,
 ];
 
 /// Client 0 asks and reports, beside a read and a report of client 1.
 const BESIDE_A_REPORT: &str = r#"{"epoch_end":0,"recovery":100,"clients":2,"rounds":[[
-{"do":"ask","client":1,"at":1000}],[
-{"do":"ask","client":0,"at":3000},
-{"do":"report","client":0,"num":1},
-{"do":"grv","client":1},
+{"do":"ask","client":1,"at":1000}],[{"do":"ask","client":0,"at":3000},
+{"do":"report","client":0,"num":1},{"do":"grv","client":1},
 {"do":"report","client":1,"num":1,"min_known":50}]]}"#;
 
 /// The same, beside a read and a request for a commit version.
 const BESIDE_AN_ASK: &str = r#"{"epoch_end":0,"recovery":100,"clients":2,"rounds":[[
-{"do":"ask","client":1,"at":1000}],[
-{"do":"ask","client":0,"at":3000},
-{"do":"report","client":0,"num":1},
-{"do":"grv","client":1},
+{"do":"ask","client":1,"at":1000}],[{"do":"ask","client":0,"at":3000},
+{"do":"report","client":0,"num":1},{"do":"grv","client":1},
 {"do":"ask","client":1,"at":4000,"processed":1}]]}"#;
 
 /// Two reads pass while another client holds the lock of the sequencer, or that of the reports. A
@@ -110,8 +101,7 @@ fn crosses<R: Threads + Wait + Sync>(
 /// One round, in which two clients ask and report in turn, and then ask and report again, having
 /// processed something and with a minimum known committed version.
 const BOTH_REPORT: &str = r#"{"epoch_end":0,"recovery":100,"clients":2,"rounds":[[
-{"do":"grv","client":0},
-~,{"do":"ask","client":0,"at":#},{"do":"report","client":0,"num":#}~,
+{"do":"grv","client":0},~,{"do":"ask","client":0,"at":#},{"do":"report","client":0,"num":#}~,
 ~,{"do":"ask","client":1,"at":#},{"do":"report","client":1,"num":#}~,
 ~,{"do":"ask","client":0,"at":#,"processed":#},{"do":"report","client":0,"num":#,"min_known":#}~,
 ~,{"do":"ask","client":1,"at":#,"processed":#},{"do":"report","client":1,"num":#,"min_known":#}~
@@ -153,28 +143,22 @@ fn rounds_of_many_commands_run_side_by_side(rt: HostRuntime) -> Result<(), Fail>
 /// minimum alone, or neither; and reads with each option, of which a lock turns one away and the
 /// queue another.
 const CALLS: &str = r#"{"epoch_end":0,"recovery":100,"clients":64,"rounds":[[
-{"client":@,"do":"ask","at":1000},
-{"client":@,"do":"ask","at":3000},
-{"client":@,"do":"ask","at":4000,"processed":1},
-{"client":@,"do":"reask","num":2,"at":4000},
+{"client":@,"do":"ask","at":1000},{"client":@,"do":"ask","at":3000},
+{"client":@,"do":"ask","at":4000,"processed":1},{"client":@,"do":"reask","num":2,"at":4000},
 {"client":@,"do":"reask","num":2,"at":4000,"processed":1},
 {"client":@,"do":"reask","num":1,"at":4000},
-{"client":@,"do":"reask","num":9,"at":4000,"processed":1},
-{"client":@,"do":"report","num":9},
-{"client":@,"do":"report","num":9,"min_known":50},
-{"client":@,"do":"report","num":2},
+{"client":@,"do":"reask","num":9,"at":4000,"processed":1},{"client":@,"do":"report","num":9},
+{"client":@,"do":"report","num":9,"min_known":50},{"client":@,"do":"report","num":2},
 {"client":@,"do":"report","num":1,"locked":true},
 {"client":@,"do":"report","num":2,"min_known":50},
 {"client":@,"do":"report","num":2,"min_known":50,"metadata":"0102030405060708090a"},
 {"client":@,"do":"report","num":2,"min_known":9000},
 {"client":@,"do":"report","num":3,"min_known":60,"locked":true,"metadata":"0102030405060708090a"},
-{"client":@,"do":"grv"},
-{"client":@,"do":"grv","lock_aware":true},
+{"client":@,"do":"grv"},{"client":@,"do":"grv","lock_aware":true},
 {"client":@,"do":"grv","lock_aware":true,"use_min":true},
 {"client":@,"do":"grv","lock_aware":true,"priority":"system","tags":["t"],"count":9},
 {"client":@,"do":"grv","lock_aware":true,"priority":"batch","at":9},
-{"client":@,"do":"grv","count":0},
-{"client":@,"do":"tell","to":1}]]}"#;
+{"client":@,"do":"grv","count":0},{"client":@,"do":"tell","to":1}]]}"#;
 
 /// What each is answered, as tests/model.py says too.
 const REPLIES: &str = "\
@@ -205,12 +189,9 @@ audit ok events 10 raised 2 versions 3
 
 /// The first commit version is the greatest there is.
 const LAST: &str = r#"{"epoch_end":0,"recovery":9223372036854775807,"clients":64,"rounds":[[
-{"client":@,"do":"ask","at":1000},
-{"client":@,"do":"ask","at":3000},
-{"client":@,"do":"reask","num":2,"at":3000},
-{"client":@,"do":"reask","num":1,"at":3000},
-{"client":@,"do":"report","num":2},
-{"client":@,"do":"report","num":1},
+{"client":@,"do":"ask","at":1000},{"client":@,"do":"ask","at":3000},
+{"client":@,"do":"reask","num":2,"at":3000},{"client":@,"do":"reask","num":1,"at":3000},
+{"client":@,"do":"report","num":2},{"client":@,"do":"report","num":1},
 {"client":@,"do":"report","num":1,"min_known":9223372036854775807},
 {"client":@,"do":"grv","use_min":true}]]}"#;
 

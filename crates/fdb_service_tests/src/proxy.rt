@@ -15,28 +15,18 @@ use std::test::Fail;
 /// reported.
 const BATCHES: [&str; 2] = [
     "
-ask 0 0 1000
-ask 0 0 3000
-ask 0 0 3100
-leave 1 0 0 default 1 0 0 => in
-report 0 2 0 => raised changed at 1
-see => 1
-leave 1 1 4294967299 default 1 0 0 ahead => in
+ask 0 0 1000; ask 0 0 3000; ask 0 0 3100; leave 1 0 0 default 1 0 0 => in
+report 0 2 0 => raised changed at 1; see => 1; leave 1 1 4294967299 default 1 0 0 ahead => in
 serve => 2 2100 unlocked none at 1
 # one read serves all, and the tags of each have the limits of its own priority and moment
-leave 1 2 7 default 1 4999 2 u => in
-leave 1 2 8 default 1 5000 1 ahead => in
-leave 1 3 9 batch 1 4999 1 => in
-report 0 3 0 locked => raised changed at 2
+leave 1 2 7 default 1 4999 2 u => in; leave 1 2 8 default 1 5000 1 ahead => in
+leave 1 3 9 batch 1 4999 1 => in; report 0 3 0 locked => raised changed at 2
 serve => 1 2200 locked 08080808080808080808 at 2 with 2 t 5 5000 / 2 2200 locked 08080808080808080808 at 2
-leave 101 0 0 batch 101 0 0
-leave 64 1 0 system 10001 0 0
+leave 101 0 0 batch 101 0 0; leave 64 1 0 system 10001 0 0
 serve => 165 2200 locked 08080808080808080808 at 2
 ",
     "
-serve =>
-leave 10001 0 4294967296 default 64 0 0
-serve => 10001 100 unlocked none at 0
+serve =>; leave 10001 0 4294967296 default 64 0 0; serve => 10001 100 unlocked none at 0
 ",
 ];
 
@@ -44,11 +34,8 @@ serve => 10001 100 unlocked none at 0
 /// system request of 1 and a default one of 1 start. A second window would start the default one of
 /// 2 too.
 const CLOSED: &str = "
-leave 1 0 0 default 1 0 0 => in
-leave 1 1 0 default 2 0 0 => in
-leave 1 0 1 system 1 0 0 => in
-close => ok
-leave 1 2 5 default 1 0 0 => the proxy's desk is closed
+leave 1 0 0 default 1 0 0 => in; leave 1 1 0 default 2 0 0 => in; leave 1 0 1 system 1 0 0 => in
+close => ok; leave 1 2 5 default 1 0 0 => the proxy's desk is closed
 run 2 1 9 => 1 100 unlocked none at 0 / 1 closed / 1 100 unlocked none at 0
 leave 1 2 6 default 1 0 0 => the proxy's desk is closed
 # a proxy whose desk was closed before
@@ -58,16 +45,11 @@ run 1 1 9 =>
 /// A room of 1 for three priorities at once, the lowest first and the highest first.
 const ROOM_FOR_ONE: [&str; 2] = [
     "
-leave 1 0 0 batch 1 0 0
-leave 1 1 0 default 1 0 0
-leave 1 2 0 system 1 0 0
+leave 1 0 0 batch 1 0 0; leave 1 1 0 default 1 0 0; leave 1 2 0 system 1 0 0
 run 1 1 1 => 2 the queue is full / 1 100 unlocked none at 0
 ",
     "
-leave 1 0 0 system 1 0 0
-leave 1 1 0 default 1 0 0
-leave 1 2 0 batch 1 0 0
-close
+leave 1 0 0 system 1 0 0; leave 1 1 0 default 1 0 0; leave 1 2 0 batch 1 0 0; close
 run 1 1 1 => 1 100 unlocked none at 0 / 2 the queue is full
 ",
 ];
@@ -75,9 +57,7 @@ run 1 1 1 => 1 100 unlocked none at 0 / 2 the queue is full
 /// Requests that the queue does not let in, for a count of 0 and a batch limit of 0, and one that
 /// it does.
 const NOT_LET_IN: &str = "
-leave 1 0 0 default 0 0 0
-leave 1 0 1 batch 1 0 0
-leave 1 0 2 default 1 4999 1
+leave 1 0 0 default 0 0 0; leave 1 0 1 batch 1 0 0; leave 1 0 2 default 1 4999 1
 run 1 0 1 => 1 the request's count is out of range / 1 batch requests are not let in / \
 1 100 unlocked none at 0 with 1 t 5 5000
 ";
@@ -86,18 +66,10 @@ run 1 0 1 => 1 the request's count is out of range / 1 batch requests are not le
 /// with numbers above 2^32. One that the queue does not let in hears why, system requests start,
 /// and each that waits is closed.
 const LEFT: &str = "
-leave 1 0 4294967296 batch 1 0 0
-leave 1 1 4294967297 default 1 0 0
-leave 1 2 9 default 64 0 0
-leave 1 3 9 batch 2 0 0
-leave 1 0 4294967299 system 101 0 0
-leave 1 0 4 batch 10001 0 0
-leave 1 0 5 default 10001 0 0
-leave 1 0 6 batch 10011 0 0
-leave 1 0 4294967303 batch 10012 0 0
-leave 1 0 8 default 100000 0 0
-leave 1 0 9 system 100000 0 0
-close => ok
+leave 1 0 4294967296 batch 1 0 0; leave 1 1 4294967297 default 1 0 0; leave 1 2 9 default 64 0 0
+leave 1 3 9 batch 2 0 0; leave 1 0 4294967299 system 101 0 0; leave 1 0 4 batch 10001 0 0
+leave 1 0 5 default 10001 0 0; leave 1 0 6 batch 10011 0 0; leave 1 0 4294967303 batch 10012 0 0
+leave 1 0 8 default 100000 0 0; leave 1 0 9 system 100000 0 0; close => ok
 run 10001 10001 99 => 4 closed / 1 100 unlocked none at 0 / 3 closed / 1 the request's count is out of range / 1 closed / 1 100 unlocked none at 0
 ";
 
@@ -105,28 +77,31 @@ run 10001 10001 99 => 4 closed / 1 100 unlocked none at 0 / 3 closed / 1 the req
 /// push out each that came before.
 const MANY: [&str; 2] = [
     "
-leave 10001 0 0 system 1 0 0
-close
-run 1 1 100000 => 10000 100 unlocked none at 0 / 1 closed
+leave 10001 0 0 system 1 0 0; close; run 1 1 100000 => 10000 100 unlocked none at 0 / 1 closed
 ",
     "
-leave 101 0 0 batch 1 0 0
-leave 64 0 0 default 1 0 0
-leave 165 0 0 system 1 0 0
-close
+leave 101 0 0 batch 1 0 0; leave 64 0 0 default 1 0 0; leave 165 0 0 system 1 0 0; close
 run 1 1 165 => 165 the queue is full / 165 100 unlocked none at 0
 ",
 ];
 
+/// What is taken from a desk that is closed, where no proxy serves it.
+const TAKEN: &str = "
+ask 0 0 1000
+ask 0 0 3000
+report 0 2 0
+see => 1
+leave 1 3 4294967299 batch 7 9 1 aware min ahead
+leave 1 4 0 system 1 0 0
+close
+take => 3 4294967299 1 true 7 9 1 true true 4 0 0 false 1 0 0 false false
+";
+
 /// One that started, one that is pushed out and one that is closed, none of which is waited for, and
 /// another.
 const GONE: &str = "
-leave 1 0 0 system 1 0 0 gone
-leave 1 0 1 default 3 0 0 gone
-leave 1 0 2 batch 1 0 0 gone
-leave 1 0 3 system 1 0 0
-close
-run 1 1 3 => 1 100 unlocked none at 0
+leave 1 0 0 system 1 0 0 gone; leave 1 0 1 default 3 0 0 gone; leave 1 0 2 batch 1 0 0 gone
+leave 1 0 3 system 1 0 0; close; run 1 1 3 => 1 100 unlocked none at 0
 ";
 
 #[test]
@@ -136,7 +111,7 @@ fn batches(rt: HostRuntime) -> Result<(), Fail> {
 
 #[test]
 fn whoever_waits_hears_what_comes_of_it(rt: HostRuntime) -> Result<(), Fail> {
-    play_texts(&rt, rt.alloc(), &[CLOSED, NOT_LET_IN, LEFT, GONE], 0)?;
+    play_texts(&rt, rt.alloc(), &[CLOSED, NOT_LET_IN, LEFT, TAKEN, GONE], 0)?;
     play_texts(&rt, rt.alloc(), &ROOM_FOR_ONE, 0)?;
     play_texts(&rt, rt.alloc(), &MANY, 0)
 }
@@ -144,10 +119,16 @@ fn whoever_waits_hears_what_comes_of_it(rt: HostRuntime) -> Result<(), Fail> {
 /// So many requests of one priority at a closed desk. One starts; of those that are let in the
 /// others are closed, and who is not let in hears that the queue is full.
 const FEW_AND_MANY: &str = "
-leave 1 0 0 default 100 0 0
-leave @0 0 1 default 100 0 0
-close
+leave 1 0 0 default 100 0 0; leave @0 0 1 default 100 0 0; close
 run 100 1 100000 => 1 100 unlocked none at 0 / @0 closed
+";
+
+/// The same of batch requests alone.
+const FEW_AND_MANY_BATCH: &str = "
+leave 1 0 0 batch 100 0 0
+leave @0 0 1 batch 100 0 0
+close
+run 100 100 100000 => 1 100 unlocked none at 0 / @0 closed
 ";
 
 /// A system request that comes while so many default ones wait in the queue. The first three
@@ -163,7 +144,12 @@ run 1 1 100000 hear 0 late hear 1 look => 3 100 unlocked none at 0 with 1 t 5 50
 #[test]
 fn a_request_that_comes_while_others_wait(rt: HostRuntime) -> Result<(), Fail> {
     for waiting in [1, 64, 101, 10_001] {
-        play_texts(&rt, rt.alloc(), &[FEW_AND_MANY, LATE], waiting)?;
+        play_texts(
+            &rt,
+            rt.alloc(),
+            &[FEW_AND_MANY, FEW_AND_MANY_BATCH, LATE],
+            waiting,
+        )?;
     }
     Ok(())
 }

@@ -6,8 +6,7 @@
 pub mod proxies;
 
 use crate::stand::{Told, play};
-use crate::workload::Clusters;
-use fdb_checks::plays;
+use crate::workload::play_workloads;
 use std::alloc::Global;
 use std::sync::Wait;
 use std::test::Fail;
@@ -15,31 +14,17 @@ use std::thread::Threads;
 
 /// Each of six clients begins with another call, which then takes memory for its log.
 const CALLS: &str = "
-ask 0 0 0 => 100 after 0 fresh
-ask 0 0 0 => 101 after 100 fresh
-ask 0 0 0 => 102 after 101 fresh
-report 0 3 0 => raised changed at 1
-tell 0 1 => at 1
-learn 1 0 => at 1
-tell 2 5 => at 0
+ask 0 0 0 => 100 after 0 fresh; ask 0 0 0 => 101 after 100 fresh; ask 0 0 0 => 102 after 101 fresh
+report 0 3 0 => raised changed at 1; tell 0 1 => at 1; learn 1 0 => at 1; tell 2 5 => at 0
 report 3 1 0 => no commit version was issued under this number
-reask 4 1 0 0 => 103 after 102 fresh
-reask 4 1 0 0 => 103 after 102 kept
-reask 4 9 0 0 => the next request number is 2
-read 5 served => 102 at 1
-log 0 => 5 calls at 1
-log 1 => 1 calls at 1
-log 4 => 3 calls at 0
-log 5 => 1 calls at 1
+reask 4 1 0 0 => 103 after 102 fresh; reask 4 1 0 0 => 103 after 102 kept
+reask 4 9 0 0 => the next request number is 2; read 5 served => 102 at 1; log 0 => 5 calls at 1
+log 1 => 1 calls at 1; log 4 => 3 calls at 0; log 5 => 1 calls at 1
 ";
 
 /// A batch of so many that a list with nothing in it grows twice.
 const BATCH: &str = "
-ask 0 0 1000
-ask 0 0 3000
-report 0 2 0
-see => 1
-leave 3 0 0 default 1 4999 1 ahead => in
+ask 0 0 1000; ask 0 0 3000; report 0 2 0; see => 1; leave 3 0 0 default 1 4999 1 ahead => in
 leave 3 1 0 batch 1 0 0 => in
 serve => 3 2100 unlocked none at 1 with 1 t 5 5000 / 3 2100 unlocked none at 1
 ";
@@ -100,7 +85,11 @@ const VISITS: &str = "visits 2 2 2 100 1 1 1 => explained";
 
 #[test]
 fn a_workload_bears_it(rt: HostRuntime) -> Result<(), Fail> {
-    fdb_checks::bears(rt.alloc(), &mut Clusters::new(&rt), VISITS)
+    if let Err(error) = play_workloads(&rt, rt.alloc(), VISITS, 0) {
+        error.was_refusal()?;
+        play_workloads(&rt, rt.alloc(), VISITS, 0)?;
+    }
+    Ok(())
 }
 
 /// Plays a text, which may be refused memory from some call on.
@@ -127,7 +116,7 @@ fn without_memory(rt: HostRuntime) -> Result<(), Fail> {
     for text in [CALLS, BATCH, UNUSED, UNBOUNDED] {
         ends_without_memory(&rt, rt.alloc(), text)?;
     }
-    match plays(rt.alloc(), &mut Clusters::new(&rt), VISITS) {
+    match play_workloads(&rt, rt.alloc(), VISITS, 0) {
         Ok(()) => Ok(()),
         Err(error) => error.was_refusal(),
     }

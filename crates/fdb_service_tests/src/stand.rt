@@ -2,13 +2,13 @@
 //! `=>`, if it does, is what comes of the call.
 
 ghost use Rattle.std.specs.Prelude.{◌≡◌, true};
-ghost use Rattle.std.specs.Thread.{IsSync, IsSend};
 ghost use Rattle.fdb_live.specs.Seen.{origin_of};
 
 pub mod lines;
 
 use crate::proxy::desks::Waiter;
-use fdb_checks::{CaseError, plays_at};
+use crate::stand::lines::play_lines;
+use fdb_checks::CaseError;
 use fdb_client::{Client, clients_of};
 use fdb_history::Record;
 use fdb_live::{Epoch, Fetched, Live, LiveRecord, Master, Opened, Seen};
@@ -58,7 +58,6 @@ pub(crate) struct Stand<'a, J: Live, R> {
     pub(crate) once: bool,
     /// The number of the request that alone was refused memory in its offer, counted from 1, or 0.
     pub(crate) alone: u64,
-    pub(crate) ghost shared: { IsSync R.row × IsSync J.row × IsSend J.row },
 }
 
 /// The tokens of those who are no clients.
@@ -85,7 +84,7 @@ impl<J: Live> Tokens<J> {
     }
 }
 
-impl<'a, J: Live + Send + Sync, R: Threads + Wait + Sync> Stand<'a, J, R> {
+impl<'a, J: Live, R: Wait> Stand<'a, J, R> {
     /// The last of some clients gives the tokens of those who are none.
     fn new(
         rt: &'a R,
@@ -107,9 +106,7 @@ impl<'a, J: Live + Send + Sync, R: Threads + Wait + Sync> Stand<'a, J, R> {
             alone: 0,
         })
     }
-}
 
-impl<J: Live, R: Wait> Stand<'_, J, R> {
     /// How many calls are logged, how far the clients and the proxy have come in all, and what a
     /// witness reads. A call that is refused memory leaves that as it was.
     pub(crate) fn state(&mut self) -> (usize, u64, Fetched) {
@@ -119,7 +116,11 @@ impl<J: Live, R: Wait> Stand<'_, J, R> {
             positions = positions.saturating_add(client.position());
         }
         let live = self.service.master.record();
-        (calls, positions, live.read(self.rt, &mut self.tokens.witness))
+        (
+            calls,
+            positions,
+            live.read(self.rt, &mut self.tokens.witness),
+        )
     }
 }
 
@@ -158,7 +159,7 @@ fn play_at<J: Live + Send + Sync, R: Threads + Wait + Sync>(
     let clients = clients_of(service.alloc, &service.master, tokens)?;
     match Stand::new(rt, service, clients, told.once) {
         Some(mut stand) => {
-            plays_at(service.alloc, &mut stand, told.text, told.number)?;
+            play_lines(service.alloc, &mut stand, told.text, told.number)?;
             Ok(stand.alone)
         }
         None => Err(CaseError::Failed(Fail::new("no client"))),

@@ -3,14 +3,15 @@
 ghost use Rattle.std.specs.Prelude.{◌≡◌, IfSome};
 ghost use Rattle.fdb_client.specs.Cluster.{IsClusterConfig};
 ghost use Rattle.std.specs.List.{list_all};
-ghost use Rattle.std.specs.Thread.{IsSync};
 ghost use Rattle.fdb_queue.specs.Throttles.{is_throttle};
 
-use fdb_checks::{Line, Player, plays_cases, tag};
+use fdb_checks::{CaseError, Line, lines_of, tag};
 use fdb_client::{
     Client, ClientError, Cluster, ClusterConfig, SettledRun, Workload, FinishError, run_workload,
 };
-use fdb_history::{GrvOpts, Issued, MAX_VERSION, OpenGate, Priority, Record, Sequence, Tag, TagLimit};
+use fdb_history::{
+    GrvOpts, Issued, MAX_VERSION, OpenGate, Priority, Record, Sequence, Tag, TagLimit,
+};
 use fdb_live::Live;
 use fdb_queue::{QueueConfig, Throttle};
 use std::alloc::{AllocError, Global};
@@ -18,38 +19,35 @@ use std::sync::Wait;
 use std::test::Fail;
 use std::thread::Threads;
 
-/// Clusters at which workloads are made: `visits` has how many clients, GRV proxies and throttles there
-/// are, the first version, how often each client reads through each GRV proxy, and how many tags and
-/// transactions a read has. Behind that may stand `swaps`: two clients are left at one another's places.
-/// `closes` has how many GRV proxies there are, each of whose desks is closed in turn.
-#[derive(Drop)]
-pub(crate) struct Clusters<'a, R> {
-    rt: &'a R,
-    ghost shared: { IsSync R.row },
-}
-
-impl<'a, R: Sync> Clusters<'a, R> {
-    pub(crate) fn new(rt: &'a R) -> Self {
-        Clusters { rt }
-    }
-}
-
-impl<R: Threads + Wait + Sync> Player for Clusters<'_, R> {
-    fn called(&mut self, call: &str, line: &mut Line<'_>) {
-        match call {
-            "visits" => visit(self.rt, line),
-            "closes" => close_each(self.rt, line),
+/// Plays a text at a number, whose calls are workloads: `visits` has how many clients, GRV proxies and
+/// throttles there are, the first version, how often each client reads through each GRV proxy, and how
+/// many tags and transactions a read has. Behind that may stand `asks` and how many versions each client
+/// draws, else one, and `swaps`: two clients are left at one another's places. `closes` has how many GRV
+/// proxies there are, each of whose desks is closed in turn.
+pub(crate) fn play_workloads<R: Threads + Wait + Sync>(
+    rt: &R,
+    alloc: Global,
+    text: &str,
+    number: u64,
+) -> Result<(), CaseError> {
+    for mut line in lines_of(alloc, text, number)? {
+        match line.word() {
+            "visits" => visit(rt, &mut line),
+            "closes" => close_each(rt, &mut line),
             _ => line.fails("no call"),
         }
+        line.ends()?;
     }
+    Ok(())
 }
 
-/// Each client in turn draws a commit version, reports it with a lock, and reads through each GRV
+/// Each client in turn draws commit versions, reports the first with a lock, and reads through each GRV
 /// proxy, and once more through the first.
 #[derive(Drop)]
 struct Visits {
     alloc: Global,
-    /// How often it reads through each.
+    /// How many versions it draws, and how often it reads through each.
+    asks: u64,
     reads: u64,
     /// Of how many transactions, and with the tag `t` how often.
     tags: u64,
@@ -92,7 +90,9 @@ impl Visits {
         cluster: &Cluster<'_, J>,
         client: &mut Client<'_, J>,
     ) -> Result<bool, ClientError> {
-        client.ask(rt, &OpenGate, 0, 0)?;
+        for _ in 0..self.asks {
+            client.ask(rt, &OpenGate, 0, 0)?;
+        }
         client.report(rt, &OpenGate, 1, true, Some([8; 10]), 0)?;
         let mut right = true;
         for number in 0..=cluster.config().grv_proxies {
@@ -191,7 +191,8 @@ struct Size {
     version: u64,
 }
 
-/// What is made at a cluster that begins with a locked record, if that may be.
+/// What is made at a cluster that begins with a locked record, whose version is its minimum, if that may
+/// be.
 fn config_of(size: Size, throttles: &[Throttle]) -> Option<ClusterConfig<'_>>
     ensures { IfSome result IsClusterConfig }
 {
@@ -206,7 +207,7 @@ fn config_of(size: Size, throttles: &[Throttle]) -> Option<ClusterConfig<'_>>
             version: size.version,
             locked: true,
             metadata: Some([1, 2, 3, 4, 5, 6, 7, 8, 9, 10]),
-            min_known: size.version / 2,
+            min_known: size.version,
         },
         clients: size.clients as u32,
         grv_proxies: size.grv_proxies as u32,
@@ -242,13 +243,16 @@ fn ran_at<R: Threads + Wait + Sync>(
 ) -> Result<bool, FinishError>
     requires { IsClusterConfig config }
 {
-    let reads = visits.reads.saturating_mul(u64::from(config.grv_proxies) + 1);
+    let reads = visits
+        .reads
+        .saturating_mul(u64::from(config.grv_proxies) + 1);
     let (clients, closes) = (u64::from(config.clients), visits.closed.is_some());
+    let asks = visits.asks;
     let ran = run_workload(rt, alloc, config, visits)?;
     if !came_to(ran.output, ran.ends.all_served())? {
         return Ok(false);
     }
-    Ok(explained(alloc, &ran.run, clients, reads, closes)?)
+    Ok(explained(alloc, &ran.run, clients, (asks, reads), closes)?)
 }
 
 /// Whether each read came to what it should. A GRV proxy that was refused memory has closed its desk.
@@ -261,34 +265,38 @@ fn came_to(output: Result<bool, ClientError>, served: bool) -> Result<bool, Fini
     }
 }
 
-/// Whether each client has a version, drawn by the commit proxy of its own number with its first
-/// request, and a log of its calls and no others; and whether one history explains all.
+/// Whether each client has its versions, drawn in turn by the commit proxy of its own number, and a log
+/// of its calls and no others; and whether one history explains all.
 fn explained(
     alloc: Global,
     run: &SettledRun,
     clients: u64,
-    reads: u64,
+    (asks, reads): (u64, u64),
     closes: bool,
 ) -> Result<bool, AllocError> {
     let events = run.history(alloc)?.events.len() as u64;
     let wanted = clients.saturating_mul(reads.saturating_add(1));
-    Ok(has_logs(run, clients, reads)
-        && are_own(run.chain(alloc)?.as_slice())
-        && (closes || events == wanted))
+    Ok(
+        has_logs(run, clients, (asks, reads))
+            && are_own(run.chain(alloc)?.as_slice(), asks)
+            && (closes || events == wanted),
+    )
 }
 
-fn has_logs(run: &SettledRun, clients: u64, reads: u64) -> bool {
-    let are_whole = run
-        .logs
-        .iter()
-        .all(|log| log.calls.len() as u64 == reads.saturating_add(2));
-    are_whole && run.logs.len() as u64 == clients && run.drawn == clients
+fn has_logs(run: &SettledRun, clients: u64, (asks, reads): (u64, u64)) -> bool {
+    let calls = asks.saturating_add(reads).saturating_add(1);
+    let are_whole = run.logs.iter().all(|log| log.calls.len() as u64 == calls);
+    are_whole && run.logs.len() as u64 == clients && run.drawn == clients.saturating_mul(asks)
 }
 
-/// Whether each version was drawn by the commit proxy of its place, with its first request.
-fn are_own(chain: &[Issued]) -> bool {
+/// Whether each version was drawn in turn, so many by each commit proxy.
+fn are_own(chain: &[Issued], asks: u64) -> bool {
+    let asks = asks.max(1);
     chain.iter().enumerate().all(|(place, issued)| {
-        issued.proxy as usize == place && issued.ordinal as usize == place && issued.num == 1
+        let place = place as u64;
+        issued.ordinal == place
+            && u64::from(issued.proxy) == place / asks
+            && issued.num == place % asks + 1
     })
 }
 
@@ -314,6 +322,7 @@ fn visit<R: Threads + Wait + Sync>(rt: &R, line: &mut Line<'_>) {
         reads: line.number(),
         tags: line.number(),
         count: line.number(),
+        asks: line.number_behind("asks").max(1),
         closed: None,
         swaps: line.text.contains(" swaps"),
     };
@@ -332,6 +341,7 @@ fn close_each<R: Threads + Wait + Sync>(rt: &R, line: &mut Line<'_>) {
         };
         let visits = Visits {
             alloc: line.alloc,
+            asks: 1,
             reads: 1,
             tags: 1,
             count: 1,
@@ -345,22 +355,15 @@ fn close_each<R: Threads + Wait + Sync>(rt: &R, line: &mut Line<'_>) {
 }
 
 /// Each desk of 1 to 16 is another one, and the one after the last is the first.
-const DESKS: &str = "
-run_workload | *closes @1 => explained | 16
-";
-
 #[test]
 fn each_desk_is_closed_alone(rt: HostRuntime) -> Result<(), Fail> {
-    plays_cases(rt.alloc(), &mut Clusters::new(&rt), DESKS)
+    Ok(play_workloads(&rt, rt.alloc(), "*closes @1 => explained", 16)?)
 }
 
 /// Clients that are not where they were are refused, and others are not.
-const PLACES: &str = "
-run_workload | *visits @1 1 2 100 1 1 1 => explained | 64
-run_workload | *visits @2 1 2 100 1 1 1 swaps => a client is not in its place | 63
-";
-
 #[test]
 fn each_client_stays_in_its_place(rt: HostRuntime) -> Result<(), Fail> {
-    plays_cases(rt.alloc(), &mut Clusters::new(&rt), PLACES)
+    let swaps = "*visits @2 1 2 100 1 1 1 swaps => a client is not in its place";
+    play_workloads(&rt, rt.alloc(), swaps, 63)?;
+    Ok(play_workloads(&rt, rt.alloc(), "*visits @1 1 2 100 1 1 1 => explained", 64)?)
 }

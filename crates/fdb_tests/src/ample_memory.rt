@@ -51,7 +51,8 @@ audit, history_of | clear;start @0 unlocked none;log;reads 0 0 @0;events => 1 ag
 
 /// `fdb_chain`: new chains, and requests for versions, alone and behind the sequencer's lock.
 const CHAINS: &str = "
-ChainCore::new | new 99 100 @0 => ok;round 1 @0 => fresh;stand => @0 | 1 2 5 6 63 64
+ChainCore::new | *new 99 100 @1 => ok,round 1 @1 => fresh,stand => @1 | 64
+RecentChain::new | *behind @1 => ok,round 1 @1 => fresh,stand => @1 | 64
 ChainCore::new, ChainCore::ask | new 0 @0 64 => ok;ask 63 1 0 0 => 0 0 @0 0 fresh \
 | few many 9223372036854775807
 ChainCore::ask | new 99 100 1 => ok;*ask 0 @1 @0 0 => @0 @99 @100 0 fresh;stand => @0 | 65538
@@ -111,6 +112,8 @@ throttle PRIORITY of @0 6 8 => ok;tag of @0;limits PRIORITY 7 => 1 6 8 | 0 1 2 5
 GrvQueue::set_throttle, GrvQueue::with_throttles | with PRIORITY t @0 9;made 1 1 1 => ok;tag t;\
 limits PRIORITY 8 => 1 @0 9;throttle PRIORITY u @0 9 => ok;tag u;limits PRIORITY 8 => 1 @0 9 \
 | 0 few many 18446744073709551615
+GrvQueue::set_throttle | new 1 1 1 => ok;throttle PRIORITY t 5 @1 => ok;tag t;\
+limits PRIORITY @0 => 1 5 @1 | 0 few many 18446744073709551614
 GrvQueue::throttles | with PRIORITY t 5 9;made 1 1 1 => ok;*tag t;limits PRIORITY 8 => @0 5 9 \
 | few many
 GrvQueue::throttles | with PRIORITY t 5 @1;made 1 1 1 => ok;tag t;limits PRIORITY @0 => 1 5 @1 \
@@ -160,7 +163,11 @@ fn queues_have_memory(rt: HostRuntime) -> Result<(), Fail> {
 fn queues_have_memory_at_each_priority(rt: HostRuntime) -> Result<(), Fail> {
     let (alloc, mut queue) = (rt.alloc(), Queue::new(rt.alloc())?);
     for priority in ["system", "default", "batch"] {
-        plays_cases(alloc, &mut queue, &PRIORITIES.replace(alloc, "PRIORITY", priority)?)?;
+        plays_cases(
+            alloc,
+            &mut queue,
+            &PRIORITIES.replace(alloc, "PRIORITY", priority)?,
+        )?;
     }
     Ok(())
 }

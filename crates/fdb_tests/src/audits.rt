@@ -181,29 +181,20 @@ event 0 => none; events => 0 again; audit => ok
 entry 0 0 1 0 0 100 100 fresh; entry 1 0 2 0 100 2100 2100 fresh
 log; reads 0 0 100; draws 0 0 0 1 0 0 100 100 fresh; stays 0 0 1 100
 draws 0 1 0 2 0 100 2100 2100 fresh; raises 0 1 2 2100; reads 1 1 2100
-event 0 => read 0 0 100 unlocked none
-event 1 => report 0 2 100 unlocked none false false
-event 2 => report 0 4 2100 unlocked none true true
-event 3 => read 0 5 2100 unlocked none
-event 4 => none
-events => 4 again; register => 2100 unlocked none; audit => ok
+event 0 => read 0 0 100 unlocked none; event 1 => report 0 2 100 unlocked none false false
+event 2 => report 0 4 2100 unlocked none true true; event 3 => read 0 5 2100 unlocked none
+event 4 => none; events => 4 again; register => 2100 unlocked none; audit => ok
 # client 1 raises twice, client 0 reads before, between and after, and client 2 has a report that
 # raises nothing
 entry 0 1 1 0 0 100 100 fresh; entry 1 1 2 0 100 200 200 fresh; entry 2 2 1 0 200 250 250 fresh
-entry 3 1 3 0 250 300 300 fresh
-log; reads 0 0 100; reads 0 2 300; reads 2 2 300
+entry 3 1 3 0 250 300 300 fresh; log; reads 0 0 100; reads 0 2 300; reads 2 2 300
 log; draws 0 0 1 1 0 0 100 100 fresh; draws 0 1 1 2 0 100 200 200 fresh
 draws 0 3 1 3 0 250 300 300 fresh; raises 0 1 2 200; raises 1 2 3 300
 log; reads 0 1 200; draws 1 2 2 1 0 200 250 250 fresh; stays 1 2 1 250
-event 0 => read 0 0 100 unlocked none
-event 1 => report 1 3 200 unlocked none true true
-event 2 => read 2 0 200 unlocked none
-event 3 => report 1 4 300 unlocked none true true
-event 4 => read 0 1 300 unlocked none
-event 5 => read 0 2 300 unlocked none
-event 6 => report 2 2 250 unlocked none false false
-event 7 => none
-audit => ok
+event 0 => read 0 0 100 unlocked none; event 1 => report 1 3 200 unlocked none true true
+event 2 => read 2 0 200 unlocked none; event 3 => report 1 4 300 unlocked none true true
+event 4 => read 0 1 300 unlocked none; event 5 => read 0 2 300 unlocked none
+event 6 => report 2 2 250 unlocked none false false; event 7 => none; audit => ok
 # client 1 raises the minimum alone, then client 0 the version, and client 1 the minimum again
 entry 0 1 1 0 0 100 100 fresh; entry 1 0 1 0 100 200 200 fresh
 log; draws 0 1 0 1 0 100 200 200 fresh; reads 0 1 100 min 50; raises 1 2 1 200 min 20
@@ -217,26 +208,22 @@ events => 5 again; register => 200 unlocked none min 60; audit => ok
 
 /// A fault of each kind, the first of two kinds, and clients and positions that are great.
 const FAULTS: &str = "
-log; reads 0 1 100; reads 0 0 100; audit => Order 0 1
-log; raises 0 0 1 200; audit => Order 0 0
+log; reads 0 1 100; reads 0 0 100; audit => Order 0 1; log; raises 0 0 1 200; audit => Order 0 0
 log; reads 0 0 100; log; reads 18446744073709551615 0 100; audit => Order 1 0
 log; raises 0 1 1 200; log; raises 0 1 1 200; audit => Clash 1
 log; raises 0 18446744073709551615 1 200; log; raises 0 1 1 200
 log; raises 0 18446744073709551615 1 200; audit => Clash 18446744073709551615
 log; raises 0 2 1 200; log; reads 0 2 200; audit => Gap 1
 log; raises 0 1 1 200; log; reads 0 18446744073709551615 100; audit => Gap 2
-log; reads 0 0 300; audit => Wrong 0 0
-log; raises 0 1 1 100; audit => Wrong 0 0
+log; reads 0 0 300; audit => Wrong 0 0; log; raises 0 1 1 100; audit => Wrong 0 0
 log; raises 0 1 1 200; reads 1 1 100; audit => Wrong 0 1
 log; stays 0 0 1 100 min 1; audit => Wrong 0 0
 log; reads 0 0 99; asks 1 Early 2; audit => Wrong 0 0
 # client 0 raises with a version that was issued to client 1
 entry 0 1 1 0 0 100 100 fresh; entry 1 1 2 0 100 2100 2100 fresh; log; raises 0 1 1 2100
 log; draws 0 0 1 1 0 0 100 100 fresh; draws 0 1 1 2 0 100 2100 2100 fresh; audit => Stray 0 0
-log; asks 1 Early 2; audit => Stray 0 0
-log; asks 0 Forgotten; audit => ok
-log; reports 1 NotIssued; audit => ok
-log; reports 1 Stranger; audit => Stray 0 0
+log; asks 1 Early 2; audit => Stray 0 0; log; asks 0 Forgotten; audit => ok
+log; reports 1 NotIssued; audit => ok; log; reports 1 Stranger; audit => Stray 0 0
 log; tells 0 0; tells 0 4294967295; audit => ok
 entry 0 0 1 0 0 100 100 fresh; log; audit => Stray 0 0
 entry 0 4294967295 1 0 0 100 100 fresh; log; reads 0 0 100; log; audit => Stray 4294967295 0
@@ -256,5 +243,9 @@ asks 2 Exhausted; audit => ok
 
 #[test]
 fn histories_and_faults(rt: HostRuntime) -> Result<(), Fail> {
-    plays_all(rt.alloc(), &mut Audits::new(rt.alloc()), &[HISTORIES, FAULTS])
+    plays_all(
+        rt.alloc(),
+        &mut Audits::new(rt.alloc()),
+        &[HISTORIES, FAULTS],
+    )
 }

@@ -8,16 +8,12 @@
 //! why there is none;
 //! - `round` has a number and how many proxies: whether each is given a fresh version for it;
 //! - `patient` has nothing: from here on each request that is refused memory is made once more;
-//! - `held` has nothing: from here on each request passes the gate once, and another one comes that
-//! has to wait;
 //! - `stand` has nothing: how many answers stand, once the lock is gone.
-
-ghost use Rattle.std.specs.Thread.{IsSync};
 
 mod rows;
 
 use fdb_chain::{ChainCore, ChainError, RecentChain, Sequencer};
-use fdb_checks::{HoldsFirst, Line, Player};
+use fdb_checks::{CaseError, HoldsFirst, Line, Player, lines_of};
 use fdb_history::{Ask, Issued, OpenGate, Place, Service};
 use std::alloc::Global;
 use std::sync::Wait;
@@ -50,24 +46,21 @@ enum Asked {
     Behind(Sequencer<FromHundred>),
 }
 
-/// What is asked, and whether a request that is refused memory is made once more, or each is held.
+/// What is asked, and whether a request that is refused memory is made once more.
 #[derive(Drop)]
 pub(crate) struct Chain<'a, R> {
     rt: &'a R,
     asked: Asked,
     patient: bool,
-    held: bool,
-    ghost shared: { IsSync R.row },
 }
 
-impl<'a, R: Threads + Wait + Sync> Chain<'a, R> {
+impl<'a, R: Wait> Chain<'a, R> {
     /// Nothing that could be asked yet.
     pub(crate) fn new(rt: &'a R) -> Self {
         Chain {
             rt,
             asked: Asked::Nobody,
             patient: false,
-            held: false,
         }
     }
 
@@ -111,33 +104,8 @@ impl<'a, R: Threads + Wait + Sync> Chain<'a, R> {
     }
 
     fn ask(&mut self, line: &mut Line<'_>) {
-        let ask = Ask {
-            proxy: line.who(),
-            num: line.number(),
-            processed: line.number(),
-            at: line.number(),
-        };
-        let found = if self.held {
-            self.answer_held(line, ask)
-        } else {
-            self.answer_patiently(ask)
-        };
-        match found {
-            Ok(issued) => say_issued(line, issued),
-            Err(cause) => say_cause(line, cause),
-        }
-    }
-
-    /// Asks a sequencer. While the request is at the gate, with the lock, another one comes.
-    fn answer_held(&self, line: &mut Line<'_>, ask: Ask) -> Result<Issued, ChainError> {
-        match &self.asked {
-            Asked::Behind(sequencer) => {
-                let (found, in_turn) = held(self.rt, sequencer, ask);
-                line.holds(in_turn, "one waits for the other");
-                found
-            }
-            _ => Err(ChainError::NoProxy),
-        }
+        let found = self.answer_patiently(ask_of(line));
+        say_answer(line, found);
     }
 
     /// Has each of so many proxies ask under a number, once it has processed all before it.
@@ -167,7 +135,7 @@ impl<'a, R: Threads + Wait + Sync> Chain<'a, R> {
     }
 }
 
-impl<R: Threads + Wait + Sync> Player for Chain<'_, R> {
+impl<R: Wait> Player for Chain<'_, R> {
     fn called(&mut self, call: &str, line: &mut Line<'_>) {
         match call {
             "new" => self.open(line),
@@ -176,7 +144,6 @@ impl<R: Threads + Wait + Sync> Player for Chain<'_, R> {
             "round" => self.round(line),
             "stand" => self.stand(line),
             "patient" => self.patient = true,
-            "held" => self.held = true,
             _ => line.fails("no call"),
         }
     }
@@ -190,13 +157,56 @@ fn say_cause(line: &mut Line<'_>, cause: ChainError) {
     }
 }
 
-/// Says some members of an answer.
-fn say_issued(line: &mut Line<'_>, issued: Issued) {
-    line.say(issued.ordinal);
-    line.say(issued.prev);
-    line.say(issued.version);
-    line.say(issued.at);
-    line.say(if issued.fresh { "fresh" } else { "kept" });
+/// The members of a request.
+fn ask_of(line: &mut Line<'_>) -> Ask {
+    Ask {
+        proxy: line.who(),
+        num: line.number(),
+        processed: line.number(),
+        at: line.number(),
+    }
+}
+
+/// Says some members of an answer, or why there is none.
+fn say_answer(line: &mut Line<'_>, found: Result<Issued, ChainError>) {
+    match found {
+        Ok(issued) => {
+            line.say(issued.ordinal);
+            line.say(issued.prev);
+            line.say(issued.version);
+            line.say(issued.at);
+            line.say(if issued.fresh { "fresh" } else { "kept" });
+        }
+        Err(cause) => say_cause(line, cause),
+    }
+}
+
+/// Plays a text in which each request passes the gate once, and another one comes that has to wait.
+fn play_held<R: Threads + Wait + Sync>(
+    alloc: Global,
+    chain: &mut Chain<'_, R>,
+    text: &str,
+) -> Result<(), CaseError> {
+    for mut line in lines_of(alloc, text, 0)? {
+        match line.word() {
+            "ask" => ask_held(chain, &mut line),
+            call => chain.called(call, &mut line),
+        }
+        line.ends()?;
+    }
+    Ok(())
+}
+
+/// Asks a sequencer. While the request is at the gate, with the lock, another one comes.
+fn ask_held<R: Threads + Wait + Sync>(chain: &Chain<'_, R>, line: &mut Line<'_>) {
+    match &chain.asked {
+        Asked::Behind(sequencer) => {
+            let (found, in_turn) = held(chain.rt, sequencer, ask_of(line));
+            line.holds(in_turn, "one waits for the other");
+            say_answer(line, found);
+        }
+        _ => line.fails("no lock"),
+    }
 }
 
 /// Asks a sequencer while another one comes. Answers too whether that one waited, and was refused.

@@ -19,10 +19,10 @@ mod rows;
 mod threads;
 
 use crate::audits::words::{plain, record};
-use fdb_checks::{CaseError, Line, Player, plays};
+use fdb_checks::{CaseError, Line, Player};
 use fdb_history::Record;
 use fdb_live::{Live, LiveError, LiveRecord, Opened};
-use holders::Holders;
+use holders::{Holders, play};
 use std::alloc::Global;
 use std::marker::Brand;
 use std::sync::Wait;
@@ -127,5 +127,5 @@ fn played_named<J: Live + Send + Sync, R: Threads + Wait + Sync>(
         return Err(CaseError::Memory);
     };
     let mut holders = Holders::of(rt, alloc, live, first, tokens)?;
-    plays(alloc, &mut holders, played.text)
+    play(alloc, &mut holders, played.text)
 }

@@ -103,7 +103,11 @@ fn opening_bears_it(rt: HostRuntime) -> Result<(), Fail> {
 /// to be had, or all calls on them answer as ever.
 #[test]
 fn without_memory(rt: HostRuntime) -> Result<(), Fail> {
-    match plays(rt.alloc(), &mut Opener::new(&rt), "gather 200 300 => 0 2 2 2 2") {
+    match plays(
+        rt.alloc(),
+        &mut Opener::new(&rt),
+        "gather 200 300 => 0 2 2 2 2",
+    ) {
         Err(error) => error.was_refusal(),
         Ok(()) => Ok(()),
     }

@@ -70,7 +70,11 @@ fn say_ack(line: &mut Line<'_>, found: Result<Ack, ClientError>) {
     match found {
         Ok(ack) => {
             line.say(if ack.raised { "raised" } else { "not raised" });
-            line.say(if ack.changed { "changed" } else { "not changed" });
+            line.say(if ack.changed {
+                "changed"
+            } else {
+                "not changed"
+            });
             line.say(format_args!("at {}", ack.position));
         }
         Err(cause) => say_cause(line, cause),

@@ -141,16 +141,14 @@ fn read_served<J: Live + Send + Sync, R: Threads + Wait + Sync>(
     wanted: &Wanted<'_>,
     opts: GrvOpts,
 ) -> Option<Read> {
-    thread::scope(
-        thread::scope_env(),
-        rt,
-        |scope| -> Option<Read> {
-            let server = scope.spawn(move || serve(rt, service, desk, served, wanted)).ok()?;
-            let found = client.read_version(rt, gate, desk, opts);
-            desk.close(rt);
-            Some((server.join(rt), found))
-        },
-    )
+    thread::scope(thread::scope_env(), rt, |scope| -> Option<Read> {
+        let server = scope
+            .spawn(move || serve(rt, service, desk, served, wanted))
+            .ok()?;
+        let found = client.read_version(rt, gate, desk, opts);
+        desk.close(rt);
+        Some((server.join(rt), found))
+    })
 }
 
 /// Says what a client reads, or why it does not. One that a proxy says is refused memory is no call
@@ -218,7 +216,11 @@ impl<J: Live> Asker<J> {
         } = request;
         let other = way == "serial" || way == "stray";
         let asker = Asker {
-            client: if way == "client" { 1 - client.min(1) } else { client },
+            client: if way == "client" {
+                1 - client.min(1)
+            } else {
+                client
+            },
             serial: serial.saturating_add(u64::from(other)),
             asked,
             seen,

@@ -1,5 +1,7 @@
 //! Requests that are left on a desk, and served there.
 
+ghost use Rattle.std.specs.Prelude.{◌≡◌};
+
 use crate::proxy::answers::{Rows, add_answer};
 use crate::stand::{Service, Stand};
 use crossbeam_channel::{Receiver, Sender, bounded, unbounded};
@@ -90,7 +92,10 @@ fn submit_again<J: Live, R: Wait>(
     rt: &R,
     desk: &Desk<J>,
     request: Req<Request<J>>,
-) -> Result<(), ProxyError> {
+) -> Result<(), ProxyError>
+    requires priority { request.priority ≡ request.payload.opts.priority }
+    requires count { request.count ≡ request.payload.opts.count }
+{
     match desk.submit(rt, request) {
         Ok(()) => Ok(()),
         Err((cause, _)) => Err(cause),
@@ -135,7 +140,12 @@ pub(crate) fn leave<J: Live, R: Wait>(stand: &mut Stand<'_, J, R>, line: &mut Li
     let mut left = Ok(());
     for place in 0..number {
         if left.is_ok() {
-            left = leave_one(stand, (client, first.saturating_add(place)), &opts, line.text);
+            left = leave_one(
+                stand,
+                (client, first.saturating_add(place)),
+                &opts,
+                line.text,
+            );
         }
     }
     match left {
@@ -143,6 +153,15 @@ pub(crate) fn leave<J: Live, R: Wait>(stand: &mut Stand<'_, J, R>, line: &mut Li
         Err(ProxyError::Memory) => line.lacks(),
         Err(cause) => line.say(cause),
     }
+}
+
+/// The first of two tokens, or the second.
+fn of_two<'t, J: Live>(
+    first: &'t mut Seen<J>,
+    second: &'t mut Seen<J>,
+    is_first: bool,
+) -> &'t mut Seen<J> {
+    if is_first { first } else { second }
 }
 
 /// Leaves a request: with what those who are `ahead` have seen, as the one that is left `later`, or
@@ -153,11 +172,12 @@ fn leave_one<J: Live, R: Wait>(
     opts: &GrvOpts,
     words: &str,
 ) -> Result<(), ProxyError> {
-    let seen = if words.contains(" ahead") {
-        &mut stand.tokens.ahead
-    } else {
-        &mut stand.tokens.seen
-    };
+    let tokens = &mut stand.tokens;
+    let seen = of_two(
+        &mut tokens.ahead,
+        &mut tokens.seen,
+        words.contains(" ahead"),
+    );
     let (request, waiter) = request_of(stand.service, seen, whom, opts.clone()?, words)?;
     if words.contains(" later") {
         stand.later = Some(request);
@@ -196,6 +216,29 @@ pub(crate) fn queue_of<J: Live>(
     let tag = tag(alloc, "t").ok()?;
     queue.set_throttle(Priority::Default, tag, 5, 5_000).ok()?;
     Some(queue)
+}
+
+/// Says what is taken from a desk that is closed.
+pub(crate) fn take<J: Live, R: Wait>(stand: &Stand<'_, J, R>, line: &mut Line<'_>) {
+    let taken = stand.service.desk.take(stand.rt, true);
+    for request in &taken.requests {
+        say_request(&request.payload, line);
+    }
+}
+
+/// Says whose a request is, from which position, and whether it is a batch request; then how many
+/// transactions, which moment and how many tags it has, and its flags.
+fn say_request<J: Live>(request: &Request<J>, line: &mut Line<'_>) {
+    let opts = &request.opts;
+    line.say(request.client);
+    line.say(request.serial);
+    line.say(request.asked);
+    line.say(opts.priority == Priority::Batch);
+    line.say(opts.count);
+    line.say(opts.at);
+    line.say(opts.tags.len());
+    line.say(opts.lock_aware);
+    line.say(opts.use_min);
 }
 
 /// Says the answers to what waits at the desk, as one batch, which may be refused memory.

@@ -64,7 +64,12 @@ pub(crate) fn each_kind(alloc: Global, fate: Fate) -> Result<String, AllocError>
 /// Adds a line in which a request of a kind is left.
 fn push_kind(text: &mut String, serial: u64) -> Result<(), AllocError> {
     let (at, count) = (at_of(serial), 1 + serial / 18 % 2);
-    write!(text, "leave 1 3 {serial} {} {count} {at} {}", priority_of(serial), tags_of(serial))?;
+    write!(
+        text,
+        "leave 1 3 {serial} {} {count} {at} {}",
+        priority_of(serial),
+        tags_of(serial)
+    )?;
     let aware = choice(&["", "aware"], serial / 36);
     let least = choice(&["", "min"], serial / 72);
     let ahead = choice(&["", "ahead"], serial / 144);

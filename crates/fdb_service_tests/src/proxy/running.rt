@@ -58,7 +58,8 @@ pub(crate) fn runs_beside<J: Live + Send + Sync, R: Threads + Wait + Sync>(
     )
 }
 
-/// Does what the line says, hears all who wait, and closes the desk.
+/// Does what the line says, hears all who wait, and closes the desk. A proxy that has dropped one who
+/// waits has to close it by itself.
 fn hear_beside<J: Live, R: Wait>(
     rt: &R,
     service: &Service<J>,
@@ -75,7 +76,9 @@ fn hear_beside<J: Live, R: Wait>(
     for waiter in waiters.iter_mut() {
         waiter.hears(rt);
     }
-    service.desk.close(rt);
+    if waiters.iter().all(|waiter| waiter.heard.is_some()) {
+        service.desk.close(rt);
+    }
 }
 
 /// Does what a word says: `hear` who waits at a place, leave what comes `late`, `look` whether that is

@@ -13,7 +13,7 @@
 //! - `see`: who is `ahead` reads the record;
 //! - `leave`: so many requests of a client, with serial numbers from one on, a priority, a count, a
 //!   moment, how many tags `t`, and perhaps words that `proxy/desks.rt` tells;
-//! - `close`: the desk is closed;
+//! - `close`: the desk is closed; `take`: what is taken from it then;
 //! - `serve`: what waits there is served as one batch;
 //! - `rates`: new limits of a proxy's two rates are left there;
 //! - `run`: a proxy with these limits and this room runs until all have heard, beside what the
@@ -24,27 +24,44 @@
 use crate::client::calls::{ask, learn, log, reask, report, tell};
 use crate::client::served::read;
 use crate::proxy::crowd::ask_all;
-use crate::proxy::desks::{leave, serve};
+use crate::proxy::desks::{leave, serve, take};
 use crate::proxy::running::{leave_rates, run};
 use crate::refused_memory::proxies::run_refused;
 use crate::stand::Stand;
-use fdb_checks::{Line, Player};
+use fdb_checks::{CaseError, Line, lines_of};
 use fdb_live::{Fetched, Live};
+use std::alloc::Global;
 use std::sync::Wait;
 use std::thread::Threads;
 
+/// Plays the lines of a text at a number.
+pub(crate) fn play_lines<J: Live + Send + Sync, R: Threads + Wait + Sync>(
+    alloc: Global,
+    stand: &mut Stand<'_, J, R>,
+    text: &str,
+    number: u64,
+) -> Result<(), CaseError> {
+    for mut line in lines_of(alloc, text, number)? {
+        play_line(stand, &mut line);
+        line.ends()?;
+    }
+    Ok(())
+}
+
 /// Makes a call, once more where it is refused memory, which has then changed nothing. What comes of
 /// it is compared where the line has an arrow.
-impl<J: Live + Send + Sync, R: Threads + Wait + Sync> Player for Stand<'_, J, R> {
-    fn called(&mut self, call: &str, line: &mut Line<'_>) {
-        let before = self.state();
-        make(self, call, line);
-        if line.was_refused() {
-            make_again(self, before, line);
-        }
-        if !line.text.contains("=>") {
-            line.hush();
-        }
+fn play_line<J: Live + Send + Sync, R: Threads + Wait + Sync>(
+    stand: &mut Stand<'_, J, R>,
+    line: &mut Line<'_>,
+) {
+    let before = stand.state();
+    let call = line.word();
+    make(stand, call, line);
+    if line.was_refused() {
+        make_again(stand, before, line);
+    }
+    if !line.text.contains("=>") {
+        line.hush();
     }
 }
 
@@ -78,6 +95,7 @@ fn make<J: Live + Send + Sync, R: Threads + Wait + Sync>(
         "leave" => leave(stand, line),
         "serve" => serve(stand, line),
         "rates" => leave_rates(stand.rt, stand.service, line),
+        "take" => take(stand, line),
         "run" => run(stand, line),
         "see" => see(stand, line),
         "close" => close(stand, line),

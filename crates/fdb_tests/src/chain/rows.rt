@@ -1,8 +1,8 @@
 //! Requests for commit versions, by values worked out by hand, and two threads that ask at once.
 
-use crate::chain::{Chain, FromHundred};
+use crate::chain::{Chain, FromHundred, play_held};
 use fdb_chain::{ChainError, RecentChain, Sequencer};
-use fdb_checks::{plays, plays_all, plays_cases, same, says};
+use fdb_checks::{plays_all, plays_cases, same, says};
 use fdb_history::{Ask, OpenGate};
 use std::alloc::Global;
 use std::sync::Wait;
@@ -13,35 +13,28 @@ use std::thread::Threads;
 /// A repeat; the least and the greatest step; an earlier moment; one processed; requests out of
 /// range; more processed than asked for.
 const ROWS: &str = "
-new 0 100 4 => ok
-ask 0 1 0 1000 => 0 0 100 1000 fresh; ask 0 2 0 3000 => 1 100 2100 3000 fresh
+new 0 100 4 => ok; ask 0 1 0 1000 => 0 0 100 1000 fresh; ask 0 2 0 3000 => 1 100 2100 3000 fresh
 ask 0 2 0 9000 => 1 100 2100 3000 kept; ask 0 3 0 3500 => 2 2100 2600 3500 fresh; stand => 3
-new 0 100 4 => ok
-ask 0 1 0 1000 => 0 0 100 1000 fresh; ask 0 2 0 1000 => 1 100 101 1000 fresh
-ask 0 3 0 20001000 => 2 101 5000101 20001000 fresh; stand => 3
-new 0 100 4 => ok
+new 0 100 4 => ok; ask 0 1 0 1000 => 0 0 100 1000 fresh; ask 0 2 0 1000 => 1 100 101 1000 fresh
+ask 0 3 0 20001000 => 2 101 5000101 20001000 fresh; stand => 3; new 0 100 4 => ok
 ask 0 1 0 1000 => 0 0 100 1000 fresh; ask 0 2 0 500 => 1 100 101 500 fresh
-ask 0 3 0 1200 => 2 101 801 1200 fresh; stand => 3
-new 0 100 4 => ok
+ask 0 3 0 1200 => 2 101 801 1200 fresh; stand => 3; new 0 100 4 => ok
 ask 0 1 0 1000 => 0 0 100 1000 fresh; ask 0 2 0 3000 => 1 100 2100 3000 fresh
 ask 0 3 1 3500 => 2 2100 2600 3500 fresh
 ask 0 1 0 4000 => the answer is not kept any more; ask 0 2 0 4000 => 1 100 2100 3000 kept
 ask 0 2 2 4000 => 1 100 2100 3000 kept; ask 0 2 0 4000 => 1 100 2100 3000 kept; stand => 3
-new 0 100 4 => ok
-ask 0 1 0 1000 => 0 0 100 1000 fresh; ask 0 2 0 3000 => 1 100 2100 3000 fresh
+new 0 100 4 => ok; ask 0 1 0 1000 => 0 0 100 1000 fresh; ask 0 2 0 3000 => 1 100 2100 3000 fresh
 ask 0 5 0 4000 => the next request number is 3; ask 0 5 2 4000 => the next request number is 3
 ask 0 0 0 4000 => the answer is not kept any more; ask 0 0 2 4000 => the answer is not kept any more
 ask 4 1 0 4000 => there is no such commit proxy; ask 4 1 2 4000 => there is no such commit proxy
-stand => 2
-new 0 100 4 => ok
+stand => 2; new 0 100 4 => ok
 ask 0 1 0 1000 => 0 0 100 1000 fresh; ask 0 2 9 3000 => 1 100 2100 3000 fresh
 ask 0 1 0 4000 => the answer is not kept any more; ask 0 2 0 4000 => 1 100 2100 3000 kept; stand => 2
 ";
 
 /// The last versions, and what a chain is opened with, at each bound and one beyond it.
 const BOUNDS: &str = "
-new 0 9223372036854775806 4 => ok
-ask 0 1 0 0 => 0 0 9223372036854775806 0 fresh
+new 0 9223372036854775806 4 => ok; ask 0 1 0 0 => 0 0 9223372036854775806 0 fresh
 ask 0 2 0 0 => 1 9223372036854775806 9223372036854775807 0 fresh
 ask 0 3 0 0 => the versions are used up
 ask 0 2 0 0 => 1 9223372036854775806 9223372036854775807 0 kept; stand => 2
@@ -61,7 +54,6 @@ fn requests_for_commit_versions(rt: HostRuntime) -> Result<(), Fail> {
 
 /// Other proxies than the first, each held.
 const OTHERS: &str = "
-held
 behind 64 => ok
 ask 63 1 0 0 => 0 0 100 0 fresh; ask 1 1 0 0 => 1 100 101 0 fresh; ask 63 2 1 7 => 2 101 108 7 fresh
 ask 63 1 0 0 => the answer is not kept any more; ask 1 1 0 9 => 1 100 101 0 kept; stand => 3
@@ -70,8 +62,12 @@ ask 63 1 0 0 => the answer is not kept any more; ask 1 1 0 9 => 1 100 101 0 kept
 #[test]
 fn requests_through_the_lock(rt: HostRuntime) -> Result<(), Fail> {
     let (alloc, mut chain) = (rt.alloc(), Chain::new(&rt));
-    plays(alloc, &mut chain, OTHERS)?;
-    Ok(plays(alloc, &mut chain, &ROWS.replace(alloc, "new 0 100", "behind")?)?)
+    play_held(alloc, &mut chain, OTHERS)?;
+    Ok(play_held(
+        alloc,
+        &mut chain,
+        &ROWS.replace(alloc, "new 0 100", "behind")?,
+    )?)
 }
 
 /// Proxy 0 and 63 others ask behind a lock. No time passes, so that each version is one above the

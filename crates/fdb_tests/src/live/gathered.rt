@@ -56,12 +56,7 @@ fn gather_tokens<J: Live, R: Wait>(
 }
 
 /// Reports a version, if the token is a reporter's.
-fn report<J: Live, R: Wait>(
-    rt: &R,
-    live: &LiveRecord<J>,
-    token: &mut Seen<J>,
-    line: &mut Line<'_>,
-)
+fn report<J: Live, R: Wait>(rt: &R, live: &LiveRecord<J>, token: &mut Seen<J>, line: &mut Line<'_>)
     requires { J.chained ≡ false }
 {
     let Some(who) = token.reporter() else {

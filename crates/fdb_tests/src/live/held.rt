@@ -55,7 +55,14 @@ pub(crate) fn report_held<J: Live + Send + Sync, R: Threads + Wait + Sync>(
         return;
     };
     let gate = HoldsFirst::new(Place::ReportHeld, who, places.1);
-    report_both(holders.rt, &holders.live, &gate, &mut tokens, (who, rec), line);
+    report_both(
+        holders.rt,
+        &holders.live,
+        &gate,
+        &mut tokens,
+        (who, rec),
+        line,
+    );
     tokens.put(holders, places);
 }
 

@@ -12,13 +12,12 @@
 //! - `threads` has how many readers there are beside all reporters and the first one: the last record.
 
 ghost use Rattle.std.specs.Prelude.{◌≡◌, false};
-ghost use Rattle.std.specs.Thread.{IsSync, IsSend};
 
 use crate::audits::words::record;
 use crate::live::held::{call_beside, report_held};
 use crate::live::say_cause;
 use crate::live::threads::run_all;
-use fdb_checks::{Line, Player};
+use fdb_checks::{CaseError, Line, lines_of};
 use fdb_history::OpenGate;
 use fdb_live::{Ack, Live, LiveError, LiveRecord, Seen};
 use std::alloc::{AllocError, Global};
@@ -38,10 +37,9 @@ pub(crate) struct Holders<'a, J: Live, R> {
     pub(crate) rt: &'a R,
     pub(crate) live: Bare<J>,
     pub(crate) tokens: Vec<Option<Seen<J>>>,
-    pub(crate) ghost shared: { IsSync R.row × IsSync J.row × IsSend J.row },
 }
 
-impl<'a, J: Live + Send + Sync, R: Threads + Wait + Sync> Holders<'a, J, R> {
+impl<'a, J: Live, R: Wait> Holders<'a, J, R> {
     /// The holders of all tokens that a record is opened with.
     pub(crate) fn of(
         rt: &'a R,
@@ -63,9 +61,7 @@ impl<'a, J: Live + Send + Sync, R: Threads + Wait + Sync> Holders<'a, J, R> {
             tokens,
         })
     }
-}
 
-impl<J: Live, R: Wait> Holders<'_, J, R> {
     /// The token at a place, which nobody else has until it is put back.
     pub(crate) fn take(&mut self, line: &mut Line<'_>, place: u32) -> Option<Seen<J>> {
         let token = self.tokens.get_mut(place as usize)?.take();
@@ -138,15 +134,22 @@ impl<J: Live, R: Wait> Holders<'_, J, R> {
     }
 }
 
-impl<J: Live + Send + Sync, R: Threads + Wait + Sync> Player for Holders<'_, J, R> {
-    fn called(&mut self, call: &str, line: &mut Line<'_>) {
-        match call {
-            "held" => report_held(self, line),
-            "beside" => call_beside(self, line),
-            "threads" => run_all(self, line),
-            call => self.call(call, line),
+/// Plays a text.
+pub(crate) fn play<J: Live + Send + Sync, R: Threads + Wait + Sync>(
+    alloc: Global,
+    holders: &mut Holders<'_, J, R>,
+    text: &str,
+) -> Result<(), CaseError> {
+    for mut line in lines_of(alloc, text, 0)? {
+        match line.word() {
+            "held" => report_held(holders, &mut line),
+            "beside" => call_beside(holders, &mut line),
+            "threads" => run_all(holders, &mut line),
+            call => holders.call(call, &mut line),
         }
+        line.ends()?;
     }
+    Ok(())
 }
 
 /// Says the number and the position of a token.

@@ -10,8 +10,7 @@ use std::thread::Threads;
 
 /// The reads and reports of two reporters and of the first token, which nobody tells anything.
 const WORKED: &str = "
-at 0 => 0 at 0; at 1 => 1 at 0; at 2 => nobody at 0
-read 0 => 100 unlocked none at 0
+at 0 => 0 at 0; at 1 => 1 at 0; at 2 => nobody at 0; read 0 => 100 unlocked none at 0
 report 0 9223372036854775808 unlocked none => the version is out of range
 read 0 => 100 unlocked none at 0
 report 0 200 unlocked none => raised at 1; report 0 200 unlocked none => same at 1
@@ -24,8 +23,7 @@ at 0 => 0 at 1; report 0 200 unlocked none => same at 2
 /// Each of two reporters raises the record and learns what the other has seen, and keeps its number.
 const CROSSWISE: &str = "
 report 0 200 unlocked none => raised at 1; split 0 => nobody at 1
-report 1 300 unlocked none => raised at 2; at 0 => 0 at 1; at 1 => 1 at 2
-split 1 => nobody at 2
+report 1 300 unlocked none => raised at 2; at 0 => 0 at 1; at 1 => 1 at 2; split 1 => nobody at 2
 learns 0 4 => 0 at 2; learns 1 3 => 1 at 2; at 3 => nobody at 1
 # told of less
 learns 0 3 => 0 at 2; meets 0 1 => 0 at 2; meets 3 0 => nobody at 1; at 1 => 1 at 2
@@ -78,20 +76,16 @@ fn versions_in_and_out_of_range(rt: HostRuntime) -> Result<(), Fail> {
 /// it: those that raise the version, that raise the minimum alone, that do neither, and that are
 /// refused.
 const KINDS: &str = "
-held WHO 200 unlocked none => raised at 1
-held WHO 201 locked none => raised at 2
+held WHO 200 unlocked none => raised at 1; held WHO 201 locked none => raised at 2
 held WHO 202 unlocked 00000000000000000000 => raised at 3
 held WHO 203 locked 0102030405060708090a => raised at 4
-held WHO 204 unlocked none min 1 => raised at 5
-held WHO 205 locked none min 1 => raised at 6
+held WHO 204 unlocked none min 1 => raised at 5; held WHO 205 locked none min 1 => raised at 6
 held WHO 206 unlocked 0102030405060708090a min 2 => raised at 7
 held WHO 207 locked 00000000000000000000 min 3 => raised at 8
-held WHO 207 unlocked none min 4 => changed at 9
-held WHO 150 locked none min 5 => changed at 10
+held WHO 207 unlocked none min 4 => changed at 9; held WHO 150 locked none min 5 => changed at 10
 held WHO 150 unlocked 0102030405060708090a min 6 => changed at 11
 held WHO 150 locked 00000000000000000000 min 150 => changed at 12
-held WHO 207 unlocked none => same at 12
-held WHO 150 locked none => same at 12
+held WHO 207 unlocked none => same at 12; held WHO 150 locked none => same at 12
 held WHO 207 unlocked 0102030405060708090a min 150 => same at 12
 held WHO 150 locked 00000000000000000000 min 3 => same at 12
 held WHO 208 unlocked none min 209 => the minimum known committed version is above the version

@@ -77,17 +77,13 @@ impl<J: Live> Worker<J> {
         }
     }
 
-    fn report<R: Wait>(
-        &mut self,
-        rt: &R,
-        live: &Bare<J>,
-        gate: &OneByOne,
-        who: u32,
-        version: u64,
-    )
+    fn report<R: Wait>(&mut self, rt: &R, live: &Bare<J>, gate: &OneByOne, who: u32, version: u64)
         requires { self.old.token.reporter ≡ Some who }
     {
-        match live.record.report(rt, gate, who, &mut self.token, plain(version)) {
+        match live
+            .record
+            .report(rt, gate, who, &mut self.token, plain(version))
+        {
             Ok(ack) => self.raises = self.raises.saturating_add(u64::from(ack.raised)),
             Err(_) => self.failed = true,
         }
