@@ -33,7 +33,7 @@ DERIVED = re.compile(r"^#\[derive\(([^)]*)\)\]\npub (?:struct|enum) (\w+)", re.M
 LINE = re.compile(r"^([\w:]+(?:, [\w:]+)*) (?:\\\n)?\|(?:[^|\\\n]|\\\n)+\| [\w ]+$", re.MULTILINE)
 # The calls that each line of a table makes, as its comment names them.
 NAMED = re.compile(r"(?<=\()`[\w:]+`(?:,\s(?:/// )?`[\w:]+`)*(?=\))")
-X
+TABLES = re.compile(r"use fdb_checks::(?:\{[^}]*\b(?:plays_)?cases\b[^}]*\}|(?:plays_)?cases);")
 
 
 def sources(folder):
