@@ -30,7 +30,9 @@ FUNCTION = re.compile(r"^ *(pub )?fn (\w+)", re.MULTILINE)
 ENDS = re.compile(r"\n *(?:requires|ensures|ghost)\b|\{")
 DERIVED = re.compile(r"^#\[derive\(([^)]*)\)\]\npub (?:struct|enum) (\w+)", re.MULTILINE)
 # A line of a table, which may go on behind a backslash: calls, how they are made, and numbers.
-LINE = re.compile(r"^([\w:]+(?:, [\w:]+)*) (?:\\\n)?\|(?:[^|\\\n]|\\\n)+\| [\w ]+$", re.MULTILINE)
+LINE = re.compile(
+    r'(?:^|")([\w:]+(?:, [\w:]+)*) (?:\\\n)?\|(?:[^|\\\n]|\\\n)+\| [\w ]+(?:$|")', re.MULTILINE
+)
 # The calls that each line of a table makes, as its comment names them.
 NAMED = re.compile(r"(?<=\()`[\w:]+`(?:,\s(?:/// )?`[\w:]+`)*(?=\))")
 TABLES = re.compile(r"use fdb_checks::(?:\{[^}]*\b(?:plays_)?cases\b[^}]*\}|(?:plays_)?cases);")
