@@ -81,18 +81,10 @@ pub(crate) fn submit<J: Live, R: Wait>(
     };
     match desk.submit(rt, request) {
         Ok(()) => Ok(()),
-        Err((ProxyError::Memory, request)) => submit_again(rt, desk, request),
-        Err((cause, _)) => Err(cause),
-    }
-}
-
-fn submit_again<J: Live, R: Wait>(
-    rt: &R,
-    desk: &Desk<J>,
-    request: Req<Request<J>>,
-) -> Result<(), ProxyError> {
-    match desk.submit(rt, request) {
-        Ok(()) => Ok(()),
+        Err((ProxyError::Memory, request)) => match desk.submit(rt, request) {
+            Ok(()) => Ok(()),
+            Err((cause, _)) => Err(cause),
+        },
         Err((cause, _)) => Err(cause),
     }
 }
