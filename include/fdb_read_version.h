@@ -106,6 +106,8 @@ uint8_t fdb_chain_new(uint64_t epoch_end, uint64_t recovery, uint32_t proxies, f
  * is above the one before by the microseconds between the two requests, by 1 at least and 5,000,000
  * at most; a moment that goes back counts as none. A request that draws a version lets the answers
  * of its proxy up to its `processed` go, never its own; these numbers, and 0, are then forgotten.
+ * An answer takes 72 bytes until it goes, and no more than that is kept: where proxies process what
+ * they get, a chain stays as small as it is, and one that never does wants memory in the end.
  *
  * FDB_OK, else FDB_UNKNOWN_PROXY, FDB_EARLY, FDB_FORGOTTEN, FDB_EXHAUSTED, the first that stands;
  * `answer->status` is the same, and a refusal leaves the chain as it was. FDB_MEMORY comes only
