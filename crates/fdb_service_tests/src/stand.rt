@@ -138,25 +138,25 @@ fn play_named<J: Live + Send + Sync, R: Threads + Wait + Sync>(
     let Ok((master, _, tokens)) = opened.master::<J>() else {
         return Err(CaseError::Memory);
     };
+    if tokens.len() > 64 {
+        return Err(CaseError::Failed(Fail::new("64 tokens at most")));
+    }
     let service = Service {
         alloc,
         master,
         desk: Desk::new(alloc),
     };
-    play_at(rt, &service, tokens, told)
+    let clients = clients_of(alloc, &service.master, tokens)?;
+    play_at(rt, &service, clients, told)
 }
 
-/// Plays a text at a service with a client for each token.
-fn play_at<J: Live + Send + Sync, R: Threads + Wait + Sync>(
-    rt: &R,
-    service: &Service<J>,
-    tokens: Vec<Seen<J>>,
+/// Plays a text at a service with these clients.
+fn play_at<'a, J: Live + Send + Sync, R: Threads + Wait + Sync>(
+    rt: &'a R,
+    service: &'a Service<J>,
+    clients: Vec<Client<'a, J>>,
     told: Told<'_>,
 ) -> Result<u64, CaseError> {
-    if tokens.len() > 64 {
-        return Err(CaseError::Failed(Fail::new("64 tokens at most")));
-    }
-    let clients = clients_of(service.alloc, &service.master, tokens)?;
     match Stand::new(rt, service, clients, told.once) {
         Some(mut stand) => {
             play_lines(service.alloc, &mut stand, told.text, told.number)?;
