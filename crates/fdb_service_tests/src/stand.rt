@@ -131,8 +131,7 @@ fn play_named<J: Live + Send + Sync, R: Threads + Wait + Sync>(
     opened: Opened,
     told: Told<'_>,
 ) -> Result<u64, CaseError>
-    requires opened {
-        opened ≡ origin_of J.table J.start J.reporters J.chained J.epoch_end J.recovery }
+    requires opened { opened ≡ origin_of J.table J.start J.reporters J.chained J.epoch_end J.recovery }
     requires chained { J.chained ≡ true }
 {
     let Ok((master, _, tokens)) = opened.master::<J>() else {

@@ -7,7 +7,7 @@ ghost use Rattle.fdb_queue.specs.Throttles.{is_throttle};
 
 use fdb_checks::{CaseError, Line, lines_of, tag};
 use fdb_client::{
-    Client, ClientError, Cluster, ClusterConfig, SettledRun, Workload, FinishError, run_workload,
+    Client, ClientError, Cluster, ClusterConfig, FinishError, SettledRun, Workload, run_workload,
 };
 use fdb_history::{
     GrvOpts, Issued, MAX_VERSION, OpenGate, Priority, Record, Sequence, Tag, TagLimit,

@@ -17,8 +17,10 @@ no_chain false never = refl
 
 pub returns-then-rec-gt-MAX_VERSION-clause-refused : goal.returns-then-rec-gt-MAX_VERSION-clause-refused
 returns-then-rec-gt-MAX_VERSION-clause-refused g c =
-    let above : MAX_VERSION < c.args.rec.version = search rules in
-    (no_chain g.J.Live.chained (λ chained. (
-      let in_range = version_in_range g.J.Service.epoch_end g.J.Service.recovery c.args.seen.now.answers c.args.rec.version c.position.ensures.chain (c.requires.drawn chained) in
-      omega (arith, in_range, above)
-    )), above)
+    let above : MAX_VERSION < c.args.rec.version = search rules in (
+      no_chain g.J.Live.chained (λ chained. (
+          let in_range = version_in_range g.J.Service.epoch_end g.J.Service.recovery c.args.seen.now.answers c.args.rec.version c.position.ensures.chain (c.requires.drawn chained) in
+          omega (arith, in_range, above)
+          )),
+      above,
+    )
