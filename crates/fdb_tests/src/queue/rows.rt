@@ -119,9 +119,7 @@ throttle batch t 5 60 => ok; tag t; limits batch 59 => 1 5 60
 forget 18446744073709551615; tag t; tag u; limits batch 0 => 0 0 0
 ";
 
-const TEXTS: &[&str] = &[
-    RATES, OFFERS, RANGES, LIMITS, WAITS, NEW_RATES, FORGOTTEN,
-];
+const TEXTS: &[&str] = &[RATES, OFFERS, RANGES, LIMITS, WAITS, NEW_RATES, FORGOTTEN];
 
 #[test]
 fn offers_windows_and_throttles(rt: HostRuntime) -> Result<(), Fail> {
