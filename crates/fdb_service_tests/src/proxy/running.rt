@@ -23,19 +23,19 @@ pub(crate) fn run<J: Live + Send + Sync, R: Threads + Wait + Sync>(
         line.lacks();
         return;
     };
-    if runs_beside(stand, queue, line) {
-        say_answers(stand, line);
-    } else {
-        line.lacks();
+    match runs_beside(stand, queue, line) {
+        Some(true) => say_answers(stand, line),
+        _ => line.lacks(),
     }
 }
 
-/// Runs a proxy with a queue until all have heard. Answers whether it ended as its desk was closed.
+/// Runs a proxy with a queue until all have heard. Answers whether it ended as its desk was closed, or
+/// nothing where it cannot be started.
 pub(crate) fn runs_beside<J: Live + Send + Sync, R: Threads + Wait + Sync>(
     stand: &mut Stand<'_, J, R>,
     queue: GrvQueue<Request<J>>,
     line: &mut Line<'_>,
-) -> bool {
+) -> Option<bool> {
     let (rt, service) = (stand.rt, stand.service);
     let live = service.master.record();
     let token = live.split(&mut stand.tokens.served);
@@ -48,12 +48,9 @@ pub(crate) fn runs_beside<J: Live + Send + Sync, R: Threads + Wait + Sync>(
         |scope| match scope.spawn(move || proxy.run(rt).is_ok()) {
             Ok(running) => {
                 hear_beside(rt, service, waiters, later, line);
-                running.join(rt)
+                Some(running.join(rt))
             }
-            Err(_) => {
-                line.lacks();
-                false
-            }
+            Err(_) => None,
         },
     )
 }

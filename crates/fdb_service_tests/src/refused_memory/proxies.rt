@@ -27,10 +27,10 @@ pub(crate) fn run_refused<J: Live + Send + Sync, R: Threads + Wait + Sync>(
         line.lacks();
         return;
     };
-    if runs_beside(stand, queue, line) {
-        look_at_all(stand, used, line);
-    } else {
-        look_at_desk(stand, line);
+    match runs_beside(stand, queue, line) {
+        Some(true) => look_at_all(stand, used, line),
+        Some(false) => look_at_desk(stand, line),
+        None => line.lacks(),
     }
 }
 
