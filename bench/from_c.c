@@ -1,5 +1,5 @@
 /* What calls from C cost, in nanoseconds of processor time: the least of some runs; and what a chain
- * takes whose proxies process all, as it goes on: kilobytes, and the longest single ask by the wall.
+ * takes whose proxies process all, as it goes on: kilobytes, and the processor time of the longest single ask.
  *     cc -O2 -Iinclude bench/from_c.c crates/fdb_c/out/libfdb_c.a crates/fdb_c/out/liblibc_c.a */
 #define _POSIX_C_SOURCE 200809L
 #include "fdb_read_version.h"
@@ -126,12 +126,6 @@ static void told(const char *what, void (*timed)(void)) {
     printf("%-28s %6.1f\n", what, least);
 }
 
-static double wall(void) {
-    struct timespec it;
-    clock_gettime(CLOCK_MONOTONIC, &it);
-    return (double)it.tv_sec * 1e9 + (double)it.tv_nsec;
-}
-
 static long kilobytes(void) {
     struct rusage it;
     getrusage(RUSAGE_SELF, &it);
@@ -143,9 +137,10 @@ static void go_on(uint64_t from, uint64_t to, double *longest) {
     fdb_answer answer;
     for (uint64_t i = from; i < to; i++) {
         fdb_ask ask = {i / 4 + 1, i / 4, i, (uint32_t)(i % 4)};
-        double begun = longest ? wall() : 0;
+        double begun = longest ? now() : 0;
         if (fdb_chain_ask(&chain, &ask, &answer) || answer.status || !answer.fresh) exit(1);
-        if (longest && wall() - begun > *longest) *longest = wall() - begun;
+        double spent = longest ? now() - begun : 0;
+        if (longest && spent > *longest) *longest = spent;
         sink += answer.version;
     }
 }

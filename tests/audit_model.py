@@ -131,7 +131,8 @@ class Case:
         counts = {"lines": len(kinds), "timed": timed}
         counts |= {f"{it}s": kinds.count(it) for it in KINDS}
         counts["unreported"] = sum(not self.reporters(it) for it in read)
-        counts["ordered"] = sum(map(len, self.before))
+        if self.has_times:
+            counts["ordered"] = sum(map(len, self.before))
         return "audit ok " + " ".join(f"{name} {count}" for name, count in counts.items())
 
     # ---- why a fault stands: each of these sentences is true of it

@@ -32,11 +32,17 @@ serve => 3 2100 unlocked none at 1 with 1 t 5 5000 / 3 2100 unlocked none at 1
 /// Six requests, so many that a queue with nothing in it grows twice, whose answers go over channels
 /// with room for one, or over unbounded ones, to which a send needs memory. The queue has had as many
 /// requests before, or none.
-const UNUSED: &str = "leave 6 0 0 default 1 0 0; proxy => heard";
+const UNUSED: &str = "leave 6 0 0 default 1 0 0; proxy 9 9 9 => heard";
 
-const USED: &str = "leave 6 0 0 default 1 0 0; proxy used => heard";
+const USED: &str = "leave 6 0 0 default 1 0 0; proxy 9 9 9 used => heard";
 
-const UNBOUNDED: &str = "leave 6 0 0 default 1 0 0 unbounded; proxy used => heard";
+const UNBOUNDED: &str = "leave 6 0 0 default 1 0 0 unbounded; proxy 9 9 9 used => heard";
+
+/// New rates that turn away who waits in the queue, for whom they need a list: they come while the proxy
+/// hands its first answer over.
+const NEW_RATES: &str = "
+leave 1 0 0 system 1 0 0 held; leave 1 0 1 batch 15 0 0; proxy 5 1 9 rates 4 0 => heard
+";
 
 /// Plays a text, and from the start once more where memory is refused. Answers which request of a proxy
 /// alone was refused memory, if one was.
@@ -71,7 +77,7 @@ fn a_batch_bears_it(rt: HostRuntime) -> Result<(), Fail> {
 /// goes on, and all others have their replies.
 #[test]
 fn a_proxy_bears_it(rt: HostRuntime) -> Result<(), Fail> {
-    for text in [UNUSED, USED, UNBOUNDED] {
+    for text in [UNUSED, USED, UNBOUNDED, NEW_RATES] {
         let number = bears(&rt, rt.alloc(), text)?;
         if number > 0 {
             println!(rt; "request {number} alone was refused memory")?;
@@ -113,7 +119,7 @@ fn ends_without_memory<R: Threads + Wait + Sync>(
 /// memory, or as ever.
 #[test]
 fn without_memory(rt: HostRuntime) -> Result<(), Fail> {
-    for text in [CALLS, BATCH, UNUSED, UNBOUNDED] {
+    for text in [CALLS, BATCH, UNUSED, UNBOUNDED, NEW_RATES] {
         ends_without_memory(&rt, rt.alloc(), text)?;
     }
     match play_workloads(&rt, rt.alloc(), VISITS, 0) {

@@ -14,16 +14,17 @@ use std::thread::Threads;
 /// How many requests a queue has had that is used.
 const REQUESTS: u64 = 6;
 
-/// Runs a proxy. Where it ends well each request has one answer: the reply, or that its offer was
-/// refused memory, which it is not where the queue had as many requests before. Where it ends out
-/// of memory, its desk is closed and empty. Notes the number of the request that alone was refused
-/// memory.
+/// Runs a proxy with these limits and this room. Where it ends well each request has one answer: the
+/// reply, that new rates turned it away, or that its offer was refused memory, which it is not where
+/// the queue had as many requests before. Where it ends out of memory, its desk is closed and empty.
+/// Notes the number of the request that alone was refused memory.
 pub(crate) fn run_refused<J: Live + Send + Sync, R: Threads + Wait + Sync>(
     stand: &mut Stand<'_, J, R>,
     line: &mut Line<'_>,
 ) {
     let used = line.text.contains(" used");
-    let Some(queue) = queue_for(stand, used) else {
+    let (normal, batch, room) = (line.number(), line.number(), line.number());
+    let Some(queue) = queue_for(stand, (normal, batch, room), used) else {
         line.lacks();
         return;
     };
@@ -60,30 +61,36 @@ fn look_at_all<J: Live, R: Wait>(stand: &mut Stand<'_, J, R>, used: bool, line: 
     line.say("heard");
 }
 
-/// Whether a request was answered that its offer was refused memory. Else it has its reply.
+/// Whether a request was answered that its offer was refused memory. Else it has its reply, or new
+/// rates have turned it away.
 fn was_refused<J: Live>(heard: &Option<Answer<J>>, place: u64, line: &mut Line<'_>) -> bool {
     match heard {
         Some(Answer::Reply(reply)) => line.holds(reply.serial == place, "another's reply"),
         Some(Answer::Refused(refused)) => {
-            line.holds(is_memory(refused, place), "another refusal");
-            return true;
+            line.holds(refused.serial == place, "another's refusal");
+            if refused.cause == Cause::Queue(QueueError::Memory) {
+                return true;
+            }
+            line.holds(was_turned_away(refused, line.text), "another refusal");
         }
         None => line.fails("each is answered"),
     }
     false
 }
 
-fn is_memory<J: Live>(refused: &Refused<J>, place: u64) -> bool {
-    refused.serial == place && refused.cause == Cause::Queue(QueueError::Memory)
+/// Whether new rates, which the text has, turned a request away for its count.
+fn was_turned_away<J: Live>(refused: &Refused<J>, text: &str) -> bool {
+    text.contains(" rates ") && refused.cause == Cause::Queue(QueueError::BadCount)
 }
 
 /// The queue of a proxy. A used one has had as many requests as will come, and has none any more.
 fn queue_for<J: Live, R: Wait>(
     stand: &mut Stand<'_, J, R>,
+    (normal, batch, room): (u64, u64, u64),
     used: bool,
 ) -> Option<GrvQueue<Request<J>>> {
     let alloc = stand.service.alloc;
-    let mut queue = queue_of(alloc, 9, 9, 9)?;
+    let mut queue = queue_of(alloc, normal, batch, room)?;
     if used {
         let opts = opts_of(&mut Line::new(alloc, "default 1 0 0"));
         for serial in 0..REQUESTS {

@@ -18,7 +18,7 @@
 //! - `rates`: new limits of a proxy's two rates are left there;
 //! - `run`: a proxy with these limits and this room runs until all have heard, beside what the
 //!   words after that say;
-//! - `proxy`: one runs that may be refused memory (`refused_memory/proxies.rt`), and `crowd`: all clients
+//! - `proxy`: the same of one that may be refused memory (`refused_memory/proxies.rt`), and `crowd`: all clients
 //!   ask two, each in a thread of its own (`proxy/crowd.rt`).
 
 use crate::client::calls::{ask, learn, log, reask, report, tell};
