@@ -3,11 +3,12 @@
 Each is measured beside an ordinary log of as many lines: processor time, and memory at its peak.
 """
 import json
-import os
 import random
+import sys
 import tempfile
 
 from audit_logs import PROGRAM
+from harness import run
 
 LINES = 100_000
 # How many times the time and the memory of an ordinary log.
@@ -112,7 +113,7 @@ def shapes():
         yield f"a margin of {margin}", ["--margin", str(margin)], list(overlapping(draw))
     yield "a history", ["--history"], list(overlapping(draw))
     yield "colliding names", [], of_names(colliding_names())
-    yield "names of one beginning", [], of_names(["x" * 90 + str(at) for at in places])
+    yield "names of one beginning", [], of_names(["x" * 60 + str(at) for at in places])
     yield "a relay", [], list(told(lambda it: f"c{it}", map(relay, places)))
     yield "a hub", [], list(told(lambda it: f"c{it}", map(hub, places)))
     yield "gossip", [], list(told(lambda it: f"c{it}", (
@@ -124,15 +125,25 @@ def shapes():
         (at % 2, 1 - at % 2) for at in places)))
 
 
+# Runs a program and tells what it took: a process of its own, since a child begins with the peak of
+# its parent.
+SPENT = """
+import os, sys
+nothing = [(os.POSIX_SPAWN_OPEN, stream, os.devnull, os.O_WRONLY, 0) for stream in (1, 2)]
+child = os.posix_spawn(sys.argv[1], sys.argv[1:], os.environ, file_actions=nothing)
+_, ended, used = os.wait4(child, 0)
+print(os.waitstatus_to_exitcode(ended), used.ru_utime + used.ru_stime, used.ru_maxrss)
+"""
+
+
 def spent(arguments, lines, folder):
     """The status of an audit, its seconds of processor time, and its memory at its peak in KiB."""
     log = f"{folder}/log"
     with open(log, "w", encoding="utf-8") as file:
         file.writelines(json.dumps(line, separators=(",", ":")) + "\n" for line in lines)
-    nothing = [(os.POSIX_SPAWN_OPEN, stream, os.devnull, os.O_WRONLY, 0) for stream in (1, 2)]
-    child = os.posix_spawn(PROGRAM, [PROGRAM, *arguments, log], os.environ, file_actions=nothing)
-    _, ended, used = os.wait4(child, 0)
-    return os.waitstatus_to_exitcode(ended), used.ru_utime + used.ru_stime, used.ru_maxrss
+    ran = run([sys.executable, "-S", "-c", SPENT, PROGRAM, *arguments, log])
+    status, seconds, memory = ran.out.split()
+    return int(status), float(seconds), int(memory)
 
 
 def no_shape_is_slow(_program):
