@@ -1,11 +1,48 @@
 //! Reads and reports of the live record with no client between, by tokens alone.
 
-ghost use Rattle.std.specs.Prelude.{◌≡◌, ◌*◌, ◌<◌, ◌≤◌, [], IfOk, IsSome, length, false, true};
-ghost use Rattle.fdb_live.specs.Seen.{last_record};
+ghost use Rattle.std.specs.Prelude.{◌≡◌, ◌*◌, ◌<◌, ◌≤◌, ◌⊎◌, ℕ, [], All, IfOk, IsSome, length};
+ghost use Rattle.std.specs.Prelude.{false, true};
+ghost use mathlib.Core.List.{IsPrefix};
+ghost use Rattle.fdb_live.specs.Gathering.{AreNumbered, IsOwnedOnce};
+ghost use Rattle.fdb_live.specs.Seen.{last_record, origin_of};
 
 use fdb_history::{MAX_VERSION, OpenGate, Record};
-use fdb_live::{Ack, Fetched, Live, LiveError, LiveRecord, Seen};
+use fdb_live::{Ack, Fetched, Live, LiveError, LiveRecord, MAX_REPORTERS, Opened, Seen};
+use std::alloc::{AllocError, Global};
+use std::marker::Brand;
 use std::sync::Wait;
+
+/// Opens a live record, whose first record is in range. It is refused for memory alone.
+pub fn open<R: Wait>(
+    rt: &R,
+    alloc: Global,
+    start: Record,
+    reporters: u32,
+) -> Result<Opened, AllocError>
+    requires reporters { (0 < reporters) × (reporters ≤ MAX_REPORTERS) }
+    requires in_range { start.version ≤ MAX_VERSION }
+    requires within { start.min_known ≤ start.version }
+    ensures { IfOk result (λ opened. opened.start ≡ start) }
+{
+    match LiveRecord::<Brand>::open(rt, alloc, start, reporters, None) {
+        Ok(opened) => Ok(opened),
+        Err(LiveError::Memory) => Err(AllocError),
+        Err(LiveError::TooLarge | LiveError::MinAbove) => unreachable!(),
+    }
+}
+
+/// The live record that was opened, with a token for who only reads, which has seen no change yet. It
+/// is refused for memory alone.
+pub fn share<J: Live>(opened: Opened) -> Result<(LiveRecord<J>, Seen<J>), AllocError>
+    requires { opened ≡ origin_of J.table J.start J.reporters J.chained J.epoch_end J.recovery }
+    ensures { IfOk result (λ parts. parts.1.changes ≡ []) }
+{
+    match opened.parts::<J>() {
+        Ok((live, reader, _)) => Ok((live, reader)),
+        Err(LiveError::Memory) => Err(AllocError),
+        Err(_) => unreachable!(),
+    }
+}
 
 /// Who reported a version reads none below it.
 pub fn report_and_look<J: Live, R: Wait>(
@@ -22,15 +59,16 @@ pub fn report_and_look<J: Live, R: Wait>(
     Ok(live.read(rt, seen))
 }
 
-/// Of two reads with one token the second is of no older version. A read is within bounds: its
-/// minimum known committed version is not above its version, and its position, the number of reports
-/// that changed the record, not above twice that.
+/// Of two reads with one token the second is of no older version, and of no earlier position. A read is
+/// within bounds: its minimum known committed version is not above its version, and its position, the
+/// number of reports that changed the record, not above twice that.
 pub fn look_twice<J: Live, R: Wait>(
     rt: &R,
     live: &LiveRecord<J>,
     seen: &mut Seen<J>,
 ) -> (Fetched, Fetched)
     ensures rises { result.0.rec.version ≤ result.1.rec.version }
+    ensures order { result.0.position ≤ result.1.position }
     ensures minimum { result.1.rec.min_known ≤ result.1.rec.version }
     ensures greatest { result.1.rec.version ≤ MAX_VERSION }
     ensures position { result.1.position ≤ 2 * result.1.rec.version }
@@ -73,10 +111,10 @@ pub fn look_once_told<J: Live, R: Wait>(
     Ok((first, second))
 }
 
-/// An acknowledgement is within the same bounds, with the record that its reporter has then seen. Who
-/// reports a version above all that it has seen, and is told that this raised the record, has its
-/// next look begin from that version; where it is told that this changed the record, from one that
-/// is not below it.
+/// An acknowledgement is within the same bounds, with the record that its reporter has then seen, whose
+/// minimum is not below the one that was reported. Who reports a version above all that it has seen,
+/// and is told that this raised the record, has its next look begin from that version; where it is told
+/// that this changed the record, from one that is not below it.
 pub fn report_within<J: Live, R: Wait>(
     rt: &R,
     live: &LiveRecord<J>,
@@ -87,6 +125,8 @@ pub fn report_within<J: Live, R: Wait>(
     requires bare { J.chained ≡ false }
     ensures minimum { IfOk result (λ _. (last_record J.start seen.new.changes).min_known
         ≤ (last_record J.start seen.new.changes).version) }
+    ensures covers { IfOk result
+        (λ _. rec.min_known ≤ (last_record J.start seen.new.changes).min_known) }
     ensures greatest { IfOk result
         (λ _. (last_record J.start seen.new.changes).version ≤ MAX_VERSION) }
     ensures position { IfOk result
@@ -100,4 +140,38 @@ pub fn report_within<J: Live, R: Wait>(
         → rec.version ≤ (last_record J.start seen.new.changes).version) }
 {
     live.report(rt, &OpenGate, 0, seen, rec)
+}
+
+/// Of two tokens one has seen all changes and all answers that the other has, and the changes are those
+/// of the service's own reporters.
+pub fn compare<J: Live, R: Wait>(
+    rt: &R,
+    live: &LiveRecord<J>,
+    first: &mut Seen<J>,
+    second: &mut Seen<J>,
+)
+    ensures changes { IsPrefix first.new.changes second.new.changes
+        ⊎ IsPrefix second.new.changes first.new.changes }
+    ensures answers { IsPrefix first.new.answers second.new.answers
+        ⊎ IsPrefix second.new.answers first.new.answers }
+    ensures reporters { All (λ change. change.reporter < J.reporters) first.new.changes }
+{
+    live.meet(rt, first, second);
+}
+
+/// Once what all have seen is brought together, each position up to there is one reporter's own, and a
+/// token that has no number has forgotten no answer.
+pub fn bring_together<J: Live, R: Wait>(
+    rt: &R,
+    live: &LiveRecord<J>,
+    first: &mut Seen<J>,
+    tokens: &mut [Seen<J>],
+) -> u64
+    requires count { length tokens.old ≡ J.reporters }
+    requires numbered { AreNumbered tokens.old }
+    ensures owned { (position : ℕ) → 1 ≤ position → position ≤ result
+        → IsOwnedOnce tokens.new position }
+    ensures answers { IsPrefix first.old.answers first.new.answers }
+{
+    live.gather(rt, first, tokens)
 }

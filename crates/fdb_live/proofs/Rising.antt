@@ -1,12 +1,11 @@
 -- The record never falls: who has seen more has seen one that is not behind.
-use Rattle.std.proofs.Common.{◌≡◌, ℕ, ◌≤◌, Bool, true, false, List, [], ◌∷◌, ◌++◌, length, refl, sym, ap, ◌∙◌, arith, le_refl, subst}
+use Rattle.std.proofs.Common.{◌≡◌, ℕ, List, [], ◌∷◌, ◌++◌, length, refl, sym, ap, ◌∙◌, arith, le_refl, subst}
 use mathlib.Core.List.{IsPrefix}
 use Rattle.fdb_history.specs.declared.register.Record.{Record}
 use Rattle.fdb_history.specs.Register.{after_report}
-use Rattle.fdb_live.specs.Seen.{Sight, last_record, IsBounded, IsLog, IsNotBehind, IsChangedBy, IsNotChangedBy}
+use Rattle.fdb_live.specs.Seen.{last_record, IsBounded, IsLog, IsNotBehind}
 use Rattle.fdb_live.specs.declared.change.Change.{Change}
 use Rattle.fdb_live.proofs.Logs.{position_below, taken_last}
-use Rattle.fdb_live.proofs.Prefixes.{prefix_length}
 use Rattle.fdb_live.proofs.Register.{version_at_least, min_known_at_least}
 
 not_behind_start : (start : Record) (log : List Change) → IsNotBehind start (last_record start log)
@@ -26,21 +25,6 @@ last_of_both start (x ∷ xs) ys = last_of_both (after_report start x.rec) xs ys
 pub never_behind : (start : Record) (xs ys : List Change) → IsPrefix xs ys → IsNotBehind (last_record start xs) (last_record start ys)
 never_behind start xs ys p =
     subst (IsNotBehind (last_record start xs)) (sym (last_of_both start xs p.0) ∙ ap (last_record start) p.1) (not_behind_start (last_record start xs) p.0)
-
-pub never_shorter : (xs ys : List Change) → IsPrefix xs ys → length xs ≤ length ys
-never_shorter xs ys p = prefix_length xs ys p
-
--- who reported has then seen a record that is not behind what was reported
-pub covered : (start rec : Record) (raised changed : Bool) (old new : Sight) → (changed ≡ true → IsChangedBy start rec raised old new) → (changed ≡ false → IsNotChangedBy start rec raised old new) → IsNotBehind rec (last_record start new.changes)
-covered start rec raised true old new up same =
-    let by = up refl in
-    subst (IsNotBehind rec) (sym by.becomes) (record {
-      version = (version_at_least (last_record start by.before) rec).1;
-      minimum = (min_known_at_least (last_record start by.before) rec).1;
-    })
-covered start rec raised false old new up same =
-    let by = same refl in
-    record { version = by.not_above; minimum = by.not_later }
 
 pub bounded : (start : Record) (reporters : ℕ) (log : List Change) → IsLog start reporters log → IsBounded (length log) (last_record start log)
 bounded start reporters log legal =

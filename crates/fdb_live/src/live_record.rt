@@ -4,7 +4,6 @@ ghost use Rattle.std.specs.Prelude.{◌≡◌, ◌≢◌, ◌*◌, ◌<◌, ◌�
 ghost use Rattle.std.specs.Prelude.{Contains, IsSome, IfErr, IfOk, OnOk, OnErr, Some, slice_get};
 ghost use Rattle.std.specs.Prelude.{true, false};
 ghost use mathlib.Core.List.{IsPrefix};
-ghost use Rattle.fdb_history.specs.Chain.{IsChain};
 ghost use Rattle.fdb_history.specs.declared.chain.Issued.{Issued};
 ghost use Rattle.fdb_live.specs.Holding.{AreDrawn, least_above, own_answers, versions};
 ghost use Rattle.fdb_live.specs.Seen.{IsBounded, IsChangedBy, IsLog, IsNotBehind, IsNotChangedBy};
@@ -46,7 +45,7 @@ impl<J: Live> LiveRecord<J> {
     ///
     /// It waits for a replacement that is under way, and not for the lock of the reports. That it
     /// sees a report of which its caller had seen nothing, no clause says.
-    #[tactic(auto, using(crate::proofs::Rising::never_behind, crate::proofs::Rising::never_shorter))]
+    #[tactic(auto, using(crate::proofs::Rising::never_behind))]
     #[inline]
     pub fn read<R: Wait>(&self, rt: &R, seen: &mut Seen<J>) -> Fetched
         ensures reporter { seen.new.reporter ≡ seen.old.reporter }
@@ -55,13 +54,11 @@ impl<J: Live> LiveRecord<J> {
         ensures rec { result.rec ≡ last_record J.start seen.new.changes }
         ensures position { result.position ≡ length seen.new.changes }
         ensures never_falls { IsNotBehind (last_record J.start seen.old.changes) result.rec }
-        ensures never_back { length seen.old.changes ≤ result.position }
         ensures bounded { IsBounded result.position result.rec }
         ensures log { IsLog J.start J.reporters seen.new.changes }
         ensures answers { IsPrefix seen.old.answers seen.new.answers }
         ensures own_answers { own_answers seen.new ≡ own_answers seen.old }
         ensures least { least_above seen.old.answers ≤ least_above seen.new.answers }
-        ensures chain { IsChain J.epoch_end J.recovery seen.new.answers }
         ensures drawn { J.chained ≡ true → AreDrawn seen.new.answers seen.new.changes }
         ensures no_chain { J.chained ≡ false → seen.new.answers ≡ [] }
     {
@@ -85,7 +82,7 @@ impl<J: Live> LiveRecord<J> {
     /// drawn is, else as `MinAbove` where the minimum known committed version is above the version,
     /// and for nothing else. It waits for the other reports. While it holds their lock it passes the
     /// gate as `who`, before it looks at the record.
-    #[tactic(auto, using(crate::proofs::Rising::never_behind, crate::proofs::Rising::covered))]
+    #[tactic(auto, using(crate::proofs::Rising::never_behind))]
     #[inline]
     pub fn report<R: Wait, G: Gate>(
         &self,
@@ -106,7 +103,6 @@ impl<J: Live> LiveRecord<J> {
         ensures never_falls { IsNotBehind
             (last_record J.start seen.old.changes)
             (last_record J.start seen.new.changes) }
-        ensures covers { OnOk result (IsNotBehind rec (last_record J.start seen.new.changes)) }
         ensures bounded { OnOk result
             (IsBounded (length seen.new.changes) (last_record J.start seen.new.changes)) }
         ensures changed { IfOk result (λ ack. ack.changed ≡ true →
@@ -137,7 +133,6 @@ impl<J: Live> LiveRecord<J> {
     pub fn split(&self, seen: &mut Seen<J>) -> Seen<J>
         ensures same { seen.new ≡ seen.old }
         ensures given { result ≡ record seen.old { reporter = None } }
-        ensures log { IsLog J.start J.reporters result.changes }
     {
         Seen {
             number: None,
@@ -172,7 +167,6 @@ impl<J: Live> LiveRecord<J> {
         ensures own_answers { own_answers seen.new ≡ own_answers seen.old }
         ensures least { least_above seen.old.answers ≤ least_above seen.new.answers }
         ensures least_told { least_above told.answers ≤ least_above seen.new.answers }
-        ensures chain { IsChain J.epoch_end J.recovery seen.new.answers }
     {
         // The check learns here that the versions of a chain rise.
         laws::versions_rise();

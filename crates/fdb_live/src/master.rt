@@ -41,7 +41,6 @@ impl<J: Live> Master<J> {
     #[inline]
     pub fn record(&self) -> &LiveRecord<J>
         ensures same { result.now ≡ self.now.live }
-        ensures chained { J.chained ≡ true }
     {
         &self.live
     }
@@ -104,7 +103,6 @@ impl<J: Live> Master<J> {
     pub fn close<R: Wait>(self, rt: &R, tokens: &mut [Seen<J>]) -> u64
         requires count { length tokens.old ≡ J.reporters }
         requires numbered { AreNumbered tokens.old }
-        ensures count { length tokens.new ≡ J.reporters }
         ensures closed { (answers : List Issued)
             × IsClosedAfter J.epoch_end J.recovery J.reporters answers tokens.old tokens.new
             × (length answers ≡ result) }

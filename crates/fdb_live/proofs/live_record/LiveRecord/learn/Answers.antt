@@ -12,9 +12,6 @@ invariant_of-seen g c = (search rules, search rules, search rules, (member_told 
 pub invariant_of-seen-else-seen-position : goal.invariant_of-seen-else-seen-position
 invariant_of-seen-else-seen-position g c = (search rules, search rules, search rules, (member_told (cell_view c.seen.inside.pass) (cell_view c.give_all-told.result) (cell_view c.learn.new.pass) c.seen.invariant.2 c.seen.invariant.3 c.learn.ensures.learns))
 
-pub returns-then-seen-position-clause-chain : goal.returns-then-seen-position-clause-chain
-returns-then-seen-position-clause-chain g c = (member_told (cell_view c.seen.inside.pass) (cell_view c.give_all-told.result) (cell_view c.learn.new.pass) c.seen.invariant.2 c.seen.invariant.3 c.learn.ensures.learns).legal
-
 pub returns-then-seen-position-clause-bounded : goal.returns-then-seen-position-clause-bounded
 returns-then-seen-position-clause-bounded g c =
     let log : IsLog g.J.Service.start g.J.Service.reporters c.learn.new.pass.me.0.client.seen = search rules in
@@ -27,9 +24,6 @@ returns-then-seen-position-clause-least g c =
 pub returns-then-seen-position-clause-least_told : goal.returns-then-seen-position-clause-least_told
 returns-then-seen-position-clause-least_told g c =
     least_grows c.versions_rise.ensures g.J.Service.epoch_end g.J.Service.recovery c.args.told.answers (cell_view c.learn.new.pass).chain.seen (member_told (cell_view c.seen.inside.pass) (cell_view c.give_all-told.result) (cell_view c.learn.new.pass) c.seen.invariant.2 c.seen.invariant.3 c.learn.ensures.learns).legal (search rules)
-
-pub returns-clause-chain : goal.returns-clause-chain
-returns-clause-chain g c = (member_told (cell_view c.seen.inside.pass) (cell_view c.give_all-told.result) (cell_view c.learn.new.pass) c.seen.invariant.2 c.seen.invariant.3 c.learn.ensures.learns).legal
 
 pub returns-clause-bounded : goal.returns-clause-bounded
 returns-clause-bounded g c =

@@ -14,9 +14,6 @@ returns-clause-bounded g c =
 pub returns-clause-drawn : goal.returns-clause-drawn
 returns-clause-drawn g c = member_drawn c.seen.invariant.2 c.seen.invariant.3 c.look-fetched.ensures.looks
 
-pub returns-clause-chain : goal.returns-clause-chain
-returns-clause-chain g c = (member_looked c.seen.invariant.2 c.seen.invariant.3 c.look-fetched.ensures.looks).legal
-
 pub returns-clause-no_chain : goal.returns-clause-no_chain
 returns-clause-no_chain g c = (member_looked c.seen.invariant.2 c.seen.invariant.3 c.look-fetched.ensures.looks).none
 

@@ -3,15 +3,18 @@ use Rattle.fdb_history.specs.Issuing.{Chain}
 use Rattle.fdb_live.specs.Holding.{IsClosedWith}
 use Rattle.fdb_live.proofs.master.Master.close.Goals as goal
 
-pub returns-clause-closed : goal.returns-clause-closed
-returns-clause-closed g c =
+pub returns : goal.returns
+returns g c =
     let turn : Chain = c.look_each.new.turn in
-    let after = c.count.ensures in (
-      turn.answers,
-      record {
-        one_chain = after.one_chain;
-        asked = after.asked;
-        each = λ k token is. subst (λ (chain : Chain). IsClosedWith chain.answers token k c.look_each.new.tokens) (sym c.look_each.ensures.chain) (c.look_each.ensures.each k token is);
-      },
-      sym after.count,
-    )
+    let after = c.count.ensures in
+    record {
+      closed = (
+        turn.answers,
+        record {
+          one_chain = after.one_chain;
+          asked = after.asked;
+          each = λ k token is. subst (λ (chain : Chain). IsClosedWith chain.answers token k c.look_each.new.tokens) (sym c.look_each.ensures.chain) (c.look_each.ensures.each k token is);
+        },
+        sym after.count,
+      );
+    }
