@@ -1,18 +1,25 @@
 //! From a log to what is said of it.
 
-ghost use Rattle.std.specs.Prelude.{◌≡◌, ◌⊎◌, IfOk, IfErr, Err, map, string_bytes};
+ghost use Rattle.std.specs.Prelude.{◌≡◌, ◌⊎◌, ◌↔◌, IfOk, IfErr, IfSome, Err, None, map, option_map, slice_get, string_bytes};
+ghost use Rattle.std.specs.Thread.{IsSync};
+ghost use Rattle.fdb_lines.specs.Listing.{faults_of};
+ghost use Rattle.fdb_lines.specs.Reasons.{found_of, HasReason};
 ghost use Rattle.json.specs.Print.{quoted};
 ghost use Rattle.fdb_lines.specs.Audit.{AreExplained, case_of};
 ghost use Rattle.fdb_lines.specs.Log.{lines_of};
 ghost use Rattle.fdb_log_reader.specs.Names.{names_of};
 ghost use Rattle.fdb_log_reader.specs.Reading.{reading_in};
-ghost use Rattle.fdb_audit.specs.Judged.{IsJudgement, IsText};
+ghost use Rattle.fdb_audit.specs.Judged.{IsJudgement, IsSummary, IsText};
 
 use crate::verdict::push_verdict;
 use crate::view::View;
-use fdb_lines::{AuditOpts, Found, Log, findings, first_finding, order, summary};
+use fdb_lines::{
+    AuditOpts, Finding, Found, Log, Summary, findings, first_finding, first_finding_by, order,
+    summary, summary_by,
+};
 use fdb_log_reader::{NamedLog, ReadError, Why, read_log};
 use std::alloc::{AllocError, Global};
+use std::thread::{Threads, join};
 
 /// What an audit prints besides its verdict. Whether a fault stands decides which of these counts.
 #[derive(Clone, Copy, Debug, PartialEq, Eq)]
@@ -67,6 +74,52 @@ pub fn judge(
     }
 }
 
+/// Audits a log as [`judge`] does, by threads: while a fault is looked for, what a verdict stands on
+/// is counted.
+pub fn judge_by<R: Threads + Sync>(
+    rt: &R,
+    alloc: Global,
+    log: &Log,
+    names: &[String],
+    opts: &AuditOpts,
+    wanted: Wanted,
+) -> Result<Judgement, AllocError>
+    ensures { IfOk result (λ found. IsText (lines_of log.now) (map string_bytes names.now)
+        opts.now wanted found.fault (string_bytes found.text)) }
+{
+    if wanted.all || wanted.history {
+        return judge(alloc, log, names, opts, wanted);
+    }
+    let (finding, counts) = join(
+        rt,
+        || -> Result<Option<Finding>, AllocError>
+            requires { IsSync R.row }
+            ensures first { IfOk result (λ first. option_map found_of first
+                ≡ slice_get (faults_of (case_of (lines_of log.entry.now) opts.entry.now)) 0) }
+            ensures explained { IfOk result (λ first. first ≡ None
+                ↔ AreExplained (case_of (lines_of log.entry.now) opts.entry.now)) }
+            ensures reason { IfOk result
+                (λ first. IfSome first (HasReason (lines_of log.entry.now) opts.entry.now)) }
+        { first_finding_by(rt, alloc, log, opts) },
+        || -> Result<Summary, AllocError>
+            requires { IsSync R.row }
+            ensures { IfOk result (IsSummary (lines_of log.entry.now) opts.entry.now) }
+        { summary_by(rt, alloc, log, opts) },
+    );
+    let mut text = String::new(alloc);
+    match finding? {
+        Some(finding) => {
+            let fault = Some(finding.found);
+            View { log, names }.push_finding(&mut text, finding)?;
+            Ok(Judgement { fault, text })
+        }
+        None => {
+            push_verdict(&mut text, counts?)?;
+            Ok(Judgement { fault: None, text })
+        }
+    }
+}
+
 /// Audits the log that a text of JSON Lines stands for. Its clients are printed as JSON strings. It
 /// is refused as [`read_log`] refuses it; an error of memory says nothing of the text.
 ///
@@ -102,6 +155,22 @@ pub(crate) fn judge_named(
 {
     let names = named.names.quoted(alloc)?;
     judge(alloc, &named.log, &names, opts, wanted)
+}
+
+/// The same, by threads.
+pub(crate) fn judge_named_by<R: Threads + Sync>(
+    rt: &R,
+    alloc: Global,
+    named: &NamedLog,
+    opts: &AuditOpts,
+    wanted: Wanted,
+) -> Result<Judgement, AllocError>
+    ensures { IfOk result (λ found. IsText (lines_of named.now.log)
+        (map quoted (names_of named.now.names)) opts.now wanted
+        found.fault (string_bytes found.text)) }
+{
+    let names = named.names.quoted(alloc)?;
+    judge_by(rt, alloc, &named.log, &names, opts, wanted)
 }
 
 /// The judgement of a log without a fault, which some history has to explain.

@@ -20,3 +20,12 @@ pub mod Knowing
 pub mod Hearing
 pub mod Newest
 pub mod Marking
+pub mod Carried
+pub mod Staying
+pub mod Watched
+pub mod Above
+pub mod Keyed
+pub mod Merged
+pub mod Slotted
+pub mod First
+pub mod Kept

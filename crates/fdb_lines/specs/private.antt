@@ -9,3 +9,6 @@ pub mod Spots
 pub mod Ended
 pub mod Counts
 pub mod HeardCounts
+pub mod Standing
+pub mod Keys
+pub mod Late

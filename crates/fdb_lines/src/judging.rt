@@ -4,6 +4,7 @@ ghost use Rattle.std.specs.Prelude.{◌≡◌, ◌<◌, ◌↔◌, ◌++◌, All
 ghost use Rattle.std.specs.Prelude.{map, option_map, slice_get};
 ghost use Rattle.fdb_lines.specs.Audit.{case_of, AreExplained};
 ghost use Rattle.fdb_lines.specs.Listing.{faults_at, faults_of, found_if};
+ghost use Rattle.fdb_lines.specs.Late.{HasLate};
 ghost use Rattle.fdb_lines.specs.Log.{lines_of};
 ghost use Rattle.fdb_lines.specs.Reasons.{found_of, HasReason};
 ghost use Rattle.fdb_lines.specs.private.Tables.{AreTables, ListsMore};
@@ -12,9 +13,10 @@ use crate::fault::{Fault, Found};
 use crate::log::Log;
 use crate::opts::AuditOpts;
 use crate::reason::Finding;
-use crate::reasons::reason_of;
-use crate::tables::{Tables, tables_of};
+use crate::reasons::{late_of, reason_of};
+use crate::tables::{Tables, tables_by, tables_of};
 use std::alloc::{AllocError, Global};
+use std::thread::Threads;
 
 /// The faults of a log: each once, by line, and at a line in the order of [`Fault`]. There is
 /// none exactly where some history explains the lines. An error only where memory is refused.
@@ -50,8 +52,8 @@ pub fn first_fault(alloc: Global, log: &Log, opts: &AuditOpts) -> Result<Option<
     }
 }
 
-/// The faults of a log, as [`faults`] lists them, each with why it stands. An error only where
-/// memory is refused.
+/// The faults of a log, as [`faults`] lists them, each with why it stands, and of a stale read by
+/// how much it is late. An error only where memory is refused.
 ///
 /// `n log n` in how many lines there are, however many faults.
 pub fn findings(alloc: Global, log: &Log, opts: &AuditOpts) -> Result<Vec<Finding>, AllocError>
@@ -61,6 +63,8 @@ pub fn findings(alloc: Global, log: &Log, opts: &AuditOpts) -> Result<Vec<Findin
         ↔ AreExplained (case_of (lines_of log.now) opts.now)) }
     ensures reasons { IfOk result
         (λ findings. All (HasReason (lines_of log.now) opts.now) findings.items) }
+    ensures late { IfOk result
+        (λ findings. All (HasLate (lines_of log.now) opts.now) findings.items) }
 {
     let tables = tables_of(alloc, log, opts)?;
     let mut findings = Vec::new(alloc);
@@ -85,11 +89,50 @@ pub fn first_finding(
         (λ first. first ≡ None ↔ AreExplained (case_of (lines_of log.now) opts.now)) }
     ensures reason { IfOk result
         (λ first. IfSome first (HasReason (lines_of log.now) opts.now)) }
+    ensures late { IfOk result (λ first. IfSome first (HasLate (lines_of log.now) opts.now)) }
 {
     let tables = tables_of(alloc, log, opts)?;
+    first_in(alloc, &tables, log, opts)
+}
+
+/// The first fault of a log, as [`first_finding`] finds it, by threads.
+pub fn first_finding_by<R: Threads + Sync>(
+    rt: &R,
+    alloc: Global,
+    log: &Log,
+    opts: &AuditOpts,
+) -> Result<Option<Finding>, AllocError>
+    ensures first { IfOk result (λ first. option_map found_of first
+        ≡ slice_get (faults_of (case_of (lines_of log.now) opts.now)) 0) }
+    ensures explained { IfOk result
+        (λ first. first ≡ None ↔ AreExplained (case_of (lines_of log.now) opts.now)) }
+    ensures reason { IfOk result
+        (λ first. IfSome first (HasReason (lines_of log.now) opts.now)) }
+    ensures late { IfOk result (λ first. IfSome first (HasLate (lines_of log.now) opts.now)) }
+{
+    let tables = tables_by(rt, alloc, log, opts)?;
+    first_in(alloc, &tables, log, opts)
+}
+
+/// The first fault of a log, by its tables.
+fn first_in(
+    alloc: Global,
+    tables: &Tables,
+    log: &Log,
+    opts: &AuditOpts,
+) -> Result<Option<Finding>, AllocError>
+    requires { AreTables (lines_of log.now) opts.now tables.now }
+    ensures first { IfOk result (λ first. option_map found_of first
+        ≡ slice_get (faults_of (case_of (lines_of log.now) opts.now)) 0) }
+    ensures explained { IfOk result
+        (λ first. first ≡ None ↔ AreExplained (case_of (lines_of log.now) opts.now)) }
+    ensures reason { IfOk result
+        (λ first. IfSome first (HasReason (lines_of log.now) opts.now)) }
+    ensures late { IfOk result (λ first. IfSome first (HasLate (lines_of log.now) opts.now)) }
+{
     let mut findings = Vec::new(alloc);
     for place in 0..log.lines().len() {
-        add_findings(&mut findings, &tables, log, opts, place)?;
+        add_findings(&mut findings, tables, log, opts, place)?;
         if let Some(first) = findings.first() {
             return Ok(Some(*first));
         }
@@ -98,7 +141,7 @@ pub fn first_finding(
 }
 
 /// Adds the faults of a line, in the order of [`Fault`].
-fn add_findings(
+pub(crate) fn add_findings(
     findings: &mut Vec<Finding>,
     tables: &Tables,
     log: &Log,
@@ -134,7 +177,12 @@ fn add_finding(
     if let Some(reason) = reason_of(tables, log, opts, place, fault) {
         let line = place as u32;
         let found = Found { line, fault };
-        findings.push(Finding { found, reason })?;
+        let late = late_of(tables, log, opts, place, fault);
+        findings.push(Finding {
+            found,
+            reason,
+            late,
+        })?;
     }
     Ok(())
 }

@@ -1,6 +1,6 @@
 //! How many pairs of lines are in order.
 
-ghost use Rattle.std.specs.Prelude.{◌≡◌, ◌+◌, ◌<◌, ◌≤◌, ◌==◌, ℕ, None, true, false, IfOk, OnOk};
+ghost use Rattle.std.specs.Prelude.{◌≡◌, ◌+◌, ◌-◌, ◌*◌, ◌<◌, ◌≤◌, ◌==◌, ℕ, None, true, false, IfOk, OnOk};
 ghost use Rattle.std.specs.Prelude.{cond, length, max, nat_eq};
 ghost use Rattle.std.specs.HashMap.{get};
 ghost use Rattle.fdb_lines.specs.Audit.{case_of};
@@ -8,7 +8,7 @@ ghost use Rattle.fdb_lines.specs.Before.{by_telling, by_time};
 ghost use Rattle.fdb_lines.specs.Lines.{is_learn, kind_of, teller_of};
 ghost use Rattle.fdb_lines.specs.Log.{lines_of};
 ghost use Rattle.fdb_lines.specs.Summary.{ordered, pairs, tally};
-ghost use Rattle.fdb_lines.specs.private.Ended.{HasEnds};
+ghost use Rattle.fdb_lines.specs.private.Ended.{HasEnds, pairs_below};
 ghost use Rattle.fdb_lines.specs.private.HeardCounts.{count_after, count_in, count_of};
 ghost use Rattle.fdb_lines.specs.private.HeardCounts.{total_by, total_in};
 
@@ -20,6 +20,7 @@ use crate::nears::Nears;
 use crate::opts::AuditOpts;
 use std::alloc::{AllocError, Global};
 use std::collections::HashMap;
+use std::thread::{Threads, join};
 
 /// Of how many pairs of lines one comes before the other. With times `n log n` in how many lines
 /// there are; without, at worst the lines that learn times the clients.
@@ -33,18 +34,92 @@ pub(crate) fn ordered(alloc: Global, log: &Log, opts: &AuditOpts) -> Result<u64,
     }
 }
 
-#[tactic(auto, using(crate::proofs::Tallies::tally_most))]
 fn pairs_by_time(alloc: Global, lines: &[Line], margin: u64) -> Result<u64, AllocError>
     requires { length lines.now ≤ 4294967295 }
     ensures { IfOk result (λ n. n ≡ pairs (by_time margin lines.now) (length lines.now)) }
 {
     let all = Ended::new(alloc, lines, false)?;
     let own = Ended::new(alloc, lines, true)?;
+    let pairs = pairs_among(alloc, &all, &own, lines, margin, 0, lines.len())?;
+    Ok(pairs)
+}
+
+/// The same, by two threads.
+fn pairs_by_time_by<R: Threads + Sync>(
+    rt: &R,
+    alloc: Global,
+    lines: &[Line],
+    margin: u64,
+) -> Result<u64, AllocError>
+    requires { length lines.now ≤ 4294967295 }
+    ensures { IfOk result (λ n. n ≡ pairs (by_time margin lines.now) (length lines.now)) }
+{
+    let (all, own) = join(
+        rt,
+        || -> Result<Ended, AllocError>
+            requires { length lines.now ≤ 4294967295 }
+            ensures { IfOk result (λ ended. HasEnds false lines.entry.now (length lines.entry.now)
+                ended.ends.items) }
+        { Ended::new(alloc, lines, false) },
+        || -> Result<Ended, AllocError>
+            requires { length lines.now ≤ 4294967295 }
+            ensures { IfOk result (λ ended. HasEnds true lines.entry.now (length lines.entry.now)
+                ended.ends.items) }
+        { Ended::new(alloc, lines, true) },
+    );
+    let all = all?;
+    let own = own?;
+    let (all, own) = (&all, &own);
+    let half = lines.len() / 2;
+    let (first, second) = join(
+        rt,
+        || -> Result<u64, AllocError>
+            requires { (length lines.now ≤ 4294967295) × (half ≤ length lines.now)
+                × HasEnds false lines.now (length lines.now) all.now.ends.items
+                × HasEnds true lines.now (length lines.now) own.now.ends.items }
+            ensures sum { IfOk result (λ n. n
+                ≡ pairs_below (by_time margin lines.entry.now) (length lines.entry.now) half) }
+            ensures fit { IfOk result (λ n. n ≤ half * 4294967295) }
+        { pairs_among(alloc, all, own, lines, margin, 0, half) },
+        || -> Result<u64, AllocError>
+            requires { (length lines.now ≤ 4294967295) × (half ≤ length lines.now)
+                × HasEnds false lines.now (length lines.now) all.now.ends.items
+                × HasEnds true lines.now (length lines.now) own.now.ends.items }
+            ensures sum { IfOk result (λ n. n + pairs_below (by_time margin lines.entry.now)
+                (length lines.entry.now) half
+                ≡ pairs (by_time margin lines.entry.now) (length lines.entry.now)) }
+            ensures fit { IfOk result (λ n. n ≤ (length lines.entry.now - half) * 4294967295) }
+        { pairs_among(alloc, all, own, lines, margin, half, lines.len()) },
+    );
+    let first = first?;
+    let second = second?;
+    Ok(first + second)
+}
+
+/// How many pairs there are of which the later line stands at one of these places.
+#[tactic(auto, using(crate::proofs::Tallies::tally_most))]
+fn pairs_among(
+    alloc: Global,
+    all: &Ended,
+    own: &Ended,
+    lines: &[Line],
+    margin: u64,
+    from: usize,
+    to: usize,
+) -> Result<u64, AllocError>
+    requires few { length lines.now ≤ 4294967295 }
+    requires all { HasEnds false lines.now (length lines.now) all.now.ends.items }
+    requires own { HasEnds true lines.now (length lines.now) own.now.ends.items }
+    requires range { (from ≤ to) × (to ≤ length lines.now) }
+    ensures sum { IfOk result (λ n. n + pairs_below (by_time margin lines.now) (length lines.now) from
+        ≡ pairs_below (by_time margin lines.now) (length lines.now) to) }
+    ensures fit { IfOk result (λ n. n ≤ (to - from) * 4294967295) }
+{
     let mut near = 0;
-    let mut nears = Nears::new();
+    let mut nears = Nears::new(alloc, lines.len())?;
     let mut pairs: u64 = 0;
-    for place in 0..lines.len() {
-        pairs += before(&all, &own, lines, place, margin, &mut near, &mut nears);
+    for place in from..to {
+        pairs += before(all, own, lines, place, margin, &mut near, &mut nears);
     }
     Ok(pairs)
 }
@@ -74,6 +149,22 @@ fn before(
     let known = own.before(line.client, began, place as u32, near);
     let twice = own.before(line.client, bound, 0, near);
     (earlier + known - twice) as u64
+}
+
+/// The same as [`ordered`], by threads.
+pub(crate) fn ordered_by<R: Threads + Sync>(
+    rt: &R,
+    alloc: Global,
+    log: &Log,
+    opts: &AuditOpts,
+) -> Result<u64, AllocError>
+    ensures { IfOk result (λ n. n ≡ ordered (case_of (lines_of log.now) opts.now)) }
+{
+    if log.is_timed() {
+        pairs_by_time_by(rt, alloc, log.lines(), opts.margin)
+    } else {
+        pairs_by_telling(alloc, log.lines())
+    }
 }
 
 #[tactic(auto, using(crate::proofs::Gathered::heard_most))]

@@ -3,6 +3,7 @@
 
 ghost use Rattle.std.specs.Prelude.{◌≡◌, ◌+◌, ◌==◌, ◌&&◌, ◌||◌, ℕ, IfOk, OnOk, length};
 ghost use Rattle.std.specs.Prelude.{cond, nat_eq, not};
+ghost use Rattle.std.specs.Thread.{IsSync};
 ghost use Rattle.std.specs.HashSet.{contains, hash_set_len};
 ghost use Rattle.fdb_lines.specs.Audit.{case_of};
 ghost use Rattle.fdb_lines.specs.Lines.{is_ask, is_commit, is_learn, is_read, is_report};
@@ -13,10 +14,11 @@ ghost use Rattle.fdb_lines.specs.Summary.{how_many, ordered, unreported};
 use crate::line::Call;
 use crate::log::Log;
 use crate::opts::AuditOpts;
-use crate::pairs::ordered;
+use crate::pairs::{ordered, ordered_by};
 use crate::summed::Summary;
 use std::alloc::{AllocError, Global};
 use std::collections::HashSet;
+use std::thread::{Threads, join};
 
 /// What a verdict on a log stands on: its lines, counted. An error only where memory is refused.
 ///
@@ -40,8 +42,60 @@ pub fn summary(alloc: Global, log: &Log, opts: &AuditOpts) -> Result<Summary, Al
 {
     let unreported = unreported(alloc, log, opts)?;
     let ordered = ordered(alloc, log, opts)?;
+    Ok(counted(log, unreported, ordered))
+}
+
+/// The same, by threads.
+pub fn summary_by<R: Threads + Sync>(
+    rt: &R,
+    alloc: Global,
+    log: &Log,
+    opts: &AuditOpts,
+) -> Result<Summary, AllocError>
+    ensures lines { IfOk result (λ it. it.lines ≡ length (lines_of log.now).lines) }
+    ensures timed { IfOk result
+        (λ it. it.timed ≡ cond (lines_of log.now).timed (length (lines_of log.now).lines) 0) }
+    ensures reads { IfOk result (λ it. it.reads ≡ how_many is_read (lines_of log.now).lines) }
+    ensures commits { IfOk result
+        (λ it. it.commits ≡ how_many is_commit (lines_of log.now).lines) }
+    ensures asks { IfOk result (λ it. it.asks ≡ how_many is_ask (lines_of log.now).lines) }
+    ensures reports { IfOk result
+        (λ it. it.reports ≡ how_many is_report (lines_of log.now).lines) }
+    ensures learns { IfOk result (λ it. it.learns ≡ how_many is_learn (lines_of log.now).lines) }
+    ensures unreported { IfOk result
+        (λ it. it.unreported ≡ unreported (case_of (lines_of log.now) opts.now)) }
+    ensures ordered { IfOk result
+        (λ it. it.ordered ≡ ordered (case_of (lines_of log.now) opts.now)) }
+{
+    let (unreported, ordered) = join(
+        rt,
+        || -> Result<u64, AllocError>
+            ensures { IfOk result
+                (λ n. n ≡ unreported (case_of (lines_of log.entry.now) opts.entry.now)) }
+        { unreported(alloc, log, opts) },
+        || -> Result<u64, AllocError>
+            requires { IsSync R.row }
+            ensures { IfOk result
+                (λ n. n ≡ ordered (case_of (lines_of log.entry.now) opts.entry.now)) }
+        { ordered_by(rt, alloc, log, opts) },
+    );
+    Ok(counted(log, unreported?, ordered?))
+}
+
+/// The summary of a log, of which two numbers are known.
+fn counted(log: &Log, unreported: u64, ordered: u64) -> Summary
+    ensures lines { (result.lines ≡ length (lines_of log.now).lines) }
+    ensures timed { (result.timed ≡ cond (lines_of log.now).timed (length (lines_of log.now).lines) 0) }
+    ensures reads { (result.reads ≡ how_many is_read (lines_of log.now).lines) }
+    ensures commits { (result.commits ≡ how_many is_commit (lines_of log.now).lines) }
+    ensures asks { (result.asks ≡ how_many is_ask (lines_of log.now).lines) }
+    ensures reports { (result.reports ≡ how_many is_report (lines_of log.now).lines) }
+    ensures learns { (result.learns ≡ how_many is_learn (lines_of log.now).lines) }
+    ensures unreported { result.unreported ≡ unreported }
+    ensures ordered { result.ordered ≡ ordered }
+{
     let lines = log.lines();
-    Ok(Summary {
+    Summary {
         lines: lines.len() as u64,
         timed: if log.is_timed() {
             lines.len() as u64
@@ -55,7 +109,7 @@ pub fn summary(alloc: Global, log: &Log, opts: &AuditOpts) -> Result<Summary, Al
         learns: lines.iter().filter(|line| line.call.is_learn()).count() as u64,
         unreported,
         ordered,
-    })
+    }
 }
 
 /// How many versions were read, other than the start, that no line reports.

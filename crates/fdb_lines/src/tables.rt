@@ -1,18 +1,24 @@
 //! The tables of a log, in which each question of the rule is answered by a search.
 
-ghost use Rattle.std.specs.Prelude.{◌≡◌, ◌<◌, ◌≤◌, IfOk, length};
+ghost use Rattle.std.specs.Prelude.{◌≡◌, ◌<◌, ◌≤◌, IfOk, false, length, true};
 ghost use Rattle.fdb_lines.specs.Audit.{case_of};
 ghost use Rattle.fdb_lines.specs.Faults.{is_drawn, is_own, is_raised, is_reported, is_twice, knows};
 ghost use Rattle.fdb_lines.specs.Faults.{last};
-ghost use Rattle.fdb_lines.specs.Lines.{version_at};
+ghost use Rattle.fdb_lines.specs.Late.{IsLate};
+ghost use Rattle.fdb_lines.specs.Lines.{is_read, kind_at, version_at};
 ghost use Rattle.fdb_lines.specs.Log.{lines_of};
 ghost use Rattle.fdb_lines.specs.Reasons.{draws_again, draws_it, reports_it};
 ghost use Rattle.fdb_lines.specs.declared.seen.Seen.TheVariants.{Drawn, Shown};
 ghost use Rattle.fdb_lines.specs.private.Entries.{other, IsFirstFrom};
-ghost use Rattle.fdb_lines.specs.private.Known.{of_version};
+ghost use Rattle.fdb_lines.specs.private.Ends.{AreSettled};
+ghost use Rattle.fdb_lines.specs.private.Known.{of_version, AreEnds};
+ghost use Rattle.std.specs.Thread.{IsSync};
+ghost use Rattle.fdb_lines.specs.private.Marks.{AreMarks};
 ghost use Rattle.fdb_lines.specs.private.Tables.{AreKnownIn, AreTables, IsFoundIn};
 
-use crate::known::{by_at, known_by_time, version_by, version_in};
+use crate::ends::Ends;
+use crate::known::{by_at, known_by_time, known_by_time_by, table_of, version_by, version_in};
+use crate::late::{Late, late_by};
 use crate::line::Line;
 use crate::log::Log;
 use crate::marks::{Marks, knows_at};
@@ -22,6 +28,7 @@ use crate::seen::Seen;
 use crate::sort::Sort;
 use crate::telling::known_by_telling;
 use std::alloc::{AllocError, Global};
+use std::thread::{Threads, join};
 
 /// What each line knows, and which lines report and draw which versions.
 #[derive(Drop)]
@@ -34,6 +41,8 @@ pub(crate) struct Tables {
     asks: Marks,
     owned: Marks,
     nameless: Marks,
+    /// The ends of the lines that show a version.
+    firsts: Ends,
 }
 
 /// The tables of a log. `n log n` in how many lines there are.
@@ -42,8 +51,10 @@ pub(crate) fn tables_of(alloc: Global, log: &Log, opts: &AuditOpts) -> Result<Ta
 {
     let lines = log.lines();
     let start = opts.start();
-    let shown = known(alloc, log, opts, Seen::Shown)?;
-    let drawn = known(alloc, log, opts, Seen::Drawn)?;
+    let firsts = table_of(alloc, lines, Seen::Shown, false)?;
+    let draws_ended = table_of(alloc, lines, Seen::Drawn, false)?;
+    let shown = known(alloc, log, opts, Seen::Shown, &firsts)?;
+    let drawn = known(alloc, log, opts, Seen::Drawn, &draws_ended)?;
     let reports = Marks::new(alloc, start, lines, &shown, Sort::Reports)?;
     let raises = Marks::new(alloc, start, lines, &shown, Sort::Raises)?;
     let draws = Marks::new(alloc, start, lines, &shown, Sort::Draws)?;
@@ -59,7 +70,125 @@ pub(crate) fn tables_of(alloc: Global, log: &Log, opts: &AuditOpts) -> Result<Ta
         asks,
         owned,
         nameless,
+        firsts,
     })
+}
+
+/// The tables of a log, made in threads side by side.
+pub(crate) fn tables_by<R: Threads + Sync>(
+    rt: &R,
+    alloc: Global,
+    log: &Log,
+    opts: &AuditOpts,
+) -> Result<Tables, AllocError>
+    ensures { IfOk result (λ tables. AreTables (lines_of log.now) opts.now tables) }
+{
+    let lines = log.lines();
+    let (firsts, draws_ended) = join(
+        rt,
+        || -> Result<Ends, AllocError>
+            requires { length lines.now ≤ 4294967295 }
+            ensures settled { IfOk result (λ table. AreSettled table) }
+            ensures ends { IfOk result (λ table. AreEnds false Shown lines.entry.now
+                (length lines.entry.now) table.ends.items) }
+        { table_of(alloc, lines, Seen::Shown, false) },
+        || -> Result<Ends, AllocError>
+            requires { length lines.now ≤ 4294967295 }
+            ensures settled { IfOk result (λ table. AreSettled table) }
+            ensures ends { IfOk result (λ table. AreEnds false Drawn lines.entry.now
+                (length lines.entry.now) table.ends.items) }
+        { table_of(alloc, lines, Seen::Drawn, false) },
+    );
+    let firsts = firsts?;
+    let draws_ended = draws_ended?;
+    let (shown_ends, drawn_ends) = (&firsts, &draws_ended);
+    let (shown, drawn) = join(
+        rt,
+        || -> Result<Vec<Option<Witness>>, AllocError>
+            requires { IsSync R.row × AreSettled shown_ends.now
+                × AreEnds false Shown (lines_of log.now).lines (length (lines_of log.now).lines)
+                shown_ends.now.ends.items }
+            ensures { IfOk result
+                (λ known. AreKnownIn (lines_of log.entry.now) opts.entry.now Shown known.items) }
+        { known_by(rt, alloc, log, opts, Seen::Shown, shown_ends) },
+        || -> Result<Vec<Option<Witness>>, AllocError>
+            requires { IsSync R.row × AreSettled drawn_ends.now
+                × AreEnds false Drawn (lines_of log.now).lines (length (lines_of log.now).lines)
+                drawn_ends.now.ends.items }
+            ensures { IfOk result
+                (λ known. AreKnownIn (lines_of log.entry.now) opts.entry.now Drawn known.items) }
+        { known_by(rt, alloc, log, opts, Seen::Drawn, drawn_ends) },
+    );
+    let shown = shown?;
+    let drawn = drawn?;
+    let start = opts.start();
+    let known = shown.as_slice();
+    let ((reports, raises), (draws, owned)) = join(
+        rt,
+        || -> (Result<Marks, AllocError>, Result<Marks, AllocError>)
+            requires { IsSync R.row × (length lines.now ≤ 4294967295) }
+            ensures reports { IfOk result.0 (λ table. AreMarks Sort.Reports start
+                lines.entry.now known.entry.now (length lines.entry.now) table.marks.items) }
+            ensures raises { IfOk result.1 (λ table. AreMarks Sort.Raises start
+                lines.entry.now known.entry.now (length lines.entry.now) table.marks.items) }
+        { two_marks(rt, alloc, start, lines, known, Sort::Reports, Sort::Raises) },
+        || -> (Result<Marks, AllocError>, Result<Marks, AllocError>)
+            requires { IsSync R.row × (length lines.now ≤ 4294967295) }
+            ensures draws { IfOk result.0 (λ table. AreMarks Sort.Draws start
+                lines.entry.now known.entry.now (length lines.entry.now) table.marks.items) }
+            ensures owned { IfOk result.1 (λ table. AreMarks Sort.Owned start
+                lines.entry.now known.entry.now (length lines.entry.now) table.marks.items) }
+        { two_marks(rt, alloc, start, lines, known, Sort::Draws, Sort::Owned) },
+    );
+    let (asks, nameless) = two_marks(rt, alloc, start, lines, known, Sort::Asks, Sort::Nameless);
+    let reports = reports?;
+    let raises = raises?;
+    let draws = draws?;
+    let asks = asks?;
+    let owned = owned?;
+    let nameless = nameless?;
+    Ok(Tables {
+        shown,
+        drawn,
+        reports,
+        raises,
+        draws,
+        asks,
+        owned,
+        nameless,
+        firsts,
+    })
+}
+
+/// The marks of two sorts, made in two threads.
+fn two_marks<R: Threads + Sync>(
+    rt: &R,
+    alloc: Global,
+    start: u64,
+    lines: &[Line],
+    known: &[Option<Witness>],
+    one: Sort,
+    other: Sort,
+) -> (Result<Marks, AllocError>, Result<Marks, AllocError>)
+    requires { length lines.now ≤ 4294967295 }
+    ensures one { IfOk result.0 (λ table. AreMarks one start lines.now known.now
+        (length lines.now) table.marks.items) }
+    ensures other { IfOk result.1 (λ table. AreMarks other start lines.now known.now
+        (length lines.now) table.marks.items) }
+{
+    join(
+        rt,
+        || -> Result<Marks, AllocError>
+            requires { length lines.now ≤ 4294967295 }
+            ensures { IfOk result (λ table. AreMarks one start lines.entry.now
+                known.entry.now (length lines.entry.now) table.marks.items) }
+        { Marks::new(alloc, start, lines, known, one) },
+        || -> Result<Marks, AllocError>
+            requires { length lines.now ≤ 4294967295 }
+            ensures { IfOk result (λ table. AreMarks other start lines.entry.now
+                known.entry.now (length lines.entry.now) table.marks.items) }
+        { Marks::new(alloc, start, lines, known, other) },
+    )
 }
 
 /// For each line the newest of the lines before it that let their versions be known.
@@ -68,11 +197,36 @@ fn known(
     log: &Log,
     opts: &AuditOpts,
     seen: Seen,
+    ends: &Ends,
 ) -> Result<Vec<Option<Witness>>, AllocError>
+    requires settled { AreSettled ends.now }
+    requires ends { let lines = (lines_of log.now).lines in
+        AreEnds false seen lines (length lines) ends.now.ends.items }
     ensures { IfOk result (λ known. AreKnownIn (lines_of log.now) opts.now seen known.items) }
 {
     if log.is_timed() {
-        known_by_time(alloc, log.lines(), opts.margin, seen)
+        known_by_time(alloc, log.lines(), opts.margin, seen, ends)
+    } else {
+        known_by_telling(alloc, log.lines(), seen)
+    }
+}
+
+/// The same, by two threads.
+fn known_by<R: Threads + Sync>(
+    rt: &R,
+    alloc: Global,
+    log: &Log,
+    opts: &AuditOpts,
+    seen: Seen,
+    ends: &Ends,
+) -> Result<Vec<Option<Witness>>, AllocError>
+    requires settled { AreSettled ends.now }
+    requires ends { let lines = (lines_of log.now).lines in
+        AreEnds false seen lines (length lines) ends.now.ends.items }
+    ensures { IfOk result (λ known. AreKnownIn (lines_of log.now) opts.now seen known.items) }
+{
+    if log.is_timed() {
+        known_by_time_by(rt, alloc, log.lines(), opts.margin, seen, ends)
     } else {
         known_by_telling(alloc, log.lines(), seen)
     }
@@ -128,6 +282,16 @@ impl Tables {
         ensures { IsFoundIn (lines_of log.now) opts.now Drawn place version result }
     {
         of_version(log.lines(), version, by_at(&self.drawn, place))
+    }
+
+    /// By how much the read at a place is late. Logarithmic.
+    pub(crate) fn late(&self, log: &Log, opts: &AuditOpts, place: usize) -> Option<Late>
+        requires tables { AreTables (lines_of log.now) opts.now self.now }
+        requires place { place < length (lines_of log.now).lines }
+        requires read { is_read (kind_at (case_of (lines_of log.now) opts.now) place) ≡ true }
+        ensures { IsLate (lines_of log.now) opts.now place result }
+    {
+        late_by(&self.firsts, log, opts, place)
     }
 
     /// The first line that reports the version of the one at a place. Logarithmic, as all below.

@@ -1,3 +1,5 @@
 pub mod Naming
 pub mod Splitting
 pub mod Quoting
+pub mod Scanned
+pub mod UsualForm

@@ -11,6 +11,9 @@ mod named_log;
 mod names;
 mod parsing;
 mod reader;
+mod said;
+mod scanning;
+mod usual;
 
 pub use error::{ReadError, Why};
 pub use member::Member;

@@ -28,7 +28,7 @@ pub struct LogReader {
 
 impl LogReader {
     ghost use Rattle.fdb_log_reader.specs.Reader.{reads_on};
-    ghost use Rattle.fdb_log_reader.specs.private.Feeding.{Feeds};
+    ghost use Rattle.fdb_log_reader.specs.private.Feeding.{Feeds, FeedsLine};
 
     /// A log of which nothing has been read.
     pub fn new(alloc: Global) -> Self
@@ -61,7 +61,7 @@ impl LogReader {
     {
         let mut rest = bytes;
         while let Some((line, after)) = split_line(rest) {
-            self = self.keep(line)?.end_line()?;
+            self = self.read_line(line)?;
             rest = after;
         }
         self.keep(rest)
@@ -77,6 +77,43 @@ impl LogReader {
         }
         let ended = self.end_line()?;
         Ok(ended.named)
+    }
+
+    /// Reads a line whose end has come.
+    #[tactic(auto, using(crate::proofs::Splitting::whole_line))]
+    fn read_line(self, line: &[u8]) -> Result<Self, ReadError>
+        requires { IsOneLine line.now }
+        ensures { FeedsLine self line.now result }
+    {
+        if self.front.is_empty() && line.len() <= MAX_LINE_BYTES {
+            self.add_whole(line)
+        } else {
+            self.keep(line)?.end_line()
+        }
+    }
+
+    /// Reads a line that has come as a whole, where it lies.
+    #[tactic(auto, using(crate::proofs::Splitting::whole_line))]
+    fn add_whole(self, line: &[u8]) -> Result<Self, ReadError>
+        requires line { IsOneLine line.now }
+        requires short { length line.now ≤ MAX_LINE_BYTES }
+        requires none { self.front.items ≡ [] }
+        ensures { FeedsLine self line.now result }
+    {
+        let refused = self.error(Why::Memory);
+        let LogReader {
+            alloc,
+            mut named,
+            front,
+        } = self;
+        if let Err(why) = add_line(&mut named, alloc, line) {
+            return Err(ReadError { why, ..refused });
+        }
+        Ok(LogReader {
+            alloc,
+            named,
+            front,
+        })
     }
 
     /// Keeps what has come of a line, unless that gets too long.

@@ -4,7 +4,7 @@ use Rattle.fdb_lines.specs.declared.end.End.{End}
 use Rattle.fdb_lines.specs.declared.line.Line.{Line}
 use Rattle.fdb_lines.specs.Before.{ended}
 use Rattle.fdb_lines.specs.Lines.{line_at}
-use Rattle.fdb_lines.specs.Summary.{tally}
+use Rattle.fdb_lines.specs.Summary.{sum_below, tally}
 
 -- in which group of the table a line's end stands, if in any: in its client's, or in that of all
 abbrev pub group_in : Bool → Option ℕ → Option ℕ
@@ -34,3 +34,7 @@ line_before by_client line above group time place = stands_before group time pla
 abbrev pub HasEnds : Bool → List Line → ℕ → List End → Type 0
 HasEnds by_client lines n ends =
     (group : Option ℕ) (time place : ℕ) → count_before ends group time place ≡ tally (λ j. line_before by_client (line_at lines j) j group time place) n
+
+-- of how many pairs the later place is below n, and one comes before the other, where there are so many places
+abbrev pub pairs_below : (ℕ → ℕ → Bool) → ℕ → ℕ → ℕ
+pairs_below before all n = sum_below (λ k. tally (λ j. before j k) all) n

@@ -17,9 +17,11 @@ use Rattle.fdb_lines.specs.declared.reason.Witness.{Witness}
 use Rattle.fdb_lines.specs.Audit.{case_of, start_of}
 use Rattle.fdb_lines.specs.Before.{comes_before}
 use Rattle.fdb_lines.specs.Faults.{is_drawn, is_own, is_raised, is_reported, stands}
+use Rattle.fdb_lines.specs.Late.{HasLate}
 use Rattle.fdb_lines.specs.Lines.{Case, Lines, version_at}
 use Rattle.fdb_lines.specs.Reasons.{found_of, HasReason, IsReason}
-use Rattle.fdb_lines.specs.private.Known.{AreKnown, IsFound}
+use Rattle.fdb_lines.specs.private.Ends.{AreSettled}
+use Rattle.fdb_lines.specs.private.Known.{AreEnds, AreKnown, IsFound}
 use Rattle.fdb_lines.specs.private.Marks.{AreMarks}
 
 abbrev pub AreKnownIn : Lines → AuditOpts → Seen → List (Option Witness) → Type 0
@@ -37,6 +39,8 @@ pub record AreTables (log : Lines) (opts : AuditOpts) (tables : Tables) : Type 0
   pub asks : AreMarksIn log opts Asks tables.shown.items tables.asks.marks.items
   pub owned : AreMarksIn log opts Owned tables.shown.items tables.owned.marks.items
   pub nameless : AreMarksIn log opts Nameless tables.shown.items tables.nameless.marks.items
+  pub settled : AreSettled tables.firsts
+  pub firsts : AreEnds false Shown log.lines (length log.lines) tables.firsts.ends.items
 
 -- a line before one that lets a version be known, or none does
 abbrev pub IsFoundIn : Lines → AuditOpts → Seen → ℕ → ℕ → Option Witness → Type 0
@@ -63,3 +67,4 @@ is_stray c k = cond (is_drawn c (version_at c k)) (not (is_own c k)) (c.complete
 abbrev pub ListsMore : Lines → AuditOpts → List Finding → List Finding → List Found → Type 0
 ListsMore log opts before after found =
     (map found_of after ≡ map found_of before ++ found) × (All (HasReason log opts) before → All (HasReason log opts) after)
+    × (All (HasLate log opts) before → All (HasLate log opts) after)

@@ -3,7 +3,7 @@ use Rattle.fdb_lines.specs.Audit.{case_of}
 use Rattle.fdb_lines.specs.Listing.{faults_below}
 use Rattle.fdb_lines.specs.Log.{lines_of}
 use Rattle.fdb_lines.specs.Reasons.{found_of}
-use Rattle.fdb_lines.proofs.judging.first_finding.Given as goal
+use Rattle.fdb_lines.proofs.judging.first_in.Given as goal
 
 abbrev pub invariant-loop-place : goal.invariant-loop-place
 invariant-loop-place l = record {

@@ -7,7 +7,7 @@ use Rattle.fdb_lines.specs.Listing.{faults_at, faults_below, faults_of}
 use Rattle.fdb_lines.specs.Log.{lines_of}
 use Rattle.fdb_lines.specs.Reasons.{found_of}
 use Rattle.fdb_lines.proofs.Listed.{explained_by_first, first_of_all}
-use Rattle.fdb_lines.proofs.judging.first_finding.Goals as goal
+use Rattle.fdb_lines.proofs.judging.first_in.Goals as goal
 
 -- what stands first after one line more
 first_here : (c : Case) (k : ℕ) (before findings : List Finding) (first : Finding) → map found_of before ≡ faults_below c k
@@ -30,7 +30,7 @@ returns-in-Some c =
     let test = c.loop-place-test.true in
     let first = first_here (case_of log opts) c.loop-place.place c.loop-place.findings.items c.add_findings.new.findings.items c.in-Some.first.now c.loop-place.invariant.listed
     c.in_ok-add_findings.ensures.0 (omega arith) (rw c.deref.ensures.value at c.in-Some.ensures.value) in
-    record { first = first; explained = explained_so log opts (Some c.in-Some.first.now) first; reason = search rules }
+    record { first = first; explained = explained_so log opts (Some c.in-Some.first.now) first; reason = search rules; late = search rules }
 
 pub returns-clause-explained : goal.returns-clause-explained
 returns-clause-explained c =
