@@ -14,7 +14,6 @@ pub mod Listed
 pub mod Reasoning
 pub mod Tallies
 pub mod Paired
-pub mod Gathered
 pub mod Entries
 pub mod Knowing
 pub mod Hearing

@@ -18,62 +18,26 @@ use crate::nears::Nears;
 use crate::reason::{Means, Witness};
 use crate::seen::{Seen, counts};
 use std::alloc::{AllocError, Global};
-use std::thread::{Threads, join};
 
 /// By time: for each line the newest of the lines before it that let their versions be known, if
-/// there are some. `n log n` in how many lines there are.
+/// there are some, by the table of all and that of each client's own. Each search is logarithmic.
 pub(crate) fn known_by_time(
     alloc: Global,
     lines: &[Line],
     margin: u64,
     seen: Seen,
     ends: &Ends,
+    own: &Ends,
 ) -> Result<Vec<Option<Witness>>, AllocError>
     requires few { length lines.now ≤ 4294967295 }
-    requires settled { AreSettled ends.now }
+    requires settled { AreSettled ends.now × AreSettled own.now }
     requires ends { AreEnds false seen lines.now (length lines.now) ends.now.ends.items }
+    requires own { AreEnds true seen lines.now (length lines.now) own.now.ends.items }
     ensures { IfOk result
         (λ known. AreKnown (by_time margin lines.now) margin seen lines.now known.items) }
 {
     let mut known = known_of_all(alloc, lines, margin, seen, ends)?;
-    let table = table_of(alloc, lines, seen, true)?;
-    add_own(alloc, &table, lines, margin, seen, &mut known)?;
-    Ok(known)
-}
-
-/// The same, by two threads.
-pub(crate) fn known_by_time_by<R: Threads + Sync>(
-    rt: &R,
-    alloc: Global,
-    lines: &[Line],
-    margin: u64,
-    seen: Seen,
-    ends: &Ends,
-) -> Result<Vec<Option<Witness>>, AllocError>
-    requires few { length lines.now ≤ 4294967295 }
-    requires settled { AreSettled ends.now }
-    requires ends { AreEnds false seen lines.now (length lines.now) ends.now.ends.items }
-    ensures { IfOk result
-        (λ known. AreKnown (by_time margin lines.now) margin seen lines.now known.items) }
-{
-    let (known, table) = join(
-        rt,
-        || -> Result<Vec<Option<Witness>>, AllocError>
-            requires { AreSettled ends.now
-                × AreEnds false seen lines.now (length lines.now) ends.now.ends.items }
-            ensures { IfOk result (λ known. AreKnownOf (of_all margin seen lines.entry.now) margin
-                lines.entry.now (length lines.entry.now) known.items) }
-        { known_of_all(alloc, lines, margin, seen, ends) },
-        || -> Result<Ends, AllocError>
-            requires { length lines.now ≤ 4294967295 }
-            ensures settled { IfOk result (λ table. AreSettled table) }
-            ensures ends { IfOk result (λ table. AreEnds true seen lines.entry.now
-                (length lines.entry.now) table.ends.items) }
-        { table_of(alloc, lines, seen, true) },
-    );
-    let mut known = known?;
-    let table = table?;
-    add_own(alloc, &table, lines, margin, seen, &mut known)?;
+    add_own(alloc, own, lines, margin, seen, &mut known)?;
     Ok(known)
 }
 

@@ -8,7 +8,6 @@ mod end;
 mod ended;
 mod ends;
 mod fault;
-mod heard_counts;
 mod judging;
 mod keys;
 mod known;

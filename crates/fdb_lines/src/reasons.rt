@@ -83,9 +83,7 @@ pub(crate) fn stands(
     match fault {
         Fault::Order => line.call.is_read() && version < knows,
         Fault::Wrong => line.call.is_read() && is_wrong(tables, log, opts, place),
-        Fault::NotAbove => {
-            line.call.draws() && version <= knows.max(tables.last(log, opts, place))
-        }
+        Fault::NotAbove => { line.call.draws() && version <= tables.newest(log, opts, place) }
         Fault::Twice => line.call.draws() && tables.is_twice(log, opts, place),
         Fault::Stray => line.call.is_report() && is_stray(tables, log, opts, place),
     }
@@ -154,9 +152,7 @@ fn of_not_above(tables: &Tables, log: &Log, opts: &AuditOpts, place: usize) -> R
     requires stands { stands (case_of (lines_of log.now) opts.now) NotAbove place ≡ true }
     ensures { IsReason (lines_of log.now) opts.now place NotAbove result }
 {
-    let version = tables
-        .knows(log, opts, place)
-        .max(tables.last(log, opts, place));
+    let version = tables.newest(log, opts, place);
     let by = match tables.shown(log, opts, place, version) {
         Some(by) => Some(by),
         None => tables.drawn(log, opts, place, version),

@@ -2,9 +2,10 @@
 //! in order.
 
 ghost use Rattle.std.specs.Prelude.{◌≡◌, ◌+◌, ◌==◌, ◌&&◌, ◌||◌, ℕ, IfOk, OnOk, length};
-ghost use Rattle.std.specs.Prelude.{cond, nat_eq, not};
+ghost use Rattle.std.specs.Prelude.{None, Some, cond, not};
+ghost use Rattle.std.specs.Ordering.{nat_cmp};
 ghost use Rattle.std.specs.Thread.{IsSync};
-ghost use Rattle.std.specs.HashSet.{contains, hash_set_len};
+ghost use Rattle.std.specs.BTreeSet.{contains, btree_set_len};
 ghost use Rattle.fdb_lines.specs.Audit.{case_of};
 ghost use Rattle.fdb_lines.specs.Lines.{is_ask, is_commit, is_learn, is_read, is_report};
 ghost use Rattle.fdb_lines.specs.Lines.{kind_of, version_of};
@@ -17,13 +18,12 @@ use crate::opts::AuditOpts;
 use crate::pairs::{ordered, ordered_by};
 use crate::summed::Summary;
 use std::alloc::{AllocError, Global};
-use std::collections::HashSet;
+use std::collections::BTreeSet;
 use std::thread::{Threads, join};
 
 /// What a verdict on a log stands on: its lines, counted. An error only where memory is refused.
 ///
-/// `n log n` in how many lines there are; without times besides at worst the lines that learn times
-/// the clients.
+/// `n log n` in how many lines there are.
 pub fn summary(alloc: Global, log: &Log, opts: &AuditOpts) -> Result<Summary, AllocError>
     ensures lines { IfOk result (λ it. it.lines ≡ length (lines_of log.now).lines) }
     ensures timed { IfOk result
@@ -37,8 +37,8 @@ pub fn summary(alloc: Global, log: &Log, opts: &AuditOpts) -> Result<Summary, Al
     ensures learns { IfOk result (λ it. it.learns ≡ how_many is_learn (lines_of log.now).lines) }
     ensures unreported { IfOk result
         (λ it. it.unreported ≡ unreported (case_of (lines_of log.now) opts.now)) }
-    ensures ordered { IfOk result
-        (λ it. it.ordered ≡ ordered (case_of (lines_of log.now) opts.now)) }
+    ensures ordered { IfOk result (λ it. it.ordered ≡ cond (lines_of log.now).timed
+        (Some (ordered (case_of (lines_of log.now) opts.now))) None) }
 {
     let unreported = unreported(alloc, log, opts)?;
     let ordered = ordered(alloc, log, opts)?;
@@ -64,8 +64,8 @@ pub fn summary_by<R: Threads + Sync>(
     ensures learns { IfOk result (λ it. it.learns ≡ how_many is_learn (lines_of log.now).lines) }
     ensures unreported { IfOk result
         (λ it. it.unreported ≡ unreported (case_of (lines_of log.now) opts.now)) }
-    ensures ordered { IfOk result
-        (λ it. it.ordered ≡ ordered (case_of (lines_of log.now) opts.now)) }
+    ensures ordered { IfOk result (λ it. it.ordered ≡ cond (lines_of log.now).timed
+        (Some (ordered (case_of (lines_of log.now) opts.now))) None) }
 {
     let (unreported, ordered) = join(
         rt,
@@ -73,17 +73,17 @@ pub fn summary_by<R: Threads + Sync>(
             ensures { IfOk result
                 (λ n. n ≡ unreported (case_of (lines_of log.entry.now) opts.entry.now)) }
         { unreported(alloc, log, opts) },
-        || -> Result<u64, AllocError>
+        || -> Result<Option<u64>, AllocError>
             requires { IsSync R.row }
-            ensures { IfOk result
-                (λ n. n ≡ ordered (case_of (lines_of log.entry.now) opts.entry.now)) }
+            ensures { IfOk result (λ n. n ≡ cond (lines_of log.entry.now).timed
+                (Some (ordered (case_of (lines_of log.entry.now) opts.entry.now))) None) }
         { ordered_by(rt, alloc, log, opts) },
     );
     Ok(counted(log, unreported?, ordered?))
 }
 
 /// The summary of a log, of which two numbers are known.
-fn counted(log: &Log, unreported: u64, ordered: u64) -> Summary
+fn counted(log: &Log, unreported: u64, ordered: Option<u64>) -> Summary
     ensures lines { (result.lines ≡ length (lines_of log.now).lines) }
     ensures timed { (result.timed ≡ cond (lines_of log.now).timed (length (lines_of log.now).lines) 0) }
     ensures reads { (result.reads ≡ how_many is_read (lines_of log.now).lines) }
@@ -117,7 +117,7 @@ fn unreported(alloc: Global, log: &Log, opts: &AuditOpts) -> Result<u64, AllocEr
     ensures { IfOk result (λ n. n ≡ unreported (case_of (lines_of log.now) opts.now)) }
 {
     let lines = log.lines();
-    let mut known = HashSet::new(alloc);
+    let mut known = BTreeSet::new(alloc);
     known.insert(opts.start())?;
     for line in lines {
         add(&mut known, line.call, line.call.reports())?;
@@ -130,11 +130,11 @@ fn unreported(alloc: Global, log: &Log, opts: &AuditOpts) -> Result<u64, AllocEr
 }
 
 /// Adds the version of a call, if it is wanted.
-fn add(versions: &mut HashSet<u64>, call: Call, wanted: bool) -> Result<(), AllocError>
-    ensures versions { OnOk result ((v : ℕ) → contains nat_eq versions.new v
-        ≡ ((wanted && version_of call == v) || contains nat_eq versions.old v)) }
-    ensures more { OnOk result (hash_set_len versions.new ≡ hash_set_len versions.old
-        + cond (wanted && not (contains nat_eq versions.old (version_of call))) 1 0) }
+fn add(versions: &mut BTreeSet<u64>, call: Call, wanted: bool) -> Result<(), AllocError>
+    ensures versions { OnOk result ((v : ℕ) → contains nat_cmp versions.new v
+        ≡ ((wanted && version_of call == v) || contains nat_cmp versions.old v)) }
+    ensures more { OnOk result (btree_set_len versions.new ≡ btree_set_len versions.old
+        + cond (wanted && not (contains nat_cmp versions.old (version_of call))) 1 0) }
 {
     if wanted {
         versions.insert(call.version())?;

@@ -1,6 +1,6 @@
 //! The tables of a log, in which each question of the rule is answered by a search.
 
-ghost use Rattle.std.specs.Prelude.{◌≡◌, ◌<◌, ◌≤◌, IfOk, false, length, true};
+ghost use Rattle.std.specs.Prelude.{◌≡◌, ◌<◌, ◌≤◌, IfOk, None, false, length, max, true};
 ghost use Rattle.fdb_lines.specs.Audit.{case_of};
 ghost use Rattle.fdb_lines.specs.Faults.{is_drawn, is_own, is_raised, is_reported, is_twice, knows};
 ghost use Rattle.fdb_lines.specs.Faults.{last};
@@ -14,10 +14,11 @@ ghost use Rattle.fdb_lines.specs.private.Ends.{AreSettled};
 ghost use Rattle.fdb_lines.specs.private.Known.{of_version, AreEnds};
 ghost use Rattle.std.specs.Thread.{IsSync};
 ghost use Rattle.fdb_lines.specs.private.Marks.{AreMarks};
-ghost use Rattle.fdb_lines.specs.private.Tables.{AreKnownIn, AreTables, IsFoundIn};
+ghost use Rattle.fdb_lines.specs.private.Tables.{has_ask, AreDrawnIn, AreKnownIn, AreTables};
+ghost use Rattle.fdb_lines.specs.private.Tables.{IsFoundIn};
 
 use crate::ends::Ends;
-use crate::known::{by_at, known_by_time, known_by_time_by, table_of, version_by, version_in};
+use crate::known::{by_at, known_by_time, table_of, version_by, version_in};
 use crate::late::{Late, late_by};
 use crate::line::Line;
 use crate::log::Log;
@@ -34,7 +35,8 @@ use std::thread::{Threads, join};
 #[derive(Drop)]
 pub(crate) struct Tables {
     shown: Vec<Option<Witness>>,
-    drawn: Vec<Option<Witness>>,
+    /// None where no line is an ask: all that is drawn is shown then.
+    drawn: Option<Vec<Option<Witness>>>,
     reports: Marks,
     raises: Marks,
     draws: Marks,
@@ -52,9 +54,10 @@ pub(crate) fn tables_of(alloc: Global, log: &Log, opts: &AuditOpts) -> Result<Ta
     let lines = log.lines();
     let start = opts.start();
     let firsts = table_of(alloc, lines, Seen::Shown, false)?;
-    let draws_ended = table_of(alloc, lines, Seen::Drawn, false)?;
-    let shown = known(alloc, log, opts, Seen::Shown, &firsts)?;
-    let drawn = known(alloc, log, opts, Seen::Drawn, &draws_ended)?;
+    let own = table_of(alloc, lines, Seen::Shown, true)?;
+    let shown = known(alloc, log, opts, Seen::Shown, &firsts, &own)?;
+    drop(own);
+    let drawn = known_draws(alloc, log, opts)?;
     let reports = Marks::new(alloc, start, lines, &shown, Sort::Reports)?;
     let raises = Marks::new(alloc, start, lines, &shown, Sort::Raises)?;
     let draws = Marks::new(alloc, start, lines, &shown, Sort::Draws)?;
@@ -84,7 +87,7 @@ pub(crate) fn tables_by<R: Threads + Sync>(
     ensures { IfOk result (λ tables. AreTables (lines_of log.now) opts.now tables) }
 {
     let lines = log.lines();
-    let (firsts, draws_ended) = join(
+    let (firsts, own) = join(
         rt,
         || -> Result<Ends, AllocError>
             requires { length lines.now ≤ 4294967295 }
@@ -95,30 +98,30 @@ pub(crate) fn tables_by<R: Threads + Sync>(
         || -> Result<Ends, AllocError>
             requires { length lines.now ≤ 4294967295 }
             ensures settled { IfOk result (λ table. AreSettled table) }
-            ensures ends { IfOk result (λ table. AreEnds false Drawn lines.entry.now
+            ensures ends { IfOk result (λ table. AreEnds true Shown lines.entry.now
                 (length lines.entry.now) table.ends.items) }
-        { table_of(alloc, lines, Seen::Drawn, false) },
+        { table_of(alloc, lines, Seen::Shown, true) },
     );
     let firsts = firsts?;
-    let draws_ended = draws_ended?;
-    let (shown_ends, drawn_ends) = (&firsts, &draws_ended);
+    let own = own?;
+    let (all_ends, own_ends) = (&firsts, &own);
     let (shown, drawn) = join(
         rt,
         || -> Result<Vec<Option<Witness>>, AllocError>
-            requires { IsSync R.row × AreSettled shown_ends.now
+            requires { AreSettled all_ends.now × AreSettled own_ends.now
                 × AreEnds false Shown (lines_of log.now).lines (length (lines_of log.now).lines)
-                shown_ends.now.ends.items }
+                all_ends.now.ends.items
+                × AreEnds true Shown (lines_of log.now).lines (length (lines_of log.now).lines)
+                own_ends.now.ends.items }
             ensures { IfOk result
                 (λ known. AreKnownIn (lines_of log.entry.now) opts.entry.now Shown known.items) }
-        { known_by(rt, alloc, log, opts, Seen::Shown, shown_ends) },
-        || -> Result<Vec<Option<Witness>>, AllocError>
-            requires { IsSync R.row × AreSettled drawn_ends.now
-                × AreEnds false Drawn (lines_of log.now).lines (length (lines_of log.now).lines)
-                drawn_ends.now.ends.items }
+        { known(alloc, log, opts, Seen::Shown, all_ends, own_ends) },
+        || -> Result<Option<Vec<Option<Witness>>>, AllocError>
             ensures { IfOk result
-                (λ known. AreKnownIn (lines_of log.entry.now) opts.entry.now Drawn known.items) }
-        { known_by(rt, alloc, log, opts, Seen::Drawn, drawn_ends) },
+                (λ drawn. AreDrawnIn (lines_of log.entry.now) opts.entry.now drawn) }
+        { known_draws(alloc, log, opts) },
     );
+    drop(own);
     let shown = shown?;
     let drawn = drawn?;
     let start = opts.start();
@@ -198,38 +201,46 @@ fn known(
     opts: &AuditOpts,
     seen: Seen,
     ends: &Ends,
+    own: &Ends,
 ) -> Result<Vec<Option<Witness>>, AllocError>
-    requires settled { AreSettled ends.now }
+    requires settled { AreSettled ends.now × AreSettled own.now }
     requires ends { let lines = (lines_of log.now).lines in
         AreEnds false seen lines (length lines) ends.now.ends.items }
+    requires own { let lines = (lines_of log.now).lines in
+        AreEnds true seen lines (length lines) own.now.ends.items }
     ensures { IfOk result (λ known. AreKnownIn (lines_of log.now) opts.now seen known.items) }
 {
     if log.is_timed() {
-        known_by_time(alloc, log.lines(), opts.margin, seen, ends)
+        known_by_time(alloc, log.lines(), opts.margin, seen, ends, own)
     } else {
         known_by_telling(alloc, log.lines(), seen)
     }
 }
 
-/// The same, by two threads.
-fn known_by<R: Threads + Sync>(
-    rt: &R,
+/// For each line the newest of the lines before it that draw a version; none where no line is an
+/// ask.
+fn known_draws(
     alloc: Global,
     log: &Log,
     opts: &AuditOpts,
-    seen: Seen,
-    ends: &Ends,
-) -> Result<Vec<Option<Witness>>, AllocError>
-    requires settled { AreSettled ends.now }
-    requires ends { let lines = (lines_of log.now).lines in
-        AreEnds false seen lines (length lines) ends.now.ends.items }
-    ensures { IfOk result (λ known. AreKnownIn (lines_of log.now) opts.now seen known.items) }
+) -> Result<Option<Vec<Option<Witness>>>, AllocError>
+    ensures { IfOk result (λ drawn. AreDrawnIn (lines_of log.now) opts.now drawn) }
 {
-    if log.is_timed() {
-        known_by_time_by(rt, alloc, log.lines(), opts.margin, seen, ends)
-    } else {
-        known_by_telling(alloc, log.lines(), seen)
+    let lines = log.lines();
+    if !has_ask(lines) {
+        return Ok(None);
     }
+    let ends = table_of(alloc, lines, Seen::Drawn, false)?;
+    let own = table_of(alloc, lines, Seen::Drawn, true)?;
+    let drawn = known(alloc, log, opts, Seen::Drawn, &ends, &own)?;
+    Ok(Some(drawn))
+}
+
+/// Whether a line is an ask.
+fn has_ask(lines: &[Line]) -> bool
+    ensures { result ≡ has_ask lines.now }
+{
+    lines.iter().any(|line| line.call.is_ask())
 }
 
 impl Tables {
@@ -242,13 +253,18 @@ impl Tables {
         knows_at(opts.start(), log.lines(), &self.shown, place)
     }
 
-    /// The newest version that was drawn before the call at a place.
-    pub(crate) fn last(&self, log: &Log, opts: &AuditOpts, place: usize) -> u64
+    /// The newest version that was shown or drawn before the call at a place.
+    pub(crate) fn newest(&self, log: &Log, opts: &AuditOpts, place: usize) -> u64
         requires tables { AreTables (lines_of log.now) opts.now self.now }
         requires place { place < length (lines_of log.now).lines }
-        ensures { result ≡ last (case_of (lines_of log.now) opts.now) place }
+        ensures { let c = case_of (lines_of log.now) opts.now in
+            result ≡ max (knows c place) (last c place) }
     {
-        version_by(log.lines(), by_at(&self.drawn, place))
+        let knows = self.knows(log, opts, place);
+        match &self.drawn {
+            Some(drawn) => knows.max(version_by(log.lines(), by_at(drawn, place))),
+            None => knows,
+        }
     }
 
     /// The line by which the call at a place knew that a version had been shown, where that is as
@@ -268,7 +284,7 @@ impl Tables {
         of_version(log.lines(), version, by_at(&self.shown, place))
     }
 
-    /// The same, of versions that were drawn.
+    /// The same, of versions that were drawn, where the call did not know that it had been shown.
     pub(crate) fn drawn(
         &self,
         log: &Log,
@@ -279,9 +295,11 @@ impl Tables {
         requires tables { AreTables (lines_of log.now) opts.now self.now }
         requires place { place < length (lines_of log.now).lines }
         requires newest { last (case_of (lines_of log.now) opts.now) place ≤ version }
+        requires unseen { IsFoundIn (lines_of log.now) opts.now Shown place version None }
         ensures { IsFoundIn (lines_of log.now) opts.now Drawn place version result }
     {
-        of_version(log.lines(), version, by_at(&self.drawn, place))
+        let drawn = self.drawn.as_ref()?;
+        of_version(log.lines(), version, by_at(drawn, place))
     }
 
     /// By how much the read at a place is late. Logarithmic.

@@ -1,9 +1,7 @@
 use Rattle.fdb_lines.specs.declared.seen.Seen.TheVariants.{Drawn}
 use Rattle.fdb_lines.specs.Log.{lines_of}
-use Rattle.fdb_lines.proofs.Reasoning.{known_is}
+use Rattle.fdb_lines.proofs.Reasoning.{known_is, unseen_undrawn}
 use Rattle.fdb_lines.proofs.tables.Tables.drawn.Goals as goal
 
 pub returns : goal.returns
-returns c =
-    rw (c.of_version.ensures, c.by_at.ensures, c.lines.ensures, c.deref.ensures.value)
-    (known_is (lines_of c.args.log.now) c.args.opts.now Drawn _ c.args.place c.args.version c.requires.tables.drawn c.requires.place c.requires.newest)
+returns c = search rules
