@@ -1,6 +1,7 @@
 //! How many pairs of lines are in order.
 
-ghost use Rattle.std.specs.Prelude.{◌≡◌, ◌+◌, ◌-◌, ◌*◌, ◌<◌, ◌≤◌, None, Some, IfOk, cond, length};
+ghost use Rattle.std.specs.Prelude.{◌≡◌, ◌+◌, ◌-◌, ◌*◌, ◌<◌, ◌≤◌, false, true, None, Some};
+ghost use Rattle.std.specs.Prelude.{IfOk, cond, length};
 ghost use Rattle.fdb_lines.specs.Audit.{case_of};
 ghost use Rattle.fdb_lines.specs.Before.{by_time};
 ghost use Rattle.fdb_lines.specs.Log.{lines_of};

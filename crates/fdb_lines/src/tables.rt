@@ -298,8 +298,10 @@ impl Tables {
         requires unseen { IsFoundIn (lines_of log.now) opts.now Shown place version None }
         ensures { IsFoundIn (lines_of log.now) opts.now Drawn place version result }
     {
-        let drawn = self.drawn.as_ref()?;
-        of_version(log.lines(), version, by_at(drawn, place))
+        match &self.drawn {
+            Some(drawn) => of_version(log.lines(), version, by_at(drawn, place)),
+            None => None,
+        }
     }
 
     /// By how much the read at a place is late. Logarithmic.
