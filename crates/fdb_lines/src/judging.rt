@@ -115,7 +115,7 @@ pub fn first_finding_by<R: Threads + Sync>(
 }
 
 /// The first fault of a log, by its tables.
-fn first_in(
+pub(crate) fn first_in(
     alloc: Global,
     tables: &Tables,
     log: &Log,
