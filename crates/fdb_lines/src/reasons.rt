@@ -83,7 +83,7 @@ pub(crate) fn stands(
     match fault {
         Fault::Order => line.call.is_read() && version < knows,
         Fault::Wrong => line.call.is_read() && is_wrong(tables, log, opts, place),
-        Fault::NotAbove => { line.call.draws() && version <= tables.newest(log, opts, place) }
+        Fault::NotAbove => line.call.draws() && version <= tables.newest(log, opts, place),
         Fault::Twice => line.call.draws() && tables.is_twice(log, opts, place),
         Fault::Stray => line.call.is_report() && is_stray(tables, log, opts, place),
     }

@@ -1,5 +1,5 @@
 -- The tables of a log.
-use Rattle.std.specs.Prelude.{◌≡◌, ℕ, ◌++◌, ◌==◌, ◌&&◌, ◌||◌, not, nat_le, Bool, true, false, cond, List, Option, None, Some, Vec, length, map}
+use Rattle.std.specs.Prelude.{◌≡◌, ℕ, ◌++◌, ◌∷◌, ◌==◌, ◌&&◌, ◌||◌, not, nat_le, Bool, true, false, cond, List, Option, None, Some, Vec, length, map}
 use Rattle.std.specs.declared.alloc.Global.{Global}
 use Rattle.std.specs.List.{All, list_any}
 use Rattle.fdb_lines.specs.declared.fault.Fault.{Fault}
@@ -21,6 +21,7 @@ use Rattle.fdb_lines.specs.Before.{comes_before}
 use Rattle.fdb_lines.specs.Faults.{is_drawn, is_own, is_raised, is_reported, stands}
 use Rattle.fdb_lines.specs.Late.{HasLate}
 use Rattle.fdb_lines.specs.Lines.{Case, Lines, is_ask, kind_of, version_at}
+use Rattle.fdb_lines.specs.Listing.{faults_below}
 use Rattle.fdb_lines.specs.Reasons.{found_of, HasReason, IsReason}
 use Rattle.fdb_lines.specs.private.Ends.{AreSettled}
 use Rattle.fdb_lines.specs.private.Known.{AreEnds, AreKnown, IsFound}
@@ -72,6 +73,11 @@ is_wrong c v = not (v == c.start) && (not (is_raised c v) && (c.complete || is_r
 -- whether others drew the version of a line, or nobody can have drawn it
 abbrev pub is_stray : Case → ℕ → Bool
 is_stray c k = cond (is_drawn c (version_at c k)) (not (is_own c k)) (c.complete || nat_le (version_at c k) c.start)
+
+-- the first of the faults at the lines from one place on and before another; none where there is none
+abbrev pub IsFirstBetween : Case → ℕ → ℕ → Option Found → Type 0
+IsFirstBetween c from to None = faults_below c to ≡ faults_below c from
+IsFirstBetween c from to (Some first) = (rest : List Found) × (faults_below c to ≡ faults_below c from ++ first ∷ rest)
 
 -- some findings, and these faults with why they stand
 abbrev pub ListsMore : Lines → AuditOpts → List Finding → List Finding → List Found → Type 0
