@@ -5,6 +5,7 @@ mod act;
 mod alarm;
 mod carrying;
 mod end;
+mod end_times;
 mod ended;
 mod ends;
 mod fault;

@@ -1,13 +1,14 @@
 //! How many pairs of lines are in order.
 
-ghost use Rattle.std.specs.Prelude.{◌≡◌, ◌+◌, ◌-◌, ◌*◌, ◌<◌, ◌≤◌, false, true, None, Some};
+ghost use Rattle.std.specs.Prelude.{◌≡◌, ◌+◌, ◌-◌, ◌*◌, ◌<◌, ◌≤◌, None, Some};
 ghost use Rattle.std.specs.Prelude.{IfOk, cond, length};
 ghost use Rattle.fdb_lines.specs.Audit.{case_of};
 ghost use Rattle.fdb_lines.specs.Before.{by_time};
 ghost use Rattle.fdb_lines.specs.Log.{lines_of};
 ghost use Rattle.fdb_lines.specs.Summary.{ordered, pairs, tally};
-ghost use Rattle.fdb_lines.specs.private.Ended.{HasEnds, pairs_below};
+ghost use Rattle.fdb_lines.specs.private.Ended.{HasEnds, HasTimes, pairs_below};
 
+use crate::end_times::EndTimes;
 use crate::ended::Ended;
 use crate::line::Line;
 use crate::log::Log;
@@ -50,8 +51,8 @@ fn pairs_by_time(alloc: Global, lines: &[Line], margin: u64) -> Result<u64, Allo
     requires { length lines.now ≤ 4294967295 }
     ensures { IfOk result (λ n. n ≡ pairs (by_time margin lines.now) (length lines.now)) }
 {
-    let all = Ended::new(alloc, lines, false)?;
-    let own = Ended::new(alloc, lines, true)?;
+    let all = EndTimes::new(alloc, lines)?;
+    let own = Ended::new(alloc, lines)?;
     let pairs = pairs_among(alloc, &all, &own, lines, margin, 0, lines.len())?;
     Ok(pairs)
 }
@@ -68,16 +69,15 @@ fn pairs_by_time_by<R: Threads + Sync>(
 {
     let (all, own) = join(
         rt,
+        || -> Result<EndTimes, AllocError>
+            ensures { IfOk result (λ ended. HasTimes lines.entry.now (length lines.entry.now)
+                ended.times.items) }
+        { EndTimes::new(alloc, lines) },
         || -> Result<Ended, AllocError>
             requires { length lines.now ≤ 4294967295 }
-            ensures { IfOk result (λ ended. HasEnds false lines.entry.now (length lines.entry.now)
+            ensures { IfOk result (λ ended. HasEnds lines.entry.now (length lines.entry.now)
                 ended.ends.items) }
-        { Ended::new(alloc, lines, false) },
-        || -> Result<Ended, AllocError>
-            requires { length lines.now ≤ 4294967295 }
-            ensures { IfOk result (λ ended. HasEnds true lines.entry.now (length lines.entry.now)
-                ended.ends.items) }
-        { Ended::new(alloc, lines, true) },
+        { Ended::new(alloc, lines) },
     );
     let all = all?;
     let own = own?;
@@ -87,16 +87,16 @@ fn pairs_by_time_by<R: Threads + Sync>(
         rt,
         || -> Result<u64, AllocError>
             requires { (length lines.now ≤ 4294967295) × (half ≤ length lines.now)
-                × HasEnds false lines.now (length lines.now) all.now.ends.items
-                × HasEnds true lines.now (length lines.now) own.now.ends.items }
+                × HasTimes lines.now (length lines.now) all.now.times.items
+                × HasEnds lines.now (length lines.now) own.now.ends.items }
             ensures sum { IfOk result (λ n. n
                 ≡ pairs_below (by_time margin lines.entry.now) (length lines.entry.now) half) }
             ensures fit { IfOk result (λ n. n ≤ half * 4294967295) }
         { pairs_among(alloc, all, own, lines, margin, 0, half) },
         || -> Result<u64, AllocError>
             requires { (length lines.now ≤ 4294967295) × (half ≤ length lines.now)
-                × HasEnds false lines.now (length lines.now) all.now.ends.items
-                × HasEnds true lines.now (length lines.now) own.now.ends.items }
+                × HasTimes lines.now (length lines.now) all.now.times.items
+                × HasEnds lines.now (length lines.now) own.now.ends.items }
             ensures sum { IfOk result (λ n. n + pairs_below (by_time margin lines.entry.now)
                 (length lines.entry.now) half
                 ≡ pairs (by_time margin lines.entry.now) (length lines.entry.now)) }
@@ -112,7 +112,7 @@ fn pairs_by_time_by<R: Threads + Sync>(
 #[tactic(auto, using(crate::proofs::Tallies::tally_most))]
 fn pairs_among(
     alloc: Global,
-    all: &Ended,
+    all: &EndTimes,
     own: &Ended,
     lines: &[Line],
     margin: u64,
@@ -120,18 +120,17 @@ fn pairs_among(
     to: usize,
 ) -> Result<u64, AllocError>
     requires few { length lines.now ≤ 4294967295 }
-    requires all { HasEnds false lines.now (length lines.now) all.now.ends.items }
-    requires own { HasEnds true lines.now (length lines.now) own.now.ends.items }
+    requires all { HasTimes lines.now (length lines.now) all.now.times.items }
+    requires own { HasEnds lines.now (length lines.now) own.now.ends.items }
     requires range { (from ≤ to) × (to ≤ length lines.now) }
     ensures sum { IfOk result (λ n. n + pairs_below (by_time margin lines.now) (length lines.now) from
         ≡ pairs_below (by_time margin lines.now) (length lines.now) to) }
     ensures fit { IfOk result (λ n. n ≤ (to - from) * 4294967295) }
 {
-    let mut near = 0;
     let mut nears = Nears::new(alloc, lines.len())?;
     let mut pairs: u64 = 0;
     for place in from..to {
-        pairs += before(all, own, lines, place, margin, &mut near, &mut nears);
+        pairs += before(all, own, lines, place, margin, &mut nears);
     }
     Ok(pairs)
 }
@@ -139,24 +138,23 @@ fn pairs_among(
 /// How many lines come before the one at a place: all that had ended by more than the margin, and
 /// its client's own that had ended, of which `twice` are among both.
 fn before(
-    all: &Ended,
+    all: &EndTimes,
     own: &Ended,
     lines: &[Line],
     place: usize,
     margin: u64,
-    near: &mut usize,
     nears: &mut Nears,
 ) -> u64
     requires few { length lines.now ≤ 4294967295 }
     requires place { place < length lines.now }
-    requires all { HasEnds false lines.now (length lines.now) all.now.ends.items }
-    requires own { HasEnds true lines.now (length lines.now) own.now.ends.items }
+    requires all { HasTimes lines.now (length lines.now) all.now.times.items }
+    requires own { HasEnds lines.now (length lines.now) own.now.ends.items }
     ensures { result ≡ tally (λ j. by_time margin lines.now j place) (length lines.now) }
 {
     let line = &lines[place];
     let began = line.began();
     let bound = began.saturating_sub(margin);
-    let earlier = all.before(Some(0), bound, 0, near);
+    let earlier = all.before(bound);
     let near = nears.of(line.client.unwrap_or(0));
     let known = own.before(line.client, began, place as u32, near);
     let twice = own.before(line.client, bound, 0, near);
