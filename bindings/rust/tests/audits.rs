@@ -58,7 +58,7 @@ fn bytes_and_lines_agree() {
     let (mut drawn, mut counts) = (Drawn(5), [0; 2]);
     for _ in 0..3000 {
         let (has_times, mut lines) = (drawn.below(2) == 0, Vec::new());
-        for _ in 0..drawn.below(12) {
+        for _ in 0..=drawn.below(11) {
             let line = drawn.line(has_times, &lines);
             lines.push(line);
         }

@@ -5,8 +5,8 @@ ghost use Rattle.fdb_c.specs.Audit.{IsRefusal, complete_of, member_of, number_of
 ghost use Rattle.fdb_c.specs.Audit.{refused_of, status_of, wanted_of};
 
 use crate::status::{
-    FDB_BAD_MEMBER, FDB_EMPTY, FDB_MEMORY, FDB_NO_CALL, FDB_NOT_JSON, FDB_SOME_TIMES,
-    FDB_TOO_LONG, FDB_TOO_MANY, FDB_TWO_CALLS,
+    FDB_BAD_MEMBER, FDB_EMPTY, FDB_MEMORY, FDB_NO_CALL, FDB_NOT_JSON, FDB_SOME_TIMES, FDB_TOO_LONG,
+    FDB_TOO_MANY, FDB_TWO_CALLS,
 };
 use fdb_audit::Wanted;
 use fdb_lines::AuditOpts;
