@@ -1,13 +1,14 @@
 //! From a log to what is said of it.
 
-ghost use Rattle.std.specs.Prelude.{◌≡◌, ◌⊎◌, ◌↔◌, IfOk, IfErr, IfSome, Err, None, map, option_map, slice_get, string_bytes};
+ghost use Rattle.std.specs.Prelude.{◌≡◌, ◌⊎◌, ◌↔◌, IfOk, IfErr, IfSome, Err, None, map};
+ghost use Rattle.std.specs.Prelude.{option_map, slice_get, string_bytes};
 ghost use Rattle.std.specs.Thread.{IsSync};
 ghost use Rattle.fdb_lines.specs.Listing.{faults_of};
 ghost use Rattle.fdb_lines.specs.Reasons.{found_of, HasReason};
-ghost use Rattle.json.specs.Print.{quoted};
 ghost use Rattle.fdb_lines.specs.Audit.{AreExplained, case_of};
 ghost use Rattle.fdb_lines.specs.Log.{lines_of};
 ghost use Rattle.fdb_log_reader.specs.Names.{names_of};
+ghost use Rattle.fdb_log_reader.specs.Printed.{printed};
 ghost use Rattle.fdb_log_reader.specs.Reading.{reading_in};
 ghost use Rattle.fdb_audit.specs.Judged.{IsJudgement, IsSummary, IsText};
 
@@ -120,8 +121,9 @@ pub fn judge_by<R: Threads + Sync>(
     }
 }
 
-/// Audits the log that a text of JSON Lines stands for. Its clients are printed as JSON strings. It
-/// is refused as [`read_log`] refuses it; an error of memory says nothing of the text.
+/// Audits the log that a text of JSON Lines stands for. Its clients are printed as JSON strings, as
+/// [`fdb_log_reader::Names::printed`] has them. It is refused as [`read_log`] refuses it; an error
+/// of memory says nothing of the text.
 ///
 /// `n log n` in how many lines there are, and linear in the text and in what is printed.
 pub fn judge_text(
@@ -150,10 +152,10 @@ pub(crate) fn judge_named(
     wanted: Wanted,
 ) -> Result<Judgement, AllocError>
     ensures { IfOk result (λ found. IsText (lines_of named.now.log)
-        (map quoted (names_of named.now.names)) opts.now wanted
+        (map printed (names_of named.now.names)) opts.now wanted
         found.fault (string_bytes found.text)) }
 {
-    let names = named.names.quoted(alloc)?;
+    let names = named.names.printed(alloc)?;
     judge(alloc, &named.log, &names, opts, wanted)
 }
 
@@ -166,10 +168,10 @@ pub(crate) fn judge_named_by<R: Threads + Sync>(
     wanted: Wanted,
 ) -> Result<Judgement, AllocError>
     ensures { IfOk result (λ found. IsText (lines_of named.now.log)
-        (map quoted (names_of named.now.names)) opts.now wanted
+        (map printed (names_of named.now.names)) opts.now wanted
         found.fault (string_bytes found.text)) }
 {
-    let names = named.names.quoted(alloc)?;
+    let names = named.names.printed(alloc)?;
     judge_by(rt, alloc, &named.log, &names, opts, wanted)
 }
 

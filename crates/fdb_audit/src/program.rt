@@ -28,7 +28,7 @@ pub const MAX_LOG_BYTES: u64 = 4_503_603_921_289_215;
 /// What the help ends with: the statuses, and where a log's format is told.
 const AFTER_HELP: &str = "Exit status:
   0  no fault was found, or this is the help
-  1  the log is refused: TooLong, TooMany, NotJson, NoCall, TwoCalls, SomeTimes or BadMember
+  1  the log is refused: Empty, TooLong, TooMany, NotJson, NoCall, TwoCalls, SomeTimes or BadMember
   2  the words are refused
   3  want of memory
   4  the audit found a fault

@@ -1,5 +1,5 @@
 pub mod Naming
 pub mod Splitting
-pub mod Quoting
+pub mod Escapes
 pub mod Scanned
 pub mod UsualForm

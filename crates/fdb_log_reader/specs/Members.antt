@@ -10,7 +10,7 @@ use Rattle.fdb_log_reader.specs.declared.error.Why.{Why}
 use Rattle.fdb_log_reader.specs.declared.error.Why.TheVariants.{NoCall, TwoCalls, BadMember}
 use Rattle.fdb_log_reader.specs.declared.member.Member.{Member}
 use Rattle.fdb_log_reader.specs.declared.member.Member.TheVariants.{Client, Read, Commit, Ask, Report, Learn, Began, Ended}
-use Rattle.fdb_log_reader.specs.Names.{number_in}
+use Rattle.fdb_log_reader.specs.Numbers.{number_in}
 
 abbrev pub name_of : Member → List ℕ
 name_of Client = codes "client"

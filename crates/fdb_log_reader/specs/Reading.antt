@@ -12,13 +12,14 @@ use Rattle.fdb_lines.specs.Lines.{Lines}
 use Rattle.fdb_lines.specs.Log.{added, lines_of, refusal_of}
 use Rattle.fdb_log_reader.specs.declared.error.ReadError.{ReadError}
 use Rattle.fdb_log_reader.specs.declared.error.Why.{Why}
-use Rattle.fdb_log_reader.specs.declared.error.Why.TheVariants.{TooLong, TooMany, NotJson, SomeTimes, BadMember, Memory}
+use Rattle.fdb_log_reader.specs.declared.error.Why.TheVariants.{Empty, TooLong, TooMany, NotJson, SomeTimes, BadMember, Memory}
 use Rattle.fdb_log_reader.specs.declared.member.Member.{Member}
 use Rattle.fdb_log_reader.specs.declared.member.Member.TheVariants.{Client, Learn}
 use Rattle.fdb_log_reader.specs.declared.named_log.NamedLog.{NamedLog}
 use Rattle.fdb_log_reader.specs.declared.reader.TheConstants.{MAX_LINE_BYTES}
 use Rattle.fdb_log_reader.specs.Members.{and_then, call_of, client_of, member_of, times_of}
-use Rattle.fdb_log_reader.specs.Names.{client_in, names_of, with_client}
+use Rattle.fdb_log_reader.specs.Names.{names_of}
+use Rattle.fdb_log_reader.specs.Numbers.{client_in, with_client}
 
 -- ---- the lines of a text, which line feeds end
 
@@ -92,16 +93,20 @@ abbrev pub or_refused : ℕ → Result Reading Why → (Reading → Result Readi
 or_refused line (Ok reading) next = next reading
 or_refused line (Err why) next = Err (record { line = line; why = why })
 
--- what has been read with these lines more, or the first that is refused, counted from 1
+-- what a text stands for that ends here: one without a line stands for no log
+abbrev pub at_end : Reading → Result Reading ReadError
+at_end reading = if length reading.log.lines == 0 then Err (record { line = 0; why = Empty }) else Ok reading
+
+-- what a text stands for that has these lines more, or the first that is refused, counted from 1
 abbrev pub with_lines : Reading → List (List ℕ) → Result Reading ReadError
-with_lines reading [] = Ok reading
+with_lines reading [] = at_end reading
 with_lines reading (line ∷ lines) =
     or_refused (length reading.log.lines + 1) (with_line reading line) (λ more. with_lines more lines)
 
 abbrev pub nothing : Reading
 nothing = record { log = record { timed = false; lines = [] }; names = [] }
 
--- what a text stands for: what has been read with all its lines, or the first that is refused
+-- what a text stands for: what is read of all its lines, of which it needs one, or the first that is refused
 abbrev pub reading_in : List ℕ → Result Reading ReadError
 reading_in bytes = with_lines nothing (lines_in bytes)
 

@@ -10,6 +10,7 @@ mod member;
 mod named_log;
 mod names;
 mod parsing;
+mod printing;
 mod reader;
 mod said;
 mod scanning;

@@ -2,7 +2,8 @@
 
 ghost use Rattle.std.specs.Prelude.{◌≡◌, ◌⊎◌, ◌≤◌, ◌<◌, Err, Ok, IfOk, MatchResult, OnOk, length};
 ghost use Rattle.std.specs.Prelude.{option_map};
-ghost use Rattle.fdb_log_reader.specs.Names.{client_in, names_of, with_client};
+ghost use Rattle.fdb_log_reader.specs.Names.{names_of};
+ghost use Rattle.fdb_log_reader.specs.Numbers.{client_in, with_client};
 ghost use Rattle.fdb_log_reader.specs.Reading.{reading_of, with_line, with_said};
 ghost use Rattle.fdb_log_reader.specs.private.{HasRoom};
 
@@ -79,12 +80,6 @@ fn add_client(
     let Some(name) = name else {
         return Ok(None);
     };
-    if let Some(number) = names.number(name) {
-        return Ok(Some(number as u32));
-    }
-    names.add(alloc, name)?;
-    match names.number(name) {
-        Some(number) => Ok(Some(number as u32)),
-        None => Ok(None),
-    }
+    let number = names.add(alloc, name)?;
+    Ok(Some(number as u32))
 }

@@ -67,16 +67,30 @@ impl LogReader {
         self.keep(rest)
     }
 
-    /// The log, where the text ends here, with or without a last line feed.
+    /// The log, where the text ends here, with or without a last line feed. It is refused as `Empty`
+    /// where the text had no line.
     #[tactic(auto, using(crate::proofs::Splitting::fed_last))]
     pub fn finish(self) -> Result<NamedLog, ReadError>
         ensures { StandsFor result (reads_on self []) }
     {
         if self.front.is_empty() {
-            return Ok(self.named);
+            return self.at_end();
         }
-        let ended = self.end_line()?;
-        Ok(ended.named)
+        self.end_line()?.at_end()
+    }
+
+    /// The log, where the text ends here behind a line feed or has no line.
+    fn at_end(self) -> Result<NamedLog, ReadError>
+        requires { self.front.items ≡ [] }
+        ensures { StandsFor result (reads_on self []) }
+    {
+        if self.named.log.lines().is_empty() {
+            return Err(ReadError {
+                line: 0,
+                why: Why::Empty,
+            });
+        }
+        Ok(self.named)
     }
 
     /// Reads a line whose end has come.
@@ -174,7 +188,7 @@ fn split_line(bytes: &[u8]) -> Option<(&[u8], &[u8])>
 }
 
 /// The log that a text of JSON Lines stands for. An error names the first line that is refused, or
-/// says that memory was refused.
+/// says that there is no line, or that memory was refused.
 ///
 /// Linear in the bytes, but for the members of a line, which are sorted. Beside the log and the
 /// names it takes the memory of one line.
