@@ -18,7 +18,7 @@ use Rattle.fdb_audit.specs.Text.{finding_text, history_lines, line, listing_text
 use Rattle.fdb_audit.specs.declared.judging.Wanted.{Wanted}
 
 -- the counts of a verdict: the lines in all and of each kind, the versions that no line reports, and the pairs of lines
--- in order
+-- in order, where these have times
 pub record IsSummary (log : Lines) (opts : AuditOpts) (counts : Summary) : Type 0 where
   pub lines : counts.lines ≡ length log.lines
   pub timed : counts.timed ≡ cond log.timed (length log.lines) 0
@@ -28,7 +28,7 @@ pub record IsSummary (log : Lines) (opts : AuditOpts) (counts : Summary) : Type 
   pub reports : counts.reports ≡ how_many is_report log.lines
   pub learns : counts.learns ≡ how_many is_learn log.lines
   pub unreported : counts.unreported ≡ unreported (case_of log opts)
-  pub ordered : counts.ordered ≡ ordered (case_of log opts)
+  pub ordered : counts.ordered ≡ cond log.timed (Some (ordered (case_of log opts))) None
 
 -- the turns are an order that explains the lines
 abbrev pub IsOrder : Lines → AuditOpts → List Turn → Type 0
