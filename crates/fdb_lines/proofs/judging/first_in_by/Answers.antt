@@ -1,4 +1,4 @@
-use Rattle.std.proofs.Common.{◌/◌, ◌≤◌, Some, option_map, length, arith, rules}
+use Rattle.std.proofs.Common.{◌/◌, Some, option_map, length, arith, rules}
 use Rattle.std.proofs.lemmas.Result.{IfOk-at_ok}
 use Rattle.fdb_lines.specs.Audit.{case_of}
 use Rattle.fdb_lines.specs.Log.{lines_of}
