@@ -1,10 +1,10 @@
 -- A name that is printed is read back: behind its opening quote stands what stands for the name.
-use Rattle.std.proofs.Common.{◌≡◌, ℕ, zero, suc, ◌+◌, ◌-◌, ◌*◌, ◌/◌, ◌%◌, ◌<◌, ◌≤◌, nat_lt, ◌==◌, Bool, true, false, cond, ◌&&◌, ◌||◌, List, [], ◌∷◌, ◌++◌, map, length, drop, get_or, flat_map, Option, None, Some, IsUtf8, option_and_then, string_bytes, refl, ap, ap₂, sym, ◌∙◌, subst, inl, inr, ◌⊎◌, arith, append_assoc, append-nil, leb-true, if◌then◌else◌}
-use Rattle.std.proofs.lemmas.Bool.{and_parts, and_left, cases_eq, cases_lt, eqb-true, le-ltb, lt-leb, lt-ltb, ltb-true, ne_eqb, or_cases}
+use Rattle.std.proofs.Common.{◌≡◌, ℕ, zero, suc, ◌+◌, ◌*◌, ◌/◌, ◌%◌, ◌<◌, ◌≤◌, nat_lt, ◌==◌, Bool, true, false, cond, ◌&&◌, ◌||◌, List, [], ◌∷◌, ◌++◌, map, length, get_or, flat_map, Option, None, Some, IsUtf8, option_and_then, string_bytes, refl, ap, ap₂, sym, ◌∙◌, subst, inl, inr, ◌⊎◌, arith, append_assoc, append-nil, leb-true, if◌then◌else◌}
+use Rattle.std.proofs.lemmas.Bool.{and_parts, and_left, cases_eq, cases_lt, eqb-true, le-ltb, lt-leb, lt-ltb, ne_eqb, or_cases}
 use Rattle.std.proofs.lemmas.List.Concat.{flat_map-append}
 use Rattle.std.proofs.lemmas.Slice.Eq.{bytes_eq-Decides}
 use Rattle.std.proofs.lemmas.Str.{IsUtf8-append, IsUtf8-encode, IsUtf8-nil, IsUtf8-string_bytes, chars-append, chars_past_char, digit_value-digit_char, encode_ascii, inside_one}
-use Rattle.std.specs.Char.{digit_char, digit_value, encode_utf8, is_control, is_digit}
+use Rattle.std.specs.Char.{digit_char, digit_value, encode_utf8, is_digit}
 use Rattle.std.specs.Char.Escape.{hex_digit_at}
 use Rattle.std.specs.Int.{is_in_range}
 use Rattle.std.specs.Prelude.{String}
@@ -13,9 +13,9 @@ use Rattle.std.specs.declared.alloc.Global.{Global}
 use lib.Utf8.{encode, encodes, scalar, scalars}
 use Rattle.json.proofs.Printed.Strings.{escape_byte_plain}
 use Rattle.json.proofs.Printed.Utf8.{IsUtf8-are_ascii, are_ascii}
-use Rattle.json.specs.Print.{escape, escape_byte, quoted}
+use Rattle.json.specs.Print.{escape, escape_byte}
 use Rattle.json.specs.Text.{after_high, code_unit, content, is_high_surrogate, is_low_surrogate, plain, prepend, short_escape}
-use Rattle.fdb_log_reader.specs.Printed.{escaped, is_bidi_control, is_separator, is_unprintable, printed, read_back, shown}
+use Rattle.fdb_log_reader.specs.Printed.{escaped, is_unprintable, printed, read_back, shown}
 
 -- ---- the escape of a character is read as the character
 

@@ -1,6 +1,5 @@
-use Rattle.std.proofs.Common.{◌≡◌, ◌∙◌, List, [], ◌∷◌, Some, ap, map, refl, rules, string_bytes, sym, take}
+use Rattle.std.proofs.Common.{◌≡◌, ◌∙◌, List, [], ◌∷◌, ap, map, refl, rules, string_bytes, take}
 use Rattle.std.proofs.lemmas.List.{take_all}
-use Rattle.fdb_log_reader.specs.Names.{names_of}
 use Rattle.fdb_log_reader.specs.Printed.{printed, read_back}
 use Rattle.fdb_log_reader.proofs.ReadsBack.{names_back}
 use Rattle.fdb_log_reader.proofs.names.Names.printed.Goals as goal
