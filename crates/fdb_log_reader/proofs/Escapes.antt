@@ -1,12 +1,12 @@
 -- The escape of a character, as a hole of four hex digits writes it.
-use Rattle.std.proofs.Common.{◌≡◌, ℕ, zero, suc, ◌+◌, ◌-◌, ◌<◌, ◌≤◌, ◌^◌, ◌&&◌, ◌||◌, Bool, true, false, List, [], ◌++◌, codes, refl, sym, subst, inl, inr, arith, leb-true, eqb-true}
+use Rattle.std.proofs.Common.{◌≡◌, ℕ, zero, suc, ◌+◌, ◌-◌, ◌<◌, ◌≤◌, ◌^◌, ◌&&◌, Bool, true, false, List, [], ◌++◌, codes, refl, sym, subst, inl, inr, arith, leb-true, eqb-true}
 use Rattle.std.proofs.lemmas.Bool.{and_parts, cases_eq, or_cases}
 use Rattle.std.proofs.lemmas.Slice.Eq.{bytes_eq-Decides}
 use Rattle.std.specs.Char.{is_control}
 use Rattle.std.specs.Fmt.{char_count, digits, format_spec, padded_integral}
 use Rattle.std.specs.Int.{is_in_range}
 use Rattle.std.specs.Str.{bytes_eq}
-use Rattle.fdb_log_reader.specs.Printed.{escaped, is_bidi_control, is_separator, is_unprintable}
+use Rattle.fdb_log_reader.specs.Printed.{escaped, is_bidi_control, is_unprintable}
 
 -- `\u`, and the digits as the hole writes them
 abbrev pub written : ℕ → List ℕ

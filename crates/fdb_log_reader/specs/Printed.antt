@@ -1,10 +1,11 @@
 -- A name as it is printed: a JSON string that is safe on a terminal and within a line. (this product's own)
-use Rattle.std.specs.Prelude.{ℕ, Bool, ◌||◌, ◌==◌, List, [], ◌∷◌, ◌++◌, codes, flat_map, if◌then◌else◌}
+use Rattle.std.specs.Prelude.{ℕ, Bool, ◌||◌, ◌==◌, List, [], ◌∷◌, ◌++◌, Option, codes, drop, flat_map, if◌then◌else◌}
 use Rattle.std.specs.Char.{encode_utf8, is_control}
 use Rattle.std.specs.Char.Escape.{hex_digit_at}
 use Rattle.std.specs.Int.{is_in_range}
 use Rattle.std.specs.Str.{chars}
 use Rattle.json.specs.Print.{quoted}
+use Rattle.json.specs.Text.{content, plain}
 
 -- the line and paragraph separators
 abbrev pub is_separator : ℕ → Bool
@@ -30,3 +31,7 @@ shown c = if is_unprintable c then escaped c else encode_utf8 c
 -- a name: its JSON string, as `serde_json` writes it, with these characters escaped too
 abbrev pub printed : List ℕ → List ℕ
 printed name = flat_map shown (chars (quoted name))
+
+-- what a JSON string stands for, behind its opening quote (RFC 8259, section 7)
+abbrev pub read_back : List ℕ → Option (List ℕ)
+read_back text = content plain (drop 1 text)

@@ -4,7 +4,7 @@ ghost use Rattle.std.specs.Prelude.{◌≡◌, ◌<◌, ℕ, List, [], IfOk, IfS
 ghost use Rattle.std.specs.Prelude.{option_map, slice_get, string_bytes};
 ghost use Rattle.std.specs.BTreeMap.{get_by_text};
 ghost use Rattle.fdb_log_reader.specs.Numbers.{number_in, with_name};
-ghost use Rattle.fdb_log_reader.specs.Printed.{printed};
+ghost use Rattle.fdb_log_reader.specs.Printed.{printed, read_back};
 
 use crate::printing::printed_name;
 use std::alloc::{AllocError, Global};
@@ -48,10 +48,13 @@ impl Names {
     }
 
     /// The names as they are printed, each at its client's number: as JSON strings that are safe on
-    /// a terminal and within a line.
+    /// a terminal and within a line, and that are read back as the names.
     pub fn printed(&self, alloc: Global) -> Result<Vec<String>, AllocError>
-        ensures { IfOk result
+        ensures printed { IfOk result
             (λ texts. map string_bytes texts.items ≡ map printed (names_of self.now)) }
+        ensures read_back { IfOk result
+            (λ texts. map (λ text. read_back (string_bytes text)) texts.items
+            ≡ map Some (names_of self.now)) }
     {
         let mut texts = Vec::new(alloc);
         for name in &self.texts {
