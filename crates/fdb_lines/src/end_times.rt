@@ -20,7 +20,7 @@ impl EndTimes {
     pub(crate) fn new(alloc: Global, lines: &[Line]) -> Result<Self, AllocError>
         ensures { IfOk result (λ ended. HasTimes lines.now (length lines.now) ended.times.items) }
     {
-        let mut times = Vec::new(alloc);
+        let mut times = Vec::with_capacity(alloc, lines.len())?;
         for line in lines {
             add(&mut times, line)?;
         }

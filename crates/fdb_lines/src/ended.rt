@@ -23,7 +23,7 @@ impl Ended {
         requires { length lines.now ≤ 4294967295 }
         ensures { IfOk result (λ ended. HasEnds lines.now (length lines.now) ended.ends.items) }
     {
-        let mut ends = Vec::new(alloc);
+        let mut ends = Vec::with_capacity(alloc, lines.len())?;
         for (place, line) in lines.iter().enumerate() {
             add(&mut ends, line, place as u32)?;
         }

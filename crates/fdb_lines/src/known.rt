@@ -112,7 +112,7 @@ pub(crate) fn table_of(
     ensures ends { IfOk result
         (λ table. AreEnds by_client seen lines.now (length lines.now) table.ends.items) }
 {
-    let mut ends = Vec::new(alloc);
+    let mut ends = Vec::with_capacity(alloc, lines.len())?;
     for (place, line) in lines.iter().enumerate() {
         if let Some(end) = end_of(line, place as u32, seen, by_client) {
             ends.push(end)?;

@@ -44,7 +44,7 @@ pub use late::Late;
 pub use line::{Call, Line, Times};
 pub use log::{LineError, Log, MAX_LINES};
 pub use opts::AuditOpts;
-pub use ordering::{order, order_or_finding, order_or_finding_by};
+pub use ordering::{order, order_or_finding};
 pub use reason::{Finding, Means, Reason, Witness};
 pub use summed::Summary;
 pub use summing::{summary, summary_by};

@@ -18,10 +18,9 @@ use crate::log::Log;
 use crate::opts::AuditOpts;
 use crate::reason::Finding;
 use crate::spot::Spot;
-use crate::tables::{Tables, tables_by, tables_of};
+use crate::tables::{Tables, tables_of};
 use crate::turn::Turn;
 use std::alloc::{AllocError, Global};
-use std::thread::Threads;
 
 /// An order of the acts of a log that explains its lines; none where no order does. An error only
 /// where memory is refused.
@@ -66,31 +65,6 @@ pub fn order_or_finding(
     ensures late { IfOk result (λ it. IfErr it (HasLate (lines_of log.now) opts.now)) }
 {
     let tables = tables_of(alloc, log, opts)?;
-    order_in(alloc, &tables, log, opts)
-}
-
-/// The same, by threads.
-pub fn order_or_finding_by<R: Threads + Sync>(
-    rt: &R,
-    alloc: Global,
-    log: &Log,
-    opts: &AuditOpts,
-) -> Result<Result<Vec<Turn>, Finding>, AllocError>
-    ensures explains { IfOk result (λ it. IfOk it
-        (λ turns. Explains (case_of (lines_of log.now) opts.now) (acts_of turns.items))) }
-    ensures lines { IfOk result (λ it. IfOk it
-        (λ turns. AreTurnsOf (case_of (lines_of log.now) opts.now) turns.items)) }
-    ensures all { IfOk result (λ it. IfOk it
-        (λ turns. HaveTurns (case_of (lines_of log.now) opts.now) turns.items)) }
-    ensures unexplained { IfOk result
-        (λ it. OnErr it (¬ (AreExplained (case_of (lines_of log.now) opts.now)))) }
-    ensures first { IfOk result (λ it. IfErr it
-        (λ first. Some (found_of first)
-        ≡ slice_get (faults_of (case_of (lines_of log.now) opts.now)) 0)) }
-    ensures reason { IfOk result (λ it. IfErr it (HasReason (lines_of log.now) opts.now)) }
-    ensures late { IfOk result (λ it. IfErr it (HasLate (lines_of log.now) opts.now)) }
-{
-    let tables = tables_by(rt, alloc, log, opts)?;
     order_in(alloc, &tables, log, opts)
 }
 
