@@ -11,7 +11,8 @@ use crate::line::Line;
 use crate::log::Log;
 use crate::opts::AuditOpts;
 use crate::reasons::stands;
-use crate::tables::{Tables, tables_of};
+use crate::tables::Tables;
+use crate::tables_of::tables_of;
 use std::alloc::{AllocError, Global};
 
 /// A fault, and the line at which it stands, counted from 0 among all that were added.

@@ -14,7 +14,8 @@ use crate::log::Log;
 use crate::opts::AuditOpts;
 use crate::reason::Finding;
 use crate::reasons::{late_of, reason_of};
-use crate::tables::{Tables, tables_by, tables_of};
+use crate::tables::Tables;
+use crate::tables_of::{tables_by, tables_of};
 use std::alloc::{AllocError, Global};
 use std::thread::{Threads, join};
 

@@ -17,7 +17,7 @@ use crate::late::Late;
 use crate::log::Log;
 use crate::opts::AuditOpts;
 use crate::reason::{Finding, Means, Reason, Witness};
-use crate::tables::tables_of;
+use crate::tables_of::tables_of;
 use std::alloc::{AllocError, Global};
 
 /// The faults of a log with times whose lines have keys, or none. Each key is a register of its

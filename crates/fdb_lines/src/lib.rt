@@ -30,6 +30,7 @@ mod spot;
 mod summed;
 mod summing;
 mod tables;
+mod tables_of;
 mod telling;
 mod turn;
 mod watch;

@@ -18,7 +18,8 @@ use crate::log::Log;
 use crate::opts::AuditOpts;
 use crate::reason::Finding;
 use crate::spot::Spot;
-use crate::tables::{Tables, tables_of};
+use crate::tables::Tables;
+use crate::tables_of::tables_of;
 use crate::turn::Turn;
 use std::alloc::{AllocError, Global};
 

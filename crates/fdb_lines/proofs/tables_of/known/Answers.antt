@@ -1,7 +1,7 @@
 use Rattle.std.proofs.lemmas.Result.{IfOk-weaker}
 use Rattle.fdb_lines.specs.Log.{lines_of}
 use Rattle.fdb_lines.specs.private.Tables.{AreKnownIn}
-use Rattle.fdb_lines.proofs.tables.known.Goals as goal
+use Rattle.fdb_lines.proofs.tables_of.known.Goals as goal
 
 pub returns-else-is_timed : goal.returns-else-is_timed
 returns-else-is_timed c =
