@@ -56,7 +56,8 @@ enum {
     FDB_NO_CALL = 36,         /* a line names no call, or a call is of no kind */
     FDB_TWO_CALLS = 37,       /* a line names more than one */
     FDB_SOME_TIMES = 38,      /* some lines have times, and some have none */
-    FDB_BAD_MEMBER = 39       /* a member is missing, of another kind, or may not stand there */
+    FDB_BAD_MEMBER = 39,      /* a member is missing, of another kind, or may not stand there */
+    FDB_EMPTY = 40            /* a text has no line */
 };
 
 /* -------------------------------------------------------------- the chain of commit versions -- */
@@ -359,7 +360,7 @@ typedef struct fdb_audit_options {
 
 /* Why a log is refused, beside the status. */
 typedef struct fdb_refused {
-    uint64_t line;  /* the first line that is wrong, counted from 1 */
+    uint64_t line;  /* the first line that is wrong, counted from 1; on FDB_EMPTY 0 */
     uint8_t member; /* on FDB_BAD_MEMBER which, from FDB_CLIENT to FDB_ENDED; else 0 */
 } fdb_refused;
 
@@ -409,12 +410,12 @@ typedef struct fdb_fault {
  *
  * FDB_OK where some history explains the log, else FDB_FAULT; `*size` is how long the text is.
  * FDB_ROOM where `text` is too short: `*size` is then the length that it needs, and nothing is
- * written to it. For the first line that is wrong FDB_TOO_LONG, FDB_TOO_MANY, FDB_NOT_JSON,
- * FDB_BAD_MEMBER (client), FDB_NO_CALL, FDB_TWO_CALLS, FDB_BAD_MEMBER (the call, began, ended),
- * FDB_SOME_TIMES, FDB_BAD_MEMBER (learn with times; no client without), the first that stands:
- * `*refused` says which line and member. FDB_MEMORY comes anywhere. Where the log or memory is
- * refused nothing else is written, and else `*refused` is as it was. `n log n` in the lines, and
- * linear in the bytes.
+ * written to it. FDB_EMPTY where the log has no line. For the first line that is wrong
+ * FDB_TOO_LONG, FDB_TOO_MANY, FDB_NOT_JSON, FDB_BAD_MEMBER (client), FDB_NO_CALL, FDB_TWO_CALLS,
+ * FDB_BAD_MEMBER (the call, began, ended), FDB_SOME_TIMES, FDB_BAD_MEMBER (learn with times; no
+ * client without), the first that stands: `*refused` says which line and member. FDB_MEMORY comes
+ * anywhere. Where the log or memory is refused nothing else is written, and else `*refused` is as
+ * it was. `n log n` in the lines, and linear in the bytes.
  */
 uint8_t fdb_audit_log_text(const uint8_t *log, size_t log_length,
                            const fdb_audit_options *options,
@@ -439,7 +440,7 @@ uint8_t fdb_audit_log_faults(const uint8_t *log, size_t log_length,
  *
  * As fdb_audit_log_text, but of the first call that is wrong FDB_NO_CALL (`kind`), FDB_BAD_MEMBER
  * (FDB_ENDED: it ended before it began), FDB_TOO_MANY, FDB_SOME_TIMES, FDB_BAD_MEMBER (FDB_LEARN
- * with times; FDB_CLIENT: none, and no times), the first that stands.
+ * with times; FDB_CLIENT: none, and no times), the first that stands. No call at all is no fault.
  */
 uint8_t fdb_audit_calls_text(const fdb_call *calls, size_t calls_length,
                              const fdb_audit_options *options,

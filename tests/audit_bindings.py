@@ -1,10 +1,8 @@
 """The audit through the package for Python, by bytes and by arrays of calls, against the model."""
-import json
-
 import audit_logs
 import bindings
 from audit_lines import lines_of, refusal
-from audit_model import Case, name_of, options_of
+from audit_model import Case, name_of, options_of, printed
 from audit_right import why_wrong
 
 
@@ -60,8 +58,7 @@ def calls_of(lines):
 def renamed(text, numbers):
     """A text whose clients are named by their numbers."""
     for name, number in numbers.items():
-        quoted = json.dumps(name, ensure_ascii=False)
-        text = text.replace(f"client {quoted}", f"client {number}")
+        text = text.replace(f"client {printed(name)}", f"client {number}")
     return text
 
 

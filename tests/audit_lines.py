@@ -8,6 +8,7 @@ MOST_BYTES = 1_048_576
 CALLS = ("read", "commit", "ask", "report")
 KINDS = (*CALLS, "learn")
 CAUSES = {
+    "Empty": "no line",
     "TooLong": "more than 1048576 bytes",
     "NotJson": "no JSON",
     "NoCall": "no read, commit, ask, report or learn",
@@ -32,9 +33,9 @@ class Line(NamedTuple):
 
 
 def refusal(number, why):
-    """What is said of a line that is refused: its number behind the first word, and the cause."""
+    """What is said of a log that is refused: the line, if there is one, and the cause."""
     word, _, member = why.partition(" ")
-    return f"{f'{word} {number} {member}'.rstrip()}: {CAUSES[why]}"
+    return f"{' '.join(it for it in (word, str(number or ''), member) if it)}: {CAUSES[why]}"
 
 
 def lines_of(given):
@@ -42,6 +43,8 @@ def lines_of(given):
     texts = given.split(b"\n")
     if not texts[-1]:
         texts.pop()
+    if not texts:
+        raise Refused(refusal(0, "Empty"))
     lines, names = [], set()
     for number, text in enumerate(texts, 1):
         try:

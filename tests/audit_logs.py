@@ -46,7 +46,7 @@ def worked_cases():
         given, _, rest = f"\n{rest}".partition("\n=>")
         words, _, out = rest.partition("\n")
         given, out = given.removeprefix("\n"), out.rstrip("\n") + "\n"
-        yield name, f"{given}\n".encode() if given else b"", words.split(), out.encode()
+        yield name, f"{given}\n".encode(), words.split(), out.encode()
 
 
 def ended_with(out):
@@ -132,7 +132,7 @@ def long_logs(_program):
     """So are longer ones, most with more faults of one kind than are looked up line by line."""
     for number in range(LONG):
         dice = random.Random(f"long {number}")
-        drawn = [it for it in (random_lines(dice) for _ in range(3 * JOINED)) if it]
+        drawn = [random_lines(dice) for _ in range(3 * JOINED)]
         alike = [it for it in drawn if ("began" in it[0]) == ("began" in drawn[0][0])]
         given = text_of([line for lines in alike[:JOINED] for line in lines])
         asked = [*random_words(dice), "--all"]
@@ -232,7 +232,7 @@ BELOW = (
 
 
 def refused_at(number, why):
-    """How the program ends where it refuses a line."""
+    """How the program ends where it refuses a line, or a log (0) that has none."""
     return Ran(REFUSED, b"", f"fdb_audit: logs refused: {refusal(number, why)}\n".encode())
 
 
@@ -248,6 +248,7 @@ def refusals():
         number = 3 if above else 1
         yield f"{line} below {above}", above * 2 + line + b"\n", refused_at(number, why)
     yield "the first of two is named", b"{}\nnull\n[\n", refused_at(1, "NoCall")
+    yield "no byte", b"", refused_at(0, "Empty")
 
 
 def refused(_program):

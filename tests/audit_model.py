@@ -4,6 +4,7 @@
 the faults, and of each all sentences that are true of it; `judged` says how fdb_audit ends.
 """
 import json
+import re
 from collections import defaultdict
 from typing import NamedTuple, Optional
 
@@ -14,6 +15,8 @@ DRAWING, REPORTING, SHOWING = ("commit", "ask"), ("commit", "report"), ("read", 
 # After how many bytes it is told how far reading is.
 TOLD = 67_108_864
 FAULTS = ("Order", "Wrong", "NotAbove", "Twice", "Stray")
+# What is escaped in a name besides what JSON escapes.
+UNPRINTABLE = re.compile("[\x7f-\x9f\u061c\u200e\u200f\u2028-\u202e\u2066-\u2069]")
 
 
 class Options(NamedTuple):
@@ -242,7 +245,13 @@ def name_of(line):
     """The caller of a line."""
     if line.client is None:
         return "its caller"
-    return f"client {json.dumps(line.client, ensure_ascii=False)}"
+    return f"client {printed(line.client)}"
+
+
+def printed(name):
+    """A name as a JSON string that steers no terminal, parts no line and turns no text round."""
+    text = json.dumps(name, ensure_ascii=False)
+    return UNPRINTABLE.sub(lambda it: f"\\u{ord(it[0]):04x}", text)
 
 
 # ---- the program

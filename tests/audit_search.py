@@ -109,7 +109,7 @@ def random_lines(dice):
     ])
     has_times, top, low = dice.random() < 0.5, dice.choice((2, 3, 5, 7)), dice.choice((0, 1, 1))
     lines, clocks, learns = [], {}, dice.choice((0.2, 0.5))
-    for _ in range(dice.randint(0 if dice.random() < 0.1 else 1, 7 if has_times else 11)):
+    for _ in range(dice.randint(1, 7 if has_times else 11)):
         client = dice.choice(names)
         if not has_times:
             client = "nobody" if client is None else client

@@ -8,9 +8,7 @@ from command_line import LINE
 from harness import fault_of, read, run, under
 
 LOG = f"{LOGS}/stale.jsonl"
-NO_LINES = ended_with(
-    b"audit ok lines 0 timed 0 reads 0 commits 0 asks 0 reports 0 learns 0 unreported 0 ordered 0\n"
-)
+NO_LINES = refused_at(0, "Empty")
 # What is read at once.
 PIECE = 65_536
 

@@ -13,8 +13,6 @@ from harness import run
 LINES = 100_000
 # How many times the time and the memory of an ordinary log.
 MOST = 4
-# What the fixed hasher of the toolchain's tables begins with, and what it multiplies by.
-STATE, MULTIPLIER, WORD = 0x243F6A8885A308D3, 0x9E3779B97F4A7C15, 2**64 - 1
 
 
 def timed(kind, version, began, ended, client=None):
@@ -49,12 +47,6 @@ def any_calls(draw):
         yield timed(kind, draw.randrange(LINES), began, began + draw.randrange(100), f"c{at % 64}")
 
 
-def of_names(names):
-    """Commits by clients of these names, one after another."""
-    name = lambda at: names[at % len(names)]
-    return [timed("commit", at + 1, 2 * at, 2 * at + 1, name(at)) for at in range(LINES)]
-
-
 def told(names, calls):
     """Lines without times: of a client that learns from another, or that reads where it is none."""
     known = set()
@@ -72,29 +64,11 @@ def hub(at):
     return (at // 2, LINES) if at % 2 else (LINES, at // 2 - 1)
 
 
-def folded(one, other):
-    product = one * other
-    return (product & WORD) ^ (product >> 64)
-
-
-def colliding_names():
-    """Names of 32 letters that the fixed hasher takes for one: the third eight undo what it made of
-    those before, so that a zero is multiplied with whatever the last eight are."""
-    number = lambda letters: int.from_bytes(letters, "little")
-    for at in range(10**8):
-        front = b"%08dabcdefgh" % at
-        made = folded(number(front[:8]) ^ (STATE + 32), number(front[8:]) ^ MULTIPLIER)
-        middle = made.to_bytes(8, "little")
-        if all(32 <= letter < 127 and letter not in b'"\\' for letter in middle):
-            return [(front + middle).decode() + f"{it:08}" for it in range(LINES)]
-    return []
-
-
 def shapes():
     """By name: the arguments, and the lines."""
     draw, places, several = random.Random(7), range(LINES), lambda at: f"c{at % 64}"
     yield "one client", [], [timed("read", 0, at, at + 1, "a") for at in places]
-    yield "a client for each line", [], of_names([f"c{at}" for at in places])
+    yield "a client for each line", [], [timed("commit", at + 1, at, at, f"c{at}") for at in places]
     yield "nobody's calls", [], [timed("commit", at + 1, at, at) for at in places]
     yield "one version", [], [timed("read", 1, at, at + 9, several(at)) for at in places]
     yield "commits of one version", [], [timed("commit", 1, 0, 9, several(at)) for at in places]
@@ -112,8 +86,6 @@ def shapes():
     for margin in (1, 999, 10**6, 2**63 - 1):
         yield f"a margin of {margin}", ["--margin", str(margin)], list(overlapping(draw))
     yield "a history", ["--history"], list(overlapping(draw))
-    yield "colliding names", [], of_names(colliding_names())
-    yield "names of one beginning", [], of_names(["x" * 60 + str(at) for at in places])
     yield "a relay", [], list(told(lambda it: f"c{it}", map(relay, places)))
     yield "a hub", [], list(told(lambda it: f"c{it}", map(hub, places)))
     yield "gossip", [], list(told(lambda it: f"c{it}", (

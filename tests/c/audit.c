@@ -132,8 +132,8 @@ static void each_reason(void) {
 
 static void no_fault(void) {
     const char *log = "{\"client\":\"a\",\"commit\":1}\n{\"client\":\"a\",\"read\":1}";
-    const char *said = "audit ok lines 2 timed 0 reads 1 commits 1 asks 0 reports 0 learns 0 unreported 0 "
-                       "ordered 1\nhistory 0 ask 1 line 1 client \"a\"\n"
+    const char *said = "audit ok lines 2 timed 0 reads 1 commits 1 asks 0 reports 0 learns 0 unreported 0\n"
+                       "history 0 ask 1 line 1 client \"a\"\n"
                        "history 1 report 1 line 1 client \"a\"\n"
                        "history 2 read 1 line 2 client \"a\"\n";
     char text[400] = "";
@@ -142,7 +142,10 @@ static void no_fault(void) {
     fdb_audit_options options = {.history = true, .all = true};
     assert(log_text(log, &options, text, sizeof text, &size, &refused) == FDB_OK);
     assert(size == strlen(said) && !memcmp(text, said, size));
-    assert(log_text("", &PLAIN, text, sizeof text, &size, &refused) == FDB_OK);
+    fdb_call calls[1];
+    fdb_fault fault;
+    assert(fdb_audit_calls_faults(calls, 0, &PLAIN, &fault, 1, &size, &refused) == FDB_OK);
+    assert(size == 0);
 }
 
 /* ---- refusals: the status, the line, the member, and nothing else written */
@@ -150,7 +153,7 @@ static void no_fault(void) {
 static void refused_log(const char *log, uint8_t wanted, uint64_t line, uint8_t member) {
     char text[1] = "~";
     uint64_t size = 77;
-    fdb_refused refused = {0};
+    fdb_refused refused = {77, 77};
     assert(log_text(log, &PLAIN, text, 1, &size, &refused) == wanted);
     assert(refused.line == line && refused.member == member && size == 77 && text[0] == '~');
 }
@@ -174,6 +177,8 @@ static void refusals(void) {
     refused_log("{\"client\":\"a\",\"read\":1}\n{", FDB_NOT_JSON, 2, 0);
     refused_log("{\"client\":1,\"read\":1}", FDB_BAD_MEMBER, 1, FDB_CLIENT);
     refused_log("{\"client\":\"a\"}", FDB_NO_CALL, 1, 0);
+    refused_log("", FDB_EMPTY, 0, 0);
+    refused_log("\n", FDB_NOT_JSON, 1, 0);
     refused_log("{\"client\":\"a\",\"read\":1,\"ask\":1}", FDB_TWO_CALLS, 1, 0);
     refused_log("{\"client\":\"a\",\"learn\":\"b\"}", FDB_BAD_MEMBER, 1, FDB_LEARN);
     refused_log("{\"read\":1,\"ended\":1}", FDB_BAD_MEMBER, 1, FDB_BEGAN);

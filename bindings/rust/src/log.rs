@@ -149,9 +149,11 @@ pub enum Member {
     Ended,
 }
 
-/// What is wrong with a line.
+/// What is wrong with a log, or with a line of it.
 #[derive(Clone, Copy, Debug, PartialEq, Eq)]
 pub enum Wrong {
+    /// A text has no line.
+    Empty,
     /// It has more than 1,048,576 bytes.
     TooLong,
     /// There are 4,294,967,295 lines above.
@@ -171,11 +173,11 @@ pub enum Wrong {
 /// Why a log is not audited.
 #[derive(Clone, Copy, Debug, PartialEq, Eq)]
 pub enum LogError {
-    /// A line is wrong.
+    /// A line is wrong, or there is none.
     Refused {
-        /// The first such line, counted from 1.
+        /// The first such line, counted from 1; 0 for `Wrong::Empty`.
         line: u64,
-        /// What is wrong with it.
+        /// What is wrong.
         wrong: Wrong,
     },
     /// Memory was refused.
@@ -185,6 +187,7 @@ pub enum LogError {
 impl fmt::Display for LogError {
     fn fmt(&self, f: &mut fmt::Formatter<'_>) -> fmt::Result {
         match self {
+            LogError::Refused { line: 0, wrong } => write!(f, "the log is refused: {wrong:?}"),
             LogError::Refused { line, wrong } => write!(f, "line {line} is refused: {wrong:?}"),
             LogError::Memory => f.write_str("out of memory"),
         }
@@ -215,6 +218,7 @@ fn error_of(status: u8, refused: &raw::Refused) -> LogError {
         37 => Wrong::TwoCalls,
         38 => Wrong::SomeTimes,
         39 => Wrong::BadMember(member_of(refused.member)),
+        40 => Wrong::Empty,
         _ => return LogError::Memory,
     };
     LogError::Refused { line: refused.line, wrong }
@@ -306,7 +310,7 @@ fn said(text: Vec<u8>) -> String {
 /// All faults of a log of JSON Lines, by line: none exactly where some history explains it.
 ///
 /// # Errors
-/// `Refused` for the first line that is wrong, or `Memory`.
+/// `Refused` for the first line that is wrong or for a text without a line, or `Memory`.
 pub fn audit_log(log: &[u8], options: &AuditOptions) -> Result<Vec<Fault>, LogError> {
     let options = raw_options(options, Wanted::default());
     let found = told(64, |found: &mut [raw::Fault], size, refused| {

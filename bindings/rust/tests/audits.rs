@@ -58,7 +58,7 @@ fn bytes_and_lines_agree() {
     let (mut drawn, mut counts) = (Drawn(5), [0; 2]);
     for _ in 0..3000 {
         let (has_times, mut lines) = (drawn.below(2) == 0, Vec::new());
-        for _ in 0..drawn.below(12) {
+        for _ in 0..=drawn.below(11) {
             let line = drawn.line(has_times, &lines);
             lines.push(line);
         }
@@ -116,6 +116,9 @@ fn refusals() {
     assert_eq!(one("{\"read\":1}"), refused(1, Wrong::BadMember(Member::Client)));
     assert_eq!(one("{\"read\":1,\"ask\":1}"), refused(1, Wrong::TwoCalls));
     assert_eq!(one("{}"), refused(1, Wrong::NoCall));
+    assert_eq!(one(""), refused(0, Wrong::Empty));
+    assert_eq!(one("\n"), refused(1, Wrong::NotJson));
+    assert_eq!(audit_lines(&[], &options), Ok(vec![]));
     let line = |began, ended| Line {
         client: None,
         call: Call::Read(1),

@@ -1,5 +1,5 @@
 -- Texts that are written one behind the other.
-use Rattle.std.proofs.Common.{◌≡◌, ◌∙◌, ℕ, List, ◌++◌, ap, codes, append_assoc}
+use Rattle.std.proofs.Common.{◌≡◌, ◌∙◌, ℕ, List, ◌++◌, ap, append_assoc}
 
 pub two_written : (before one two a b : List ℕ) → one ≡ before ++ a → two ≡ one ++ b → two ≡ before ++ (a ++ b)
 two_written before one two a b is more = more ∙ (ap (λ text. text ++ b) is ∙ append_assoc before a b)
@@ -7,5 +7,5 @@ two_written before one two a b is more = more ∙ (ap (λ text. text ++ b) is �
 pub written : (before one two three a b c : List ℕ) → one ≡ before ++ a → two ≡ one ++ b → three ≡ two ++ c → three ≡ before ++ ((a ++ b) ++ c)
 written before one two three a b c is more all = all ∙ (ap (λ text. text ++ c) (more ∙ ap (λ text. text ++ b) is) ∙ simp append_assoc)
 
-pub evidence_is : (unreported ordered : List ℕ) → codes " unreported " ++ (unreported ++ (codes " ordered " ++ ordered)) ≡ codes " unreported " ++ unreported ++ codes " ordered " ++ ordered
-evidence_is unreported ordered = simp append_assoc
+pub three_written : (before one two a b c : List ℕ) → one ≡ before ++ (a ++ b) → two ≡ one ++ c → two ≡ before ++ (a ++ (b ++ c))
+three_written before one two a b c is more = two_written before one two (a ++ b) c is more ∙ ap (λ text. before ++ text) (append_assoc a b c)

@@ -1,6 +1,5 @@
 -- What is printed of an audit of a log. (this product's own)
 use Rattle.std.specs.Prelude.{◌≡◌, ℕ, ◌++◌, Bool, true, false, cond, List, All, Option, None, Some, Ok, length, map, slice_get}
-use Rattle.json.specs.Print.{quoted}
 use Rattle.fdb_lines.specs.declared.fault.Found.{Found}
 use Rattle.fdb_lines.specs.declared.opts.AuditOpts.{AuditOpts}
 use Rattle.fdb_lines.specs.declared.reason.Finding.{Finding}
@@ -13,12 +12,13 @@ use Rattle.fdb_lines.specs.Listing.{faults_of}
 use Rattle.fdb_lines.specs.Reasons.{HasReason, found_of}
 use Rattle.fdb_lines.specs.Summary.{how_many, ordered, unreported}
 use Rattle.fdb_lines.specs.Turns.{acts_of, AreTurnsOf}
+use Rattle.fdb_log_reader.specs.Printed.{printed}
 use Rattle.fdb_log_reader.specs.Reading.{Reading, reading_in}
 use Rattle.fdb_audit.specs.Text.{finding_text, history_lines, line, listing_text, summary_text}
 use Rattle.fdb_audit.specs.declared.judging.Wanted.{Wanted}
 
 -- the counts of a verdict: the lines in all and of each kind, the versions that no line reports, and the pairs of lines
--- in order
+-- in order, where these have times
 pub record IsSummary (log : Lines) (opts : AuditOpts) (counts : Summary) : Type 0 where
   pub lines : counts.lines ≡ length log.lines
   pub timed : counts.timed ≡ cond log.timed (length log.lines) 0
@@ -28,7 +28,7 @@ pub record IsSummary (log : Lines) (opts : AuditOpts) (counts : Summary) : Type 
   pub reports : counts.reports ≡ how_many is_report log.lines
   pub learns : counts.learns ≡ how_many is_learn log.lines
   pub unreported : counts.unreported ≡ unreported (case_of log opts)
-  pub ordered : counts.ordered ≡ ordered (case_of log opts)
+  pub ordered : counts.ordered ≡ cond log.timed (Some (ordered (case_of log opts))) None
 
 -- the turns are an order that explains the lines
 abbrev pub IsOrder : Lines → AuditOpts → List Turn → Type 0
@@ -60,8 +60,9 @@ IsText log names opts wanted (Some first) text =
     (¬ (AreExplained (case_of log opts))) × (slice_get (faults_of (case_of log opts)) 0 ≡ Some first)
     × IsFaulted log names opts wanted.all first text
 
--- These bytes stand for a log, and this is what is found and printed. Clients are printed as JSON strings.
+-- These bytes stand for a log, and this is what is found and printed. Clients are printed as JSON strings, safe on a
+-- terminal and within a line.
 abbrev pub IsJudgement : List ℕ → AuditOpts → Wanted → Option Found → List ℕ → Type 0
 IsJudgement bytes opts wanted first text =
     (reading : Reading) × (reading_in bytes ≡ Ok reading)
-    × IsText reading.log (map quoted reading.names) opts wanted first text
+    × IsText reading.log (map printed reading.names) opts wanted first text

@@ -138,9 +138,13 @@ parts_text counts =
     codes " asks " ++ decimal counts.asks ++ codes " reports " ++ decimal counts.reports ++ codes " learns "
     ++ decimal counts.learns
 
+-- of how many pairs of lines one comes before the other, where the lines have times
+abbrev pub ordered_text : Option ℕ → List ℕ
+ordered_text None = []
+ordered_text (Some pairs) = codes " ordered " ++ decimal pairs
+
 abbrev pub evidence_text : Summary → List ℕ
-evidence_text counts =
-    codes " unreported " ++ decimal counts.unreported ++ codes " ordered " ++ decimal counts.ordered
+evidence_text counts = codes " unreported " ++ decimal counts.unreported ++ ordered_text counts.ordered
 
 -- how much a verdict stands on
 abbrev pub summary_text : Summary → List ℕ

@@ -1,12 +1,13 @@
 //! The program: its command, and what it prints of a log.
 
 ghost use Rattle.std.specs.Prelude.{◌≡◌, ◌≢◌, ℕ, List, IfOk, MatchResult};
+ghost use Rattle.std.specs.Thread.{IsSync};
 ghost use Rattle.clap.specs.Words.{app_of};
 ghost use Rattle.fdb_audit.specs.Judged.{IsJudgement};
 ghost use Rattle.fdb_audit.specs.Program.{HasRead, audit, command};
 ghost use Rattle.fdb_command.specs.Driving.{IsDriven, Stops};
 
-use crate::judging::{Judgement, Wanted, judge_named};
+use crate::judging::{Judgement, Wanted, judge_named_by};
 use crate::refused::LogsRefused;
 use clap::{ArgMatches, Command};
 use fdb_command::{
@@ -19,6 +20,7 @@ use std::alloc::{AllocError, Global};
 use std::fs::Files;
 use std::io;
 use std::io::{Read, Write};
+use std::thread::Threads;
 
 /// The most bytes of a log: as many lines as it may have, each as long as it may be.
 pub const MAX_LOG_BYTES: u64 = 4_503_603_921_289_215;
@@ -26,7 +28,7 @@ pub const MAX_LOG_BYTES: u64 = 4_503_603_921_289_215;
 /// What the help ends with: the statuses, and where a log's format is told.
 const AFTER_HELP: &str = "Exit status:
   0  no fault was found, or this is the help
-  1  the log is refused: TooLong, TooMany, NotJson, NoCall, TwoCalls, SomeTimes or BadMember
+  1  the log is refused: Empty, TooLong, TooMany, NotJson, NoCall, TwoCalls, SomeTimes or BadMember
   2  the words are refused
   3  want of memory
   4  the audit found a fault
@@ -119,7 +121,7 @@ impl Program for Audit {
 /// Audits the log of the file that the arguments name or else of the input, and writes what is
 /// found to `out`; or writes the help there. Answers the status of the program, as
 /// [`fdb_command::drive`] says.
-pub fn drive<R: Files, I: Read, O: Write, E: Write>(
+pub fn drive<R: Files + Threads + Sync, I: Read, O: Write, E: Write>(
     rt: &R,
     alloc: Global,
     arguments: io::Result<Vec<String>>,
@@ -134,6 +136,7 @@ pub fn drive<R: Files, I: Read, O: Write, E: Write>(
         Answer<Found>,
         Fault<LogsRefused, Found>,
     >
+        requires { IsSync R.row }
         ensures { (bytes : List ℕ) → HasRead reader bytes → MatchResult result
             (λ answer. IsJudgement bytes asked.opts asked.wanted answer.found answer.text.items)
             (Stops audit bytes) }
@@ -142,7 +145,7 @@ pub fn drive<R: Files, I: Read, O: Write, E: Write>(
             Ok(named) => named,
             Err(error) => return Err(refusal(error)),
         };
-        match judge_named(alloc, &named, &asked.opts, asked.wanted) {
+        match judge_named_by(rt, alloc, &named, &asked.opts, asked.wanted) {
             Ok(Judgement { fault, text }) => Ok(Answer {
                 text: text.into_bytes(),
                 found: fault,

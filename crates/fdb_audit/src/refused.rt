@@ -29,6 +29,7 @@ impl Error for LogsRefused {}
 /// What is wrong, in words.
 fn cause_of(why: Why) -> &'static str {
     match why {
+        Why::Empty => "no line",
         Why::TooLong => "more than 1048576 bytes",
         Why::TooMany => "more than 4294967295 lines",
         Why::NotJson => "no JSON",

@@ -1,9 +1,9 @@
 //! What is printed of a log without a fault: how much that stands on, and an order.
 
 ghost use Rattle.std.specs.Prelude.{◌≡◌, ◌++◌, OnOk, string_bytes};
-ghost use Rattle.fdb_audit.specs.Text.{act_text, evidence_text, history_lines, line, owner_text};
-ghost use Rattle.fdb_audit.specs.Text.{parts_text, summary_text, turn_line, turn_owner};
-ghost use Rattle.fdb_audit.specs.Text.{versions_text};
+ghost use Rattle.fdb_audit.specs.Text.{act_text, evidence_text, history_lines, line};
+ghost use Rattle.fdb_audit.specs.Text.{ordered_text, owner_text, parts_text, summary_text};
+ghost use Rattle.fdb_audit.specs.Text.{turn_line, turn_owner, versions_text};
 ghost use Rattle.fdb_audit.specs.private.{lines_in, names_in};
 
 use crate::view::{View, push_number};
@@ -43,8 +43,18 @@ fn push_parts(out: &mut String, counts: Summary) -> Result<(), AllocError>
 fn push_evidence(out: &mut String, counts: Summary) -> Result<(), AllocError>
     ensures { OnOk result (string_bytes out.new ≡ string_bytes out.old ++ evidence_text counts) }
 {
-    let (unreported, ordered) = (counts.unreported, counts.ordered);
-    write!(out, " unreported {unreported} ordered {ordered}")
+    write!(out, " unreported {}", counts.unreported)?;
+    push_ordered(out, counts.ordered)
+}
+
+/// Writes how many pairs of lines are in order, where that was counted.
+fn push_ordered(out: &mut String, pairs: Option<u64>) -> Result<(), AllocError>
+    ensures { OnOk result (string_bytes out.new ≡ string_bytes out.old ++ ordered_text pairs) }
+{
+    match pairs {
+        Some(pairs) => write!(out, " ordered {pairs}"),
+        None => Ok(()),
+    }
 }
 
 impl View<'_> {

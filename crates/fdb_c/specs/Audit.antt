@@ -30,7 +30,7 @@ use Rattle.fdb_c.specs.declared.audit.TheConstants.{FDB_CLIENT, FDB_READ, FDB_CO
 use Rattle.fdb_c.specs.declared.audit_calls.FdbCall.{FdbCall}
 use Rattle.fdb_c.specs.declared.audit_faults.FdbFault.{FdbFault}
 use Rattle.fdb_c.specs.declared.audit_faults.TheConstants.{FDB_FAULT_ORDER, FDB_FAULT_WRONG, FDB_FAULT_NOT_ABOVE, FDB_FAULT_TWICE, FDB_FAULT_STRAY, FDB_REASON_KNOWN, FDB_REASON_UNREPORTED, FDB_REASON_REPORTED, FDB_REASON_DRAWN, FDB_REASON_UNDRAWN, FDB_MEANS_START, FDB_MEANS_ENDED, FDB_MEANS_OWN, FDB_MEANS_LEARNT}
-use Rattle.fdb_c.specs.declared.status.TheConstants.{FDB_OK, FDB_MEMORY, FDB_ROOM, FDB_FAULT, FDB_TOO_LONG, FDB_TOO_MANY, FDB_NOT_JSON, FDB_NO_CALL, FDB_TWO_CALLS, FDB_SOME_TIMES, FDB_BAD_MEMBER}
+use Rattle.fdb_c.specs.declared.status.TheConstants.{FDB_OK, FDB_MEMORY, FDB_ROOM, FDB_FAULT, FDB_TOO_LONG, FDB_TOO_MANY, FDB_NOT_JSON, FDB_NO_CALL, FDB_TWO_CALLS, FDB_SOME_TIMES, FDB_BAD_MEMBER, FDB_EMPTY}
 
 -- ---- what is asked
 
@@ -92,6 +92,7 @@ log_in calls = with_calls (record { timed = false; lines = [] }) calls
 -- ---- why a log is refused
 
 abbrev pub status_of : Why → ℕ
+status_of why.Empty = FDB_EMPTY
 status_of why.TooLong = FDB_TOO_LONG
 status_of why.TooMany = FDB_TOO_MANY
 status_of why.NotJson = FDB_NOT_JSON

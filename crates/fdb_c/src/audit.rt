@@ -5,7 +5,7 @@ ghost use Rattle.fdb_c.specs.Audit.{IsRefusal, complete_of, member_of, number_of
 ghost use Rattle.fdb_c.specs.Audit.{refused_of, status_of, wanted_of};
 
 use crate::status::{
-    FDB_BAD_MEMBER, FDB_MEMORY, FDB_NO_CALL, FDB_NOT_JSON, FDB_SOME_TIMES, FDB_TOO_LONG,
+    FDB_BAD_MEMBER, FDB_EMPTY, FDB_MEMORY, FDB_NO_CALL, FDB_NOT_JSON, FDB_SOME_TIMES, FDB_TOO_LONG,
     FDB_TOO_MANY, FDB_TWO_CALLS,
 };
 use fdb_audit::Wanted;
@@ -56,7 +56,7 @@ pub struct FdbAuditOptions {
 #[repr(C)]
 #[derive(Clone, Copy)]
 pub struct FdbRefused {
-    /// The first line with which something is wrong, counted from 1.
+    /// The first line with which something is wrong, counted from 1; 0 where there is no line.
     pub line: u64,
     /// The member that is bad, or 0.
     pub member: u8,
@@ -114,6 +114,7 @@ fn status_of(why: Why) -> u8
     ensures { result ≡ status_of why }
 {
     match why {
+        Why::Empty => FDB_EMPTY,
         Why::TooLong => FDB_TOO_LONG,
         Why::TooMany => FDB_TOO_MANY,
         Why::NotJson => FDB_NOT_JSON,

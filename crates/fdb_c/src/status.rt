@@ -74,6 +74,9 @@ pub const FDB_SOME_TIMES: u8 = 38;
 /// A member of a line is missing, of another kind, or not one that may stand there.
 pub const FDB_BAD_MEMBER: u8 = 39;
 
+/// The text of a log has no line.
+pub const FDB_EMPTY: u8 = 40;
+
 /// The number of a queue's refusal.
 pub(crate) fn status_of(cause: QueueError) -> u8
     ensures { result ≡ status_of (Some cause) }

@@ -1,16 +1,19 @@
 -- The list of faults is empty exactly where none stands.
-use Rattle.std.proofs.Common.{◌≡◌, ◌↔◌, ℕ, zero, suc, ◌<◌, ◌≤◌, false, List, [], ◌∷◌, ◌++◌, length, slice_get, Option, None, Some, refl, ap, sym, subst, ◌∙◌, arith, length-append}
-use Rattle.std.proofs.lemmas.Bool.{cond-false}
+use Rattle.std.proofs.Common.{◌≡◌, ◌↔◌, ℕ, zero, suc, ◌<◌, ◌≤◌, false, List, [], ◌∷◌, ◌++◌, length, slice_get, Option, None, Some, option_map, inl, inr, refl, ap, sym, ◌∙◌, arith, append-nil, append_assoc, length-append}
+use Rattle.std.proofs.lemmas.Bool.{cases_lt, cond-false}
 use Rattle.std.proofs.lemmas.Option.{slice_get_past}
 use Rattle.fdb_lines.specs.declared.fault.Fault.{Fault}
 use Rattle.fdb_lines.specs.declared.fault.Fault.TheVariants.{Order, Wrong, NotAbove, Twice, Stray}
 use Rattle.fdb_lines.specs.declared.fault.Found.{Found}
 use Rattle.fdb_lines.specs.declared.opts.AuditOpts.{AuditOpts}
+use Rattle.fdb_lines.specs.declared.reason.Finding.{Finding}
 use Rattle.fdb_lines.specs.Audit.{case_of, AreExplained}
 use Rattle.fdb_lines.specs.Faults.{stands, IsFaultless}
 use Rattle.fdb_lines.specs.Lines.{Case, Lines}
 use Rattle.fdb_lines.specs.Listing.{found_if, faults_at, faults_below, faults_of}
 use Rattle.fdb_lines.specs.Order.{history, rank_of}
+use Rattle.fdb_lines.specs.Reasons.{found_of}
+use Rattle.fdb_lines.specs.private.Tables.{IsFirstBetween}
 use Rattle.fdb_lines.proofs.Sound.{invented}
 use Rattle.fdb_lines.proofs.Complete.{explained}
 use Rattle.fdb_lines.proofs.Ranked.{ranked}
@@ -60,18 +63,32 @@ explained_by_first log opts first e =
 
 -- ---- the first
 
-first_of_two : (xs ys : List Found) (first : Found) → slice_get xs 0 ≡ Some first → slice_get (xs ++ ys) 0 ≡ Some first
-first_of_two [] ys first e = absurd cc
-first_of_two (x ∷ xs) ys first e = e
+pub below_more : (c : Case) (k n : ℕ) → k ≤ n → (rest : List Found) × (faults_below c n ≡ faults_below c k ++ rest)
+below_more c k zero le = let same : k ≡ 0 = omega arith in ([], sym (ap (λ j. faults_below c j ++ []) same))
+below_more c k (suc n) le = elim (cases_lt k (suc n)) [
+  | inl lt ↦ let below = below_more c k n (omega arith) in (below.0 ++ faults_at c n, ap (λ found. found ++ faults_at c n) below.1 ∙ append_assoc (faults_below c k) below.0 (faults_at c n))
+  | inr ge ↦ let same : suc n ≡ k = omega arith in ([], ap (faults_below c) same ∙ sym (append-nil (faults_below c k)))
+]
 
-first_below : (c : Case) (k n : ℕ) (first : Found) → k ≤ n → slice_get (faults_below c k) 0 ≡ Some first → slice_get (faults_below c n) 0 ≡ Some first
-first_below c k zero first le e = subst (λ j. slice_get (faults_below c j) 0 ≡ Some first) (let same : k ≡ 0 = omega arith in same) e
-first_below c k (suc n) first le e =
-    let below = first_below c k n first in
-    let more = first_of_two (faults_below c n) (faults_at c n) first in
-    let same : k ≡ suc n → faults_below c k ≡ faults_below c (suc n) = ap (faults_below c) in
-    grind arith
+-- what stands first of some lines does so of these and more below
+pub first_of_more : (c : Case) (from k n : ℕ) (first : Found) → k ≤ n → IsFirstBetween c from k (Some first) → IsFirstBetween c from n (Some first)
+first_of_more c from k n first le is =
+    let more = below_more c k n le in
+    (is.0 ++ more.0, more.1 ∙ ap (λ found. found ++ more.0) is.1 ∙ append_assoc (faults_below c from) (first ∷ is.0) more.0)
 
--- what stands first below some line is first of all
-pub first_of_all : (c : Case) (k : ℕ) (first : Found) → k ≤ length c.lines → slice_get (faults_below c k) 0 ≡ Some first → Some first ≡ slice_get (faults_of c) 0
-first_of_all c k first le e = sym (first_below c k (length c.lines) first le e)
+-- none stands at some lines, and what does first at those below
+pub first_after_none : (c : Case) (from k n : ℕ) (first : Option Found) → IsFirstBetween c from k None → IsFirstBetween c k n first → IsFirstBetween c from n first
+first_after_none c from k n None none is = is ∙ none
+first_after_none c from k n (Some first) none is = (is.0, is.1 ∙ ap (λ found. found ++ first ∷ is.0) none)
+
+-- of all lines
+pub first_of_all : (log : Lines) (opts : AuditOpts) (first : Option Finding) → IsFirstBetween (case_of log opts) 0 (length log.lines) (option_map found_of first)
+    → (option_map found_of first ≡ slice_get (faults_of (case_of log opts)) 0) × ((first ≡ None) ↔ AreExplained (case_of log opts))
+first_of_all log opts None is =
+    let first = sym (ap (λ found. slice_get found 0) is) in
+    let same = explained_by_first log opts None first in
+    (first, (λ none. same.0 refl, λ some. refl))
+first_of_all log opts (Some x) is =
+    let first = sym (ap (λ found. slice_get found 0) is.1) in
+    let same = explained_by_first log opts (Some x.found) first in
+    (first, (λ none. absurd cc, λ some. absurd (let none = same.1 some in cc)))

@@ -1,7 +1,9 @@
 -- What the tables of a log say, and why a fault stands.
-use Rattle.std.proofs.Common.{◌≡◌, ℕ, max, ◌-◌, ◌<◌, ◌≤◌, ◌==◌, nat_lt, Bool, true, false, ◌&&◌, List, length, Option, None, Some, is_some, ap, sym, arith}
+use Rattle.std.proofs.Common.{◌≡◌, ℕ, max, ◌-◌, ◌<◌, ◌≤◌, ◌==◌, nat_lt, Bool, true, false, ◌&&◌, List, length, Option, None, Some, is_some, refl, ap, sym, arith}
 use Rattle.std.proofs.lemmas.Bool.Decides.{nat_tests}
+use Rattle.std.proofs.lemmas.List.Folds.{list_any_at}
 use Rattle.fdb_lines.specs.declared.fault.Fault.TheVariants.{Order, Wrong, NotAbove, Twice, Stray}
+use Rattle.fdb_lines.specs.declared.line.Line.{Line}
 use Rattle.fdb_lines.specs.declared.opts.AuditOpts.{AuditOpts}
 use Rattle.fdb_lines.specs.declared.reason.Reason.TheVariants.{Known, Reported}
 use Rattle.fdb_lines.specs.declared.reason.Witness.{Witness}
@@ -11,17 +13,20 @@ use Rattle.fdb_lines.specs.declared.sort.Sort.TheVariants.{Raises, Owned, Namele
 use Rattle.fdb_lines.specs.Audit.{case_of, start_of}
 use Rattle.fdb_lines.specs.Before.{comes_before}
 use Rattle.fdb_lines.specs.Faults.{is_drawn, is_own, is_raised, knows, some_below, last, stands}
-use Rattle.fdb_lines.specs.Lines.{Case, Lines, client_at, is_ask, is_commit, kind_at, reports, shows, version_at}
+use Rattle.fdb_lines.specs.Lines.{Case, Kind, Lines, Read, Commit, Ask, Report, Learn, client_at, draws, is_ask, is_commit, kind_at, kind_of, line_at, nobody, reports, shows, version_at}
 use Rattle.fdb_lines.specs.Reasons.{IsFirst, IsKnown, IsReason, draws_again, draws_it, reports_it, shows_or_draws}
 use Rattle.fdb_lines.specs.private.Entries.{other, IsFirstFrom}
 use Rattle.fdb_lines.specs.private.Known.{by_at, counts_at, newest_known, of_version, version_by, version_in}
 use Rattle.fdb_lines.specs.private.Marks.{is_marked_at, knows_at, name}
-use Rattle.fdb_lines.specs.private.Tables.{drawn_by, AreKnownIn, IsAnswer, IsFoundIn}
+use Rattle.fdb_lines.specs.private.Tables.{drawn_by, has_ask, AreKnownIn, IsAnswer, IsFoundIn}
 use Rattle.fdb_lines.proofs.Entries.{first_is, first_same}
 use Rattle.fdb_lines.proofs.Knowing.{found_is, version_is}
 use Rattle.fdb_lines.proofs.Numbers.{greatest_bound, greatest_least, some_at}
 
 -- ---- the tables
+
+abbrev before : Lines → AuditOpts → ℕ → ℕ → Bool
+before log opts = comes_before log.timed opts.margin log.lines
 
 abbrev pub newest : Lines → AuditOpts → Seen → ℕ → ℕ
 newest log opts seen k = newest_known (comes_before log.timed opts.margin log.lines) seen log.lines k
@@ -38,6 +43,34 @@ pub known_is : (log : Lines) (opts : AuditOpts) (seen : Seen) (known : List (Opt
     → newest log opts seen k ≤ version → IsFoundIn log opts seen k version (of_version log.lines version (by_at known k))
 known_is log opts seen known k version are lt most =
     found_is (comes_before log.timed opts.margin log.lines) opts.margin seen log.lines k version (by_at known k) (are.1 k lt) most
+
+-- ---- a log in which no line is an ask shows all that it draws
+
+drawn_is_shown : (kind : Kind) → draws kind ≡ true → is_ask kind ≡ false → shows kind ≡ true
+drawn_is_shown Read drawn other = absurd cc
+drawn_is_shown Commit drawn other = refl
+drawn_is_shown Ask drawn other = absurd cc
+drawn_is_shown Report drawn other = refl
+drawn_is_shown Learn drawn other = absurd cc
+
+shown_too : (log : Lines) → has_ask log.lines ≡ false → (j : ℕ) → j < length log.lines → counts_at Drawn log.lines j ≡ true → counts_at Shown log.lines j ≡ true
+shown_too log none j lt drawn =
+    let some = list_any_at (λ (line : Line). is_ask (kind_of line.call)) log.lines j nobody lt in
+    drawn_is_shown (kind_of (line_at log.lines j).call) drawn (grind arith)
+
+pub none_beyond : (log : Lines) (opts : AuditOpts) (k : ℕ) → has_ask log.lines ≡ false → last (case_of log opts) k ≤ knows (case_of log opts) k
+none_beyond log opts k none =
+    let test = λ (j : ℕ). before log opts j k && counts_at Shown log.lines j in
+    greatest_least (λ j. before log opts j k && counts_at Drawn log.lines j) (version_in log.lines) (length log.lines) (knows (case_of log opts) k) (λ j lt passes.
+    let shown = shown_too log none j lt in
+    let up = greatest_bound test (version_in log.lines) (length log.lines) j lt in
+    grind (arith, nat_tests))
+
+pub unseen_undrawn : (log : Lines) (opts : AuditOpts) (k version : ℕ) → has_ask log.lines ≡ false → IsFoundIn log opts Shown k version None → IsFoundIn log opts Drawn k version None
+unseen_undrawn log opts k version none unseen j lt =
+    let shown = shown_too log none j lt in
+    let other = unseen j lt in
+    grind (arith, nat_tests)
 
 -- a question of a version is answered by what is found for it
 pub answered : (test question : ℕ → Bool) (n : ℕ) (first : Option ℕ) → ((j : ℕ) → j < n → test j ≡ question j) → IsFirstFrom test 0 n first
@@ -77,9 +110,6 @@ beside_an_ask c k first not_commit =
     first_same (other (draws_it c (version_at c k)) k) (draws_again c k) (length c.lines) first (λ j l. grind (arith, nat_tests))
 
 -- ---- a version that was known
-
-abbrev before : Lines → AuditOpts → ℕ → ℕ → Bool
-before log opts = comes_before log.timed opts.margin log.lines
 
 -- a greatest that none has is 0
 untold : (log : Lines) (opts : AuditOpts) (seen : Seen) (k version : ℕ) → IsFoundIn log opts seen k version None → newest log opts seen k ≡ version → version ≡ 0

@@ -1,6 +1,5 @@
 -- Tallies: how many numbers pass a test. And the line at a place.
-use Rattle.std.proofs.Common.{◌≡◌, ℕ, zero, suc, ◌+◌, ◌<◌, ◌≤◌, Bool, false, cond, List, length, get_or, refl, ◌∙◌, arith, zero-le}
-use Rattle.std.proofs.lemmas.Bool.Decides.{nat_tests}
+use Rattle.std.proofs.Common.{◌≡◌, ℕ, zero, suc, ◌+◌, ◌<◌, ◌≤◌, Bool, cond, List, length, get_or, refl, ◌∙◌, arith, zero-le}
 use Rattle.std.proofs.lemmas.List.{get_or_default}
 use Rattle.fdb_lines.specs.declared.line.Line.{Line}
 use Rattle.fdb_lines.specs.Lines.{line_at, nobody}
@@ -10,18 +9,9 @@ use Rattle.fdb_lines.specs.Summary.{tally}
 abbrev pub adds : Bool → ℕ
 adds b = cond b 1 0
 
-pub none_pass : (test : ℕ → Bool) (n : ℕ) → ((j : ℕ) → test j ≡ false) → 0 ≡ tally test n
-none_pass test zero none = refl
-none_pass test (suc n) none = grind (arith, none n, none_pass test n none)
-
 pub tally_most : (test : ℕ → Bool) (n : ℕ) → tally test n ≤ n
 tally_most test zero = zero-le
 tally_most test (suc n) = grind (arith, tally_most test n)
-
-pub tally_up : (test : ℕ → Bool) (m n : ℕ) → m ≤ n → tally test m ≤ tally test n
-tally_up test zero n le = zero-le
-tally_up test (suc m) zero le = grind arith
-tally_up test (suc m) (suc n) le = grind (arith, nat_tests, tally_up test (suc m) n)
 
 -- tests that add up alike have tallies that do
 pub tally_sums : (a b c d : ℕ → Bool) (n : ℕ) → ((j : ℕ) → adds (a j) + adds (b j) ≡ adds (c j) + adds (d j)) → tally a n + tally b n ≡ tally c n + tally d n

@@ -6,9 +6,14 @@ pub mod Faults
 pub mod Order
 pub mod Steps
 pub mod Audit
+pub mod Keys
+pub mod Late
 pub mod Listing
 pub mod Turns
 pub mod Text
 pub mod Reasons
 pub mod Summary
+pub mod Carried
+pub mod Alarms
+pub mod Watch
 pub mod private

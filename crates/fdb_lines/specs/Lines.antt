@@ -1,5 +1,5 @@
 -- The lines of a log: what kind of call each is, its version, and its client. (this product's own)
-use Rattle.std.specs.Prelude.{ℕ, Bool, true, false, ◌==◌, List, Option, None, Some, slice_index_or}
+use Rattle.std.specs.Prelude.{ℕ, Bool, true, false, ◌==◌, List, Option, None, Some, map, slice_index_or}
 use Rattle.fdb_lines.specs.declared.line.Call.{Call}
 use Rattle.fdb_lines.specs.declared.line.Call.TheVariants.{Read as ReadOf, Commit as CommitOf, Ask as AskOf, Report as ReportOf, Learn as LearnFrom}
 use Rattle.fdb_lines.specs.declared.line.Line.{Line}
@@ -118,6 +118,14 @@ has_times line = are_known line.times
 pub record Lines : Type 0 where
   pub timed : Bool
   pub lines : List Line
+
+-- the lines at some places
+abbrev pub lines_in : List Line → List ℕ → List Line
+lines_in lines places = map (line_at lines) places
+
+-- and as a log of their own
+abbrev pub part_of : Lines → List ℕ → Lines
+part_of log places = record { timed = log.timed; lines = lines_in log.lines places }
 
 -- Some lines, with which of them comes before which (by places), the version that all begins with, and whether the
 -- log has all calls.

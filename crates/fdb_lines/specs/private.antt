@@ -7,5 +7,6 @@ pub mod Marks
 pub mod Tables
 pub mod Spots
 pub mod Ended
-pub mod Counts
-pub mod HeardCounts
+pub mod Standing
+pub mod Keys
+pub mod Late

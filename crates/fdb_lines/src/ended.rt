@@ -1,4 +1,4 @@
-//! Calls that ended, of which those before a moment are counted by a search.
+//! Calls that ended, by client, of which those before a moment are counted by a search.
 
 ghost use Rattle.std.specs.Prelude.{◌≡◌, ◌+◌, ℕ, ◌≤◌, IfOk, OnOk, Option, cond, length};
 ghost use Rattle.std.specs.List.Sorted.{IsNonDecreasingBy};
@@ -18,16 +18,14 @@ pub(crate) struct Ended {
 }
 
 impl Ended {
-    /// The ends of these lines, as of one group, or of those of known clients by client. `n log n`
-    /// in how many there are.
-    pub(crate) fn new(alloc: Global, lines: &[Line], by_client: bool) -> Result<Self, AllocError>
+    /// The ends of the lines of known clients, by client. `n log n` in how many there are.
+    pub(crate) fn new(alloc: Global, lines: &[Line]) -> Result<Self, AllocError>
         requires { length lines.now ≤ 4294967295 }
-        ensures { IfOk result
-            (λ ended. HasEnds by_client lines.now (length lines.now) ended.ends.items) }
+        ensures { IfOk result (λ ended. HasEnds lines.now (length lines.now) ended.ends.items) }
     {
-        let mut ends = Vec::new(alloc);
+        let mut ends = Vec::with_capacity(alloc, lines.len())?;
         for (place, line) in lines.iter().enumerate() {
-            add(&mut ends, line, place as u32, by_client)?;
+            add(&mut ends, line, place as u32)?;
         }
         ends.sort_unstable_by(|a, b| order(a, b));
         Ok(Ended { ends })
@@ -53,14 +51,13 @@ impl Ended {
 }
 
 /// Adds the end of the line at a place, if it has one and its group is known.
-fn add(ends: &mut Vec<End>, line: &Line, above: u32, by_client: bool) -> Result<(), AllocError>
+fn add(ends: &mut Vec<End>, line: &Line, above: u32) -> Result<(), AllocError>
     ensures { OnOk result ((group : Option ℕ) (time place : ℕ)
         → count_before ends.new.items group time place
-        ≡ cond (line_before by_client line.now above group time place) 1 0
+        ≡ cond (line_before line.now above group time place) 1 0
         + count_before ends.old.items group time place) }
 {
-    let group = if by_client { line.client } else { Some(0) };
-    if let (Some(group), Some(time)) = (group, line.ended()) {
+    if let (Some(group), Some(time)) = (line.client, line.ended()) {
         ends.push(End::new(group, time, above, line.call.version()))?;
     }
     Ok(())

@@ -1,15 +1,17 @@
 //! A table of calls that ended, in which the newest version before a moment is found by a search.
 
 ghost use Rattle.std.specs.Prelude.{◌≡◌, ◌<◌, ◌≤◌, ℕ, Bool, IfOk, IfSome, List, length};
-ghost use Rattle.std.specs.Prelude.{cond, nat_lt, slice_index};
+ghost use Rattle.std.specs.Prelude.{cond, false, nat_lt, slice_index};
 ghost use Rattle.std.specs.List.Sorted.{IsNonDecreasingBy, IsPermutation};
 ghost use Rattle.std.specs.Ordering.{nat_cmp};
 ghost use Rattle.fdb_lines.specs.Lines.{line_at};
 ghost use Rattle.fdb_lines.specs.declared.line.Line.{Line};
 ghost use Rattle.fdb_lines.specs.declared.seen.Seen.{Seen};
+ghost use Rattle.fdb_lines.specs.declared.seen.Seen.TheVariants.{Shown};
 ghost use Rattle.fdb_lines.specs.private.Ends.{comes_by, end_at, end_key, AreNewest};
 ghost use Rattle.fdb_lines.specs.private.Ends.{AreSettled, IsFront, IsNewestAt};
 ghost use Rattle.fdb_lines.specs.private.Entries.{IsNewest};
+ghost use Rattle.fdb_lines.specs.private.Late.{IsFirstEnd};
 ghost use Rattle.fdb_lines.specs.private.Known.{moment, stands_in, version_in, AreEnds};
 
 use crate::end::End;
@@ -59,6 +61,23 @@ impl Ends {
         Some(self.ends[newest].place)
     }
 
+    /// The first end of a table of one group that has a version above one, if any has. The newest up
+    /// to each end rises, so that it is a search. Logarithmic.
+    pub(crate) fn first_above(&self, version: u64) -> Option<End>
+        requires { AreSettled self.now }
+        ensures { (lines : List Line) → AreEnds false Shown lines (length lines) self.now.ends.items
+            → IsFirstEnd lines version result }
+    {
+        let front = self
+            .newest
+            .partition_point(|newest| version_of(&self.ends, *newest) <= version);
+        if front < self.ends.len() {
+            Some(self.ends[front])
+        } else {
+            None
+        }
+    }
+
     /// Where the newest of a group before a moment stands in the table. It is looked for first near
     /// the place that the last search left there.
     fn newest_end(&self, group: u32, time: u64, place: u32, near: &mut usize) -> Option<usize>
@@ -76,21 +95,27 @@ impl Ends {
     }
 }
 
-/// The order of the table: by group, then by time, then by place.
+/// Where an end stands in the order of the table, by group, then by time, then by place: one number,
+/// which is compared at once.
+fn key(end: &End) -> u128
+    ensures { result ≡ end_key end.now }
+{
+    (end.group as u128 * 18_446_744_073_709_551_616 + end.time as u128) * 4_294_967_296
+        + end.place as u128
+}
+
+/// The order of the table.
 pub(crate) fn order(a: &End, b: &End) -> Ordering
     ensures { result ≡ nat_cmp (end_key a.now) (end_key b.now) }
 {
-    a.group
-        .cmp(&b.group)
-        .then(a.time.cmp(&b.time))
-        .then(a.place.cmp(&b.place))
+    key(a).cmp(&key(b))
 }
 
 /// Whether the first comes before the second in the table.
 fn is_before(a: &End, b: &End) -> bool
     ensures { result ≡ nat_lt (end_key a.now) (end_key b.now) }
 {
-    order(a, b) == Ordering::Less
+    key(a) < key(b)
 }
 
 /// How many ends of a sorted table come before a moment. The ends around a place are looked through
@@ -131,6 +156,16 @@ fn front_of(ends: &[End], moment: &End) -> usize
     ensures parts { IsFront ends.now (end_key moment.now) result }
 {
     ends.partition_point(|end| is_before(end, moment))
+}
+
+/// The version of an end of a table; 0 past them.
+fn version_of(ends: &[End], at: u32) -> u64
+    ensures { result ≡ (end_at ends.now at).version }
+{
+    match ends.get(at as usize) {
+        Some(end) => end.version,
+        None => 0,
+    }
 }
 
 /// Up to each end of a sorted table, where the newest of its group is.

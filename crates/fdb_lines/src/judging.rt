@@ -1,20 +1,23 @@
 //! Which faults stand at the lines of a log, listed line by line, and why.
 
-ghost use Rattle.std.specs.Prelude.{◌≡◌, ◌<◌, ◌↔◌, ◌++◌, All, None, IfOk, IfSome, OnOk, length};
+ghost use Rattle.std.specs.Prelude.{◌≡◌, ◌<◌, ◌≤◌, ◌↔◌, ◌++◌, All, None, IfOk, IfSome, OnOk, length};
 ghost use Rattle.std.specs.Prelude.{map, option_map, slice_get};
 ghost use Rattle.fdb_lines.specs.Audit.{case_of, AreExplained};
 ghost use Rattle.fdb_lines.specs.Listing.{faults_at, faults_of, found_if};
+ghost use Rattle.fdb_lines.specs.Late.{HasLate};
 ghost use Rattle.fdb_lines.specs.Log.{lines_of};
 ghost use Rattle.fdb_lines.specs.Reasons.{found_of, HasReason};
-ghost use Rattle.fdb_lines.specs.private.Tables.{AreTables, ListsMore};
+ghost use Rattle.fdb_lines.specs.private.Tables.{AreTables, IsFirstBetween, ListsMore};
 
 use crate::fault::{Fault, Found};
 use crate::log::Log;
 use crate::opts::AuditOpts;
 use crate::reason::Finding;
-use crate::reasons::reason_of;
-use crate::tables::{Tables, tables_of};
+use crate::reasons::{late_of, reason_of};
+use crate::tables::Tables;
+use crate::tables_of::{tables_by, tables_of};
 use std::alloc::{AllocError, Global};
+use std::thread::{Threads, join};
 
 /// The faults of a log: each once, by line, and at a line in the order of [`Fault`]. There is
 /// none exactly where some history explains the lines. An error only where memory is refused.
@@ -50,8 +53,8 @@ pub fn first_fault(alloc: Global, log: &Log, opts: &AuditOpts) -> Result<Option<
     }
 }
 
-/// The faults of a log, as [`faults`] lists them, each with why it stands. An error only where
-/// memory is refused.
+/// The faults of a log, as [`faults`] lists them, each with why it stands, and of a stale read by
+/// how much it is late. An error only where memory is refused.
 ///
 /// `n log n` in how many lines there are, however many faults.
 pub fn findings(alloc: Global, log: &Log, opts: &AuditOpts) -> Result<Vec<Finding>, AllocError>
@@ -61,6 +64,8 @@ pub fn findings(alloc: Global, log: &Log, opts: &AuditOpts) -> Result<Vec<Findin
         ↔ AreExplained (case_of (lines_of log.now) opts.now)) }
     ensures reasons { IfOk result
         (λ findings. All (HasReason (lines_of log.now) opts.now) findings.items) }
+    ensures late { IfOk result
+        (λ findings. All (HasLate (lines_of log.now) opts.now) findings.items) }
 {
     let tables = tables_of(alloc, log, opts)?;
     let mut findings = Vec::new(alloc);
@@ -85,11 +90,120 @@ pub fn first_finding(
         (λ first. first ≡ None ↔ AreExplained (case_of (lines_of log.now) opts.now)) }
     ensures reason { IfOk result
         (λ first. IfSome first (HasReason (lines_of log.now) opts.now)) }
+    ensures late { IfOk result (λ first. IfSome first (HasLate (lines_of log.now) opts.now)) }
 {
     let tables = tables_of(alloc, log, opts)?;
+    first_in(alloc, &tables, log, opts)
+}
+
+/// The first fault of a log, as [`first_finding`] finds it, by threads.
+pub fn first_finding_by<R: Threads + Sync>(
+    rt: &R,
+    alloc: Global,
+    log: &Log,
+    opts: &AuditOpts,
+) -> Result<Option<Finding>, AllocError>
+    ensures first { IfOk result (λ first. option_map found_of first
+        ≡ slice_get (faults_of (case_of (lines_of log.now) opts.now)) 0) }
+    ensures explained { IfOk result
+        (λ first. first ≡ None ↔ AreExplained (case_of (lines_of log.now) opts.now)) }
+    ensures reason { IfOk result
+        (λ first. IfSome first (HasReason (lines_of log.now) opts.now)) }
+    ensures late { IfOk result (λ first. IfSome first (HasLate (lines_of log.now) opts.now)) }
+{
+    let tables = tables_by(rt, alloc, log, opts)?;
+    first_in_by(rt, alloc, &tables, log, opts)
+}
+
+/// The first fault of a log, by its tables.
+pub(crate) fn first_in(
+    alloc: Global,
+    tables: &Tables,
+    log: &Log,
+    opts: &AuditOpts,
+) -> Result<Option<Finding>, AllocError>
+    requires { AreTables (lines_of log.now) opts.now tables.now }
+    ensures first { IfOk result (λ first. option_map found_of first
+        ≡ slice_get (faults_of (case_of (lines_of log.now) opts.now)) 0) }
+    ensures explained { IfOk result
+        (λ first. first ≡ None ↔ AreExplained (case_of (lines_of log.now) opts.now)) }
+    ensures reason { IfOk result
+        (λ first. IfSome first (HasReason (lines_of log.now) opts.now)) }
+    ensures late { IfOk result (λ first. IfSome first (HasLate (lines_of log.now) opts.now)) }
+{
+    first_between(alloc, tables, log, opts, 0, log.lines().len())
+}
+
+/// The same, by two threads.
+fn first_in_by<R: Threads + Sync>(
+    rt: &R,
+    alloc: Global,
+    tables: &Tables,
+    log: &Log,
+    opts: &AuditOpts,
+) -> Result<Option<Finding>, AllocError>
+    requires { AreTables (lines_of log.now) opts.now tables.now }
+    ensures first { IfOk result (λ first. option_map found_of first
+        ≡ slice_get (faults_of (case_of (lines_of log.now) opts.now)) 0) }
+    ensures explained { IfOk result
+        (λ first. first ≡ None ↔ AreExplained (case_of (lines_of log.now) opts.now)) }
+    ensures reason { IfOk result
+        (λ first. IfSome first (HasReason (lines_of log.now) opts.now)) }
+    ensures late { IfOk result (λ first. IfSome first (HasLate (lines_of log.now) opts.now)) }
+{
+    let all = log.lines().len();
+    let half = all / 2;
+    let (above, below) = join(
+        rt,
+        || -> Result<Option<Finding>, AllocError>
+            requires { AreTables (lines_of log.now) opts.now tables.now
+                × (half ≤ length (lines_of log.now).lines) }
+            ensures first { IfOk result (λ first. IsFirstBetween
+                (case_of (lines_of log.entry.now) opts.entry.now) 0 half (option_map found_of first)) }
+            ensures reason { IfOk result
+                (λ first. IfSome first (HasReason (lines_of log.entry.now) opts.entry.now)) }
+            ensures late { IfOk result
+                (λ first. IfSome first (HasLate (lines_of log.entry.now) opts.entry.now)) }
+        { first_between(alloc, tables, log, opts, 0, half) },
+        || -> Result<Option<Finding>, AllocError>
+            requires { AreTables (lines_of log.now) opts.now tables.now
+                × (half ≤ all) × (all ≡ length (lines_of log.now).lines) }
+            ensures first { IfOk result (λ first. IsFirstBetween
+                (case_of (lines_of log.entry.now) opts.entry.now) half all (option_map found_of first)) }
+            ensures reason { IfOk result
+                (λ first. IfSome first (HasReason (lines_of log.entry.now) opts.entry.now)) }
+            ensures late { IfOk result
+                (λ first. IfSome first (HasLate (lines_of log.entry.now) opts.entry.now)) }
+        { first_between(alloc, tables, log, opts, half, all) },
+    );
+    let above = above?;
+    let below = below?;
+    match above {
+        Some(first) => Ok(Some(first)),
+        None => Ok(below),
+    }
+}
+
+/// The first fault at the lines from one place on and before another.
+fn first_between(
+    alloc: Global,
+    tables: &Tables,
+    log: &Log,
+    opts: &AuditOpts,
+    from: usize,
+    to: usize,
+) -> Result<Option<Finding>, AllocError>
+    requires tables { AreTables (lines_of log.now) opts.now tables.now }
+    requires range { (from ≤ to) × (to ≤ length (lines_of log.now).lines) }
+    ensures first { IfOk result (λ first. IsFirstBetween (case_of (lines_of log.now) opts.now)
+        from to (option_map found_of first)) }
+    ensures reason { IfOk result
+        (λ first. IfSome first (HasReason (lines_of log.now) opts.now)) }
+    ensures late { IfOk result (λ first. IfSome first (HasLate (lines_of log.now) opts.now)) }
+{
     let mut findings = Vec::new(alloc);
-    for place in 0..log.lines().len() {
-        add_findings(&mut findings, &tables, log, opts, place)?;
+    for place in from..to {
+        add_findings(&mut findings, tables, log, opts, place)?;
         if let Some(first) = findings.first() {
             return Ok(Some(*first));
         }
@@ -98,7 +212,7 @@ pub fn first_finding(
 }
 
 /// Adds the faults of a line, in the order of [`Fault`].
-fn add_findings(
+pub(crate) fn add_findings(
     findings: &mut Vec<Finding>,
     tables: &Tables,
     log: &Log,
@@ -134,7 +248,12 @@ fn add_finding(
     if let Some(reason) = reason_of(tables, log, opts, place, fault) {
         let line = place as u32;
         let found = Found { line, fault };
-        findings.push(Finding { found, reason })?;
+        let late = late_of(tables, log, opts, place, fault);
+        findings.push(Finding {
+            found,
+            reason,
+            late,
+        })?;
     }
     Ok(())
 }

@@ -1,6 +1,6 @@
 //! What each line knows: a line before it whose version is newest, and how it is known.
 
-ghost use Rattle.std.specs.Prelude.{◌≡◌, ◌≤◌, IfOk, List, OnOk, length, true};
+ghost use Rattle.std.specs.Prelude.{◌≡◌, ◌≤◌, IfOk, List, OnOk, length, false, true};
 ghost use Rattle.fdb_lines.specs.declared.line.Line.{Line};
 ghost use Rattle.fdb_lines.specs.declared.seen.Seen.{Seen};
 ghost use Rattle.fdb_lines.specs.Before.{by_time};
@@ -20,19 +20,24 @@ use crate::seen::{Seen, counts};
 use std::alloc::{AllocError, Global};
 
 /// By time: for each line the newest of the lines before it that let their versions be known, if
-/// there are some. `n log n` in how many lines there are.
+/// there are some, by the table of all and that of each client's own. Each search is logarithmic.
 pub(crate) fn known_by_time(
     alloc: Global,
     lines: &[Line],
     margin: u64,
     seen: Seen,
+    ends: &Ends,
+    own: &Ends,
 ) -> Result<Vec<Option<Witness>>, AllocError>
-    requires { length lines.now ≤ 4294967295 }
+    requires few { length lines.now ≤ 4294967295 }
+    requires settled { AreSettled ends.now × AreSettled own.now }
+    requires ends { AreEnds false seen lines.now (length lines.now) ends.now.ends.items }
+    requires own { AreEnds true seen lines.now (length lines.now) own.now.ends.items }
     ensures { IfOk result
         (λ known. AreKnown (by_time margin lines.now) margin seen lines.now known.items) }
 {
-    let mut known = known_of_all(alloc, lines, margin, seen)?;
-    add_own(alloc, lines, margin, seen, &mut known)?;
+    let mut known = known_of_all(alloc, lines, margin, seen, ends)?;
+    add_own(alloc, own, lines, margin, seen, &mut known)?;
     Ok(known)
 }
 
@@ -42,40 +47,43 @@ fn known_of_all(
     lines: &[Line],
     margin: u64,
     seen: Seen,
+    ends: &Ends,
 ) -> Result<Vec<Option<Witness>>, AllocError>
-    requires { length lines.now ≤ 4294967295 }
+    requires settled { AreSettled ends.now }
+    requires ends { AreEnds false seen lines.now (length lines.now) ends.now.ends.items }
     ensures { IfOk result (λ known. AreKnownOf (of_all margin seen lines.now) margin lines.now
         (length lines.now) known.items) }
 {
-    let table = table_of(alloc, lines, seen, false)?;
     let mut known = Vec::with_capacity(alloc, lines.len())?;
     let mut near = 0;
     for line in lines {
         let bound = line.began().saturating_sub(margin);
-        let newest = table.newest_before(0, bound, 0, &mut near);
+        let newest = ends.newest_before(0, bound, 0, &mut near);
         known.push(witness(newest, Means::Ended))?;
     }
     Ok(known)
 }
 
-/// Adds to each the newest of the client's own lines that had ended.
+/// Adds to each the newest of the client's own lines that had ended, by the table of those.
 fn add_own(
     alloc: Global,
+    table: &Ends,
     lines: &[Line],
     margin: u64,
     seen: Seen,
     known: &mut Vec<Option<Witness>>,
 ) -> Result<(), AllocError>
     requires few { length lines.now ≤ 4294967295 }
+    requires settled { AreSettled table.now }
+    requires ends { AreEnds true seen lines.now (length lines.now) table.now.ends.items }
     requires known { AreKnownOf (of_all margin seen lines.now) margin lines.now
         (length lines.now) known.old.items }
     ensures { OnOk result
         (AreKnown (by_time margin lines.now) margin seen lines.now known.new.items) }
 {
-    let table = table_of(alloc, lines, seen, true)?;
-    let mut nears = Nears::new();
+    let mut nears = Nears::new(alloc, lines.len())?;
     for (place, line) in lines.iter().enumerate() {
-        let own = own_before(&table, line, place as u32, &mut nears);
+        let own = own_before(table, line, place as u32, &mut nears);
         known[place] = newer(lines, known[place], witness(own, Means::Own));
     }
     Ok(())
@@ -93,13 +101,18 @@ fn own_before(table: &Ends, line: &Line, place: u32, nears: &mut Nears) -> Optio
 }
 
 /// The table of the lines that let a version be known and that ended.
-fn table_of(alloc: Global, lines: &[Line], seen: Seen, by_client: bool) -> Result<Ends, AllocError>
+pub(crate) fn table_of(
+    alloc: Global,
+    lines: &[Line],
+    seen: Seen,
+    by_client: bool,
+) -> Result<Ends, AllocError>
     requires { length lines.now ≤ 4294967295 }
     ensures settled { IfOk result (λ table. AreSettled table) }
     ensures ends { IfOk result
         (λ table. AreEnds by_client seen lines.now (length lines.now) table.ends.items) }
 {
-    let mut ends = Vec::new(alloc);
+    let mut ends = Vec::with_capacity(alloc, lines.len())?;
     for (place, line) in lines.iter().enumerate() {
         if let Some(end) = end_of(line, place as u32, seen, by_client) {
             ends.push(end)?;

@@ -1,13 +1,26 @@
 //! Laws of the definitions. The functions do nothing: each stands for its contract.
 
-ghost use Rattle.std.specs.Prelude.{ℕ, ◌<◌, ◌≤◌, ◌≡◌, ◌≢◌, ◌↔◌, List, length, IsTrue};
+ghost use Rattle.std.specs.Prelude.{ℕ, ◌<◌, ◌≤◌, ◌≡◌, ◌≢◌, ◌↔◌, ◌++◌, ◌∷◌, [], List, Option, length, map};
+ghost use Rattle.std.specs.Prelude.{slice_index, true, IsTrue};
+ghost use Rattle.std.specs.List.{filter};
 ghost use Rattle.fdb_lines.specs.declared.act.Act.{Act};
+ghost use Rattle.fdb_lines.specs.declared.fault.Fault.{Fault};
+ghost use Rattle.fdb_lines.specs.declared.fault.Fault.TheVariants.{Order, NotAbove, Twice};
+ghost use Rattle.fdb_lines.specs.declared.fault.Found.{Found};
+ghost use Rattle.fdb_lines.specs.declared.line.Line.{Line};
 ghost use Rattle.fdb_lines.specs.declared.opts.AuditOpts.{AuditOpts};
+ghost use Rattle.fdb_lines.specs.Alarms.{told_of};
 ghost use Rattle.fdb_lines.specs.Audit.{AreExplained, case_of};
-ghost use Rattle.fdb_lines.specs.Lines.{Case, Lines, Read, Ask, Learn, kind_at, shows, version_at};
+ghost use Rattle.fdb_lines.specs.Before.{began};
+ghost use Rattle.fdb_lines.specs.Carried.{with_times, AreLeftBelow, StandFor};
+ghost use Rattle.fdb_lines.specs.Keys.{case_of_key, faults_by_key, key_at, placed_found};
+ghost use Rattle.fdb_lines.specs.Keys.{places_of, same_key};
+ghost use Rattle.fdb_lines.specs.Listing.{faults_of};
+ghost use Rattle.fdb_lines.specs.Lines.{Case, Lines, Read, Ask, Learn, kind_at, kind_of, line_at};
+ghost use Rattle.fdb_lines.specs.Lines.{lines_in, shows, version_at, version_of};
 ghost use Rattle.fdb_lines.specs.Explained.{Explains, IsLegal, precedes};
 ghost use Rattle.fdb_lines.specs.Steps.{runs, fresh};
-ghost use Rattle.fdb_lines.specs.Faults.{IsFaultless};
+ghost use Rattle.fdb_lines.specs.Faults.{stands, IsFaultless};
 ghost use Rattle.fdb_lines.specs.Order.{IsRanked, history};
 
 /// No fault is invented: where some history explains the lines, none stands.
@@ -45,4 +58,75 @@ pub fn legal_exactly_where_it_runs()
 /// Only an ask is exempt: any other call precedes each line that it comes before.
 pub fn all_counts_without_asks()
     ensures { (c : Case) (j k : ℕ) → kind_at c j ≢ Ask → kind_at c j ≢ Learn → precedes c j k ≡ c.before j k }
+{}
+
+/// Where lines stand for all from a moment on, a call that begins then or later is judged by them as
+/// by all: whether it is a stale read, and whether it draws a version that is not above.
+pub fn lines_that_stand_for_all_judge_as_all()
+    ensures order { (opts : AuditOpts) (at : ℕ) (lines : List Line) (places : List ℕ) (i : ℕ)
+        → StandFor opts.margin at lines places → i < length places
+        → at ≤ began (line_at lines (slice_index places i))
+        → stands (case_of (with_times (lines_in lines places)) opts) Order i
+        ≡ stands (case_of (with_times lines) opts) Order (slice_index places i) }
+    ensures not_above { (opts : AuditOpts) (at : ℕ) (lines : List Line) (places : List ℕ) (i : ℕ)
+        → StandFor opts.margin at lines places → i < length places
+        → at ≤ began (line_at lines (slice_index places i))
+        → stands (case_of (with_times (lines_in lines places)) opts) NotAbove i
+        ≡ stands (case_of (with_times lines) opts) NotAbove (slice_index places i) }
+{}
+
+/// Whenever a call begins, what is told by lines that stand for all is true of all. It is not so of
+/// a read of a version that is not there, nor of a stray.
+pub fn nothing_is_told_by_them_alone()
+    ensures order { (opts : AuditOpts) (at : ℕ) (lines : List Line) (places : List ℕ) (i : ℕ)
+        → StandFor opts.margin at lines places → i < length places
+        → stands (case_of (with_times (lines_in lines places)) opts) Order i ≡ true
+        → stands (case_of (with_times lines) opts) Order (slice_index places i) ≡ true }
+    ensures not_above { (opts : AuditOpts) (at : ℕ) (lines : List Line) (places : List ℕ) (i : ℕ)
+        → StandFor opts.margin at lines places → i < length places
+        → stands (case_of (with_times (lines_in lines places)) opts) NotAbove i ≡ true
+        → stands (case_of (with_times lines) opts) NotAbove (slice_index places i) ≡ true }
+    ensures twice { (opts : AuditOpts) (at : ℕ) (lines : List Line) (places : List ℕ) (i : ℕ)
+        → StandFor opts.margin at lines places → i < length places
+        → stands (case_of (with_times (lines_in lines places)) opts) Twice i ≡ true
+        → stands (case_of (with_times lines) opts) Twice (slice_index places i) ≡ true }
+{}
+
+/// Whenever a call begins, where its version is above those of all lines that are left out, each
+/// fault stands at it by the others exactly where it stands by all.
+pub fn above_what_is_left_out_all_faults_are_told()
+    ensures { (opts : AuditOpts) (at : ℕ) (lines : List Line) (places : List ℕ) (i : ℕ)
+        → StandFor opts.margin at lines places → i < length places
+        → AreLeftBelow (version_of (line_at lines (slice_index places i)).call) lines places
+        → (fault : Fault) → stands (case_of (with_times (lines_in lines places)) opts) fault i
+        ≡ stands (case_of (with_times lines) opts) fault (slice_index places i) }
+{}
+
+/// Lines that stand for all go on to: from a later moment, with one line more, and where some of
+/// them stand for them.
+pub fn they_go_on_to_stand_for_all()
+    ensures later { (margin at then : ℕ) (lines : List Line) (places : List ℕ) → at ≤ then
+        → StandFor margin at lines places → StandFor margin then lines places }
+    ensures one_more { (margin at : ℕ) (lines : List Line) (places : List ℕ) (line : Line)
+        → StandFor margin at lines places
+        → StandFor margin at (lines ++ line ∷ []) (places ++ length lines ∷ []) }
+    ensures fewer { (margin at : ℕ) (lines : List Line) (places kept : List ℕ)
+        → StandFor margin at lines places → StandFor margin at (lines_in lines places) kept
+        → StandFor margin at lines (map (slice_index places) kept) }
+{}
+
+/// What is told of the lines that began before a moment stays, whatever begins then or later.
+pub fn what_was_told_stays()
+    ensures { (margin from to : ℕ) (lines more : List Line)
+        → ((j : ℕ) → j < length more → to ≤ began (line_at more j))
+        → told_of margin (lines ++ more) from to ≡ told_of margin lines from to }
+{}
+
+/// The faults of a log with keys that stand at lines of one key are all those of its lines, each
+/// told at its place in the whole log.
+pub fn faults_by_key_are_those_of_each_key()
+    ensures { (log : Lines) (keys : List (Option ℕ)) (opts : AuditOpts) (key : Option ℕ)
+        → length keys ≡ length log.lines
+        → filter (λ (found : Found). same_key (key_at keys found.line) key) (faults_by_key log keys opts)
+        ≡ map (placed_found (places_of keys key)) (faults_of (case_of_key log keys opts key)) }
 {}

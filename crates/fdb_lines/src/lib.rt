@@ -2,13 +2,17 @@
 #![tactic(auto)]
 
 mod act;
+mod alarm;
+mod carrying;
 mod end;
+mod end_times;
 mod ended;
 mod ends;
 mod fault;
-mod heard_counts;
 mod judging;
+mod keys;
 mod known;
+mod late;
 pub mod laws;
 mod line;
 mod log;
@@ -26,17 +30,24 @@ mod spot;
 mod summed;
 mod summing;
 mod tables;
+mod tables_of;
 mod telling;
 mod turn;
+mod watch;
 
 pub use act::Act;
+pub use alarm::Alarm;
+pub use carrying::standing;
 pub use fault::{Fault, Found};
-pub use judging::{faults, findings, first_fault, first_finding};
+pub use judging::{faults, findings, first_fault, first_finding, first_finding_by};
+pub use keys::findings_by_key;
+pub use late::Late;
 pub use line::{Call, Line, Times};
 pub use log::{LineError, Log, MAX_LINES};
 pub use opts::AuditOpts;
-pub use ordering::order;
+pub use ordering::{order, order_or_finding};
 pub use reason::{Finding, Means, Reason, Witness};
 pub use summed::Summary;
-pub use summing::summary;
+pub use summing::{summary, summary_by};
 pub use turn::Turn;
+pub use watch::{Watch, WatchError};

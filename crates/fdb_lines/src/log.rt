@@ -1,11 +1,11 @@
 //! A log: its lines, which all have times or all have none.
 
 ghost use Rattle.std.specs.Prelude.{◌≡◌, ℕ, ◌<◌, ◌≤◌, ◌⊎◌, [], false, None, Some, IfErr, OnErr};
-ghost use Rattle.std.specs.Prelude.{OnOk, length};
+ghost use Rattle.std.specs.Prelude.{IfOk, OnOk, length, slice_index};
 ghost use Rattle.fdb_lines.specs.Lines.{has_times, line_at};
 
 use crate::line::{Call, Line};
-use std::alloc::Global;
+use std::alloc::{AllocError, Global};
 use thiserror::Error;
 
 /// How many lines a log may have: each place fits 32 bits.
@@ -41,6 +41,7 @@ pub struct Log {
 
 impl Log {
     ghost use Rattle.fdb_lines.specs.declared.log.LineError.TheVariants.{Memory};
+    ghost use Rattle.fdb_lines.specs.Lines.{part_of};
     ghost use Rattle.fdb_lines.specs.Log.{added, lines_of, refusal_of};
 
     /// A log without lines: the first that is added decides whether all have times.
@@ -86,6 +87,23 @@ impl Log {
         }
         self.timed = timed;
         Ok(())
+    }
+
+    /// The lines at some places, as a log of their own.
+    pub(crate) fn part(&self, alloc: Global, places: &[u32]) -> Result<Log, AllocError>
+        requires few { length places.now ≤ 4294967295 }
+        requires within { (j : ℕ) → j < length places.now
+            → slice_index places.now j < length (lines_of self.now).lines }
+        ensures { IfOk result (λ part. lines_of part ≡ part_of (lines_of self.now) places.now) }
+    {
+        let mut lines = Vec::with_capacity(alloc, places.len())?;
+        for place in places {
+            lines.push(self.lines[*place as usize])?;
+        }
+        Ok(Log {
+            lines,
+            timed: self.timed,
+        })
     }
 
     /// Why a line may not be added, if it may not.

@@ -36,13 +36,19 @@ impl Mark {
         self.group == group && self.version == version
     }
 
-    /// The order of the table: by version, then by group, then by place.
+    /// Where it stands in the order of the table, by version, then by group, then by place: one
+    /// number, which is compared at once.
+    fn key(&self) -> u128
+        ensures { result ≡ mark_key self.now }
+    {
+        (self.version as u128 * 4_294_967_296 + self.group as u128) * 4_294_967_296
+            + self.place as u128
+    }
+
+    /// The order of the table.
     pub(crate) fn order(&self, other: &Mark) -> Ordering
         ensures { result ≡ nat_cmp (mark_key self.now) (mark_key other.now) }
     {
-        self.version
-            .cmp(&other.version)
-            .then(self.group.cmp(&other.group))
-            .then(self.place.cmp(&other.place))
+        self.key().cmp(&other.key())
     }
 }

@@ -1,6 +1,7 @@
 //! Why a fault stands, by the versions and lines that anybody can look up in the log.
 
 use crate::fault::Found;
+use crate::late::Late;
 
 /// How a call knew of a line, which makes the line come before it.
 #[derive(Clone, Copy, Debug, PartialEq, Eq)]
@@ -54,4 +55,7 @@ pub enum Reason {
 pub struct Finding {
     pub found: Found,
     pub reason: Reason,
+    /// Of a stale read: by how much it is late. None of other faults, and where no line whose end
+    /// is known shows a newer version.
+    pub late: Option<Late>,
 }

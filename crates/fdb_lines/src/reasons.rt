@@ -3,6 +3,7 @@
 ghost use Rattle.std.specs.Prelude.{◌≡◌, ◌<◌, true, length};
 ghost use Rattle.fdb_lines.specs.Audit.{case_of};
 ghost use Rattle.fdb_lines.specs.Faults.{stands};
+ghost use Rattle.fdb_lines.specs.Late.{IsLateAt};
 ghost use Rattle.fdb_lines.specs.Lines.{version_at};
 ghost use Rattle.fdb_lines.specs.Log.{lines_of};
 ghost use Rattle.fdb_lines.specs.Reasons.{IsReason};
@@ -12,6 +13,7 @@ ghost use Rattle.fdb_lines.specs.private.Tables.{IsAnswer};
 
 use crate::fault::Fault;
 use crate::known::version_in;
+use crate::late::Late;
 use crate::log::Log;
 use crate::opts::AuditOpts;
 use crate::reason::Reason;
@@ -41,8 +43,36 @@ pub(crate) fn reason_of(
     })
 }
 
+/// Of a stale read, by how much it is late; none of another fault that stands at a line.
+pub(crate) fn late_of(
+    tables: &Tables,
+    log: &Log,
+    opts: &AuditOpts,
+    place: usize,
+    fault: Fault,
+) -> Option<Late>
+    requires tables { AreTables (lines_of log.now) opts.now tables.now }
+    requires place { place < length (lines_of log.now).lines }
+    requires stands { stands (case_of (lines_of log.now) opts.now) fault place ≡ true }
+    ensures { IsLateAt (lines_of log.now) opts.now place fault result }
+{
+    match fault {
+        Fault::Order => tables.late(log, opts, place),
+        Fault::Wrong => None,
+        Fault::NotAbove => None,
+        Fault::Twice => None,
+        Fault::Stray => None,
+    }
+}
+
 /// Whether a fault stands at a line.
-fn stands(tables: &Tables, log: &Log, opts: &AuditOpts, place: usize, fault: Fault) -> bool
+pub(crate) fn stands(
+    tables: &Tables,
+    log: &Log,
+    opts: &AuditOpts,
+    place: usize,
+    fault: Fault,
+) -> bool
     requires tables { AreTables (lines_of log.now) opts.now tables.now }
     requires place { place < length (lines_of log.now).lines }
     ensures { result ≡ stands (case_of (lines_of log.now) opts.now) fault place }
@@ -53,9 +83,7 @@ fn stands(tables: &Tables, log: &Log, opts: &AuditOpts, place: usize, fault: Fau
     match fault {
         Fault::Order => line.call.is_read() && version < knows,
         Fault::Wrong => line.call.is_read() && is_wrong(tables, log, opts, place),
-        Fault::NotAbove => {
-            line.call.draws() && version <= knows.max(tables.last(log, opts, place))
-        }
+        Fault::NotAbove => line.call.draws() && version <= tables.newest(log, opts, place),
         Fault::Twice => line.call.draws() && tables.is_twice(log, opts, place),
         Fault::Stray => line.call.is_report() && is_stray(tables, log, opts, place),
     }
@@ -124,9 +152,7 @@ fn of_not_above(tables: &Tables, log: &Log, opts: &AuditOpts, place: usize) -> R
     requires stands { stands (case_of (lines_of log.now) opts.now) NotAbove place ≡ true }
     ensures { IsReason (lines_of log.now) opts.now place NotAbove result }
 {
-    let version = tables
-        .knows(log, opts, place)
-        .max(tables.last(log, opts, place));
+    let version = tables.newest(log, opts, place);
     let by = match tables.shown(log, opts, place, version) {
         Some(by) => Some(by),
         None => tables.drawn(log, opts, place, version),

@@ -14,6 +14,6 @@ pub struct Summary {
     pub learns: u64,
     /// How many versions were read, other than the start, that no line reports.
     pub unreported: u64,
-    /// Of how many pairs of lines one comes before the other.
-    pub ordered: u64,
+    /// Of how many pairs of lines one comes before the other, where the lines have times.
+    pub ordered: Option<u64>,
 }

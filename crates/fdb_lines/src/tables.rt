@@ -1,81 +1,41 @@
 //! The tables of a log, in which each question of the rule is answered by a search.
 
-ghost use Rattle.std.specs.Prelude.{◌≡◌, ◌<◌, ◌≤◌, IfOk, length};
+ghost use Rattle.std.specs.Prelude.{◌≡◌, ◌<◌, ◌≤◌, None, length, max, true};
 ghost use Rattle.fdb_lines.specs.Audit.{case_of};
 ghost use Rattle.fdb_lines.specs.Faults.{is_drawn, is_own, is_raised, is_reported, is_twice, knows};
 ghost use Rattle.fdb_lines.specs.Faults.{last};
-ghost use Rattle.fdb_lines.specs.Lines.{version_at};
+ghost use Rattle.fdb_lines.specs.Late.{IsLate};
+ghost use Rattle.fdb_lines.specs.Lines.{is_read, kind_at, version_at};
 ghost use Rattle.fdb_lines.specs.Log.{lines_of};
 ghost use Rattle.fdb_lines.specs.Reasons.{draws_again, draws_it, reports_it};
 ghost use Rattle.fdb_lines.specs.declared.seen.Seen.TheVariants.{Drawn, Shown};
 ghost use Rattle.fdb_lines.specs.private.Entries.{other, IsFirstFrom};
 ghost use Rattle.fdb_lines.specs.private.Known.{of_version};
-ghost use Rattle.fdb_lines.specs.private.Tables.{AreKnownIn, AreTables, IsFoundIn};
+ghost use Rattle.fdb_lines.specs.private.Tables.{AreTables, IsFoundIn};
 
-use crate::known::{by_at, known_by_time, version_by, version_in};
+use crate::ends::Ends;
+use crate::known::{by_at, version_by, version_in};
+use crate::late::{Late, late_by};
 use crate::line::Line;
 use crate::log::Log;
 use crate::marks::{Marks, knows_at};
 use crate::opts::AuditOpts;
 use crate::reason::Witness;
-use crate::seen::Seen;
-use crate::sort::Sort;
-use crate::telling::known_by_telling;
-use std::alloc::{AllocError, Global};
 
 /// What each line knows, and which lines report and draw which versions.
 #[derive(Drop)]
 pub(crate) struct Tables {
-    shown: Vec<Option<Witness>>,
-    drawn: Vec<Option<Witness>>,
-    reports: Marks,
-    raises: Marks,
-    draws: Marks,
-    asks: Marks,
-    owned: Marks,
-    nameless: Marks,
-}
-
-/// The tables of a log. `n log n` in how many lines there are.
-pub(crate) fn tables_of(alloc: Global, log: &Log, opts: &AuditOpts) -> Result<Tables, AllocError>
-    ensures { IfOk result (λ tables. AreTables (lines_of log.now) opts.now tables) }
-{
-    let lines = log.lines();
-    let start = opts.start();
-    let shown = known(alloc, log, opts, Seen::Shown)?;
-    let drawn = known(alloc, log, opts, Seen::Drawn)?;
-    let reports = Marks::new(alloc, start, lines, &shown, Sort::Reports)?;
-    let raises = Marks::new(alloc, start, lines, &shown, Sort::Raises)?;
-    let draws = Marks::new(alloc, start, lines, &shown, Sort::Draws)?;
-    let asks = Marks::new(alloc, start, lines, &shown, Sort::Asks)?;
-    let owned = Marks::new(alloc, start, lines, &shown, Sort::Owned)?;
-    let nameless = Marks::new(alloc, start, lines, &shown, Sort::Nameless)?;
-    Ok(Tables {
-        shown,
-        drawn,
-        reports,
-        raises,
-        draws,
-        asks,
-        owned,
-        nameless,
-    })
-}
-
-/// For each line the newest of the lines before it that let their versions be known.
-fn known(
-    alloc: Global,
-    log: &Log,
-    opts: &AuditOpts,
-    seen: Seen,
-) -> Result<Vec<Option<Witness>>, AllocError>
-    ensures { IfOk result (λ known. AreKnownIn (lines_of log.now) opts.now seen known.items) }
-{
-    if log.is_timed() {
-        known_by_time(alloc, log.lines(), opts.margin, seen)
-    } else {
-        known_by_telling(alloc, log.lines(), seen)
-    }
+    pub(crate) shown: Vec<Option<Witness>>,
+    /// None where no line is an ask: all that is drawn is shown then.
+    pub(crate) drawn: Option<Vec<Option<Witness>>>,
+    pub(crate) reports: Marks,
+    pub(crate) raises: Marks,
+    pub(crate) draws: Marks,
+    pub(crate) asks: Marks,
+    pub(crate) owned: Marks,
+    pub(crate) nameless: Marks,
+    /// The ends of the lines that show a version.
+    pub(crate) firsts: Ends,
 }
 
 impl Tables {
@@ -88,13 +48,18 @@ impl Tables {
         knows_at(opts.start(), log.lines(), &self.shown, place)
     }
 
-    /// The newest version that was drawn before the call at a place.
-    pub(crate) fn last(&self, log: &Log, opts: &AuditOpts, place: usize) -> u64
+    /// The newest version that was shown or drawn before the call at a place.
+    pub(crate) fn newest(&self, log: &Log, opts: &AuditOpts, place: usize) -> u64
         requires tables { AreTables (lines_of log.now) opts.now self.now }
         requires place { place < length (lines_of log.now).lines }
-        ensures { result ≡ last (case_of (lines_of log.now) opts.now) place }
+        ensures { let c = case_of (lines_of log.now) opts.now in
+            result ≡ max (knows c place) (last c place) }
     {
-        version_by(log.lines(), by_at(&self.drawn, place))
+        let knows = self.knows(log, opts, place);
+        match &self.drawn {
+            Some(drawn) => knows.max(version_by(log.lines(), by_at(drawn, place))),
+            None => knows,
+        }
     }
 
     /// The line by which the call at a place knew that a version had been shown, where that is as
@@ -114,7 +79,7 @@ impl Tables {
         of_version(log.lines(), version, by_at(&self.shown, place))
     }
 
-    /// The same, of versions that were drawn.
+    /// The same, of versions that were drawn, where the call did not know that it had been shown.
     pub(crate) fn drawn(
         &self,
         log: &Log,
@@ -125,9 +90,23 @@ impl Tables {
         requires tables { AreTables (lines_of log.now) opts.now self.now }
         requires place { place < length (lines_of log.now).lines }
         requires newest { last (case_of (lines_of log.now) opts.now) place ≤ version }
+        requires unseen { IsFoundIn (lines_of log.now) opts.now Shown place version None }
         ensures { IsFoundIn (lines_of log.now) opts.now Drawn place version result }
     {
-        of_version(log.lines(), version, by_at(&self.drawn, place))
+        match &self.drawn {
+            Some(drawn) => of_version(log.lines(), version, by_at(drawn, place)),
+            None => None,
+        }
+    }
+
+    /// By how much the read at a place is late. Logarithmic.
+    pub(crate) fn late(&self, log: &Log, opts: &AuditOpts, place: usize) -> Option<Late>
+        requires tables { AreTables (lines_of log.now) opts.now self.now }
+        requires place { place < length (lines_of log.now).lines }
+        requires read { is_read (kind_at (case_of (lines_of log.now) opts.now) place) ≡ true }
+        ensures { IsLate (lines_of log.now) opts.now place result }
+    {
+        late_by(&self.firsts, log, opts, place)
     }
 
     /// The first line that reports the version of the one at a place. Logarithmic, as all below.

@@ -1,7 +1,8 @@
 //! What each line knows in a log without times.
 
-ghost use Rattle.std.specs.Prelude.{◌≡◌, ◌≤◌, ℕ, IfOk, OnOk, cond, length, nat_eq};
-ghost use Rattle.std.specs.HashMap.{get};
+ghost use Rattle.std.specs.Prelude.{◌≡◌, ◌≤◌, ℕ, IfOk, OnOk, cond, length};
+ghost use Rattle.std.specs.BTreeMap.{get};
+ghost use Rattle.std.specs.Ordering.{nat_cmp};
 ghost use Rattle.fdb_lines.specs.Before.{by_telling, is_of};
 ghost use Rattle.fdb_lines.specs.private.Known.{newer, AreKnown};
 ghost use Rattle.fdb_lines.specs.private.Telling.{gained, heard_by, learnt_by};
@@ -11,10 +12,10 @@ use crate::line::{Call, Line};
 use crate::reason::{Means, Witness};
 use crate::seen::{Seen, counts};
 use std::alloc::{AllocError, Global};
-use std::collections::HashMap;
+use std::collections::BTreeMap;
 
 /// Without times: for each line the newest of the lines before it that let their versions be known,
-/// if there are some. Linear in how many lines there are.
+/// if there are some. `n log n` in how many lines there are.
 pub(crate) fn known_by_telling(
     alloc: Global,
     lines: &[Line],
@@ -24,7 +25,7 @@ pub(crate) fn known_by_telling(
     ensures { IfOk result (λ known. (margin : ℕ)
         → AreKnown (by_telling lines.now) margin seen lines.now known.items) }
 {
-    let mut newest = HashMap::new(alloc);
+    let mut newest = BTreeMap::new(alloc);
     let mut known = Vec::with_capacity(alloc, lines.len())?;
     for (place, line) in lines.iter().enumerate() {
         known.push(heard_by(&newest, line.client))?;
@@ -34,8 +35,8 @@ pub(crate) fn known_by_telling(
 }
 
 /// What a client has heard of; nothing where it is not known who it is.
-fn heard_by(newest: &HashMap<u32, Witness>, client: Option<u32>) -> Option<Witness>
-    ensures { result ≡ heard_by (λ q. get nat_eq newest.now q) client }
+fn heard_by(newest: &BTreeMap<u32, Witness>, client: Option<u32>) -> Option<Witness>
+    ensures { result ≡ heard_by (λ q. get nat_cmp newest.now q) client }
 {
     match client {
         Some(client) => newest.get(&client).copied(),
@@ -45,16 +46,16 @@ fn heard_by(newest: &HashMap<u32, Witness>, client: Option<u32>) -> Option<Witne
 
 /// A client has heard of its line from here on, or of what it has learnt.
 fn hear(
-    newest: &mut HashMap<u32, Witness>,
+    newest: &mut BTreeMap<u32, Witness>,
     lines: &[Line],
     line: &Line,
     place: u32,
     seen: Seen,
 ) -> Result<(), AllocError>
-    ensures { OnOk result ((q : ℕ) → get nat_eq newest.new q ≡ cond (is_of q line.now.client)
-        (newer lines.now (get nat_eq newest.old q)
-        (gained seen (λ p. get nat_eq newest.old p) place line.now.call))
-        (get nat_eq newest.old q)) }
+    ensures { OnOk result ((q : ℕ) → get nat_cmp newest.new q ≡ cond (is_of q line.now.client)
+        (newer lines.now (get nat_cmp newest.old q)
+        (gained seen (λ p. get nat_cmp newest.old p) place line.now.call))
+        (get nat_cmp newest.old q)) }
 {
     let Some(client) = line.client else {
         return Ok(());
@@ -67,8 +68,8 @@ fn hear(
 }
 
 /// What a line lets its client hear of.
-fn gained(newest: &HashMap<u32, Witness>, call: Call, place: u32, seen: Seen) -> Option<Witness>
-    ensures { result ≡ gained seen (λ p. get nat_eq newest.now p) place call }
+fn gained(newest: &BTreeMap<u32, Witness>, call: Call, place: u32, seen: Seen) -> Option<Witness>
+    ensures { result ≡ gained seen (λ p. get nat_cmp newest.now p) place call }
 {
     match call {
         Call::Learn(teller) => learnt_by(newest.get(&teller).copied(), place),

@@ -1,3 +1,6 @@
 pub mod Naming
 pub mod Splitting
-pub mod Quoting
+pub mod Escapes
+pub mod ReadsBack
+pub mod Scanned
+pub mod UsualForm

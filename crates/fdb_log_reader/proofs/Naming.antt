@@ -1,37 +1,83 @@
--- The places of names.
-use Rattle.std.proofs.Common.{◌≡◌, ℕ, ◌+◌, ◌||◌, Bool, true, false, cond, List, [], ◌∷◌, ◌++◌, map, Some, is_some, refl, ap, sym, ◌∙◌, if◌then◌else◌}
-use Rattle.std.proofs.lemmas.Iterator.Adapters.{position_from-zero}
-use Rattle.std.proofs.lemmas.List.{map-append}
-use Rattle.std.specs.List.{list_any, position, position_from}
-use Rattle.std.specs.Str.{bytes_eq}
+-- The places of names, and the table of their numbers.
+use Rattle.std.proofs.Common.{◌≡◌, ℕ, ◌+◌, ◌<◌, Bool, true, false, cond, nat_lt, List, [], ◌∷◌, ◌++◌, length, map, Option, None, Some, IfSome, refl, ap, sym, ◌∙◌, arith, ltb-true}
+use Rattle.std.proofs.lemmas.List.{length-map, map-append}
+use Rattle.std.proofs.lemmas.Map.Text.{btree_map_updates_text}
+use Rattle.std.specs.BTreeMap.{BTreeMap, Updates, get_by_text}
 use Rattle.std.specs.Prelude.{String}
-use Rattle.std.specs.String.{string_bytes, string_eq}
+use Rattle.std.specs.String.{string_bytes, string_cmp}
 use Rattle.std.specs.declared.alloc.Global.{Global}
-use Rattle.indexmap.specs.IndexSet.{insert_key}
-use Rattle.fdb_log_reader.specs.Names.{number_in, with_name}
+use Rattle.std.proofs.lemmas.Iterator.Adapters.{position_from-zero}
+use Rattle.std.proofs.lemmas.Slice.Eq.{bytes_eq-Decides}
+use Rattle.std.specs.List.{position_from, position_or_len}
+use Rattle.std.specs.Option.{option_or}
+use Rattle.std.specs.Str.{bytes_eq}
+use Rattle.fdb_log_reader.specs.Numbers.{number_in}
 
-from_map : {X Y : Type 0} (p : Y → Bool) (f : X → Y) (i : ℕ) (xs : List X) → position_from (λ x. p (f x)) i xs ≡ position_from p i (map f xs)
-from_map p f i [] = refl
-from_map p f i (x ∷ xs) = ap (cond (p (f x)) (Some i)) (from_map p f (i + 1) xs)
-
-from_any : {X : Type 0} (p : X → Bool) (i : ℕ) (xs : List X) → is_some (position_from p i xs) ≡ list_any p xs
-from_any p i [] = refl
-from_any p i (x ∷ xs) =
-    elim (p x) as (λ b. is_some (cond b (Some i) (position_from p (i + 1) xs)) ≡ (b || list_any p xs)) [ true ↦ refl | false ↦ from_any p (i + 1) xs ]
-
--- ---- the keys of a set of texts
-
-pub place_in_keys : (name : List ℕ) (keys : List (String Global)) → position (λ key. bytes_eq name (string_bytes key)) keys ≡ number_in (map string_bytes keys) name
-place_in_keys name keys =
-    position_from-zero (λ (key : String Global). bytes_eq name (string_bytes key)) keys
-    ∙ (from_map (bytes_eq name) string_bytes 0 keys ∙ sym (position_from-zero (bytes_eq name) (map string_bytes keys)))
-
-pub keys_added : (keys : List (String Global)) (key : String Global)
-    → map string_bytes (insert_key string_eq keys key) ≡ with_name (map string_bytes keys) (string_bytes key)
-keys_added keys key =
-    let there : is_some (number_in (map string_bytes keys) (string_bytes key)) ≡ list_any (string_eq key) keys =
-    ap is_some (sym (place_in_keys (string_bytes key) keys) ∙ position_from-zero (string_eq key) keys) ∙ from_any (string_eq key) 0 keys in
-    rw there (elim (list_any (string_eq key) keys) as (λ b. map string_bytes (if b then keys else keys ++ key ∷ []) ≡ (if b then map string_bytes keys else map string_bytes keys ++ string_bytes key ∷ [])) [
+-- whether an element with one more at the end is found
+from_more : {X : Type 0} (p : X → Bool) (i : ℕ) (xs : List X) (x : X)
+    → position_from p i (xs ++ x ∷ []) ≡ option_or (position_from p i xs) (cond (p x) (Some (i + length xs)) None)
+from_more p i [] x = ap (λ k. cond (p x) (Some k) None) (omega arith)
+from_more p i (y ∷ xs) x =
+    elim (p y) as (λ b. cond b (Some i) (position_from p (i + 1) (xs ++ x ∷ [])) ≡ option_or (cond b (Some i) (position_from p (i + 1) xs)) (cond (p x) (Some (i + length (y ∷ xs))) None)) [
       | true ↦ refl
-      | false ↦ map-append string_bytes keys (key ∷ [])
-    ])
+      | false ↦ from_more p (i + 1) xs x ∙ ap (λ k. option_or (position_from p (i + 1) xs) (cond (p x) (Some k) None)) (omega arith)
+    ]
+
+more_from_0 : {X : Type 0} (p : X → Bool) (xs : List X) (x : X)
+    → position_from p 0 (xs ++ x ∷ []) ≡ option_or (position_from p 0 xs) (cond (p x) (Some (length xs)) None)
+more_from_0 p xs x = from_more p 0 xs x ∙ ap (λ k. option_or (position_from p 0 xs) (cond (p x) (Some k) None)) (omega arith)
+
+bytes_eq_same : (bs : List ℕ) → bytes_eq bs bs ≡ true
+bytes_eq_same bs = (bytes_eq-Decides bs bs).1 refl
+
+or_none : {X : Type 0} (o : Option X) → option_or o None ≡ o
+or_none None = refl
+or_none (Some x) = refl
+
+-- the number of any name once a new one is added, as a table has it that it is put into
+pub number_added : (names : List (List ℕ)) (name q : List ℕ) → number_in names name ≡ None
+    → number_in (names ++ name ∷ []) q ≡ cond (bytes_eq name q) (Some (length names)) (number_in names q)
+number_added names name q new =
+    let more : number_in (names ++ name ∷ []) q ≡ option_or (number_in names q) (cond (bytes_eq q name) (Some (length names)) None) =
+    position_from-zero (bytes_eq q) (names ++ name ∷ []) ∙ (more_from_0 (bytes_eq q) names name
+    ∙ ap (λ o. option_or o (cond (bytes_eq q name) (Some (length names)) None)) (sym (position_from-zero (bytes_eq q) names))) in
+    more ∙ elim (bytes_eq name q) as (λ b. bytes_eq name q ≡ b → option_or (number_in names q) (cond (bytes_eq q name) (Some (length names)) None) ≡ cond b (Some (length names)) (number_in names q)) [
+      | true ↦ λ e. let same : name ≡ q = (bytes_eq-Decides name q).0 e in
+          ap (λ n. option_or (number_in names n) (cond (bytes_eq n name) (Some (length names)) None)) (sym same)
+          ∙ (ap (λ o. option_or o (cond (bytes_eq name name) (Some (length names)) None)) new ∙ ap (λ b. cond b (Some (length names)) None) (bytes_eq_same name))
+      | false ↦ λ e. ap (λ b. option_or (number_in names q) (cond b (Some (length names)) None)) (differ q name e) ∙ or_none (number_in names q)
+    ] refl
+  where
+    differ : (q name : List ℕ) → bytes_eq name q ≡ false → bytes_eq q name ≡ false
+    differ q name e = elim (bytes_eq q name) as (λ b. bytes_eq q name ≡ b → b ≡ false) [
+      | true ↦ λ is. sym (bytes_eq_same name) ∙ (ap (bytes_eq name) (sym ((bytes_eq-Decides q name).0 is)) ∙ e)
+      | false ↦ λ _. refl
+    ] refl
+
+-- a new name's own number
+pub number_there : (names : List (List ℕ)) (name : List ℕ) → number_in names name ≡ None
+    → number_in (names ++ name ∷ []) name ≡ Some (length names)
+number_there names name new = number_added names name name new ∙ ap (λ b. cond b (Some (length names)) (number_in names name)) (bytes_eq_same name)
+
+pub number_within : (names : List (List ℕ)) (name : List ℕ) → IfSome (number_in names name) (λ number. number < length names)
+number_within names name = below (position_or_len (bytes_eq name) names) (length names)
+  where
+    below : (k count : ℕ) → IfSome (cond (nat_lt k count) (Some k) None) (λ number. number < count)
+    below k count = elim (nat_lt k count) as (λ b. nat_lt k count ≡ b → IfSome (cond b (Some k) None) (λ number. number < count)) [
+      | true ↦ λ e. ltb-true k count e
+      | false ↦ λ _. tt
+    ] refl
+
+-- a table that has the number of each text has it still once a new text is put into both
+pub numbered_more : (old new : BTreeMap (String Global) ℕ) (texts : List (String Global)) (text key : String Global)
+    → ((q : List ℕ) → get_by_text old q ≡ number_in (map string_bytes texts) q)
+    → number_in (map string_bytes texts) (string_bytes text) ≡ None → string_bytes key ≡ string_bytes text
+    → Updates string_cmp old new key (Some (length texts))
+    → (q : List ℕ) → get_by_text new q ≡ number_in (map string_bytes (texts ++ text ∷ [])) q
+numbered_more old new texts text key numbered none keyed updates q =
+    btree_map_updates_text (string_bytes key) old new (Some (length texts)) updates q
+    ∙ (ap (λ n. cond (bytes_eq n q) (Some (length texts)) (get_by_text old q)) keyed
+    ∙ (ap (λ o. cond (bytes_eq (string_bytes text) q) (Some (length texts)) o) (numbered q)
+    ∙ (ap (λ n. cond (bytes_eq (string_bytes text) q) (Some n) (number_in (map string_bytes texts) q)) (sym (length-map texts string_bytes))
+    ∙ (sym (number_added (map string_bytes texts) (string_bytes text) q none)
+    ∙ ap (λ names. number_in names q) (sym (map-append string_bytes texts (text ∷ [])))))))

@@ -29,6 +29,15 @@ ends_line reader text =
     ap (with_lines (reading_of reader.named)) (ap without_empty_end (slice_split_at is_line_feed line 10 text reader.one_line refl)
     ∙ (ap (λ more. without_empty_end (line ∷ more)) are ∙ ap (λ more. line ∷ without_empty_end more) (sym are)))
 
+-- a whole line is read where it lies, and then what comes after it
+pub whole_line : (reader : LogReader) (line text : List ℕ) → reader.front.items ≡ [] → IsOneLine line
+    → reads_on reader (line ++ 10 ∷ text) ≡ or_refused (length (reading_of reader.named).log.lines + 1) (with_line (reading_of reader.named) line) (λ more. with_lines more (lines_in text))
+whole_line reader line text none one =
+    let are = (parts text).2 in
+    ap (λ front. with_lines (reading_of reader.named) (lines_in (front ++ (line ++ 10 ∷ text)))) none
+    ∙ ap (with_lines (reading_of reader.named)) (ap without_empty_end (slice_split_at is_line_feed line 10 text one refl)
+    ∙ (ap (λ more. without_empty_end (line ∷ more)) are ∙ ap (λ more. line ∷ without_empty_end more) (sym are)))
+
 -- a text that ends within a line may end behind that line's feed
 pub fed_last : (reader : LogReader) → 0 < length reader.front.items → reads_on reader [] ≡ reads_on reader (10 ∷ [])
 fed_last reader some =

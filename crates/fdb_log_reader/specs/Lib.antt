@@ -1,4 +1,6 @@
+pub mod Numbers
 pub mod Names
+pub mod Printed
 pub mod Members
 pub mod Reading
 pub mod Text

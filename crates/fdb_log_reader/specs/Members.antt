@@ -10,7 +10,7 @@ use Rattle.fdb_log_reader.specs.declared.error.Why.{Why}
 use Rattle.fdb_log_reader.specs.declared.error.Why.TheVariants.{NoCall, TwoCalls, BadMember}
 use Rattle.fdb_log_reader.specs.declared.member.Member.{Member}
 use Rattle.fdb_log_reader.specs.declared.member.Member.TheVariants.{Client, Read, Commit, Ask, Report, Learn, Began, Ended}
-use Rattle.fdb_log_reader.specs.Names.{number_in}
+use Rattle.fdb_log_reader.specs.Numbers.{number_in}
 
 abbrev pub name_of : Member → List ℕ
 name_of Client = codes "client"
@@ -26,8 +26,9 @@ name_of Ended = codes "ended"
 abbrev pub member_of : Data → Member → Option Data
 member_of value member = get (name_of member) value
 
-abbrev pub has : Data → Member → Bool
-has value member = is_some (member_of value member)
+-- What is read of a line is what its members say, each where it is there.
+abbrev pub has : (Member → Option Data) → Member → Bool
+has says member = is_some (says member)
 
 -- what a member says, or that it is bad
 abbrev pub or_bad : {T : Type 0} → Member → Option T → Result T Why
@@ -44,8 +45,8 @@ abbrev pub whole : Data → Option ℕ
 whole value = option_and_then as_u64 (as_number value)
 
 -- a member that has to be there, and is a whole number
-abbrev pub number_of : Data → Member → Result ℕ Why
-number_of value member = or_bad member (option_and_then whole (member_of value member))
+abbrev pub number_of : (Member → Option Data) → Member → Result ℕ Why
+number_of says member = or_bad member (option_and_then whole (says member))
 
 -- ---- whose call it was: a text, which may be left out
 
@@ -53,32 +54,32 @@ abbrev pub client_with : Option Data → Result (Option (List ℕ)) Why
 client_with None = Ok None
 client_with (Some name) = or_bad Client (option_map Some (as_str name))
 
-abbrev pub client_of : Data → Result (Option (List ℕ)) Why
-client_of value = client_with (member_of value Client)
+abbrev pub client_of : (Member → Option Data) → Result (Option (List ℕ)) Why
+client_of says = client_with (says Client)
 
 -- ---- what was done: just one of five members
 
-abbrev pub call_count : Data → ℕ
-call_count value = count_by (has value) (Read ∷ Commit ∷ Ask ∷ Report ∷ Learn ∷ [])
+abbrev pub call_count : (Member → Option Data) → ℕ
+call_count says = count_by (has says) (Read ∷ Commit ∷ Ask ∷ Report ∷ Learn ∷ [])
 
 -- from whom a line has learnt: a client whose name a line above has
-abbrev pub teller_of : List (List ℕ) → Data → Result ℕ Why
-teller_of names value =
-    or_bad Learn (option_and_then (number_in names) (option_and_then as_str (member_of value Learn)))
+abbrev pub teller_of : List (List ℕ) → (Member → Option Data) → Result ℕ Why
+teller_of names says =
+    or_bad Learn (option_and_then (number_in names) (option_and_then as_str (says Learn)))
 
-abbrev pub call_named : List (List ℕ) → Data → Result Call Why
-call_named names value =
-    if has value Read then and_then (number_of value Read) (λ version. Ok (call.Read version))
-    else (if has value Commit then and_then (number_of value Commit) (λ version. Ok (call.Commit version))
-    else (if has value Ask then and_then (number_of value Ask) (λ version. Ok (call.Ask version))
-    else (if has value Report then and_then (number_of value Report) (λ version. Ok (call.Report version))
-    else and_then (teller_of names value) (λ teller. Ok (call.Learn teller)))))
+abbrev pub call_named : List (List ℕ) → (Member → Option Data) → Result Call Why
+call_named names says =
+    if has says Read then and_then (number_of says Read) (λ version. Ok (call.Read version))
+    else (if has says Commit then and_then (number_of says Commit) (λ version. Ok (call.Commit version))
+    else (if has says Ask then and_then (number_of says Ask) (λ version. Ok (call.Ask version))
+    else (if has says Report then and_then (number_of says Report) (λ version. Ok (call.Report version))
+    else and_then (teller_of names says) (λ teller. Ok (call.Learn teller)))))
 
-abbrev pub call_of : List (List ℕ) → Data → Result Call Why
-call_of names value =
-    if call_count value == 0 then Err NoCall
-    else (if nat_lt 1 (call_count value) then Err TwoCalls
-    else call_named names value)
+abbrev pub call_of : List (List ℕ) → (Member → Option Data) → Result Call Why
+call_of names says =
+    if call_count says == 0 then Err NoCall
+    else (if nat_lt 1 (call_count says) then Err TwoCalls
+    else call_named names says)
 
 -- ---- when a call began and ended: both members, or none
 
@@ -95,11 +96,11 @@ abbrev pub times_with : ℕ → Option ℕ → Option Times
 times_with began None = Some (record { began = began; ended = None; in_order = tt })
 times_with began (Some end) = times_if began end (nat_le began end) (λ _. nat_le began end)
 
-abbrev pub some_times : Data → Result (Option Times) Why
-some_times value =
-    and_then (number_of value Began) (λ began.
-    and_then (or_bad Ended (option_and_then end_of (member_of value Ended))) (λ ended.
+abbrev pub some_times : (Member → Option Data) → Result (Option Times) Why
+some_times says =
+    and_then (number_of says Began) (λ began.
+    and_then (or_bad Ended (option_and_then end_of (says Ended))) (λ ended.
     or_bad Ended (option_map Some (times_with began ended))))
 
-abbrev pub times_of : Data → Result (Option Times) Why
-times_of value = if has value Began || has value Ended then some_times value else Ok None
+abbrev pub times_of : (Member → Option Data) → Result (Option Times) Why
+times_of says = if has says Began || has says Ended then some_times says else Ok None

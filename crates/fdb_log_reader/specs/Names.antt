@@ -1,24 +1,7 @@
--- The names of clients, each with its number. (this product's own)
-use Rattle.std.specs.Prelude.{ℕ, List, [], ◌∷◌, ◌++◌, map, Option, None, Some, option_and_then, is_some, if◌then◌else◌, position, string_bytes}
-use Rattle.std.specs.Str.{bytes_eq}
+-- The names of clients. (this product's own)
+use Rattle.std.specs.Prelude.{ℕ, List, map, string_bytes}
 use Rattle.fdb_log_reader.specs.declared.names.Names.{Names}
 
 -- the bytes of the names, in the order in which they came
 abbrev pub names_of : Names → List (List ℕ)
-names_of names = map string_bytes names.texts.keys
-
--- the number of a client: the place of its name
-abbrev pub number_in : List (List ℕ) → List ℕ → Option ℕ
-number_in names name = position (bytes_eq name) names
-
--- the names with one more: a new one goes last
-abbrev pub with_name : List (List ℕ) → List ℕ → List (List ℕ)
-with_name names name = if is_some (number_in names name) then names else names ++ name ∷ []
-
-abbrev pub with_client : List (List ℕ) → Option (List ℕ) → List (List ℕ)
-with_client names None = names
-with_client names (Some name) = with_name names name
-
--- the number of the client of a line, once its name is among the names
-abbrev pub client_in : List (List ℕ) → Option (List ℕ) → Option ℕ
-client_in names client = option_and_then (number_in names) client
+names_of names = map string_bytes names.texts.items

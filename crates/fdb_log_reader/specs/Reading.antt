@@ -12,12 +12,14 @@ use Rattle.fdb_lines.specs.Lines.{Lines}
 use Rattle.fdb_lines.specs.Log.{added, lines_of, refusal_of}
 use Rattle.fdb_log_reader.specs.declared.error.ReadError.{ReadError}
 use Rattle.fdb_log_reader.specs.declared.error.Why.{Why}
-use Rattle.fdb_log_reader.specs.declared.error.Why.TheVariants.{TooLong, TooMany, NotJson, SomeTimes, BadMember, Memory}
+use Rattle.fdb_log_reader.specs.declared.error.Why.TheVariants.{Empty, TooLong, TooMany, NotJson, SomeTimes, BadMember, Memory}
+use Rattle.fdb_log_reader.specs.declared.member.Member.{Member}
 use Rattle.fdb_log_reader.specs.declared.member.Member.TheVariants.{Client, Learn}
 use Rattle.fdb_log_reader.specs.declared.named_log.NamedLog.{NamedLog}
 use Rattle.fdb_log_reader.specs.declared.reader.TheConstants.{MAX_LINE_BYTES}
-use Rattle.fdb_log_reader.specs.Members.{and_then, call_of, client_of, times_of}
-use Rattle.fdb_log_reader.specs.Names.{client_in, names_of, with_client}
+use Rattle.fdb_log_reader.specs.Members.{and_then, call_of, client_of, member_of, times_of}
+use Rattle.fdb_log_reader.specs.Names.{names_of}
+use Rattle.fdb_log_reader.specs.Numbers.{client_in, with_client}
 
 -- ---- the lines of a text, which line feeds end
 
@@ -55,15 +57,19 @@ added_unless (Some error) log line = Err (why_of error)
 abbrev pub pushed : Lines → Line → Result Lines Why
 pushed log line = added_unless (refusal_of log line) log line
 
--- what has been read with a line more, by its JSON value
-abbrev pub with_value : Reading → Data → Result Reading Why
-with_value reading value =
-    and_then (client_of value) (λ client.
-    and_then (call_of reading.names value) (λ call.
-    and_then (times_of value) (λ times.
+-- what has been read with a line more, by what its members say
+abbrev pub with_said : Reading → (Member → Option Data) → Result Reading Why
+with_said reading says =
+    and_then (client_of says) (λ client.
+    and_then (call_of reading.names says) (λ call.
+    and_then (times_of says) (λ times.
     let names = with_client reading.names client in
     and_then (pushed reading.log (record { client = client_in names client; call = call; times = times })) (λ log.
     Ok (record { log = log; names = names })))))
+
+-- and by its JSON value
+abbrev pub with_value : Reading → Data → Result Reading Why
+with_value reading value = with_said reading (member_of value)
 
 abbrev pub or_not_json : Option Data → Result Data Why
 or_not_json None = Err NotJson
@@ -87,16 +93,20 @@ abbrev pub or_refused : ℕ → Result Reading Why → (Reading → Result Readi
 or_refused line (Ok reading) next = next reading
 or_refused line (Err why) next = Err (record { line = line; why = why })
 
--- what has been read with these lines more, or the first that is refused, counted from 1
+-- what a text stands for that ends here: one without a line stands for no log
+abbrev pub at_end : Reading → Result Reading ReadError
+at_end reading = if length reading.log.lines == 0 then Err (record { line = 0; why = Empty }) else Ok reading
+
+-- what a text stands for that has these lines more, or the first that is refused, counted from 1
 abbrev pub with_lines : Reading → List (List ℕ) → Result Reading ReadError
-with_lines reading [] = Ok reading
+with_lines reading [] = at_end reading
 with_lines reading (line ∷ lines) =
     or_refused (length reading.log.lines + 1) (with_line reading line) (λ more. with_lines more lines)
 
 abbrev pub nothing : Reading
 nothing = record { log = record { timed = false; lines = [] }; names = [] }
 
--- what a text stands for: what has been read with all its lines, or the first that is refused
+-- what a text stands for: what is read of all its lines, of which it needs one, or the first that is refused
 abbrev pub reading_in : List ℕ → Result Reading ReadError
 reading_in bytes = with_lines nothing (lines_in bytes)
 

@@ -2,10 +2,11 @@
 use Rattle.std.specs.Prelude.{ℕ, List, ◌++◌, codes, decimal}
 use Rattle.fdb_log_reader.specs.declared.error.ReadError.{ReadError}
 use Rattle.fdb_log_reader.specs.declared.error.Why.{Why}
-use Rattle.fdb_log_reader.specs.declared.error.Why.TheVariants.{TooLong, TooMany, NotJson, NoCall, TwoCalls, SomeTimes, BadMember, Memory}
+use Rattle.fdb_log_reader.specs.declared.error.Why.TheVariants.{Empty, TooLong, TooMany, NotJson, NoCall, TwoCalls, SomeTimes, BadMember, Memory}
 use Rattle.fdb_log_reader.specs.Members.{name_of}
 
 abbrev pub why_text : Why → ℕ → List ℕ
+why_text Empty line = codes "Empty"
 why_text TooLong line = codes "TooLong " ++ decimal line
 why_text TooMany line = codes "TooMany " ++ decimal line
 why_text NotJson line = codes "NotJson " ++ decimal line

@@ -1,5 +1,6 @@
 -- What a log and its names owe each other, and what a line has not. (this product's own)
 pub mod Feeding
+pub mod Usual
 use Rattle.std.specs.Prelude.{◌≡◌, ℕ, ◌≤◌, false, List, All, length}
 use Rattle.fdb_lines.specs.Log.{lines_of}
 use Rattle.fdb_log_reader.specs.declared.named_log.NamedLog.{NamedLog}

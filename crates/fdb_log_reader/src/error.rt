@@ -7,9 +7,12 @@ use fdb_lines::LineError;
 use std::alloc::AllocError;
 use std::fmt;
 
-/// What is wrong with a line. docs/FORMATS.md has the order in which this is looked for.
+/// What is wrong with a text or with a line of it. docs/FORMATS.md has the order in which this is
+/// looked for.
 #[derive(Clone, Copy, Debug, PartialEq, Eq)]
 pub enum Why {
+    /// The text has no line.
+    Empty,
     /// It has more than [`crate::MAX_LINE_BYTES`] bytes, its line feed not counted.
     TooLong,
     /// There are as many lines above it as a log may have.
@@ -56,8 +59,8 @@ impl From<AllocError> for Why {
     }
 }
 
-/// Why a text is refused: the first line with which something is wrong, counted from 1. Where
-/// memory was refused, the line says nothing.
+/// Why a text is refused: the first line with which something is wrong, counted from 1, or 0 where
+/// there is no line. Where memory was refused, the line says nothing.
 #[derive(Clone, Copy, Debug, PartialEq, Eq)]
 pub struct ReadError {
     pub line: u64,
@@ -73,6 +76,7 @@ impl fmt::Display for ReadError {
     fn fmt<W: fmt::Write>(&self, f: &mut fmt::Formatter<W>) -> fmt::Result {
         let line = self.line;
         match self.why {
+            Why::Empty => write!(f, "Empty"),
             Why::TooLong => write!(f, "TooLong {line}"),
             Why::TooMany => write!(f, "TooMany {line}"),
             Why::NotJson => write!(f, "NotJson {line}"),

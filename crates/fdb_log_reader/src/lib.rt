@@ -10,7 +10,11 @@ mod member;
 mod named_log;
 mod names;
 mod parsing;
+mod printing;
 mod reader;
+mod said;
+mod scanning;
+mod usual;
 
 pub use error::{ReadError, Why};
 pub use member::Member;

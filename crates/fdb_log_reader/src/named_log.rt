@@ -2,16 +2,18 @@
 
 ghost use Rattle.std.specs.Prelude.{◌≡◌, ◌⊎◌, ◌≤◌, ◌<◌, Err, Ok, IfOk, MatchResult, OnOk, length};
 ghost use Rattle.std.specs.Prelude.{option_map};
-ghost use Rattle.fdb_log_reader.specs.Names.{client_in, names_of, with_client};
-ghost use Rattle.fdb_log_reader.specs.Reading.{reading_of, with_line};
+ghost use Rattle.fdb_log_reader.specs.Names.{names_of};
+ghost use Rattle.fdb_log_reader.specs.Numbers.{client_in, with_client};
+ghost use Rattle.fdb_log_reader.specs.Reading.{reading_of, with_line, with_said};
 ghost use Rattle.fdb_log_reader.specs.private.{HasRoom};
 
 use crate::error::Why;
 use crate::names::Names;
 use crate::parsing::{call_of, client_of, times_of, value_of};
 use crate::reader::MAX_LINE_BYTES;
+use crate::said::Said;
+use crate::usual::usual_of;
 use fdb_lines::{Line, Log, MAX_LINES};
-use serde_json::Value;
 use std::alloc::{AllocError, Global};
 
 /// A log, and the names of its clients, as a text has them.
@@ -34,10 +36,26 @@ pub(crate) fn add_line(named: &mut NamedLog, alloc: Global, bytes: &[u8]) -> Res
     if named.log.lines().len() >= MAX_LINES {
         return Err(Why::TooMany);
     }
+    if let Some(line) = usual_of(bytes) {
+        return add_said(named, alloc, &line);
+    }
     let value = value_of(alloc, bytes)?;
-    let name = client_of(&value)?;
-    let call = call_of(&value, &named.names)?;
-    let times = times_of(&value)?;
+    add_said(named, alloc, &value)
+}
+
+/// Adds a line, by what its members say. After an error the log is not to be read on.
+fn add_said<S: Said>(named: &mut NamedLog, alloc: Global, line: &S) -> Result<(), Why>
+    requires has_room { HasRoom named.old }
+    requires few { length (reading_of named.old).log.lines < MAX_LINES }
+    ensures has_room { OnOk result (HasRoom named.new) }
+    ensures read { MatchResult result
+        (λ _. with_said (reading_of named.old) (S.says line.now) ≡ Ok (reading_of named.new))
+        (λ why. (why ≡ Why.Memory)
+        ⊎ (with_said (reading_of named.old) (S.says line.now) ≡ Err why)) }
+{
+    let name = client_of(line)?;
+    let call = call_of(line, &named.names)?;
+    let times = times_of(line)?;
     let client = add_client(&mut named.names, alloc, name)?;
     named.log.push(Line {
         client,
@@ -62,9 +80,6 @@ fn add_client(
     let Some(name) = name else {
         return Ok(None);
     };
-    names.add(alloc, name)?;
-    match names.number(name) {
-        Some(number) => Ok(Some(number as u32)),
-        None => Ok(None),
-    }
+    let number = names.add(alloc, name)?;
+    Ok(Some(number as u32))
 }

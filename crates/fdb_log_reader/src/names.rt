@@ -1,26 +1,34 @@
 //! The names of clients, and their numbers in the log.
 
-ghost use Rattle.std.specs.Prelude.{◌≡◌, ◌<◌, [], IfOk, IfSome, OnOk, length, map, option_map};
-ghost use Rattle.std.specs.Prelude.{slice_get, string_bytes};
-ghost use Rattle.json.specs.Print.{quoted};
-ghost use Rattle.fdb_log_reader.specs.Names.{names_of, number_in, with_name};
+ghost use Rattle.std.specs.Prelude.{◌≡◌, ◌<◌, ℕ, List, [], IfOk, IfSome, OnOk, Some, length, map};
+ghost use Rattle.std.specs.Prelude.{option_map, slice_get, string_bytes};
+ghost use Rattle.std.specs.BTreeMap.{get_by_text};
+ghost use Rattle.fdb_log_reader.specs.Numbers.{number_in, with_name};
+ghost use Rattle.fdb_log_reader.specs.Printed.{printed, read_back};
 
-use indexmap::IndexSet;
-use serde_json::Value;
+use crate::printing::printed_name;
 use std::alloc::{AllocError, Global};
+use std::collections::BTreeMap;
 
 /// The names of the clients of a log. A client's number is the place of its name, counted from 0.
 #[derive(Drop)]
 pub struct Names {
-    texts: IndexSet<String>,
+    texts: Vec<String>,
+    // A table that compares: no choice of names makes it slow, as it would one that hashes.
+    numbers: BTreeMap<String, usize>,
+    ghost numbered: { (name : List ℕ)
+        → get_by_text numbers name ≡ number_in (map string_bytes texts.items) name },
 }
 
 impl Names {
+    ghost use Rattle.fdb_log_reader.specs.Names.{names_of};
+
     pub(crate) fn new(alloc: Global) -> Self
         ensures { names_of result ≡ [] }
     {
         Names {
-            texts: IndexSet::new(alloc),
+            texts: Vec::new(alloc),
+            numbers: BTreeMap::new(alloc),
         }
     }
 
@@ -35,49 +43,55 @@ impl Names {
     pub fn name(&self, client: u32) -> Option<&str>
         ensures { option_map (λ name. name.now) result ≡ slice_get (names_of self.now) client }
     {
-        let text = self.texts.get_index(client as usize)?;
+        let text = self.texts.get(client as usize)?;
         Some(text.as_str())
     }
 
-    /// The names as JSON strings, each at its client's number.
-    pub fn quoted(&self, alloc: Global) -> Result<Vec<String>, AllocError>
-        ensures { IfOk result
-            (λ texts. map string_bytes texts.items ≡ map quoted (names_of self.now)) }
+    /// The names as they are printed, each at its client's number: as JSON strings that are safe on
+    /// a terminal and within a line, and that are read back as the names.
+    pub fn printed(&self, alloc: Global) -> Result<Vec<String>, AllocError>
+        ensures printed { IfOk result
+            (λ texts. map string_bytes texts.items ≡ map printed (names_of self.now)) }
+        ensures read_back { IfOk result
+            (λ texts. map (λ text. read_back (string_bytes text)) texts.items
+            ≡ map Some (names_of self.now)) }
     {
         let mut texts = Vec::new(alloc);
-        for place in 0..self.texts.len() {
-            let text = quoted_name(alloc, &self.texts[place])?;
+        for name in &self.texts {
+            let text = printed_name(alloc, name)?;
             texts.push(text)?;
         }
         Ok(texts)
     }
 
-    /// The number of the client of a name; none where no client has that name.
+    /// The number of the client of a name; none where no client has that name. Logarithmic in how
+    /// many names there are.
     pub fn number(&self, name: &str) -> Option<usize>
         ensures number { result ≡ number_in (names_of self.now) name.now }
         ensures within { IfSome result (λ number. number < length (names_of self.now)) }
     {
-        self.texts.get_index_of(name)
+        self.numbers.get(name).copied()
     }
 
-    /// Adds a name, unless it is there.
-    #[tactic(auto, using(crate::proofs::Naming::keys_added))]
-    pub(crate) fn add(&mut self, alloc: Global, name: &str) -> Result<(), AllocError>
-        ensures { OnOk result (names_of self.new ≡ with_name (names_of self.old) name.now) }
+    /// The number of the client of a name, which is added unless it is there.
+    #[tactic(auto, using(crate::proofs::Naming::numbered_more, crate::proofs::Naming::number_there))]
+    pub(crate) fn add(&mut self, alloc: Global, name: &str) -> Result<usize, AllocError>
+        ensures added { OnOk result (names_of self.new ≡ with_name (names_of self.old) name.now) }
+        ensures number { IfOk result
+            (λ number. number_in (names_of self.new) name.now ≡ Some number) }
+        ensures within { IfOk result (λ number. number < length (names_of self.new)) }
     {
-        if self.number(name).is_some() {
-            return Ok(());
+        if let Some(number) = self.number(name) {
+            return Ok(number);
         }
+        let number = self.texts.len();
         let text = String::from_str(alloc, name)?;
-        self.texts.insert(text)?;
-        Ok(())
+        let key = String::from_str(alloc, name)?;
+        self.texts.push(text)?;
+        let Ok(_) = self.numbers.insert(key, number) else {
+            self.texts.pop();
+            return Err(AllocError);
+        };
+        Ok(number)
     }
-}
-
-/// A text as a JSON string: in quotes, and escaped where `serde_json` does so.
-fn quoted_name(alloc: Global, name: &str) -> Result<String, AllocError>
-    ensures { IfOk result (λ text. string_bytes text ≡ quoted name.now) }
-{
-    let name = String::from_str(alloc, name)?;
-    Value::String(name).to_string(alloc)
 }

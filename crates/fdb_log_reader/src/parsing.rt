@@ -4,7 +4,7 @@ ghost use Rattle.std.specs.Prelude.{◌≡◌, ◌⊎◌, ◌≤◌, MatchResult
 ghost use Rattle.std.specs.Prelude.{option_map};
 ghost use Rattle.serde_json.specs.View.{view};
 ghost use Rattle.fdb_log_reader.specs.Members.{call_count, call_named, call_of, client_of};
-ghost use Rattle.fdb_log_reader.specs.Members.{end_of, has, member_of, number_of, teller_of};
+ghost use Rattle.fdb_log_reader.specs.Members.{end_of, number_of, teller_of};
 ghost use Rattle.fdb_log_reader.specs.Members.{times_of, times_with};
 ghost use Rattle.fdb_log_reader.specs.Names.{names_of};
 ghost use Rattle.fdb_log_reader.specs.Reading.{value_of};
@@ -12,6 +12,7 @@ ghost use Rattle.fdb_log_reader.specs.Reading.{value_of};
 use crate::error::Why;
 use crate::member::Member;
 use crate::names::Names;
+use crate::said::Said;
 use fdb_lines::{Call, MAX_LINES, Times};
 use serde_json::Value;
 use std::alloc::Global;
@@ -37,95 +38,82 @@ pub(crate) fn value_of(alloc: Global, bytes: &[u8]) -> Result<Value, Why>
     }
 }
 
-fn member_of(value: &Value, member: Member) -> Option<&Value>
-    ensures { option_map (λ said. view said.now) result ≡ member_of (view value.now) member }
-{
-    value.get(member.name())
-}
-
-fn has(value: &Value, member: Member) -> bool
-    ensures { result ≡ has (view value.now) member }
-{
-    member_of(value, member).is_some()
-}
-
 /// A member that has to be there, and is a whole number.
-fn number_of(value: &Value, member: Member) -> Result<u64, Why>
-    ensures { result ≡ number_of (view value.now) member }
+fn number_of<S: Said>(line: &S, member: Member) -> Result<u64, Why>
+    ensures { result ≡ number_of (S.says line.now) member }
 {
-    let said = member_of(value, member).and_then(Value::as_u64);
-    said.ok_or(Why::BadMember(member))
+    line.number(member).ok_or(Why::BadMember(member))
 }
 
 /// The name of the client whose call it was; none where that is left out.
-pub(crate) fn client_of(value: &Value) -> Result<Option<&str>, Why>
+pub(crate) fn client_of<S: Said>(line: &S) -> Result<Option<&str>, Why>
     ensures { MatchResult result
-        (λ client. client_of (view value.now) ≡ Ok (option_map (λ name. name.now) client))
-        (λ why. client_of (view value.now) ≡ Err why) }
+        (λ client. client_of (S.says line.now) ≡ Ok (option_map (λ name. name.now) client))
+        (λ why. client_of (S.says line.now) ≡ Err why) }
 {
-    match member_of(value, Member::Client) {
-        Some(name) => name
-            .as_str()
-            .map(Some)
-            .ok_or(Why::BadMember(Member::Client)),
-        None => Ok(None),
+    if !line.has(Member::Client) {
+        return Ok(None);
+    }
+    match line.text(Member::Client) {
+        Some(name) => Ok(Some(name)),
+        None => Err(Why::BadMember(Member::Client)),
     }
 }
 
 /// The call of a line, which has to name just one.
-pub(crate) fn call_of(value: &Value, names: &Names) -> Result<Call, Why>
+pub(crate) fn call_of<S: Said>(line: &S, names: &Names) -> Result<Call, Why>
     requires { length (names_of names.now) ≤ MAX_LINES }
-    ensures { result ≡ call_of (names_of names.now) (view value.now) }
+    ensures { result ≡ call_of (names_of names.now) (S.says line.now) }
 {
-    match call_count(value) {
+    match call_count(line) {
         0 => Err(Why::NoCall),
-        1 => call_named(value, names),
+        1 => call_named(line, names),
         _ => Err(Why::TwoCalls),
     }
 }
 
-fn call_count(value: &Value) -> usize
-    ensures { result ≡ call_count (view value.now) }
+fn call_count<S: Said>(line: &S) -> usize
+    ensures { result ≡ call_count (S.says line.now) }
 {
-    CALLS.iter().filter(|member| has(value, **member)).count()
+    CALLS.iter().filter(|member| line.has(**member)).count()
 }
 
 /// What was done, by the first member that names a call.
-fn call_named(value: &Value, names: &Names) -> Result<Call, Why>
+fn call_named<S: Said>(line: &S, names: &Names) -> Result<Call, Why>
     requires { length (names_of names.now) ≤ MAX_LINES }
-    ensures { result ≡ call_named (names_of names.now) (view value.now) }
+    ensures { result ≡ call_named (names_of names.now) (S.says line.now) }
 {
-    if has(value, Member::Read) {
-        Ok(Call::Read(number_of(value, Member::Read)?))
-    } else if has(value, Member::Commit) {
-        Ok(Call::Commit(number_of(value, Member::Commit)?))
-    } else if has(value, Member::Ask) {
-        Ok(Call::Ask(number_of(value, Member::Ask)?))
-    } else if has(value, Member::Report) {
-        Ok(Call::Report(number_of(value, Member::Report)?))
+    if line.has(Member::Read) {
+        Ok(Call::Read(number_of(line, Member::Read)?))
+    } else if line.has(Member::Commit) {
+        Ok(Call::Commit(number_of(line, Member::Commit)?))
+    } else if line.has(Member::Ask) {
+        Ok(Call::Ask(number_of(line, Member::Ask)?))
+    } else if line.has(Member::Report) {
+        Ok(Call::Report(number_of(line, Member::Report)?))
     } else {
-        Ok(Call::Learn(teller_of(value, names)?))
+        Ok(Call::Learn(teller_of(line, names)?))
     }
 }
 
 /// The client from whom a line has learnt, which has to have a line above.
-fn teller_of(value: &Value, names: &Names) -> Result<u32, Why>
+fn teller_of<S: Said>(line: &S, names: &Names) -> Result<u32, Why>
     requires { length (names_of names.now) ≤ MAX_LINES }
-    ensures { result ≡ teller_of (names_of names.now) (view value.now) }
+    ensures { result ≡ teller_of (names_of names.now) (S.says line.now) }
 {
-    let name = member_of(value, Member::Learn).and_then(Value::as_str);
+    let name = line.text(Member::Learn);
     let teller = name.and_then(|name| names.number(name));
     let teller = teller.ok_or(Why::BadMember(Member::Learn))?;
     Ok(teller as u32)
 }
 
 /// When the call began and ended; none where a line has neither member.
-pub(crate) fn times_of(value: &Value) -> Result<Option<Times>, Why>
-    ensures { result ≡ times_of (view value.now) }
+pub(crate) fn times_of<S: Said>(line: &S) -> Result<Option<Times>, Why>
+    ensures { result ≡ times_of (S.says line.now) }
 {
-    if has(value, Member::Began) || has(value, Member::Ended) {
-        let began = number_of(value, Member::Began)?;
-        let ended = end_of(value).ok_or(Why::BadMember(Member::Ended))?;
+    if line.has(Member::Began) || line.has(Member::Ended) {
+        let began = number_of(line, Member::Began)?;
+        let ended = end_of(line).ok_or(Why::BadMember(Member::Ended))?;
         let times = times_with(began, ended).ok_or(Why::BadMember(Member::Ended))?;
         Ok(Some(times))
     } else {
@@ -141,12 +129,11 @@ fn times_with(began: u64, ended: Option<u64>) -> Option<Times>
 }
 
 /// When it ended, or that this is not known.
-fn end_of(value: &Value) -> Option<Option<u64>>
-    ensures { result ≡ option_and_then end_of (member_of (view value.now) Member.Ended) }
+fn end_of<S: Said>(line: &S) -> Option<Option<u64>>
+    ensures { result ≡ option_and_then end_of (S.says line.now Member.Ended) }
 {
-    let end = member_of(value, Member::Ended)?;
-    if end.is_null() {
+    if line.is_null(Member::Ended) {
         return Some(None);
     }
-    end.as_u64().map(Some)
+    line.number(Member::Ended).map(Some)
 }

@@ -28,7 +28,7 @@ pub struct LogReader {
 
 impl LogReader {
     ghost use Rattle.fdb_log_reader.specs.Reader.{reads_on};
-    ghost use Rattle.fdb_log_reader.specs.private.Feeding.{Feeds};
+    ghost use Rattle.fdb_log_reader.specs.private.Feeding.{Feeds, FeedsLine};
 
     /// A log of which nothing has been read.
     pub fn new(alloc: Global) -> Self
@@ -61,22 +61,73 @@ impl LogReader {
     {
         let mut rest = bytes;
         while let Some((line, after)) = split_line(rest) {
-            self = self.keep(line)?.end_line()?;
+            self = self.read_line(line)?;
             rest = after;
         }
         self.keep(rest)
     }
 
-    /// The log, where the text ends here, with or without a last line feed.
+    /// The log, where the text ends here, with or without a last line feed. It is refused as `Empty`
+    /// where the text had no line.
     #[tactic(auto, using(crate::proofs::Splitting::fed_last))]
     pub fn finish(self) -> Result<NamedLog, ReadError>
         ensures { StandsFor result (reads_on self []) }
     {
         if self.front.is_empty() {
-            return Ok(self.named);
+            return self.at_end();
         }
-        let ended = self.end_line()?;
-        Ok(ended.named)
+        self.end_line()?.at_end()
+    }
+
+    /// The log, where the text ends here behind a line feed or has no line.
+    fn at_end(self) -> Result<NamedLog, ReadError>
+        requires { self.front.items ≡ [] }
+        ensures { StandsFor result (reads_on self []) }
+    {
+        if self.named.log.lines().is_empty() {
+            return Err(ReadError {
+                line: 0,
+                why: Why::Empty,
+            });
+        }
+        Ok(self.named)
+    }
+
+    /// Reads a line whose end has come.
+    #[tactic(auto, using(crate::proofs::Splitting::whole_line))]
+    fn read_line(self, line: &[u8]) -> Result<Self, ReadError>
+        requires { IsOneLine line.now }
+        ensures { FeedsLine self line.now result }
+    {
+        if self.front.is_empty() && line.len() <= MAX_LINE_BYTES {
+            self.add_whole(line)
+        } else {
+            self.keep(line)?.end_line()
+        }
+    }
+
+    /// Reads a line that has come as a whole, where it lies.
+    #[tactic(auto, using(crate::proofs::Splitting::whole_line))]
+    fn add_whole(self, line: &[u8]) -> Result<Self, ReadError>
+        requires line { IsOneLine line.now }
+        requires short { length line.now ≤ MAX_LINE_BYTES }
+        requires none { self.front.items ≡ [] }
+        ensures { FeedsLine self line.now result }
+    {
+        let refused = self.error(Why::Memory);
+        let LogReader {
+            alloc,
+            mut named,
+            front,
+        } = self;
+        if let Err(why) = add_line(&mut named, alloc, line) {
+            return Err(ReadError { why, ..refused });
+        }
+        Ok(LogReader {
+            alloc,
+            named,
+            front,
+        })
     }
 
     /// Keeps what has come of a line, unless that gets too long.
@@ -137,7 +188,7 @@ fn split_line(bytes: &[u8]) -> Option<(&[u8], &[u8])>
 }
 
 /// The log that a text of JSON Lines stands for. An error names the first line that is refused, or
-/// says that memory was refused.
+/// says that there is no line, or that memory was refused.
 ///
 /// Linear in the bytes, but for the members of a line, which are sorted. Beside the log and the
 /// names it takes the memory of one line.

@@ -40,6 +40,7 @@ class Status(Named):
     TWO_CALLS = 37
     SOME_TIMES = 38
     BAD_MEMBER = 39
+    EMPTY = 40
 
 
 class Refused(Exception):

@@ -112,14 +112,18 @@ class Fault:
 
 
 class LogRefused(Refused):
-    """A log that is refused: its first wrong `line`, counted from 1, and maybe which `member`."""
+    """A log that is refused: its first wrong `line`, counted from 1, and maybe which `member`.
+
+    Where it is a text without a line, `line` is 0.
+    """
 
     def __init__(self, status: int, line: int, member: int) -> None:
         super().__init__(status)
         self.line = line
         self.member = Member(member) if member else None
+        at_line = f" {line}" if line else ""
         of_member = f" {self.member.name.lower()}" if self.member else ""
-        self.args = (f"{self.status.name} {line}{of_member}",)
+        self.args = (f"{self.status.name}{at_line}{of_member}",)
 
     def __eq__(self, other: object) -> bool:
         if not isinstance(other, LogRefused):
@@ -138,8 +142,8 @@ def audit(log: Log, *, complete: Optional[int] = None, margin: int = 0) -> List[
 
     The log is JSON Lines, as docs/FORMATS.md has them, or an iterable of `Call`. `complete` is the
     version that all began with, where the log has all calls; `margin` says how far the clocks of
-    two clients may be apart. `LogRefused` is raised where a line is wrong, and `Refused` says
-    MEMORY.
+    two clients may be apart. `LogRefused` is raised where a line is wrong or a text has none, and
+    `Refused` says MEMORY.
     """
     options = _options(complete, margin)
     given, count, name = _given(log)

@@ -1,15 +1,10 @@
 -- Calls that ended, of which those before a moment are counted.
-use Rattle.std.specs.Prelude.{◌≡◌, ℕ, ◌==◌, ◌&&◌, ◌||◌, nat_lt, Bool, true, false, List, Option, None, Some, count_by}
+use Rattle.std.specs.Prelude.{◌≡◌, ℕ, ◌==◌, ◌&&◌, ◌||◌, nat_lt, Bool, false, List, Option, None, Some, count_by}
 use Rattle.fdb_lines.specs.declared.end.End.{End}
 use Rattle.fdb_lines.specs.declared.line.Line.{Line}
 use Rattle.fdb_lines.specs.Before.{ended}
 use Rattle.fdb_lines.specs.Lines.{line_at}
-use Rattle.fdb_lines.specs.Summary.{tally}
-
--- in which group of the table a line's end stands, if in any: in its client's, or in that of all
-abbrev pub group_in : Bool → Option ℕ → Option ℕ
-group_in true client = client
-group_in false client = Some 0
+use Rattle.fdb_lines.specs.Summary.{sum_below, tally}
 
 -- an order by groups, where both are known, and in a group by a test
 abbrev pub by_group : Option ℕ → Option ℕ → Bool → Bool
@@ -26,11 +21,27 @@ abbrev pub count_before : List End → Option ℕ → ℕ → ℕ → ℕ
 count_before ends group time place =
     count_by (λ (end : End). stands_before group time place (Some end.group) (Some end.time) end.place) ends
 
--- the same of the end of a line at a place
-abbrev pub line_before : Bool → Line → ℕ → Option ℕ → ℕ → ℕ → Bool
-line_before by_client line above group time place = stands_before group time place (group_in by_client line.client) (ended line) above
+-- the same of the end of a line at a place, in the group of its client
+abbrev pub line_before : Line → ℕ → Option ℕ → ℕ → ℕ → Bool
+line_before line above group time place = stands_before group time place line.client (ended line) above
 
--- the ends of the first n lines, by client or as of one group
-abbrev pub HasEnds : Bool → List Line → ℕ → List End → Type 0
-HasEnds by_client lines n ends =
-    (group : Option ℕ) (time place : ℕ) → count_before ends group time place ≡ tally (λ j. line_before by_client (line_at lines j) j group time place) n
+-- the ends of the first n lines, by client
+abbrev pub HasEnds : List Line → ℕ → List End → Type 0
+HasEnds lines n ends = (group : Option ℕ) (time place : ℕ) → count_before ends group time place ≡ tally (λ j. line_before (line_at lines j) j group time place) n
+
+-- ---- of all clients, by time alone
+
+abbrev pub had_ended : Option ℕ → ℕ → Bool
+had_ended None time = false
+had_ended (Some end) time = nat_lt end time
+
+abbrev pub times_before : List ℕ → ℕ → ℕ
+times_before times time = count_by (λ (end : ℕ). nat_lt end time) times
+
+-- when the first n lines ended
+abbrev pub HasTimes : List Line → ℕ → List ℕ → Type 0
+HasTimes lines n times = (time : ℕ) → times_before times time ≡ tally (λ j. had_ended (ended (line_at lines j)) time) n
+
+-- of how many pairs the later place is below n, and one comes before the other, where there are so many places
+abbrev pub pairs_below : (ℕ → ℕ → Bool) → ℕ → ℕ → ℕ
+pairs_below before all n = sum_below (λ k. tally (λ j. before j k) all) n

@@ -1,7 +1,9 @@
 -- The tables of a log.
-use Rattle.std.specs.Prelude.{◌≡◌, ℕ, ◌++◌, ◌==◌, ◌&&◌, ◌||◌, not, nat_le, Bool, true, false, cond, List, Option, None, Some, length, map}
-use Rattle.std.specs.List.{All}
+use Rattle.std.specs.Prelude.{◌≡◌, ℕ, ◌++◌, ◌∷◌, ◌==◌, ◌&&◌, ◌||◌, not, nat_le, Bool, true, false, cond, List, Option, None, Some, Vec, length, map}
+use Rattle.std.specs.declared.alloc.Global.{Global}
+use Rattle.std.specs.List.{All, list_any}
 use Rattle.fdb_lines.specs.declared.fault.Fault.{Fault}
+use Rattle.fdb_lines.specs.declared.line.Line.{Line}
 use Rattle.fdb_lines.specs.declared.opts.AuditOpts.{AuditOpts}
 use Rattle.fdb_lines.specs.declared.reason.Reason.{Reason}
 use Rattle.fdb_lines.specs.declared.reason.Reason.TheVariants.{Drawn as DrawnBy, Undrawn}
@@ -17,9 +19,12 @@ use Rattle.fdb_lines.specs.declared.reason.Witness.{Witness}
 use Rattle.fdb_lines.specs.Audit.{case_of, start_of}
 use Rattle.fdb_lines.specs.Before.{comes_before}
 use Rattle.fdb_lines.specs.Faults.{is_drawn, is_own, is_raised, is_reported, stands}
-use Rattle.fdb_lines.specs.Lines.{Case, Lines, version_at}
+use Rattle.fdb_lines.specs.Late.{HasLate}
+use Rattle.fdb_lines.specs.Lines.{Case, Lines, is_ask, kind_of, version_at}
+use Rattle.fdb_lines.specs.Listing.{faults_below}
 use Rattle.fdb_lines.specs.Reasons.{found_of, HasReason, IsReason}
-use Rattle.fdb_lines.specs.private.Known.{AreKnown, IsFound}
+use Rattle.fdb_lines.specs.private.Ends.{AreSettled}
+use Rattle.fdb_lines.specs.private.Known.{AreEnds, AreKnown, IsFound}
 use Rattle.fdb_lines.specs.private.Marks.{AreMarks}
 
 abbrev pub AreKnownIn : Lines → AuditOpts → Seen → List (Option Witness) → Type 0
@@ -28,15 +33,25 @@ AreKnownIn log opts seen = AreKnown (comes_before log.timed opts.margin log.line
 abbrev pub AreMarksIn : Lines → AuditOpts → Sort → List (Option Witness) → List Mark → Type 0
 AreMarksIn log opts sort known = AreMarks sort (start_of opts.complete) log.lines known (length log.lines)
 
+abbrev pub has_ask : List Line → Bool
+has_ask lines = list_any (λ (line : Line). is_ask (kind_of line.call)) lines
+
+-- What is known of draws; nothing is kept where no line is an ask.
+abbrev pub AreDrawnIn : Lines → AuditOpts → Option (Vec (Option Witness) Global) → Type 0
+AreDrawnIn log opts None = has_ask log.lines ≡ false
+AreDrawnIn log opts (Some drawn) = AreKnownIn log opts Drawn drawn.items
+
 pub record AreTables (log : Lines) (opts : AuditOpts) (tables : Tables) : Type 0 where
   pub shown : AreKnownIn log opts Shown tables.shown.items
-  pub drawn : AreKnownIn log opts Drawn tables.drawn.items
+  pub drawn : AreDrawnIn log opts tables.drawn
   pub reports : AreMarksIn log opts Reports tables.shown.items tables.reports.marks.items
   pub raises : AreMarksIn log opts Raises tables.shown.items tables.raises.marks.items
   pub draws : AreMarksIn log opts Draws tables.shown.items tables.draws.marks.items
   pub asks : AreMarksIn log opts Asks tables.shown.items tables.asks.marks.items
   pub owned : AreMarksIn log opts Owned tables.shown.items tables.owned.marks.items
   pub nameless : AreMarksIn log opts Nameless tables.shown.items tables.nameless.marks.items
+  pub settled : AreSettled tables.firsts
+  pub firsts : AreEnds false Shown log.lines (length log.lines) tables.firsts.ends.items
 
 -- a line before one that lets a version be known, or none does
 abbrev pub IsFoundIn : Lines → AuditOpts → Seen → ℕ → ℕ → Option Witness → Type 0
@@ -59,7 +74,13 @@ is_wrong c v = not (v == c.start) && (not (is_raised c v) && (c.complete || is_r
 abbrev pub is_stray : Case → ℕ → Bool
 is_stray c k = cond (is_drawn c (version_at c k)) (not (is_own c k)) (c.complete || nat_le (version_at c k) c.start)
 
+-- the first of the faults at the lines from one place on and before another; none where there is none
+abbrev pub IsFirstBetween : Case → ℕ → ℕ → Option Found → Type 0
+IsFirstBetween c from to None = faults_below c to ≡ faults_below c from
+IsFirstBetween c from to (Some first) = (rest : List Found) × (faults_below c to ≡ faults_below c from ++ first ∷ rest)
+
 -- some findings, and these faults with why they stand
 abbrev pub ListsMore : Lines → AuditOpts → List Finding → List Finding → List Found → Type 0
 ListsMore log opts before after found =
     (map found_of after ≡ map found_of before ++ found) × (All (HasReason log opts) before → All (HasReason log opts) after)
+    × (All (HasLate log opts) before → All (HasLate log opts) after)

@@ -15,4 +15,4 @@ returns c =
     let three = c.in_ok-add_finding-3.ensures in
     let four = c.in_ok-add_finding-4.ensures in
     IfOk-weaker c.add_finding-5.result _ (λ _. ListsMore log opts c.args.findings.now.items c.add_finding-5.new.findings.items (faults_at (case_of log opts) c.args.place))
-    (λ _ five. (rw (five.0, four.0, three.0, two.0, one.0) (simp append_assoc), λ are. five.1 (four.1 (three.1 (two.1 (one.1 are)))))) c.add_finding-5.ensures
+    (λ _ five. (rw (five.0, four.0, three.0, two.0, one.0) (simp append_assoc), λ are. five.1 (four.1 (three.1 (two.1 (one.1 are)))), λ are. five.2 (four.2 (three.2 (two.2 (one.2 are)))))) c.add_finding-5.ensures

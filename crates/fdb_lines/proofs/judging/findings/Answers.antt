@@ -10,6 +10,7 @@ loop-place-preserved c =
     record {
       listed = rw add-one (rw c.loop-place.invariant.listed at more.0);
       reasons = more.1 c.loop-place.invariant.reasons;
+      late = more.2 c.loop-place.invariant.late;
     }
 
 pub returns-clause-explained : goal.returns-clause-explained

@@ -20,7 +20,7 @@ loop-place-preserved c =
     let item = c.index-lines-place.result in
     let line : item ≡ line_at lines k = c.index-lines-place.is ∙ get_or_default lines k item nobody lt in
     let own = known_so (of_own seen lines) margin lines k Own c.own_before-own.result (own_means margin seen lines k)
-    (c.own_before-own.ensures seen lines line c.in_ok-table.ensures.ends) in
+    (c.own_before-own.ensures seen lines line c.requires.ends) in
     let inside : k < length before = (let len = inv.as_many in omega arith) in
     let at : c.index.result.now ≡ by_at before k = c.index.ensures ∙ get_or_default before k c.index.result.now None inside in
     let new : KnowsOf (lets_know (by_time margin lines) seen lines) margin lines k c.newer.result =

@@ -7,5 +7,5 @@ returns-in-None c =
     let log = lines_of c.args.log.now in
     let opts = c.args.opts.now in
     let k = c.args.place in
-    let is = rw (c.knows.ensures, c.last.ensures) at c.max-version.ensures in
+    let is = c.newest-version.ensures in
     not_above_is log opts k _ c.drawn-by.result c.requires.stands is (by_drawn log opts k _ c.drawn-by.result c.in-None.ensures c.drawn-by.ensures is)

@@ -1,5 +1,6 @@
-use Rattle.std.proofs.Common.{◌≡◌, ℕ, Option, nat_eq, length, ◌∙◌, arith, add-one}
-use Rattle.std.specs.HashMap.{get}
+use Rattle.std.proofs.Common.{◌≡◌, ℕ, Option, length, ◌∙◌, arith, add-one}
+use Rattle.std.specs.BTreeMap.{get}
+use Rattle.std.specs.Ordering.{nat_cmp}
 use Rattle.std.proofs.lemmas.List.{get_or_default}
 use Rattle.fdb_lines.specs.declared.reason.Witness.{Witness}
 use Rattle.fdb_lines.specs.Before.{by_telling}
@@ -14,7 +15,7 @@ loop-place-preserved c =
     let seen = c.args.seen in
     let lines = c.args.lines.now in
     let k = c.loop-place.place in
-    let newest : ℕ → Option Witness = λ p. get nat_eq c.loop-place.newest p in
+    let newest : ℕ → Option Witness = λ p. get nat_cmp c.loop-place.newest p in
     let item = c.index-lines-place.result in
     let line : item ≡ line_at lines k = c.index-lines-place.is ∙ get_or_default lines k item nobody c.loop-place-test.true in
     let inv = c.loop-place.invariant in

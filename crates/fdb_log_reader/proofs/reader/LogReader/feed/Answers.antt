@@ -1,19 +1,10 @@
-use Rattle.std.proofs.Common.{◌∙◌, ◌∷◌, ◌++◌, inl, inr, sym}
+use Rattle.std.proofs.Common.{◌∙◌, ◌++◌, inl, inr}
 use Rattle.std.proofs.lemmas.Result.{err_from_is_err_and}
 use Rattle.fdb_log_reader.proofs.Splitting.{goes_on}
 use Rattle.fdb_log_reader.proofs.reader.LogReader.feed.Goals as goal
 
-pub returns-in_err-keep : goal.returns-in_err-keep
-returns-in_err-keep c =
-    let error = err_from_is_err_and c.from_residual.result c.from_residual.ensures.1 in
-    let on = goes_on c.args.self c.loop-line.self c.args.bytes.now c.loop-line.rest.now c.in-Some.line.now c.in-Some.after.now c.loop-line.invariant c.in-Some.ensures.0 in
-    rw (error.1, error.2) (elim c.in_err-keep.ensures [ inl m ↦ inl m | inr h ↦ inr (λ text. on text ∙ h (10 ∷ (c.in-Some.after.now ++ text))) ])
-
 pub returns-in_err-self : goal.returns-in_err-self
 returns-in_err-self c =
-    let error = err_from_is_err_and c.from_residual-in_err-self.result c.from_residual-in_err-self.ensures.1 in
+    let error = err_from_is_err_and c.from_residual.result c.from_residual.ensures.1 in
     let on = goes_on c.args.self c.loop-line.self c.args.bytes.now c.loop-line.rest.now c.in-Some.line.now c.in-Some.after.now c.loop-line.invariant c.in-Some.ensures.0 in
-    rw (error.1, error.2) (elim c.in_err-self.ensures.read [
-      | inl m ↦ inl m
-      | inr h ↦ inr (λ text. on text ∙ (sym (c.in_ok-keep.ensures (10 ∷ (c.in-Some.after.now ++ text))) ∙ h (c.in-Some.after.now ++ text)))
-    ])
+    rw (error.1, error.2) (elim c.in_err-self.ensures [ inl m ↦ inl m | inr h ↦ inr (λ text. on text ∙ h (c.in-Some.after.now ++ text)) ])

@@ -1,0 +1,23 @@
+use Rattle.std.proofs.Common.{max, ap, arith}
+use Rattle.fdb_lines.specs.declared.seen.Seen.TheVariants.{Drawn}
+use Rattle.fdb_lines.specs.Audit.{case_of}
+use Rattle.fdb_lines.specs.Faults.{knows}
+use Rattle.fdb_lines.specs.Log.{lines_of}
+use Rattle.fdb_lines.proofs.Reasoning.{newest_is, none_beyond}
+use Rattle.fdb_lines.proofs.tables.Tables.newest.Goals as goal
+
+pub returns-in-Some : goal.returns-in-Some
+returns-in-Some c =
+    let log = lines_of c.args.log.now in
+    let opts = c.args.opts.now in
+    let k = c.args.place in
+    let are = rw c.in-Some.is at c.requires.tables.drawn in
+    rw (c.max.ensures, c.knows-knows.ensures, c.version_by.ensures, c.by_at.ensures, c.lines.ensures, c.deref.ensures.value)
+    (ap (max (knows (case_of log opts) k)) (newest_is log opts Drawn c.in-Some.drawn.items k are c.requires.place))
+
+pub returns-in-None : goal.returns-in-None
+returns-in-None c =
+    let log = lines_of c.args.log.now in
+    let least = none_beyond log c.args.opts.now c.args.place (rw c.in-None.is at c.requires.tables.drawn) in
+    let knows = c.knows-knows.ensures in
+    omega arith

@@ -1,0 +1,20 @@
+use Rattle.std.proofs.Common.{◌≡◌, ◌++◌, ◌∷◌, [], length, ap, sym, subst, ◌∙◌, arith, length-append}
+use Rattle.fdb_lines.specs.Carried.{StandFor}
+use Rattle.fdb_lines.specs.Lines.{Lines, lines_in}
+use Rattle.fdb_lines.proofs.Carried.{and_one_more, one_more_is}
+use Rattle.fdb_lines.proofs.watch.Watch.push.Goals as goal
+
+pub returns-clause-ok : goal.returns-clause-ok
+returns-clause-ok c = λ lines seen.
+    let watch = c.args.self.now in
+    let line = c.args.line in
+    let more = lines ++ line ∷ [] in
+    let numbers : c.push.new.self.items ≡ watch.numbers.items ++ length lines ∷ [] = c.in_default.ensures.items ∙ ap (λ n. watch.numbers.items ++ n ∷ []) seen.count in
+    record {
+      count = (let is = seen.count in omega (arith, length-append lines (line ∷ [])));
+      kept =
+          ap (λ (log : Lines). log.lines) c.in_default-push.ensures.ok.1
+          ∙ (ap (λ part. part ++ line ∷ []) seen.kept
+          ∙ (sym (one_more_is watch.margin watch.from lines watch.numbers.items line seen.stand) ∙ ap (lines_in more) (sym numbers)));
+      stand = subst (StandFor watch.margin watch.from more) (sym numbers) (and_one_more watch.margin watch.from lines watch.numbers.items seen.stand line);
+    }

@@ -1,0 +1,261 @@
+//! How the tables of a log are made: one after another, or in threads side by side.
+
+ghost use Rattle.std.specs.Prelude.{◌≡◌, ◌≤◌, IfOk, false, length, true};
+ghost use Rattle.std.specs.Thread.{IsSync};
+ghost use Rattle.fdb_lines.specs.Log.{lines_of};
+ghost use Rattle.fdb_lines.specs.declared.seen.Seen.TheVariants.{Drawn, Shown};
+ghost use Rattle.fdb_lines.specs.private.Ends.{AreSettled};
+ghost use Rattle.fdb_lines.specs.private.Known.{AreEnds};
+ghost use Rattle.fdb_lines.specs.private.Marks.{AreMarks};
+ghost use Rattle.fdb_lines.specs.private.Tables.{has_ask, AreDrawnIn, AreKnownIn, AreTables};
+
+use crate::ends::Ends;
+use crate::known::{known_by_time, table_of};
+use crate::line::Line;
+use crate::log::Log;
+use crate::marks::Marks;
+use crate::opts::AuditOpts;
+use crate::reason::Witness;
+use crate::seen::Seen;
+use crate::sort::Sort;
+use crate::tables::Tables;
+use crate::telling::known_by_telling;
+use std::alloc::{AllocError, Global};
+use std::thread::{Threads, join};
+
+/// The tables of a log. `n log n` in how many lines there are.
+pub(crate) fn tables_of(alloc: Global, log: &Log, opts: &AuditOpts) -> Result<Tables, AllocError>
+    ensures { IfOk result (λ tables. AreTables (lines_of log.now) opts.now tables) }
+{
+    let lines = log.lines();
+    let start = opts.start();
+    let firsts = table_of(alloc, lines, Seen::Shown, false)?;
+    let own = table_of(alloc, lines, Seen::Shown, true)?;
+    let shown = known(alloc, log, opts, Seen::Shown, &firsts, &own)?;
+    drop(own);
+    let drawn = known_draws(alloc, log, opts)?;
+    let reports = Marks::new(alloc, start, lines, &shown, Sort::Reports)?;
+    let raises = Marks::new(alloc, start, lines, &shown, Sort::Raises)?;
+    let draws = Marks::new(alloc, start, lines, &shown, Sort::Draws)?;
+    let asks = Marks::new(alloc, start, lines, &shown, Sort::Asks)?;
+    let owned = Marks::new(alloc, start, lines, &shown, Sort::Owned)?;
+    let nameless = Marks::new(alloc, start, lines, &shown, Sort::Nameless)?;
+    Ok(Tables {
+        shown,
+        drawn,
+        reports,
+        raises,
+        draws,
+        asks,
+        owned,
+        nameless,
+        firsts,
+    })
+}
+
+/// The tables of a log, made in threads side by side.
+pub(crate) fn tables_by<R: Threads + Sync>(
+    rt: &R,
+    alloc: Global,
+    log: &Log,
+    opts: &AuditOpts,
+) -> Result<Tables, AllocError>
+    ensures { IfOk result (λ tables. AreTables (lines_of log.now) opts.now tables) }
+{
+    let lines = log.lines();
+    let (firsts, own) = two_tables(rt, alloc, lines);
+    let firsts = firsts?;
+    let own = own?;
+    let (all_ends, own_ends) = (&firsts, &own);
+    let (shown, drawn) = join(
+        rt,
+        || -> Result<Vec<Option<Witness>>, AllocError>
+            requires { AreSettled all_ends.now × AreSettled own_ends.now
+                × AreEnds false Shown (lines_of log.now).lines (length (lines_of log.now).lines)
+                all_ends.now.ends.items
+                × AreEnds true Shown (lines_of log.now).lines (length (lines_of log.now).lines)
+                own_ends.now.ends.items }
+            ensures { IfOk result
+                (λ known. AreKnownIn (lines_of log.entry.now) opts.entry.now Shown known.items) }
+        { known(alloc, log, opts, Seen::Shown, all_ends, own_ends) },
+        || -> Result<Option<Vec<Option<Witness>>>, AllocError>
+            ensures { IfOk result
+                (λ drawn. AreDrawnIn (lines_of log.entry.now) opts.entry.now drawn) }
+        { known_draws(alloc, log, opts) },
+    );
+    drop(own);
+    let shown = shown?;
+    let drawn = drawn?;
+    let start = opts.start();
+    let known = shown.as_slice();
+    let ((reports, raises), (draws, owned)) = four_marks(rt, alloc, start, lines, known);
+    let (asks, nameless) = two_marks(rt, alloc, start, lines, known, Sort::Asks, Sort::Nameless);
+    let reports = reports?;
+    let raises = raises?;
+    let draws = draws?;
+    let asks = asks?;
+    let owned = owned?;
+    let nameless = nameless?;
+    Ok(Tables {
+        shown,
+        drawn,
+        reports,
+        raises,
+        draws,
+        asks,
+        owned,
+        nameless,
+        firsts,
+    })
+}
+
+/// The ends of the lines that show a version, of all lines and by client, made in two threads.
+fn two_tables<R: Threads + Sync>(
+    rt: &R,
+    alloc: Global,
+    lines: &[Line],
+) -> (Result<Ends, AllocError>, Result<Ends, AllocError>)
+    requires { length lines.now ≤ 4294967295 }
+    ensures settled { IfOk result.0 (λ table. AreSettled table) }
+    ensures ends { IfOk result.0 (λ table. AreEnds false Shown lines.now (length lines.now)
+        table.ends.items) }
+    ensures own_settled { IfOk result.1 (λ table. AreSettled table) }
+    ensures own { IfOk result.1 (λ table. AreEnds true Shown lines.now (length lines.now)
+        table.ends.items) }
+{
+    join(
+        rt,
+        || -> Result<Ends, AllocError>
+            requires { length lines.now ≤ 4294967295 }
+            ensures settled { IfOk result (λ table. AreSettled table) }
+            ensures ends { IfOk result (λ table. AreEnds false Shown lines.entry.now
+                (length lines.entry.now) table.ends.items) }
+        { table_of(alloc, lines, Seen::Shown, false) },
+        || -> Result<Ends, AllocError>
+            requires { length lines.now ≤ 4294967295 }
+            ensures settled { IfOk result (λ table. AreSettled table) }
+            ensures ends { IfOk result (λ table. AreEnds true Shown lines.entry.now
+                (length lines.entry.now) table.ends.items) }
+        { table_of(alloc, lines, Seen::Shown, true) },
+    )
+}
+
+/// The marks by which most is looked for, made in four threads.
+fn four_marks<R: Threads + Sync>(
+    rt: &R,
+    alloc: Global,
+    start: u64,
+    lines: &[Line],
+    known: &[Option<Witness>],
+) -> (
+    (Result<Marks, AllocError>, Result<Marks, AllocError>),
+    (Result<Marks, AllocError>, Result<Marks, AllocError>),
+)
+    requires { length lines.now ≤ 4294967295 }
+    ensures reports { IfOk result.0.0 (λ table. AreMarks Sort.Reports start
+        lines.now known.now (length lines.now) table.marks.items) }
+    ensures raises { IfOk result.0.1 (λ table. AreMarks Sort.Raises start
+        lines.now known.now (length lines.now) table.marks.items) }
+    ensures draws { IfOk result.1.0 (λ table. AreMarks Sort.Draws start
+        lines.now known.now (length lines.now) table.marks.items) }
+    ensures owned { IfOk result.1.1 (λ table. AreMarks Sort.Owned start
+        lines.now known.now (length lines.now) table.marks.items) }
+{
+    join(
+        rt,
+        || -> (Result<Marks, AllocError>, Result<Marks, AllocError>)
+            requires { IsSync R.row × (length lines.now ≤ 4294967295) }
+            ensures reports { IfOk result.0 (λ table. AreMarks Sort.Reports start
+                lines.entry.now known.entry.now (length lines.entry.now) table.marks.items) }
+            ensures raises { IfOk result.1 (λ table. AreMarks Sort.Raises start
+                lines.entry.now known.entry.now (length lines.entry.now) table.marks.items) }
+        { two_marks(rt, alloc, start, lines, known, Sort::Reports, Sort::Raises) },
+        || -> (Result<Marks, AllocError>, Result<Marks, AllocError>)
+            requires { IsSync R.row × (length lines.now ≤ 4294967295) }
+            ensures draws { IfOk result.0 (λ table. AreMarks Sort.Draws start
+                lines.entry.now known.entry.now (length lines.entry.now) table.marks.items) }
+            ensures owned { IfOk result.1 (λ table. AreMarks Sort.Owned start
+                lines.entry.now known.entry.now (length lines.entry.now) table.marks.items) }
+        { two_marks(rt, alloc, start, lines, known, Sort::Draws, Sort::Owned) },
+    )
+}
+
+/// The marks of two sorts, made in two threads.
+fn two_marks<R: Threads + Sync>(
+    rt: &R,
+    alloc: Global,
+    start: u64,
+    lines: &[Line],
+    known: &[Option<Witness>],
+    one: Sort,
+    other: Sort,
+) -> (Result<Marks, AllocError>, Result<Marks, AllocError>)
+    requires { length lines.now ≤ 4294967295 }
+    ensures one { IfOk result.0 (λ table. AreMarks one start lines.now known.now
+        (length lines.now) table.marks.items) }
+    ensures other { IfOk result.1 (λ table. AreMarks other start lines.now known.now
+        (length lines.now) table.marks.items) }
+{
+    join(
+        rt,
+        || -> Result<Marks, AllocError>
+            requires { length lines.now ≤ 4294967295 }
+            ensures { IfOk result (λ table. AreMarks one start lines.entry.now
+                known.entry.now (length lines.entry.now) table.marks.items) }
+        { Marks::new(alloc, start, lines, known, one) },
+        || -> Result<Marks, AllocError>
+            requires { length lines.now ≤ 4294967295 }
+            ensures { IfOk result (λ table. AreMarks other start lines.entry.now
+                known.entry.now (length lines.entry.now) table.marks.items) }
+        { Marks::new(alloc, start, lines, known, other) },
+    )
+}
+
+/// For each line the newest of the lines before it that let their versions be known.
+fn known(
+    alloc: Global,
+    log: &Log,
+    opts: &AuditOpts,
+    seen: Seen,
+    ends: &Ends,
+    own: &Ends,
+) -> Result<Vec<Option<Witness>>, AllocError>
+    requires settled { AreSettled ends.now × AreSettled own.now }
+    requires ends { let lines = (lines_of log.now).lines in
+        AreEnds false seen lines (length lines) ends.now.ends.items }
+    requires own { let lines = (lines_of log.now).lines in
+        AreEnds true seen lines (length lines) own.now.ends.items }
+    ensures { IfOk result (λ known. AreKnownIn (lines_of log.now) opts.now seen known.items) }
+{
+    if log.is_timed() {
+        known_by_time(alloc, log.lines(), opts.margin, seen, ends, own)
+    } else {
+        known_by_telling(alloc, log.lines(), seen)
+    }
+}
+
+/// For each line the newest of the lines before it that draw a version; none where no line is an
+/// ask.
+fn known_draws(
+    alloc: Global,
+    log: &Log,
+    opts: &AuditOpts,
+) -> Result<Option<Vec<Option<Witness>>>, AllocError>
+    ensures { IfOk result (λ drawn. AreDrawnIn (lines_of log.now) opts.now drawn) }
+{
+    let lines = log.lines();
+    if !has_ask(lines) {
+        return Ok(None);
+    }
+    let ends = table_of(alloc, lines, Seen::Drawn, false)?;
+    let own = table_of(alloc, lines, Seen::Drawn, true)?;
+    let drawn = known(alloc, log, opts, Seen::Drawn, &ends, &own)?;
+    Ok(Some(drawn))
+}
+
+/// Whether a line is an ask.
+fn has_ask(lines: &[Line]) -> bool
+    ensures { result ≡ has_ask lines.now }
+{
+    lines.iter().any(|line| line.call.is_ask())
+}

@@ -1,0 +1,211 @@
+//! Lines in the usual form, which are read without a JSON value.
+
+ghost use Rattle.std.specs.Prelude.{◌≡◌, IfSome, Some, None, MatchOption, false};
+ghost use Rattle.std.specs.Str.{bytes_eq};
+ghost use Rattle.fdb_log_reader.specs.Members.{member_of, name_of};
+ghost use Rattle.fdb_log_reader.specs.private.Usual.{says_of, told_of, with_told};
+ghost use Rattle.fdb_log_reader.specs.private.Usual.{IsBehind, IsReadAs, Says, StandsFor};
+ghost use Rattle.fdb_log_reader.specs.declared.member.Member.{Member};
+
+use crate::member::Member;
+use crate::said::Said;
+use crate::scanning::{split_member, strip};
+
+/// What a member says.
+#[derive(Clone, Copy, Debug)]
+pub(crate) enum Told<'a> {
+    Number(u64),
+    Text(&'a str),
+    Null,
+}
+
+/// A line in the usual form: what each of its members says, where it is there.
+#[derive(Clone, Copy, Debug)]
+pub(crate) struct Usual<'a> {
+    pub(crate) client: Option<Told<'a>>,
+    pub(crate) read: Option<Told<'a>>,
+    pub(crate) commit: Option<Told<'a>>,
+    pub(crate) ask: Option<Told<'a>>,
+    pub(crate) report: Option<Told<'a>>,
+    pub(crate) learn: Option<Told<'a>>,
+    pub(crate) began: Option<Told<'a>>,
+    pub(crate) ended: Option<Told<'a>>,
+}
+
+impl<'a> Usual<'a> {
+    /// A line that says nothing.
+    fn new() -> Self
+        ensures { (m : Member) → says_of result m ≡ None }
+    {
+        Usual {
+            client: None,
+            read: None,
+            commit: None,
+            ask: None,
+            report: None,
+            learn: None,
+            began: None,
+            ended: None,
+        }
+    }
+
+    /// The line, with what a member says.
+    fn with(self, member: Member, told: Told<'a>) -> Self
+        ensures { result ≡ with_told self.entry member told.entry }
+    {
+        let told = Some(told);
+        match member {
+            Member::Client => Usual {
+                client: told,
+                ..self
+            },
+            Member::Read => Usual { read: told, ..self },
+            Member::Commit => Usual {
+                commit: told,
+                ..self
+            },
+            Member::Ask => Usual { ask: told, ..self },
+            Member::Report => Usual {
+                report: told,
+                ..self
+            },
+            Member::Learn => Usual {
+                learn: told,
+                ..self
+            },
+            Member::Began => Usual {
+                began: told,
+                ..self
+            },
+            Member::Ended => Usual {
+                ended: told,
+                ..self
+            },
+        }
+    }
+}
+
+impl<'a> Usual<'a> {
+    /// What a member says.
+    fn told(&self, member: Member) -> Option<Told<'a>>
+        ensures { result ≡ told_of self.now member }
+    {
+        match member {
+            Member::Client => self.client,
+            Member::Read => self.read,
+            Member::Commit => self.commit,
+            Member::Ask => self.ask,
+            Member::Report => self.report,
+            Member::Learn => self.learn,
+            Member::Began => self.began,
+            Member::Ended => self.ended,
+        }
+    }
+}
+
+impl Said for Usual<'_> {
+    ghost says = { says_of };
+
+    fn has(&self, member: Member) -> bool {
+        self.told(member).is_some()
+    }
+
+    fn number(&self, member: Member) -> Option<u64> {
+        match self.told(member) {
+            Some(Told::Number(number)) => Some(number),
+            _ => None,
+        }
+    }
+
+    fn text(&self, member: Member) -> Option<&str> {
+        match self.told(member) {
+            Some(Told::Text(text)) => Some(text),
+            _ => None,
+        }
+    }
+
+    fn is_null(&self, member: Member) -> bool {
+        matches!(self.told(member), Some(Told::Null))
+    }
+}
+
+/// Adds what the member of a name says. Other members are ignored.
+#[tactic(auto, using(crate::proofs::UsualForm::named, crate::proofs::UsualForm::unnamed))]
+fn add_told<'a>(line: &mut Usual<'a>, name: &[u8], told: Told<'a>)
+    ensures { Says name.now told.entry line.old line.new }
+{
+    if let Some(member) = member_named(name) {
+        *line = line.with(member, told);
+    }
+}
+
+/// The member of a name.
+fn member_named(name: &[u8]) -> Option<Member>
+    ensures { MatchOption result ((m : Member) → bytes_eq name.now (name_of m) ≡ false)
+        (λ m. name.now ≡ name_of m) }
+{
+    match name {
+        b"client" => Some(Member::Client),
+        b"read" => Some(Member::Read),
+        b"commit" => Some(Member::Commit),
+        b"ask" => Some(Member::Ask),
+        b"report" => Some(Member::Report),
+        b"learn" => Some(Member::Learn),
+        b"began" => Some(Member::Began),
+        b"ended" => Some(Member::Ended),
+        _ => None,
+    }
+}
+
+/// What comes behind a member.
+enum Behind<'a> {
+    /// The line goes on with another member, behind a comma.
+    More(&'a [u8]),
+    /// The object ends, and the line with it.
+    End,
+    /// Something else.
+    Other,
+}
+
+fn what_follows(bytes: &[u8]) -> Behind<'_>
+    ensures { IsBehind bytes.now result }
+{
+    match strip(bytes, b',') {
+        Some(more) => Behind::More(more),
+        None => match strip(bytes, b'}') {
+            Some(more) if more.is_empty() => Behind::End,
+            _ => Behind::Other,
+        },
+    }
+}
+
+/// What a line says that has the usual form: an object without white space or escapes, whose
+/// members are texts, whole numbers below 2^64 and nulls. None of other lines.
+#[tactic(auto, using(crate::proofs::UsualForm::stands))]
+pub(crate) fn usual_of(bytes: &[u8]) -> Option<Usual<'_>>
+    ensures { IfSome result (λ line. StandsFor bytes.now line) }
+{
+    if std::str::from_utf8(bytes).is_ok() {
+        usual_in(bytes)
+    } else {
+        None
+    }
+}
+
+/// The same of bytes that are UTF-8.
+#[tactic(auto, using(crate::proofs::UsualForm::begun, crate::proofs::UsualForm::goes_on))]
+fn usual_in(bytes: &[u8]) -> Option<Usual<'_>>
+    ensures { IfSome result (λ line. IsReadAs bytes.now line) }
+{
+    let mut rest = strip(bytes, b'{')?;
+    let mut line = Usual::new();
+    'members: while let Some((name, told, after)) = split_member(rest) {
+        add_told(&mut line, name, told);
+        match what_follows(after) {
+            Behind::More(more) => rest = more,
+            Behind::End => return Some(line),
+            Behind::Other => return None,
+        }
+    }
+    None
+}
