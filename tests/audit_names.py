@@ -48,8 +48,8 @@ def printed(_program):
         shown = f'client "{text}"'
         fault = (f"audit fault: Order 2: {shown} read 3, but 5 was known: line 1 ({shown}, commit "
                  "5) is an earlier call of its client\n")
-        order = ("audit ok lines 1 timed 0 reads 0 commits 1 asks 0 reports 0 learns 0 unreported 0\n"
-                 f"history 0 ask 5 line 1 {shown}\nhistory 1 report 5 line 1 {shown}\n")
+        order = ("audit ok lines 1 timed 0 reads 0 commits 1 asks 0 reports 0 learns 0 unreported "
+                 f"0\nhistory 0 ask 5 line 1 {shown}\nhistory 1 report 5 line 1 {shown}\n")
         for is_ascii in (True, False):
             client = json.dumps(name, ensure_ascii=is_ascii)
             lines = f'{{"client":{client},"commit":5}}\n', f'{{"client":{client},"read":3}}\n'

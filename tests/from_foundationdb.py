@@ -53,6 +53,7 @@ EVENTS = (
     ("an event of another type", commit(Type="TransactionTrace_CommitError"), None,
      (0, 0, 1, 0, 0, 0)),
     ("no type", without(commit(), "Type"), None, (0, 0, 1, 0, 0, 0)),
+    ("a type that is no text", read_version(Type=["x"]), None, (0, 0, 1, 0, 0, 0)),
     ("a read without a version", read_version(ReadVersion="-1"), None, FAULTY),
     ("too great a version", read_version(ReadVersion=str(2**63)), None, FAULTY),
     ("no version", without(commit(), "CommitVersion"), None, FAULTY),

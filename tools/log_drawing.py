@@ -174,9 +174,9 @@ def fault_of(number, text, lines, found):
     kind, at, sentence = found[1], int(found[2]) - 1, found[3]
     plain = NAME.sub('""', sentence)
     named = [int(it) - 1 for it in LINES.findall(plain)]
-    done = {int(it) - 1: (word, int(version)) for it, word, version in DONE.findall(plain)}
+    done = [(int(it) - 1, (word, int(version))) for it, word, version in DONE.findall(plain)]
     if (max([at, *named]) >= len(lines) or lines[at].kind not in FAULTS[kind][2]
-            or any((lines[it].kind, lines[it].value) != said for it, said in done.items())):
+            or any((lines[it].kind, lines[it].value) != said for it, said in done)):
         raise Refused(f"BadFault {number}: the log has no such line: {text[:80]!r}")
     return Said(kind, at, sentence, sorted({at, *named}))
 

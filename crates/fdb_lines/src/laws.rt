@@ -1,7 +1,7 @@
 //! Laws of the definitions. The functions do nothing: each stands for its contract.
 
-ghost use Rattle.std.specs.Prelude.{ℕ, ◌<◌, ◌≤◌, ◌≡◌, ◌≢◌, ◌↔◌, ◌++◌, ◌∷◌, [], List, Option, length, map};
-ghost use Rattle.std.specs.Prelude.{slice_index, true, IsTrue};
+ghost use Rattle.std.specs.Prelude.{ℕ, ◌<◌, ◌≤◌, ◌≡◌, ◌≢◌, ◌↔◌, ◌++◌, ◌∷◌, [], List, Option};
+ghost use Rattle.std.specs.Prelude.{length, map, slice_index, true, IsTrue};
 ghost use Rattle.std.specs.List.{filter};
 ghost use Rattle.fdb_lines.specs.declared.act.Act.{Act};
 ghost use Rattle.fdb_lines.specs.declared.fault.Fault.{Fault};
