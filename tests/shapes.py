@@ -20,10 +20,14 @@ def timed(kind, version, began, ended, client=None):
     return {**line, kind: version, "began": began, "ended": ended}
 
 
-def overlapping(draw, names=64):
+def text_of_lines(lines):
+    return "".join(json.dumps(line, separators=(",", ":")) + "\n" for line in lines)
+
+
+def overlapping(draw, count=LINES, names=64):
     """Calls of a register by clients side by side, in the order of their ends: no fault stands."""
     events, free, now = [], [0] * names, 0
-    for at in range(LINES):
+    for at in range(count):
         now, client = now + draw.randrange(1, 20), draw.randrange(names)
         began = max(now, free[client])
         free[client] = ended = began + draw.randrange(1, 1_000)
@@ -112,7 +116,7 @@ def spent(arguments, lines, folder):
     """The status of an audit, its seconds of processor time, and its memory at its peak in KiB."""
     log = f"{folder}/log"
     with open(log, "w", encoding="utf-8") as file:
-        file.writelines(json.dumps(line, separators=(",", ":")) + "\n" for line in lines)
+        file.write(text_of_lines(lines))
     ran = run([sys.executable, "-S", "-c", SPENT, PROGRAM, *arguments, log])
     status, seconds, memory = ran.out.split()
     return int(status), float(seconds), int(memory)
