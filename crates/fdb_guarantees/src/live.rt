@@ -4,7 +4,8 @@ ghost use Rattle.std.specs.Prelude.{◌≡◌, ◌*◌, ◌<◌, ◌≤◌, ◌�
 ghost use Rattle.std.specs.Prelude.{false, true};
 ghost use mathlib.Core.List.{IsPrefix};
 ghost use Rattle.fdb_live.specs.Gathering.{AreNumbered, IsOwnedOnce};
-ghost use Rattle.fdb_live.specs.Seen.{last_record, origin_of};
+ghost use Rattle.fdb_live.specs.Holding.{own_answers};
+ghost use Rattle.fdb_live.specs.Seen.{last_record, origin_of, own_positions};
 
 use fdb_history::{MAX_VERSION, OpenGate, Record};
 use fdb_live::{Ack, Fetched, Live, LiveError, LiveRecord, MAX_REPORTERS, Opened, Seen};
@@ -159,8 +160,8 @@ pub fn compare<J: Live, R: Wait>(
     live.meet(rt, first, second);
 }
 
-/// Once what all have seen is brought together, each position up to there is one reporter's own, and a
-/// token that has no number has forgotten no answer.
+/// Once what all have seen is brought together, each position up to there is one reporter's own. The
+/// token by which that is done has forgotten no answer, and has reported and drawn what it had.
 pub fn bring_together<J: Live, R: Wait>(
     rt: &R,
     live: &LiveRecord<J>,
@@ -172,6 +173,8 @@ pub fn bring_together<J: Live, R: Wait>(
     ensures owned { (position : ℕ) → 1 ≤ position → position ≤ result
         → IsOwnedOnce tokens.new position }
     ensures answers { IsPrefix first.old.answers first.new.answers }
+    ensures own { own_positions first.new ≡ own_positions first.old }
+    ensures own_answers { own_answers first.new ≡ own_answers first.old }
 {
     live.gather(rt, first, tokens)
 }

@@ -32,6 +32,8 @@ impl<J: Live> LiveRecord<J> {
         ensures answers_each { (k : ℕ) (token : Sight) → slice_get others.old k ≡ Some token
             → IsPrefix token.answers first.new.answers }
         ensures reporter { first.new.reporter ≡ first.old.reporter }
+        ensures own { own_positions first.new ≡ own_positions first.old }
+        ensures own_answers { own_answers first.new ≡ own_answers first.old }
         ensures own_each { (k : ℕ) (token other : Sight) → slice_get others.old k ≡ Some token
             → slice_get others.new k ≡ Some other → own_positions other ≡ own_positions token }
         ensures own_answers_each { (k : ℕ) (token other : Sight)
@@ -55,6 +57,8 @@ impl<J: Live> LiveRecord<J> {
         ensures answers { IsPrefix first.old.answers first.new.answers }
         ensures each { (k : ℕ) (token : Sight) → slice_get others.old k ≡ Some token
             → IsSeenBy first.new token }
+        ensures own { own_positions first.new ≡ own_positions first.old }
+        ensures own_answers { own_answers first.new ≡ own_answers first.old }
     {
         for other in others.iter_mut() {
             let told = self.split(other);

@@ -27,7 +27,9 @@ loop-other-preserved g c =
       prefix_trans _ _ _ before.2 learnt.extends,
       λ k token below is. each_below {P = λ _ t. IsSeenBy new t} others i c.other-item.result
           (λ n t less at. seen_trans new was t (before.3 n t less at) learnt.extends learnt.answers) told k token below (sym (ap (λ l. slice_get l k) whole) ∙ is),
-      prefix_trans _ _ _ before.4 learnt.answers,
+      learnt.own ∙ before.4,
+      prefix_trans _ _ _ before.5 learnt.answers,
+      learnt.own_answers ∙ before.6,
     )
 
 pub returns-clause-each : goal.returns-clause-each
