@@ -51,7 +51,7 @@ static std::vector<Line> read_log(const char *path, uint32_t &clients) {
             std::string_view key = member.unescaped_key().value();
             if (key == "client") {
                 std::string name(member.value().get_string().value());
-                line.client = names.emplace(std::move(name), names.size()).first->second;
+                line.client = names.try_emplace(std::move(name), names.size()).first->second;
             } else if (key == "began") {
                 line.began = member.value().get_uint64().value();
             } else if (key == "ended") {
@@ -71,17 +71,17 @@ using Moments = std::vector<std::pair<u64, uint32_t>>; // a time, and the place 
 
 // Of the ends before each begin: what they let be known, and how many there are. With `strict` an end has to be earlier
 // by more than the margin; else at the same moment the line above comes first.
-template <class Add> static void sweep(Moments &begun, Moments &ended, u64 margin, bool strict, Add add) {
-    std::sort(begun.begin(), begun.end());
-    std::sort(ended.begin(), ended.end());
+template <class Add> static void sweep(const Moments &begun, const Moments &ended, u64 margin, bool strict, Add add) {
     size_t past = 0;
     for (const auto &begin : begun) {
         size_t from = past;
-        while (past < ended.size()
-               && (strict ? ended[past].first + margin < begin.first : ended[past] < begin)) past++;
+        while (past < ended.size() && ended[past] < begin
+               && (!strict || begin.first - ended[past].first > margin)) past++;
         add(begin.second, from, past);
     }
 }
+
+static void sort(Moments &moments) { std::sort(moments.begin(), moments.end()); }
 
 // For each line what came before it, and of how many pairs one did.
 static std::vector<Known> know(const std::vector<Line> &lines, uint32_t clients, u64 margin, u64 &ordered) {
@@ -95,12 +95,14 @@ static std::vector<Known> know(const std::vector<Line> &lines, uint32_t clients,
         own[line.client].first.emplace_back(line.began, line.place);
         if (line.ended != never) own[line.client].second.emplace_back(line.ended, line.place);
     }
+    sort(begun), sort(ended);
     Known all;
     sweep(begun, ended, margin, true, [&](uint32_t place, size_t from, size_t to) {
         for (; from < to; from++) all.add(lines[ended[from].second]);
         known[place] = all, ordered += to;
     });
     for (auto &[begins, ends] : own) {
+        sort(begins), sort(ends);
         Known earlier;
         sweep(begins, ends, 0, false, [&](uint32_t place, size_t from, size_t to) {
             for (; from < to; from++) earlier.add(lines[ends[from].second]);

@@ -3,6 +3,7 @@ import json
 import os
 import resource
 import subprocess
+import sys
 from typing import NamedTuple
 
 ROOT = os.path.dirname(os.path.dirname(os.path.realpath(__file__)))
@@ -72,6 +73,38 @@ def processor_time(call):
     before = resource.getrusage(resource.RUSAGE_CHILDREN)
     given, after = call(), resource.getrusage(resource.RUSAGE_CHILDREN)
     return given, after.ru_utime + after.ru_stime - before.ru_utime - before.ru_stime
+
+
+# Runs a program within limits, and tells what it took: a small process of its own, since a
+# child begins with the peak of its parent.
+SPENT = """
+import os, resource, sys, time
+seconds, memory, *words = sys.argv[1:]
+for limit, most in (resource.RLIMIT_CPU, int(seconds)), (resource.RLIMIT_DATA, int(memory)):
+    resource.setrlimit(limit, (most, most))
+nothing = [(os.POSIX_SPAWN_OPEN, stream, os.devnull, os.O_WRONLY, 0) for stream in (1, 2)]
+begun = time.perf_counter()
+child = os.posix_spawn(words[0], words, os.environ, file_actions=nothing)
+_, ended, used = os.wait4(child, 0)
+print(os.waitstatus_to_exitcode(ended), used.ru_utime + used.ru_stime, time.perf_counter() - begun,
+      used.ru_maxrss)
+"""
+
+
+class Spent(NamedTuple):
+    """How a run ended, and what it took: seconds of all processors and by the wall, and KiB."""
+
+    status: int
+    processor: float
+    wall: float
+    memory: int
+
+
+def spent(words, seconds, memory):
+    """What a program takes that writes to nobody, and may take so much: seconds, and bytes."""
+    words = [sys.executable, "-S", "-c", SPENT, str(seconds), str(memory), *words]
+    status, processor, wall, most = subprocess.run(words, capture_output=True).stdout.split()
+    return Spent(int(status), float(processor), float(wall), int(most))
 
 
 def under(redirections, program, given=b"", arguments=(), **how):

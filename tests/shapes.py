@@ -4,15 +4,14 @@ Each is measured beside an ordinary log of as many lines: processor time, and me
 """
 import json
 import random
-import sys
 import tempfile
 
 from audit_logs import PROGRAM
-from harness import run
+from harness import spent
 
 LINES = 100_000
-# How many times the time and the memory of an ordinary log.
-MOST = 4
+# How many times the time and the memory of an ordinary log, and seconds that are never too many.
+MOST, FEW_SECONDS = 4, 0.4
 
 
 def timed(kind, version, began, ended, client=None):
@@ -51,13 +50,22 @@ def any_calls(draw):
         yield timed(kind, draw.randrange(LINES), began, began + draw.randrange(100), f"c{at % 64}")
 
 
-def told(names, calls):
-    """Lines without times: of a client that learns from another, or that reads where it is none."""
+def told(calls):
+    """Lines without times: a client learns from another, or where that has no line commits."""
     known = set()
-    for client, teller in calls:
-        is_known = teller in known
+    for at, (client, teller) in enumerate(calls):
+        call = {"learn": f"c{teller}"} if teller in known else {"commit": at + 1}
         known.add(client)
-        yield {"client": names(client), **({"learn": names(teller)} if is_known else {"read": 1})}
+        yield {"client": f"c{client}", **call}
+
+
+def talk(draw):
+    """The same of few clients, who call and learn in turn: most lines have faults."""
+    kinds = ("read", "commit", "ask", "report", "learn", "learn")
+    for at in range(LINES):
+        kind = draw.choice(kinds) if at > 9 else "read"
+        value = f"c{draw.randrange(9)}" if kind == "learn" else draw.randrange(at + 1)
+        yield {"client": f"c{draw.randrange(9) if at > 9 else at}", kind: value}
 
 
 def relay(at):
@@ -90,46 +98,33 @@ def shapes():
     for margin in (1, 999, 10**6, 2**63 - 1):
         yield f"a margin of {margin}", ["--margin", str(margin)], list(overlapping(draw))
     yield "a history", ["--history"], list(overlapping(draw))
-    yield "a relay", [], list(told(lambda it: f"c{it}", map(relay, places)))
-    yield "a hub", [], list(told(lambda it: f"c{it}", map(hub, places)))
-    yield "gossip", [], list(told(lambda it: f"c{it}", (
-        (draw.randrange(8_000), draw.randrange(8_000)) for _ in places)))
-    yield "gossip of few", ["--all"], list(told(lambda it: f"c{it}", (
-        (draw.randrange(9), draw.randrange(9)) for _ in places)))
+    yield "all calls of a log", ["--complete", "0", "--all", "--history"], list(overlapping(draw))
+    yield "a relay", [], list(told(map(relay, places)))
+    yield "a hub", [], list(told(map(hub, places)))
+    some = lambda: (draw.randrange(8_000), draw.randrange(8_000))
+    yield "gossip", ["--all"], list(told(some() for _ in places))
+    yield "talk of few", ["--all"], list(talk(draw))
     # Two take turns: each learns what the other had learnt of it.
-    yield "deep learning", ["--history"], list(told(lambda it: f"c{it}", (
-        (at % 2, 1 - at % 2) for at in places)))
+    yield "deep learning", ["--history"], list(told((at % 2, 1 - at % 2) for at in places))
 
 
-# Runs a program and tells what it took: a process of its own, since a child begins with the peak of
-# its parent.
-SPENT = """
-import os, sys
-nothing = [(os.POSIX_SPAWN_OPEN, stream, os.devnull, os.O_WRONLY, 0) for stream in (1, 2)]
-child = os.posix_spawn(sys.argv[1], sys.argv[1:], os.environ, file_actions=nothing)
-_, ended, used = os.wait4(child, 0)
-print(os.waitstatus_to_exitcode(ended), used.ru_utime + used.ru_stime, used.ru_maxrss)
-"""
-
-
-def spent(arguments, lines, folder):
-    """The status of an audit, its seconds of processor time, and its memory at its peak in KiB."""
+def audited(arguments, lines, folder):
+    """What an audit of these lines takes."""
     log = f"{folder}/log"
     with open(log, "w", encoding="utf-8") as file:
         file.write(text_of_lines(lines))
-    ran = run([sys.executable, "-S", "-c", SPENT, PROGRAM, *arguments, log])
-    status, seconds, memory = ran.out.split()
-    return int(status), float(seconds), int(memory)
+    return spent([PROGRAM, *arguments, log], 10, 2**30)
 
 
 def no_shape_is_slow(_program):
     """Each takes at most a few times the time and the memory of an ordinary log of its size."""
     with tempfile.TemporaryDirectory() as folder:
         usual = list(overlapping(random.Random(1)))
-        runs = [spent([], usual, folder) for _ in range(3)]
-        seconds, memory = (max(column) for column in zip(*(run[1:] for run in runs)))
+        runs = [audited([], usual, folder) for _ in range(3)]
+        seconds, memory = (max(getattr(it, of) for it in runs) for of in ("processor", "memory"))
         for name, arguments, lines in shapes():
-            status, took, most = spent(arguments, lines, folder)
-            said = f"status {status}, {took:.2f} s and {most} KiB beside {seconds:.2f} and {memory}"
-            is_so = status in (0, 4) and took <= MOST * seconds and most <= MOST * memory
+            it = audited(arguments, lines, folder)
+            said = f"{it} beside {seconds:.2f} s and {memory} KiB of an ordinary log"
+            is_quick = it.processor <= max(MOST * seconds, FEW_SECONDS)
+            is_so = it.status in (0, 4) and is_quick and it.memory <= MOST * memory
             yield name, None if len(lines) == LINES and is_so else said

@@ -11,7 +11,7 @@ use Rattle.fdb_lines.specs.Lines.{Lines, is_ask, is_commit, is_learn, is_read, i
 use Rattle.fdb_lines.specs.Listing.{faults_of}
 use Rattle.fdb_lines.specs.Reasons.{HasReason, found_of}
 use Rattle.fdb_lines.specs.Summary.{how_many, ordered, unreported}
-use Rattle.fdb_lines.specs.Turns.{acts_of, AreTurnsOf}
+use Rattle.fdb_lines.specs.Turns.{acts_of, AreTurnsOf, HaveTurns}
 use Rattle.fdb_log_reader.specs.Printed.{printed}
 use Rattle.fdb_log_reader.specs.Reading.{Reading, reading_in}
 use Rattle.fdb_audit.specs.Text.{finding_text, history_lines, line, listing_text, summary_text}
@@ -30,9 +30,10 @@ pub record IsSummary (log : Lines) (opts : AuditOpts) (counts : Summary) : Type 
   pub unreported : counts.unreported ≡ unreported (case_of log opts)
   pub ordered : counts.ordered ≡ cond log.timed (Some (ordered (case_of log opts))) None
 
--- the turns are an order that explains the lines
+-- the turns are an order that explains the lines: each is of the line that it names, and each line has its turns
 abbrev pub IsOrder : Lines → AuditOpts → List Turn → Type 0
-IsOrder log opts turns = Explains (case_of log opts) (acts_of turns) × AreTurnsOf (case_of log opts) turns
+IsOrder log opts turns =
+    Explains (case_of log opts) (acts_of turns) × AreTurnsOf (case_of log opts) turns × HaveTurns (case_of log opts) turns
 
 -- What is printed where no fault stands: how much that stands on, and an order that explains the lines if it is wanted.
 abbrev pub IsPassed : Lines → List (List ℕ) → AuditOpts → Bool → List ℕ → Type 0

@@ -74,9 +74,9 @@ pub fn judge(
     }
 }
 
-/// Audits a log as [`judge`] does, by threads: while a fault is looked for, what a verdict stands on
-/// is counted.
-pub fn judge_by<R: Threads + Sync>(
+/// Audits a log as [`judge`] does. Where the first fault alone is wanted it is looked for in threads,
+/// beside one that counts what a verdict stands on.
+pub(crate) fn judge_by<R: Threads + Sync>(
     rt: &R,
     alloc: Global,
     log: &Log,

@@ -160,6 +160,15 @@ pub fn compare<J: Live, R: Wait>(
     live.meet(rt, first, second);
 }
 
+/// A second token of what a first has seen, and how much that is: each of these changes is a reporter's.
+pub fn second_of<J: Live>(live: &LiveRecord<J>, token: &mut Seen<J>) -> (Seen<J>, u64)
+    ensures { All (λ change. change.reporter < J.reporters) result.0.changes }
+{
+    let second = live.split(token);
+    let position = second.position();
+    (second, position)
+}
+
 /// Once what all have seen is brought together, each position up to there is one reporter's own. The
 /// token by which that is done has forgotten no answer, and has reported and drawn what it had.
 pub fn bring_together<J: Live, R: Wait>(

@@ -1,6 +1,6 @@
 //! Which faults stand at the lines of a log, listed line by line, and why.
 
-ghost use Rattle.std.specs.Prelude.{◌≡◌, ◌<◌, ◌≤◌, ◌↔◌, ◌++◌, All, None, IfOk, IfSome, OnOk};
+ghost use Rattle.std.specs.Prelude.{◌≡◌, ◌<◌, ◌≤◌, ◌↔◌, All, None, IfOk, IfSome, OnOk};
 ghost use Rattle.std.specs.Prelude.{length, map, option_map, slice_get};
 ghost use Rattle.fdb_lines.specs.Audit.{case_of, AreExplained};
 ghost use Rattle.fdb_lines.specs.Listing.{faults_at, faults_of, found_if};

@@ -16,7 +16,7 @@ ghost use Rattle.fdb_lines.specs.Carried.{with_times, AreLeftBelow, StandFor};
 ghost use Rattle.fdb_lines.specs.Keys.{case_of_key, faults_by_key, key_at, placed_found};
 ghost use Rattle.fdb_lines.specs.Keys.{places_of, same_key};
 ghost use Rattle.fdb_lines.specs.Listing.{faults_of};
-ghost use Rattle.fdb_lines.specs.Lines.{Case, Lines, Read, Ask, Learn, kind_at, kind_of, line_at};
+ghost use Rattle.fdb_lines.specs.Lines.{Case, Lines, Read, Ask, Learn, kind_at, line_at};
 ghost use Rattle.fdb_lines.specs.Lines.{lines_in, shows, version_at, version_of};
 ghost use Rattle.fdb_lines.specs.Explained.{Explains, IsLegal, precedes};
 ghost use Rattle.fdb_lines.specs.Steps.{runs, fresh};

@@ -1,6 +1,6 @@
 //! An order that explains the lines of a log.
 
-ghost use Rattle.std.specs.Prelude.{◌≡◌, ◌++◌, ℕ, None, Some, IfErr, IfOk, IfSome};
+ghost use Rattle.std.specs.Prelude.{◌≡◌, ◌++◌, None, Some, IfErr, IfOk, IfSome};
 ghost use Rattle.std.specs.Prelude.{MatchOption, OnErr, OnOk, length, map, option_map};
 ghost use Rattle.std.specs.Prelude.{option_to_list, slice_get};
 ghost use Rattle.fdb_lines.specs.Audit.{AreExplained, case_of};

@@ -8,7 +8,7 @@ ghost use Rattle.std.specs.Thread.{IsSync};
 ghost use Rattle.std.specs.BTreeSet.{contains, btree_set_len};
 ghost use Rattle.fdb_lines.specs.Audit.{case_of};
 ghost use Rattle.fdb_lines.specs.Lines.{is_ask, is_commit, is_learn, is_read, is_report};
-ghost use Rattle.fdb_lines.specs.Lines.{kind_of, version_of};
+ghost use Rattle.fdb_lines.specs.Lines.{version_of};
 ghost use Rattle.fdb_lines.specs.Log.{lines_of};
 ghost use Rattle.fdb_lines.specs.Summary.{how_many, ordered, unreported};
 

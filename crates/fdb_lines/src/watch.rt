@@ -1,11 +1,13 @@
 //! An audit that watches a log with times as it grows, in the memory of the lines that are open.
 
 ghost use Rattle.std.specs.Prelude.{◌≡◌, ◌+◌, ◌<◌, ◌≤◌, ◌++◌, ◌∷◌, [], List, IfErr, IfOk, OnErr};
-ghost use Rattle.std.specs.Prelude.{OnOk, length, map, slice_index, true, false, ◌↔◌, ℕ};
+ghost use Rattle.std.specs.Prelude.{OnOk, Some, length, map, slice_index, true, false};
+ghost use Rattle.std.specs.Prelude.{◌↔◌, ◌⊎◌, ℕ};
 ghost use Rattle.fdb_lines.specs.declared.line.Line.{Line};
 ghost use Rattle.fdb_lines.specs.Before.{began};
 ghost use Rattle.fdb_lines.specs.Carried.{open_count};
 ghost use Rattle.fdb_lines.specs.Lines.{has_times};
+ghost use Rattle.fdb_lines.specs.Log.{lines_of, refusal_of};
 
 use crate::alarm::{Alarm, alarms_of};
 use crate::carrying::standing;
@@ -45,6 +47,7 @@ impl Watch {
     /// A watch that has seen no line.
     pub fn new(alloc: Global, margin: u64) -> Self
         ensures seen { HasSeen result [] }
+        ensures from { result.from ≡ 0 }
         ensures margin { result.margin ≡ margin }
     {
         Watch {
@@ -64,6 +67,10 @@ impl Watch {
         ensures untimed { IfErr result (λ error. error ≡ NoTimes ↔ (has_times line ≡ false)) }
         ensures early { IfErr result (λ error. error ≡ Early
             ↔ ((has_times line ≡ true) × (began line < self.old.from))) }
+        ensures refused { IfErr result (λ error. (why : LineError) → error ≡ WatchError.Line why
+            → (why ≡ LineError.Memory)
+            ⊎ ((why ≡ LineError.TooMany) × (self.old.count ≡ 18446744073709551615))
+            ⊎ (refusal_of (lines_of self.old.log) line ≡ Some why)) }
         ensures from { self.new.from ≡ self.old.from }
         ensures margin { self.new.margin ≡ self.old.margin }
     {

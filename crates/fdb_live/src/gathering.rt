@@ -1,6 +1,6 @@
 //! What all reporters have seen, brought together.
 
-ghost use Rattle.std.specs.Prelude.{◌≡◌, ◌<◌, ◌≤◌, ℕ, List, Some, length, slice_get};
+ghost use Rattle.std.specs.Prelude.{◌≡◌, ◌<◌, ◌≤◌, ℕ, Some, length, slice_get};
 ghost use mathlib.Core.List.{IsPrefix};
 ghost use Rattle.fdb_live.specs.Gathering.{AreNumbered, IsOwnKept, IsOwnedOnce, IsSeenBy};
 ghost use Rattle.fdb_live.specs.Holding.{own_answers};

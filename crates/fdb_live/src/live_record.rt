@@ -1,6 +1,6 @@
 //! The live record, which reports replace under a lock and reads load without it.
 
-ghost use Rattle.std.specs.Prelude.{◌≡◌, ◌≢◌, ◌*◌, ◌<◌, ◌≤◌, ◌⊎◌, ◌↔◌, [], length, Option, None};
+ghost use Rattle.std.specs.Prelude.{◌≡◌, ◌≢◌, ◌<◌, ◌≤◌, ◌⊎◌, [], length, None};
 ghost use Rattle.std.specs.Prelude.{Contains, IsSome, IfErr, IfOk, OnOk, OnErr, Some, slice_get};
 ghost use Rattle.std.specs.Prelude.{true, false};
 ghost use mathlib.Core.List.{IsPrefix};

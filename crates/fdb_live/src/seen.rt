@@ -2,6 +2,7 @@
 
 ghost use Rattle.std.specs.Prelude.{◌≡◌, length};
 ghost use Rattle.fdb_history.specs.Chain.{IsChain};
+ghost use Rattle.fdb_live.specs.Seen.{IsLog};
 
 use crate::live::Live;
 use crate::passes::Pass;
@@ -45,10 +46,11 @@ impl<J: Live> Model for Seen<J> {
 }
 
 impl<J: Live> Seen<J> {
-    /// The number of changes that it has seen.
+    /// The number of changes that it has seen. Whatever token it is, they are a log of the record's.
     #[inline]
     pub fn position(&self) -> u64
         ensures position { result ≡ length self.now.changes }
+        ensures log { IsLog J.start J.reporters self.now.changes }
         ensures chain { IsChain J.epoch_end J.recovery self.now.answers }
     {
         self.position

@@ -190,8 +190,8 @@ fn split_line(bytes: &[u8]) -> Option<(&[u8], &[u8])>
 /// The log that a text of JSON Lines stands for. An error names the first line that is refused, or
 /// says that there is no line, or that memory was refused.
 ///
-/// Linear in the bytes, but for the members of a line, which are sorted. Beside the log and the
-/// names it takes the memory of one line.
+/// Linear in the bytes, but that names are looked up by comparing, and that the members of a line are
+/// sorted which has not the usual form. Beside the log and the names it takes the memory of one line.
 pub fn read_log(alloc: Global, bytes: &[u8]) -> Result<NamedLog, ReadError>
     ensures { ReadsAs bytes.now result }
 {

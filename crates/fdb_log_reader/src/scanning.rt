@@ -1,7 +1,7 @@
 //! The parts of a line in the usual form, from its bytes.
 
 ghost use Rattle.std.specs.Prelude.{◌≡◌, ◌++◌, ◌∷◌, ◌<◌, ◌≤◌, ℕ, IfSome, decimal, length};
-ghost use Rattle.std.specs.Prelude.{slice_index, take, true};
+ghost use Rattle.std.specs.Prelude.{slice_index, true};
 ghost use Rattle.json.specs.Print.{escape, quoted};
 ghost use Rattle.json.specs.Run.{is_plain};
 ghost use Rattle.fdb_log_reader.specs.private.Usual.{told_text, IsSmall};

@@ -2,7 +2,7 @@
 
 ghost use Rattle.std.specs.Prelude.{◌≡◌, IfSome, Some, None, MatchOption, false};
 ghost use Rattle.std.specs.Str.{bytes_eq};
-ghost use Rattle.fdb_log_reader.specs.Members.{member_of, name_of};
+ghost use Rattle.fdb_log_reader.specs.Members.{name_of};
 ghost use Rattle.fdb_log_reader.specs.private.Usual.{says_of, told_of, with_told};
 ghost use Rattle.fdb_log_reader.specs.private.Usual.{IsBehind, IsReadAs, Says, StandsFor};
 ghost use Rattle.fdb_log_reader.specs.declared.member.Member.{Member};
