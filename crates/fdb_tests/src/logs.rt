@@ -2,6 +2,8 @@
 //! behind `=>` what is read of it, as a whole and byte by byte: the error, or the names and each
 //! line. Then the orders that explain some, by hand and by another program.
 
+mod judged;
+
 use fdb_checks::same_text;
 use fdb_lines::{AuditOpts, Turn, order};
 use fdb_log_reader::{LogReader, NamedLog, ReadError, read_log};
@@ -51,7 +53,8 @@ const READ: &str =
 {"report":1,"began":3,"ended":null}|{"read":18446744073709551615,"began":3,"ended":3,"x":[{}]} => None Report(1) Some(Times { began: 3, ended: None }); None Read(18446744073709551615) Some(Times { began: 3, ended: Some(3) });
  {"client":"\u00e9","commit":1}|{"client":"é","read":3} => é Some(0) Commit(1) None; Some(0) Read(3) None;
 {"client":"a","read":1}||{"client":"a","read":1} => NotJson 2
-{"client":"a","read":1}|{"client":"b","learn":"c"} => BadMember 2 learn"#;
+{"client":"a","read":1}|{"client":"b","learn":"c"} => BadMember 2 learn
+ => Empty"#;
 
 #[test]
 fn each_text_stands_for_its_log(rt: HostRuntime) -> Result<(), Fail> {

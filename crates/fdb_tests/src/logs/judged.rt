@@ -1,0 +1,104 @@
+//! How late reads are, by all lines and by those of each client as a key's, and what a watch tells.
+
+use crate::logs::parts;
+use fdb_checks::same_text;
+use fdb_lines::{AuditOpts, Finding, Log, Watch, findings, findings_by_key};
+use fdb_log_reader::read_log;
+use std::alloc::{AllocError, Global};
+use std::test::Fail;
+
+const OPTS: AuditOpts = AuditOpts {
+    complete: None,
+    margin: 0,
+};
+
+/// The log of a text, or one without lines.
+fn log_of(alloc: Global, text: &str) -> Log {
+    match read_log(alloc, text.as_bytes()) {
+        Ok(named) => named.log,
+        Err(_) => Log::new(alloc),
+    }
+}
+
+/// The faults of a log with how late each is; behind a bar those of each client's lines by themselves.
+fn late_text(alloc: Global, log: &Log) -> Result<String, AllocError> {
+    let mut text = String::new(alloc);
+    push_findings(&mut text, &findings(alloc, log, &OPTS)?)?;
+    text.push_str("| ")?;
+    let mut keys = Vec::new(alloc);
+    for line in log.lines() {
+        keys.push(line.client)?;
+    }
+    if log.is_timed() && keys.len() == log.lines().len() {
+        push_findings(&mut text, &findings_by_key(alloc, log, &keys, &OPTS)?)?;
+    }
+    Ok(text)
+}
+
+fn push_findings(text: &mut String, findings: &[Finding]) -> Result<(), AllocError> {
+    for finding in findings {
+        write!(text, "{}", finding.found)?;
+        if let Some(late) = finding.late {
+            write!(text, " by {} of line {}", late.by, u64::from(late.line) + 1)?;
+        }
+        text.push_str("; ")?;
+    }
+    Ok(())
+}
+
+/// 57 - 14 is 43. Of two lines that show a newer version the first to end counts, 30 - 14 and not 30 - 19;
+/// of client a alone that is the second.
+const LATE: &str =
+    r#"{"client":"a","commit":200,"began":10,"ended":14}|{"client":"b","read":100,"began":57,"ended":60} => Order 2 by 43 of line 1; |
+{"client":"b","commit":5,"began":10,"ended":14}|{"client":"a","commit":9,"began":15,"ended":19}|{"client":"a","read":3,"began":30,"ended":31} => Order 3 by 16 of line 1; | Order 3 by 11 of line 2;
+{"client":"a","read":7,"began":1,"ended":null}|{"client":"b","commit":7,"began":2,"ended":3} => |
+{"client":"a","commit":9,"began":1,"ended":2}|{"client":"b","commit":8,"began":3,"ended":4} => NotAbove 2; |"#;
+
+#[test]
+fn how_late_reads_are(rt: HostRuntime) -> Result<(), Fail> {
+    let alloc = rt.alloc();
+    for case in LATE.lines() {
+        let (text, wanted) = parts(alloc, case)?;
+        let found = late_text(alloc, &log_of(alloc, &text))?;
+        same_text(found.trim(), wanted, case)?;
+    }
+    Ok(())
+}
+
+/// What a watch tells of a log that is settled once all its lines have come, and of their refusals.
+fn watched(alloc: Global, log: &Log, at: u64) -> Result<String, AllocError> {
+    let mut text = String::new(alloc);
+    let mut watch = Watch::new(alloc, 0);
+    push_lines(&mut text, &mut watch, log)?;
+    for alarm in watch.settle(alloc, at)? {
+        write!(text, "{:?} {}; ", alarm.fault, alarm.line)?;
+    }
+    push_lines(&mut text, &mut watch, log)?;
+    Ok(text)
+}
+
+fn push_lines(text: &mut String, watch: &mut Watch, log: &Log) -> Result<(), AllocError> {
+    for line in log.lines() {
+        if let Err(error) = watch.push(*line) {
+            write!(text, "{error:?}; ")?;
+        }
+    }
+    Ok(())
+}
+
+/// Settled at moment 20: the read of 100 is told, the one that began then is not, and of the lines that come
+/// again only that one is taken.
+const WATCHED: &str =
+    r#"{"client":"a","commit":200,"began":10,"ended":14}|{"client":"b","read":100,"began":15,"ended":16}|{"client":"b","read":100,"began":20,"ended":21} => Order 1; Early; Early;
+{"client":"a","commit":200}|{"client":"b","read":100} => NoTimes; NoTimes; NoTimes; NoTimes;"#;
+
+#[test]
+fn what_a_watch_tells(rt: HostRuntime) -> Result<(), Fail> {
+    let alloc = rt.alloc();
+    for case in WATCHED.lines() {
+        let (text, wanted) = parts(alloc, case)?;
+        let found = watched(alloc, &log_of(alloc, &text), 20)?;
+        same_text(found.trim(), wanted, case)?;
+    }
+    Ok(())
+}
