@@ -1,8 +1,10 @@
 //! How late reads are, by all lines and by those of each client as a key's, and what a watch tells.
 
+ghost use Rattle.std.specs.Prelude.{◌≡◌};
+
 use crate::logs::parts;
 use fdb_checks::same_text;
-use fdb_lines::{AuditOpts, Finding, Log, Watch, findings, findings_by_key};
+use fdb_lines::{Alarm, AuditOpts, Finding, Line, Log, Watch, findings, findings_by_key};
 use fdb_log_reader::read_log;
 use std::alloc::{AllocError, Global};
 use std::test::Fail;
@@ -39,7 +41,7 @@ fn push_findings(text: &mut String, findings: &[Finding]) -> Result<(), AllocErr
     for finding in findings {
         write!(text, "{}", finding.found)?;
         if let Some(late) = finding.late {
-            write!(text, " by {} of line {}", late.by, u64::from(late.line) + 1)?;
+            write!(text, " {late:?}")?;
         }
         text.push_str("; ")?;
     }
@@ -49,8 +51,8 @@ fn push_findings(text: &mut String, findings: &[Finding]) -> Result<(), AllocErr
 /// 57 - 14 is 43. Of two lines that show a newer version the first to end counts, 30 - 14 and not 30 - 19;
 /// of client a alone that is the second.
 const LATE: &str =
-    r#"{"client":"a","commit":200,"began":10,"ended":14}|{"client":"b","read":100,"began":57,"ended":60} => Order 2 by 43 of line 1; |
-{"client":"b","commit":5,"began":10,"ended":14}|{"client":"a","commit":9,"began":15,"ended":19}|{"client":"a","read":3,"began":30,"ended":31} => Order 3 by 16 of line 1; | Order 3 by 11 of line 2;
+    r#"{"client":"a","commit":200,"began":10,"ended":14}|{"client":"b","read":100,"began":57,"ended":60} => Order 2 Late { line: 0, by: 43 }; |
+{"client":"b","commit":5,"began":10,"ended":14}|{"client":"a","commit":9,"began":15,"ended":19}|{"client":"a","read":3,"began":30,"ended":31} => Order 3 Late { line: 0, by: 16 }; | Order 3 Late { line: 1, by: 11 };
 {"client":"a","read":7,"began":1,"ended":null}|{"client":"b","commit":7,"began":2,"ended":3} => |
 {"client":"a","commit":9,"began":1,"ended":2}|{"client":"b","commit":8,"began":3,"ended":4} => NotAbove 2; |"#;
 
@@ -65,39 +67,52 @@ fn how_late_reads_are(rt: HostRuntime) -> Result<(), Fail> {
     Ok(())
 }
 
-/// What a watch tells of a log that is settled once all its lines have come, and of their refusals.
-fn watched(alloc: Global, log: &Log, at: u64) -> Result<String, AllocError> {
+/// What a watch tells of three lines, of which it is settled at moment 20 after two, and at 30 after all;
+/// and how it refuses a line.
+fn watched(alloc: Global, lines: &[Line]) -> Result<String, AllocError> {
     let mut text = String::new(alloc);
+    let [first, second, third] = lines else {
+        return Ok(text);
+    };
     let mut watch = Watch::new(alloc, 0);
-    push_lines(&mut text, &mut watch, log)?;
-    for alarm in watch.settle(alloc, at)? {
-        write!(text, "{:?} {}; ", alarm.fault, alarm.line)?;
-    }
-    push_lines(&mut text, &mut watch, log)?;
+    push_line(&mut text, &mut watch, *first)?;
+    push_line(&mut text, &mut watch, *second)?;
+    push_alarms(&mut text, &watch.settle(alloc, 20)?)?;
+    push_line(&mut text, &mut watch, *third)?;
+    push_alarms(&mut text, &watch.settle(alloc, 30)?)?;
     Ok(text)
 }
 
-fn push_lines(text: &mut String, watch: &mut Watch, log: &Log) -> Result<(), AllocError> {
-    for line in log.lines() {
-        if let Err(error) = watch.push(*line) {
-            write!(text, "{error:?}; ")?;
-        }
+fn push_line(text: &mut String, watch: &mut Watch, line: Line) -> Result<(), AllocError>
+    ensures { watch.new.from ≡ watch.old.from }
+{
+    match watch.push(line) {
+        Ok(()) => Ok(()),
+        Err(error) => write!(text, "{error:?}; "),
+    }
+}
+
+fn push_alarms(text: &mut String, alarms: &[Alarm]) -> Result<(), AllocError> {
+    for alarm in alarms {
+        write!(text, "{:?} {}; ", alarm.fault, alarm.line)?;
     }
     Ok(())
 }
 
-/// Settled at moment 20: the read of 100 is told, the one that began then is not, and of the lines that come
-/// again only that one is taken.
+/// Each line is told once, in its window, by its number among all. One that begins before what is settled is
+/// refused, and one that begins just then is not.
 const WATCHED: &str =
-    r#"{"client":"a","commit":200,"began":10,"ended":14}|{"client":"b","read":100,"began":15,"ended":16}|{"client":"b","read":100,"began":20,"ended":21} => Order 1; Early; Early;
-{"client":"a","commit":200}|{"client":"b","read":100} => NoTimes; NoTimes; NoTimes; NoTimes;"#;
+    r#"{"client":"a","commit":200,"began":10,"ended":14}|{"client":"b","read":100,"began":15,"ended":16}|{"client":"b","read":150,"began":20,"ended":21} => Order 1; Order 2;
+{"client":"a","commit":200,"began":10,"ended":14}|{"client":"b","read":100,"began":15,"ended":16}|{"client":"b","read":150,"began":19,"ended":21} => Order 1; Early;
+{"client":"a","commit":9,"began":1,"ended":2}|{"client":"b","commit":8,"began":3,"ended":4}|{"client":"b","ask":9,"began":25,"ended":null} => NotAbove 1; NotAbove 2;
+{"client":"a","commit":200}|{"client":"b","read":100}|{"client":"b","read":100} => NoTimes; NoTimes; NoTimes;"#;
 
 #[test]
 fn what_a_watch_tells(rt: HostRuntime) -> Result<(), Fail> {
     let alloc = rt.alloc();
     for case in WATCHED.lines() {
         let (text, wanted) = parts(alloc, case)?;
-        let found = watched(alloc, &log_of(alloc, &text), 20)?;
+        let found = watched(alloc, log_of(alloc, &text).lines())?;
         same_text(found.trim(), wanted, case)?;
     }
     Ok(())
