@@ -215,11 +215,14 @@ def audits():
     yield "arguments that are refused", ["--margin"], b"", each
     yield "help", ["--help"], b"", each
     yield "many faults", ["--all"], large_log(400)[0], further
-    yield "a chain of learns", ["--history"], learnt_log(60)[0], further
+    yield "a chain of learns", ["--history"], learnt_log(60), further
 
 
 def audited(_program):
-    """An audit of logs that is refused memory says so and writes nothing, and else ends as ever."""
+    """An audit of logs that is refused memory says so and writes nothing, and else ends as ever.
+
+    So it does where a thread cannot be started, whose work is then done by the one that asked.
+    """
     starved = Ran(OUT_OF_MEMORY.status, b"", b"fdb_audit: want of memory\n")
     with tempfile.TemporaryDirectory(prefix="refuse-") as folder:
         preloaded = built(folder)
@@ -227,7 +230,7 @@ def audited(_program):
             audit = [AUDIT, *words]
             ended = exactly(run(audit, given))
             for goes_on in (False, True):
-                for it in swept(audit, preloaded, given, starved, ended, goes_on, step):
+                for it in swept(audit, preloaded, given, starved, ended, goes_on, step, ()):
                     yield f"{name}, {'from ' if goes_on else ''}allocation {it.number}", it.fault
 
 
