@@ -62,7 +62,7 @@ def logs():
     """Names logs that are long, or go deep."""
     line = '{"client":"a","read":100}\n'
     yield "a long log", line * LONG
-    yield "a chain of learns", learnt_log()[0].decode()
+    yield "a chain of learns", learnt_log().decode()
     for name, shape in SHAPES.items():
         deep = nested(shape, DEEPEST - 1)
         yield f"a member of {name} in a log", line.replace("}", f',"note":{deep}}}')
