@@ -2,7 +2,7 @@
 import audit_logs
 import bindings
 from audit_lines import lines_of, refusal
-from audit_model import Case, name_of, options_of, printed
+from audit_model import Case, Reason, Witness, options_of, printed
 from audit_right import why_wrong
 
 
@@ -19,7 +19,7 @@ def random_audits(_program):
 
 
 def fault_of_audit(given, words):
-    library, options = bindings.package(), options_of(words)
+    library, options = bindings.package(), options_of(words)._replace(key=None)
     asked = {"complete": options.complete, "margin": options.margin}
     lines = lines_of(given)
     case, (calls, numbers) = Case(lines, options), calls_of(lines)
@@ -27,13 +27,14 @@ def fault_of_audit(given, words):
     if [(named(it.kind), it.line) for it in found] != case.faults():
         return f"{found} in place of {case.faults()}"
     for it in found:
-        true = case.sentences(named(it.kind), it.line)
-        if sentence_of(case, it) not in true:
+        true = case.reasons(named(it.kind), it.line)
+        if reason_of(it) not in true:
             return f"{it}, but what is true is {true}"
     if library.audit(calls, **asked) != found:
         return f"by calls {library.audit(calls, **asked)} in place of {found}"
     text = library.audit_text(given, **asked, all=True, history=True)
-    wrong = why_wrong(given, [*words, "--all", "--history"], audit_logs.ended_with(text.encode()))
+    words, ended = [*words, "--all", "--history"], audit_logs.ended_with(text.encode())
+    wrong = why_wrong(given, words, ended, totals=False, key=None)
     if wrong:
         return wrong
     by_calls = library.audit_text(calls, **asked, all=True, history=True)
@@ -62,37 +63,12 @@ def renamed(text, numbers):
     return text
 
 
-def sentence_of(case, fault):
+def reason_of(fault):
     """What a fault of the package says, in words of the model."""
-    line, kind, reason = case.lines[fault.line], named(fault.kind), named(fault.reason)
-    said = f"{name_of(line)} {case.verb(kind)} {line.value}"
-    if reason == "Known":
-        way = way_of(case, fault.line, fault.known)
-        return f"{said}, but {fault.known.version} was known: {way}"
-    if reason == "Reported":
-        way = way_of(case, fault.other, fault.known)
-        if fault.known.line == fault.line:
-            return f"{said}, which was reported only after this: {way}"
-        version, other = fault.known.version, case.mention(fault.other)
-        return f"{said}, which {other} reported when {version} was known: {way}"
-    if reason == "Drawn":
-        other = case.mention(fault.other)
-        return f"{said}, and so did {other}" if kind == "Twice" else f"{said}, which {other} drew"
-    return f"{said}, which nobody {'drew' if reason == 'Undrawn' else 'reported'}"
-
-
-def way_of(case, k, known):
-    """How the call at a place knew a version, in words of the model."""
-    means = named(known.means)
-    if means == "Start":
-        return f"all began with {known.version}"
-    mention = case.mention(known.line)
-    if means == "Ended":
-        ago = case.lines[k].began - case.lines[known.line].ended
-        return f"{mention} had ended {ago} before line {k + 1} began"
-    if means == "Own":
-        return f"{mention} is an earlier call of its client"
-    return f"line {known.learnt + 1} had learnt of {mention}"
+    known, by = fault.known, None
+    if known and named(known.means) != "Start":
+        by = Witness(known.line, named(known.means).lower(), known.learnt)
+    return Reason(named(fault.reason).lower(), fault.other, known and known.version, by)
 
 
 def refused_audits(_program):

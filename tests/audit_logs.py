@@ -1,10 +1,11 @@
 """What fdb_audit says of logs: worked by hand, random, simulated, refused, and large."""
 import os
 import random
+import re
 
 import clusters
 from audit_lines import MOST_BYTES, lines_of, refusal
-from audit_model import Case, judged, options_of
+from audit_model import Log, judged, options_of
 from audit_right import why_wrong
 from audit_search import fault_of_search, random_lines, random_words, text_of
 from harness import EXAMPLES, ROOT, Ran, fault_of, processor_time, read, run
@@ -15,13 +16,19 @@ from reader import DEEPEST
 PROGRAM = f"{ROOT}/crates/fdb_audit_cli/out/fdb_audit_cli"
 LOGS = f"{EXAMPLES}/logs"
 OK, REFUSED, FAULTY = 0, 1, 4
+# The first fault, and how many there are, in sentences and in JSON.
+FAULT = re.compile(rb'audit fault: (\w+ \d+): |\{"fault":"(\w+)","at":\{"line":(\d+),')
+FAULTS = re.compile(rb'^(?:audit total faults |\{"faults":)[1-9]', re.MULTILINE)
 # How many random logs there are, and how many simulated clusters of each kind.
 # The model looks at what is said of the first few of these.
 RANDOM, SEEDS, LOOKED_AT = 3_000, 20, 2
 # How many long random logs, and how many of the others stand one after the other in each.
 LONG, JOINED = 60, 20
 # What is asked for besides, in turn.
-ASKED = ([], ["--all", "--history"], ["--history"], ["--all"])
+ASKED = (
+    [], ["--all", "--history"], ["--history"], ["--all"], ["--json", "--history"], ["--summary"],
+    ["--json"], ["--summary", "--json"], ["--all", "--json", "--summary", "--history"],
+)
 # Lines of two calls, with times and without.
 TIMED = b'{"client":"a","read":1,"began":1,"ended":2}\n'
 UNTIMED = b'{"client":"a","read":1}\n'
@@ -50,10 +57,12 @@ def worked_cases():
 
 
 def ended_with(out):
-    """How the program ends where it writes this."""
-    first = out.split(b":")
-    fault = first[0] + b":" + first[1] + b"\n" if out.startswith(b"audit fault") else b""
-    return Ran(FAULTY if fault else OK, out, b"fdb_audit: " + fault if fault else b"")
+    """How the program ends where it writes this. Totals alone do not tell the first fault."""
+    first = FAULT.match(out)
+    if first:
+        fault = b" ".join(filter(None, first.groups()))
+        return Ran(FAULTY, out, b"fdb_audit: audit fault: " + fault + b"\n")
+    return Ran(FAULTY, out, None) if FAULTS.search(out) else Ran(OK, out, b"")
 
 
 def worked(_program):
@@ -67,15 +76,15 @@ def worked_by_model(_program):
     for name, given, words, out in [*worked_cases(), *example_cases()]:
         ran = judged_as(given, words)
         yield name, fault_of(ran, ended_with(out)) or why_wrong(given, words, ran)
-        case = Case(lines_of(given), options_of(words))
-        several = [it for it in case.faults() if len(set(case.sentences(*it))) > 1]
+        log = Log(lines_of(given, options_of(words).key), options_of(words))
+        several = [it for case, *it in log.faults() if len(set(case.texts(*it))) > 1]
         yield f"{name}, sentences", f"more than one for {several}" if several else None
 
 
 def wrong_verdicts(_program):
     """What is written is refused with a line, a number or a word changed, left out or added."""
     for name, given, words, out in worked_cases():
-        right = ended_with(out)
+        right = judged_as(given, words)._replace(out=out)
         texts = (text_of_lines(it) for it in changed(out.decode().splitlines()))
         is_taken = lambda it: not why_wrong(given, words, right._replace(out=it))
         taken = next(filter(is_taken, texts), None)
@@ -113,8 +122,8 @@ def random_cases(count):
 
 def searched(_program):
     """The model finds no fault just where a search finds an order; of that order it says one."""
-    for name, given, words in random_cases(RANDOM):
-        asked = [*words, "--all", "--history"]
+    for number, (name, given, words) in enumerate(random_cases(RANDOM)):
+        asked = [*words, *ASKED[number % len(ASKED)]]
         fault = fault_of_search(given, options_of(words))
         fault = fault or why_wrong(given, asked, judged_as(given, asked))
         yield name, fault and f"{fault}, of {given} with {words}"
@@ -183,7 +192,8 @@ def without_times(**members):
     return line_with(**{"began": None, "ended": None, **members})
 
 
-NO_NUMBERS = ('"1"', "-1", "-0", "1.0", "1e3", "true", "null", "[]", "18446744073709551616")
+NO_NUMBERS = ('"1a"', '"+1"', '"-1"', '" 1"', '"1.0"', '"\u0661"', '"18446744073709551616"',
+              "-1", "-0", "1.0", "1e3", "true", "null", "[]", "18446744073709551616")
 # A line, and why it is refused: alone, below lines with times, or below lines without.
 LINES = (
     *((it, "NotJson") for it in (
@@ -203,8 +213,8 @@ LINES = (
         line_with(commit="1", ask="1", report="1", learn='"a"'),
     )),
     *((line_with(**it), "BadMember client") for it in (
-        {"client": "1"}, {"client": "null"}, {"client": "[]"}, {"client": "1", "read": None},
-        {"client": "1", "ask": "2"},
+        *({"client": it} for it in NO_NUMBERS if '"' not in it),
+        {"client": "null", "read": None}, {"client": "null", "ask": "2"},
     )),
     *((line_with(**{"read": None, kind: it}), f"BadMember {kind}")
       for kind in ("read", "commit", "ask", "report") for it in NO_NUMBERS),
@@ -228,6 +238,15 @@ BELOW = (
     (UNTIMED, without_times(read=None, learn='"b"'), "BadMember learn"),
     (UNTIMED, without_times(client='"b"', read=None, learn='"b"'), "BadMember learn"),
     (UNTIMED, line_with(began="-1"), "BadMember began"),
+)
+# With keys: a line above, a line, and why it is refused.
+KEYED = (
+    *((TIMED, line_with(k=it), "BadMember key") for it in NO_NUMBERS if '"' not in it),
+    (TIMED, line_with(k="null", began="3"), "BadMember ended"),
+    (TIMED, without_times(k="null"), "BadMember key"),
+    (TIMED, without_times(k='"null"'), "SomeTimes"),
+    (UNTIMED, without_times(k="[]", client=None), "BadMember key"),
+    (UNTIMED, without_times(k="[]", read=None, learn='"a"'), "BadMember learn"),
 )
 
 
@@ -256,30 +275,43 @@ def refused(_program):
     for number, (name, given, wanted) in enumerate(refusals()):
         words = ASKED[number % len(ASKED)]
         yield name, fault_of(run([PROGRAM, *words], given), wanted)
+    for above, line, why in KEYED:
+        ran = run([PROGRAM, "--key", "k"], above + line + b"\n")
+        yield f"{line} below {above}, by key", fault_of(ran, refused_at(2, why))
 
 
 # ---- large logs
 
 
 def large_log(count=LARGE):
-    """A log of 1,000 clients, of which each 20th line is a stale read, and its faults.
+    """A log of 1,000 clients, of which each 20th line is a stale read, and what is said of it.
 
     Line N, from 0, began at 10 N and ended 1 later. Each stale read is of 0, right after a commit,
     whose version no other line shows.
     """
-    lines, faults = [], []
+    lines, said = [], []
     for at in range(count):
         client, is_read = f"client {at % CLIENTS}", at % 20 == 19
         kind = f'"read":0' if is_read else f'"commit":{at + 1}'
         lines.append(f'{{"client":"{client}",{kind},"note":"{at:09}","began":{10 * at},'
                      f'"ended":{10 * at + 1}}}\n')
         if is_read:
-            faults.append(
-                f'audit fault: Order {at + 1}: client "{client}" read 0, but {at} was known: line '
-                f'{at} (client "client {(at - 1) % CLIENTS}", commit {at}) had ended 9 before line '
-                f"{at + 1} began\n"
+            late, began = 10 * at - 1, f"before line {at + 1} began"
+            said.append(
+                f'audit fault: Order {at + 1}: client "{client}" read 0, {late} too late: line 1 '
+                f'(client "client 0", commit 1) had ended {late} {began}, and {at} was known: line '
+                f'{at} (client "client {(at - 1) % CLIENTS}", commit {at}) had ended 9 {began}\n'
             )
-    return "".join(lines).encode(), "".join(faults).encode()
+    reads = len(said)
+    said.append(f"audit total {counted(count, reads)}\naudit total faults {reads} Order {reads} "
+                "Wrong 0 NotAbove 0 Twice 0 Stray 0\n")
+    return "".join(lines).encode(), "".join(said).encode()
+
+
+def counted(count, reads):
+    """How much is judged of such a log."""
+    return (f"lines {count} timed {count} reads {reads} commits {count - reads} asks 0 reports 0 "
+            f"learns 0 unreported 0 ordered {count * (count - 1) // 2}")
 
 
 def learnt_log(clients=CLIENTS):
@@ -293,16 +325,14 @@ def learnt_log(clients=CLIENTS):
 
 def large(_program):
     """Large logs are judged in a bounded time, with all their faults."""
-    given, faults = large_log()
+    given, said = large_log()
     line = b"fdb_audit: audit fault: Order 20\n"
     yield f"{len(given)} bytes, a fault for each 20 lines", timed(
-        [PROGRAM, "--all"], given, Ran(FAULTY, faults, line)
+        [PROGRAM, "--all"], given, Ran(FAULTY, said, line)
     )
     lines = [it for it in given.splitlines(keepends=True) if b'"read"' not in it]
-    total = len(lines)
-    yield "as many without a fault", timed([PROGRAM], b"".join(lines), Ran(OK, (
-        f"audit ok lines {total} timed {total} reads 0 commits {total} asks 0 reports 0 learns 0 "
-        f"unreported 0 ordered {total * (total - 1) // 2}\n").encode(), b""))
+    out = f"audit ok {counted(len(lines), 0)}\n".encode()
+    yield "as many without a fault", timed([PROGRAM], b"".join(lines), Ran(OK, out, b""))
     text = learnt_log()
     last = b'{"client":"c%d","read":%d}\n'
     said = (f"audit ok lines {2 * CLIENTS + 1} timed 0 reads 1 commits {CLIENTS} asks 0 reports 0 "

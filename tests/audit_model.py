@@ -1,7 +1,8 @@
 """What fdb_audit has to do with a log, by its definitions: slow, and plain.
 
-`Case` has the lines of a log and what is asked of them: which comes before which, what each knew,
-the faults, and of each all sentences that are true of it; `judged` says how fdb_audit ends.
+`Case` has the lines of a log, or of a key, and what is asked of them: which comes before which,
+what each knew, the faults, and of each all that may be said of it; `Log` has a case for each key;
+and `judged` says how fdb_audit ends.
 """
 import json
 import re
@@ -19,12 +20,18 @@ FAULTS = ("Order", "Wrong", "NotAbove", "Twice", "Stray")
 UNPRINTABLE = re.compile("[\x7f-\x9f\u061c\u200e\u200f\u2028-\u202e\u2066-\u2069]")
 
 
+
+
 class Options(NamedTuple):
-    """What is asked for: START, where the log has all calls; how far clocks may be apart."""
+    """What is asked for: START, where the log has all calls; how far clocks may be apart; by which
+    member each key is judged by itself; and what is written, and how."""
 
     complete: Optional[int] = None
     margin: int = 0
+    key: Optional[str] = None
     all: bool = False
+    totals: bool = False
+    json: bool = False
     history: bool = False
     progress: bool = False
 
@@ -32,11 +39,32 @@ class Options(NamedTuple):
 # ---- what is asked of lines
 
 
-class Case:
-    """Some lines with what is asked of them."""
+class Reason(NamedTuple):
+    """Why a fault stands: a word, another line, a version that was known, and by which line."""
 
-    def __init__(self, lines, options=Options()):
+    word: str
+    other: Optional[int] = None
+    known: Optional[int] = None
+    by: Optional["Witness"] = None
+
+
+class Witness(NamedTuple):
+    """How a version was known: by a line, since that had ended, was its own, or was learnt of."""
+
+    line: int
+    means: str
+    teller: Optional[int] = None
+
+
+class Case:
+    """Lines at some places of a log, or all, with what is asked of them."""
+
+    def __init__(self, lines, options=Options(), at=None):
+        self.at = range(len(lines)) if at is None else at
+        lines = [lines[it] for it in self.at]
         self.lines, self.margin = lines, options.margin
+        self.member = None if options.key is None else "key"
+        self.json = options.json
         self.is_complete, self.start = options.complete is not None, options.complete or 0
         self.has_times = bool(lines) and lines[0].began is not None
         self.places = range(len(lines))
@@ -126,82 +154,134 @@ class Case:
         """All faults, line by line: the kind, and the line."""
         return [(it, k) for k in self.places for it in FAULTS if self.stands(it, k)]
 
-    def summary(self):
-        """The line of a log without a fault."""
-        kinds = [line.kind for line in self.lines]
+    def unreported(self):
         read = {line.value for line in self.lines if line.kind == "read"} - {self.start}
-        timed = sum(line.began is not None for line in self.lines)
-        counts = {"lines": len(kinds), "timed": timed}
-        counts |= {f"{it}s": kinds.count(it) for it in KINDS}
-        counts["unreported"] = sum(not self.reporters(it) for it in read)
-        if self.has_times:
-            counts["ordered"] = sum(map(len, self.before))
-        return "audit ok " + " ".join(f"{name} {count}" for name, count in counts.items())
+        return sum(not self.reporters(it) for it in read)
 
-    # ---- why a fault stands: each of these sentences is true of it
+    # ---- why a fault stands: each of these reasons is true of it
+
+    def ways(self, j, k):
+        """How a line knew of one that comes before it."""
+        if self.has_times and self.is_past(j, k):
+            yield Witness(j, "ended")
+        if self.is_earlier(j, k):
+            yield Witness(j, "own")
+        for m, told in self.learns[self.lines[k].client]:
+            if m < k and j in told:
+                yield Witness(j, "learnt", m)
+
+    def known(self, word, k, version, kinds, other=None):
+        """By which lines a line knew of a version, and how; or all began with it."""
+        of = lambda j: self.lines[j].kind in kinds and self.lines[j].value == version
+        found = [way for j in sorted(self.before[k]) if of(j) for way in self.ways(j, k)]
+        return [Reason(word, other, version, by) for by in found or [None]]
+
+    def reasons(self, fault, k):
+        """All that may be said of why a fault stands."""
+        value = self.lines[k].value
+        if fault == "Order":
+            return self.known("known", k, self.knows[k], SHOWING)
+        if fault == "NotAbove":
+            return self.known("known", k, max(self.knows[k], self.last[k]), CALLS)
+        if fault == "Wrong":
+            it = next(iter(self.reporters(value)), None)
+            return [Reason("unreported")] if it is None else self.known(
+                "reported", it, self.knows[it], SHOWING, it)
+        drawers = self.others_that_drew(k) if fault == "Twice" else self.drawers(value)
+        return [Reason("drawn", drawers[0]) if drawers else Reason("undrawn")]
+
+    def late(self, fault, k):
+        """The first line to end that outdates a call, and how late that is; or None.
+
+        Of lines that ended together those that show a version come first.
+        """
+        kinds, least = {"Order": (SHOWING, 1), "NotAbove": (CALLS, 0)}.get(fault, ((), 0))
+        ends = [(it.ended, it.kind not in SHOWING, j) for j, it in enumerate(self.lines)
+                if it.kind in kinds and it.value >= self.lines[k].value + least
+                and it.ended is not None]
+        if not ends or min(ends)[2] == k:
+            return None
+        end, _, j = min(ends)
+        return j, max(0, self.lines[k].began - end)
+
+    # ---- what is said of it, in sentences
+
+    def number(self, j):
+        return f"line {self.at[j] + 1}"
+
+    def beside(self, line):
+        return "" if line.key is None else f" {printed(self.member)}:{printed(line.key)}"
 
     def mention(self, j):
         line = self.lines[j]
         client = f"{name_of(line)}, " if line.client is not None else ""
-        return f"line {j + 1} ({client}{line.kind} {line.value})"
+        return f"{self.number(j)} ({client}{line.kind} {line.value}{self.beside(line)})"
 
-    def ways(self, j, k):
-        """How a line knew of one that comes before it."""
-        mention = self.mention(j)
-        if self.has_times and self.is_past(j, k):
-            ago = self.lines[k].began - self.lines[j].ended
-            yield f"{mention} had ended {ago} before line {k + 1} began"
-        if self.is_earlier(j, k):
-            yield f"{mention} is an earlier call of its client"
-        for m, told in self.learns[self.lines[k].client]:
-            if m < k and j in told:
-                yield f"line {m + 1} had learnt of {mention}"
+    def ended(self, j, k):
+        ago = self.lines[k].began - self.lines[j].ended
+        return f"{self.mention(j)} had ended {ago} before {self.number(k)} began"
 
-    def known(self, k, version, kinds):
-        """How a line knew of a version: the lines that let it, each with how (none: the start)."""
-        found = [
-            (j, way) for j in sorted(self.before[k]) for way in self.ways(j, k)
-            if self.lines[j].kind in kinds and self.lines[j].value == version
-        ]
-        return found or [(None, f"all began with {version}")]
+    def way(self, k, reason):
+        """How a line knew of a version."""
+        if reason.by is None:
+            return f"{reason.known} was known: all began with {reason.known}"
+        j, means, teller = reason.by
+        said = {
+            "ended": lambda: self.ended(j, k),
+            "own": lambda: f"{self.mention(j)} is an earlier call of its client",
+            "learnt": lambda: f"{self.number(teller)} had learnt of {self.mention(j)}",
+        }[means]()
+        return f"{reason.known} was known: {said}"
 
-    def sentences(self, fault, k):
-        """All that may be said of a fault."""
-        line = self.lines[k]
-        said = f"{name_of(line)} {self.verb(fault)} {line.value}"
-        if fault == "Order":
-            return self.but_known(said, k, self.knows[k], SHOWING)
-        if fault == "NotAbove":
-            return self.but_known(said, k, max(self.knows[k], self.last[k]), CALLS)
-        if fault == "Wrong":
-            return self.of_wrong(said, k)
-        if fault == "Twice":
-            return [f"{said}, and so did {self.mention(self.others_that_drew(k)[0])}"]
-        drawers = self.drawers(line.value)
-        return [f"{said}, which {self.mention(drawers[0])} drew" if drawers
-                else f"{said}, which nobody drew"]
+    def sentence(self, fault, k, reason):
+        """A fault, and why it stands."""
+        line, it = self.lines[k], reason
+        verb = {"read": "read", "report": "reported"}.get(line.kind, "drew")
+        said = f"{name_of(line)} {verb} {line.value}{self.beside(line)}, "
+        other = "" if it.other is None else self.mention(it.other)
+        if it.word == "known":
+            j, by = self.late(fault, k) or (None, 0)
+            is_told = it.by and (it.by.line, it.by.means) == (j, "ended")
+            late = f"{by} too late: {self.ended(j, k)}, and " if by and not is_told else "but "
+            return f"{said}{late}{self.way(k, it)}"
+        if it.word == "reported":
+            way = self.way(it.other, it)
+            if it.by and it.by.line == k:
+                return f"{said}which was reported only after this: {way.split(': ', 1)[1]}"
+            return f"{said}which {other} reported when {way}"
+        if it.word == "drawn":
+            return f"{said}and so did {other}" if fault == "Twice" else f"{said}which {other} drew"
+        return f"{said}which nobody {'drew' if it.word == 'undrawn' else 'reported'}"
 
-    def verb(self, fault):
-        return {"Order": "read", "Wrong": "read", "Stray": "reported"}.get(fault, "drew")
+    # ---- and in JSON
 
-    def but_known(self, said, k, version, kinds):
-        ways = [way for _, way in self.known(k, version, kinds)]
-        return [f"{said}, but {version} was known: {way}" for way in ways]
+    def line_object(self, j):
+        line = self.lines[j]
+        said = {"line": self.at[j] + 1}
+        said |= {"client": line.client} if line.client is not None else {}
+        said |= {line.kind: line.value}
+        said |= {"began": line.began, "ended": line.ended} if self.has_times else {}
+        return said | ({"members": {self.member: line.key}} if self.member is not None else {})
 
-    def of_wrong(self, said, k):
-        reporters = self.reporters(self.lines[k].value)
-        if not reporters:
-            return [f"{said}, which nobody reported"]
-        first, version = reporters[0], self.knows[reporters[0]]
-        late = f"{said}, which was reported only after this: "
-        better = f"{said}, which {self.mention(first)} reported when {version} was known: "
-        known = self.known(first, version, SHOWING)
-        return [(late if j == k else better) + way for j, way in known]
+    def fault_object(self, fault, k, reason):
+        late, by = self.late(fault, k), reason.by
+        said = {"fault": fault, "at": self.line_object(k)}
+        said |= {"late": late[1], "first": self.line_object(late[0])} if late else {}
+        said["reason"] = reason.word
+        if reason.other is not None:
+            said[reason.word] = self.line_object(reason.other)
+        if reason.known is not None:
+            said |= {"known": reason.known, "by": by and self.line_object(by.line)}
+        said |= {"means": by.means} if by else {}
+        is_learnt = by and by.means == "learnt"
+        return said | ({"teller": self.line_object(by.teller)} if is_learnt else {})
 
-    def fault_lines(self):
-        """A line for each fault, of several true sentences with the first."""
-        return [f"audit fault: {fault} {k + 1}: {self.sentences(fault, k)[0]}"
-                for fault, k in self.faults()]
+    def texts(self, fault, k):
+        """All lines that may be written of a fault."""
+        if self.json:
+            return [printed(self.fault_object(fault, k, it)) for it in self.reasons(fault, k)]
+        return [f"audit fault: {fault} {self.at[k] + 1}: {self.sentence(fault, k, it)}"
+                for it in self.reasons(fault, k)]
 
     # ---- an order that explains lines without a fault
 
@@ -230,15 +310,90 @@ class Case:
 
     def history(self):
         """A line for each turn."""
-        said = []
-        for what, version, by in self.turns():
-            for place, k in enumerate(by or [None]):
-                whose = "others" if k is None else f"line {k + 1}"
-                if k is not None and self.lines[k].client is not None:
-                    whose += f" {name_of(self.lines[k])}"
-                whose += " shared" * (place > 0)
-                said.append(f"history {len(said)} {what} {version} {whose}")
-        return said
+        turns = [(what, version, k, place > 0) for what, version, by in self.turns()
+                 for place, k in enumerate(by or [None])]
+        return [self.turn(number, *it) for number, it in enumerate(turns)]
+
+    def turn(self, number, what, version, k, is_shared):
+        """The line of a turn, which is others' where k is None."""
+        if self.json:
+            at = None if k is None else self.line_object(k)
+            key = {} if self.member is None else {"key": self.lines[0].key}
+            return printed({"history": number, what: version, "at": at, **key, "shared": is_shared})
+        if k is None:
+            has_none = self.member is not None and self.lines[0].key is None
+            whose = f"others{self.beside(self.lines[0])}"
+            whose += f" no {printed(self.member)}" if has_none else ""
+        else:
+            line = self.lines[k]
+            client = "" if line.client is None else f" {name_of(line)}"
+            whose = f"{self.number(k)}{client}{self.beside(line)}"
+        return f"history {number} {what} {version} {whose}{' shared' * is_shared}"
+
+
+class Log:
+    """The lines of a log, with a case for each key, by their first lines, or for all."""
+
+    def __init__(self, lines, options):
+        places = defaultdict(list)
+        for place, line in enumerate(lines):
+            places[line.key].append(place)
+        self.lines, self.options = lines, options
+        self.cases = [Case(lines, options, it) for it in places.values()]
+
+    def faults(self):
+        """All faults, line by line: the case, the kind, and the line in the case."""
+        found = [(case, *it) for case in self.cases for it in case.faults()]
+        return sorted(found, key=lambda it: it[0].at[it[2]])
+
+    def counts(self):
+        """How much was judged."""
+        kinds, has_times = [line.kind for line in self.lines], self.cases[0].has_times
+        counts = {"lines": len(kinds), "timed": len(kinds) * has_times}
+        counts |= {f"{it}s": kinds.count(it) for it in KINDS}
+        counts["unreported"] = sum(it.unreported() for it in self.cases)
+        ordered = sum(len(it) for case in self.cases for it in case.before)
+        return {**counts, "ordered": ordered if has_times else None}
+
+    def passed(self):
+        """What is written without a fault."""
+        history = [it for case in self.cases for it in case.history()] * self.options.history
+        return [*history, *self.head()] if self.options.json else [*self.head(), *history]
+
+    def head(self):
+        if self.options.json:
+            return [self.total(), printed(tally([]))]
+        return [f"audit ok {worded(self.counts())}"]
+
+    def total(self):
+        """The line of how much was judged, and by which arguments."""
+        asked, counts = self.options, self.counts()
+        if not asked.json:
+            return f"audit total {worded(counts)}"
+        members = [] if asked.key is None else ["key"]
+        return printed({"total": counts, "arguments": {
+            "complete": asked.complete, "margin": asked.margin, "by_key": bool(members),
+            "members": members}})
+
+    def totals(self):
+        """How much was judged, and how many faults there are."""
+        found = tally([fault for _case, fault, _k in self.faults()])
+        said = printed(found) if self.options.json else f"audit total {worded(found)}"
+        return [self.total(), said] if self.options.totals else []
+
+    def listed(self):
+        """The faults that are listed."""
+        return self.faults()[: None if self.options.all else not self.options.totals]
+
+
+def tally(faults):
+    """How many faults there are, and of each kind."""
+    return {"faults": len(faults), **{it: faults.count(it) for it in FAULTS}}
+
+
+def worded(counts):
+    """Counts as words; those that are not known are left out."""
+    return " ".join(f"{name} {count}" for name, count in counts.items() if count is not None)
 
 
 def name_of(line):
@@ -248,9 +403,9 @@ def name_of(line):
     return f"client {printed(line.client)}"
 
 
-def printed(name):
-    """A name as a JSON string that steers no terminal, parts no line and turns no text round."""
-    text = json.dumps(name, ensure_ascii=False)
+def printed(value):
+    """A name or an object as JSON that steers no terminal, parts no line, turns no text round."""
+    text = json.dumps(value, ensure_ascii=False, separators=(",", ":"))
     return UNPRINTABLE.sub(lambda it: f"\\u{ord(it[0]):04x}", text)
 
 
@@ -259,28 +414,32 @@ def printed(name):
 
 def options_of(words):
     """What is asked for by arguments of which none is refused."""
-    found, words = {}, [part for it in words for part in it.split("=")]
-    for at, word in enumerate(words):
+    parted = (it.split("=", 1) if it.startswith("--") else [it] for it in words)
+    found, words = {}, iter([part for it in parted for part in it])
+    for word in words:
         if word == "--":
             break
         if word in ("--complete", "--margin"):
-            found[word[2:]] = int(words[at + 1])
-        elif word in ("--all", "--history", "--progress"):
+            found[word[2:]] = int(next(words))
+        elif word == "--key":
+            found["key"] = next(words)
+        elif word.startswith("--"):
             found[word[2:]] = True
-    return Options(**found)
+    is_short, is_json = found.pop("summary", False), found.get("json", False)
+    is_all = found.pop("all", False) or is_json
+    return Options(**found, all=is_all and not is_short, totals=is_all or is_short)
 
 
 def judged(given, options=Options()):
     """How the program ends with these bytes: status, standard output, standard error."""
     try:
-        case = Case(lines_of(given), options)
+        log = Log(lines_of(given, options.key), options)
     except Refused as why:
         return 1, b"", f"fdb_audit: logs refused: {why}\n".encode()
-    faults = case.faults()
+    faults = log.faults()
+    said = [*(case.texts(*it)[0] for case, *it in log.listed()), *log.totals()]
+    out = "".join(f"{it}\n" for it in (said if faults else log.passed())).encode()
     if not faults:
-        said = [case.summary(), *(case.history() if options.history else [])]
-        return 0, "".join(f"{it}\n" for it in said).encode(), b""
-    said = case.fault_lines()[: None if options.all else 1]
-    fault, k = faults[0]
-    line = f"fdb_audit: audit fault: {fault} {k + 1}\n"
-    return 4, "".join(f"{it}\n" for it in said).encode(), line.encode()
+        return 0, out, b""
+    case, fault, k = faults[0]
+    return 4, out, f"fdb_audit: audit fault: {fault} {case.at[k] + 1}\n".encode()

@@ -5,71 +5,82 @@ lines it writes one. So a sentence has to be one of those that are true, and an 
 by the definition: register and sequencer allow it, each line has its acts in it, and what comes
 before comes before.
 """
+import json
 import re
 
 from audit_lines import lines_of
-from audit_model import DRAWING, SHOWING, Case, judged, name_of, options_of
+from audit_model import DRAWING, SHOWING, Log, judged, options_of
 from harness import Ran, fault_of
 
-TURN = re.compile(r"history (\d+) (ask|report|read) (\d+) (?:(others)|line (\d+)(.*))", re.DOTALL)
+TURN = re.compile(r"history \d+ (ask|report|read) (\d+) (?:others|line (\d+))")
+FIRST_TURN = re.compile(r'history 0 |\{"history":0,')
 # What a line's act may be.
 TAKEN = {"read": "read", "commit": "report", "report": "report"}
 
 
-def why_wrong(given, words, ran):
+def why_wrong(given, words, ran, **changed):
     """What is wrong with how a run on these bytes ended, or None."""
-    options = options_of(words)
+    options = options_of(words)._replace(**changed)
     status, out, err = judged(given, options)
     if status not in (0, 4):
         return fault_of(ran, Ran(status, out, err))
     found = fault_of(ran, Ran(status, None, err))
     if found:
         return found
-    case = Case(lines_of(given), options)
+    log = Log(lines_of(given, options.key), options)
     said = ran.out.decode().split("\n")
     if said.pop():
         return "the last line has no end"
-    return why_wrong_faults(case, options, said) if status else why_wrong_ok(case, options, said)
+    return why_wrong_faults(log, said) if status else why_wrong_ok(log, said)
 
 
-def why_wrong_faults(case, options, said):
-    """The faults are those of the definition, in their order, each with a true sentence."""
-    faults = case.faults()[: None if options.all else 1]
-    for (fault, k), line in zip(faults, said):
-        begin = f"audit fault: {fault} {k + 1}: "
-        if not line.startswith(begin):
-            return f"{line!r} does not begin with {begin!r}"
-        true = case.sentences(fault, k)
-        if line.removeprefix(begin) not in true:
+def why_wrong_faults(log, said):
+    """The faults are those of the definition, in their order, each with a true reason."""
+    faults = log.listed()
+    for (case, *it), line in zip(faults, said):
+        true = case.texts(*it)
+        if line not in true:
             return f"{line!r}, but what is true is {true}"
-    return None if len(said) == len(faults) else f"{len(said)} faults in place of {len(faults)}"
+    wanted = log.totals()
+    is_so = len(said) >= len(faults) and said[len(faults):] == wanted
+    return None if is_so else f"{len(faults)} faults and {wanted} are wanted"
 
 
-def why_wrong_ok(case, options, said):
-    if said[:1] != [case.summary()]:
-        return f"{said[:1]} in place of {case.summary()!r}"
-    if not options.history:
-        return None if len(said) == 1 else f"it says more: {said[1]!r}"
-    turns = [turn_of(case, number, text) for number, text in enumerate(said[1:])]
-    faults = [it for it in turns if isinstance(it, str)]
-    return faults[0] if faults else why_wrong_history(case, turns)
+def why_wrong_ok(log, said):
+    head = log.head()
+    part = slice(-len(head), None) if log.options.json else slice(len(head))
+    if said[part] != head:
+        return f"{said[part]} in place of {head}"
+    del said[part]
+    if not log.options.history:
+        return f"it says more: {said[0]!r}" if said else None
+    firsts = [at for at, it in enumerate(said) if FIRST_TURN.match(it)]
+    if firsts[:1] != [0] or len(firsts) != len(log.cases):
+        return f"{len(firsts)} histories in place of {len(log.cases)}"
+    for case, first, end in zip(log.cases, firsts, [*firsts[1:], len(said)]):
+        turns = [turn_of(case, number, text) for number, text in enumerate(said[first:end])]
+        faults = [it for it in turns if isinstance(it, str)]
+        fault = faults[0] if faults else why_wrong_history(case, turns)
+        if fault:
+            return fault
+    return None
 
 
 def turn_of(case, number, text):
     """A turn: what, version, whose line (or None), if it is shared; or what is wrong with it."""
-    found = TURN.fullmatch(text)
-    if not found or int(found[1]) != number:
-        return f"{text!r} is no turn {number}"
-    what, version = found[2], int(found[3])
-    if found[4]:
-        return what, version, None, False
-    k = int(found[5]) - 1
-    if not 0 <= k < len(case.lines):
-        return f"{text!r} is of no line"
-    client = f" {name_of(case.lines[k])}" if case.lines[k].client is not None else ""
-    if found[6] not in (client, f"{client} shared"):
-        return f"{text!r} does not name {client!r}"
-    return what, version, k, found[6] != client
+    try:
+        if case.json:
+            it = json.loads(text)
+            what = next(name for name in ("ask", *TAKEN.values()) if name in it)
+            version, place, is_shared = it[what], it["at"] and it["at"]["line"], it["shared"]
+        else:
+            what, version, place = TURN.match(text).groups()
+            version, place, is_shared = int(version), place and int(place), text.endswith(" shared")
+        turn = what, version, None if place is None else case.at.index(place - 1), is_shared
+    except (AttributeError, KeyError, StopIteration, TypeError, ValueError):
+        return f"{text!r} is no turn"
+    wanted = case.turn(number, *turn)
+    return turn if text == wanted else f"{text!r} in place of {wanted!r}"
 
 
 def why_wrong_history(case, turns):

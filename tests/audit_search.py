@@ -5,7 +5,8 @@ It takes from the audit's model how a line is read, and nothing of what is asked
 import json
 
 from audit_lines import lines_of
-from audit_model import DRAWING, REPORTING, SHOWING, Case
+from audit_model import DRAWING, REPORTING, SHOWING, Case, Log
+from reader import Refused
 
 NAMES = ("a", "b", "c", 'd "e"', "two\nlines", "Ærø", "")
 
@@ -108,7 +109,7 @@ def random_lines(dice):
         ("read", "commit", "ask", "ask"),
     ])
     has_times, top, low = dice.random() < 0.5, dice.choice((2, 3, 5, 7)), dice.choice((0, 1, 1))
-    lines, clocks, learns = [], {}, dice.choice((0.2, 0.5))
+    lines, clocks, learns, keyed = [], {}, dice.choice((0, 0.2, 0.5)), dice.choice((0, 0.9))
     for _ in range(dice.randint(1, 7 if has_times else 11)):
         client = dice.choice(names)
         if not has_times:
@@ -126,6 +127,8 @@ def random_lines(dice):
             clocks[client] = dice.choice((began, ended, ended, ended + 1))
             unknown = dice.random() < (0.2 if "report" in line else 0.03)
             line |= {"began": began, "ended": None if unknown else ended}
+        if dice.random() < keyed:
+            line["key"] = dice.choice((1, "1", "x\u2028", "y"))
         lines.append(line)
     if has_times and dice.random() < 0.5:
         dice.shuffle(lines)
@@ -140,8 +143,8 @@ def text_of(lines, dice=None):
 
 
 def random_words(dice):
-    """Arguments without --all, --history and a file."""
-    words = []
+    """Arguments without those that only say what is printed, and without a file."""
+    words = ["--key", dice.choice(("key", "client"))] if dice.random() < 0.3 else []
     if dice.random() < 0.5:
         words += ["--complete", str(dice.choice((0, 0, 1, 2)))]
     if dice.random() < 0.5:
@@ -150,7 +153,25 @@ def random_words(dice):
 
 
 def fault_of_search(given, options):
-    """Whether the model finds no fault just where an order explains a small log."""
-    lines = lines_of(given)
-    faults, explained = Case(lines, options).faults(), is_explained(lines, options)
-    return f"{faults}, but explained: {explained}" if explained == bool(faults) else None
+    """Whether the model finds no fault just where an order explains a small log.
+
+    By keys that is one for the lines of each.
+    """
+    try:
+        lines = lines_of(given, options.key)
+    except Refused:
+        return None
+    faults, keys = Log(lines, options).faults(), {line.key for line in lines}
+    explained = all(is_explained([it for it in lines if it.key == key], options) for key in keys)
+    if explained == bool(faults):
+        return f"{faults}, but explained: {explained}"
+    wrong = [it for it in faults if it[1] in ("Order", "NotAbove")
+             and not is_so_late(lines, options, *it)]
+    return f"{wrong} are not so late" if wrong else None
+
+
+def is_so_late(lines, options, case, fault, k):
+    """Whether a fault stands under the margin below its lateness, and not by others beyond."""
+    under = lambda it: Case(lines, options._replace(margin=it), case.at).stands(fault, k)
+    _line, by = case.late(fault, k) or (None, 0)
+    return (not by or under(by - 1)) and (not under(by) or under(1_000))

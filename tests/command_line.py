@@ -16,13 +16,15 @@ NO_NUMBERS = ("-1", "x", "", " 1", "1 ", "1.0", "1e0", "0x1", "18446744073709551
 # clap takes an integer with a plus.
 COUNTS = (("1", "2", "15", "16", "+3", "016"), (*NO_NUMBERS, "0", "17", "4294967297"))
 WHOLE = (("0", "9223372036854775807", "+3", "016"), (*NO_NUMBERS, "9223372036854775808"))
+# A text may be any, but none that looks like a flag.
+TEXTS = (("client", "é", "a=b"), ("-1", "--history"))
 # A script may have so many bytes.
 MOST_BYTES = 16_777_216
 LINE = b'{"client":"a","read":1,"began":1,"ended":2}\n'
 
 
 class Program(NamedTuple):
-    """A program: its flags, its numbers with values taken and refused, and its help."""
+    """A program: its flags, its numbers and texts, with values taken and refused, and its help."""
 
     name: str
     path: str
@@ -67,8 +69,10 @@ def replay(path):
 def audit(_path):
     many = b"".join(LINE.replace(b'"a"', b'"client %d"' % it) for it in range(9_000))
     return Program(
-        "fdb_audit", audit_logs.PROGRAM, ("--all", "--history", "--progress"),
-        {"--complete": WHOLE, "--margin": WHOLE}, read(f"{ROOT}/tests/audit_help.txt"),
+        "fdb_audit", audit_logs.PROGRAM,
+        ("--all", "--summary", "--json", "--history", "--progress"),
+        {"--complete": WHOLE, "--margin": WHOLE, "--key": TEXTS},
+        read(f"{ROOT}/tests/audit_help.txt"),
         read(f"{audit_logs.LOGS}/stale.jsonl"), LINE,
         (b"{", audit_logs.refused_at(1, "NotJson")), many, audit_logs.judged_as,
     )
@@ -124,8 +128,11 @@ def unwanted(it, file):
     for name, (values, wrong) in it.numbers.items():
         yield from ([name], [name, *whole], [name, values[0], name, values[0]], [name[:-1], "1"])
         yield from ([f"{name}={values[0]}", *whole], [*whole, file, name], [name, b"\xff"])
-        yield from (form for value in wrong for form in ([name, value], [f"{name}={value}"]))
-        yield from ([name, "x", "-h"], [name, "-h"])
+        yield from ([name, value] for value in wrong)
+        yield [name, "-h"]
+        if "x" in wrong:
+            yield from ([f"{name}={value}"] for value in wrong)
+            yield [name, "x", "-h"]
     for one in ("--none", "--version", "-V", "-p", "-1"):
         yield from ([one], [*whole, one], [*whole, file, one], [one, *whole, file], [one, "--help"])
     for others in ([file], [""], ["--", file], ["1"], [file] * 1_000, [file, "--help"]):

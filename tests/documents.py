@@ -51,7 +51,7 @@ def readme_of(crate):
 def documents():
     """The documents, as paths from the top: README.md, those of docs/, of examples/, of crates."""
     own = filter(exists, map(readme_of, crates()))
-    return ["README.md", *files_below("docs", ".md"), "examples/README.md", *own]
+    return ["README.md", *files_below("docs", ".md"), *files_below("examples", ".md"), *own]
 
 
 def sources_of(crate, *parts):
@@ -261,7 +261,7 @@ def runs(program):
         words = first.split()[1:]
         if not language and words[:1] and words[0] in programs:
             ran = run([programs[words[0]], *words[1:]], cwd=ROOT)
-            if ran.out.startswith(b"audit fault"):
+            if ran.out.startswith((b"audit fault", b"audit total")):
                 # (its status, and its line on standard error, are not shown)
                 ran = ran._replace(status=0, err=b"")
             yield f"{document}: {first}", fault_of(ran, done(rest.encode()))

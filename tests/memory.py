@@ -215,6 +215,8 @@ def audits():
     yield "arguments that are refused", ["--margin"], b"", each
     yield "help", ["--help"], b"", each
     yield "many faults", ["--all"], large_log(400)[0], further
+    yield "JSON by key", ["--json", "--history", "--key", "client"], large_log(400)[0], further
+    yield "totals", ["--summary"], large_log(400)[0], further
     yield "a chain of learns", ["--history"], learnt_log(60), further
 
 

@@ -515,7 +515,8 @@ def learns_at_random(seed):
 def said_by_audit(lines, margin):
     """What an audit says of some lines."""
     given = "\n".join(map(json.dumps, lines)).encode()
-    return Case(log_lines(given), Options(margin=margin)).fault_lines()
+    case = Case(log_lines(given), Options(margin=margin))
+    return [case.texts(*it)[0] for it in case.faults()]
 
 
 def drawn_of(lines, said, margin=0):

@@ -98,6 +98,9 @@ def shapes():
     for margin in (1, 999, 10**6, 2**63 - 1):
         yield f"a margin of {margin}", ["--margin", str(margin)], list(overlapping(draw))
     yield "a history", ["--history"], list(overlapping(draw))
+    for member in ("client", "began", "none"):
+        yield f"keys by {member}", ["--key", member, "--history"], list(overlapping(draw))
+    yield "faults of each key", ["--key", "client", "--summary"], list(any_calls(draw))
     yield "all calls of a log", ["--complete", "0", "--all", "--history"], list(overlapping(draw))
     yield "a relay", [], list(told(map(relay, places)))
     yield "a hub", [], list(told(map(hub, places)))

@@ -39,7 +39,7 @@ SAID = re.compile(r"(?:fdb_audit: )?audit (ok|fault)\b(?: lines (\d+))?")
 LINES = re.compile(r"\bline ([1-9]\d*)\b")
 # A line with what was done, behind whoever did it.
 DONE = re.compile(
-    r'\bline ([1-9]\d*) \((?:client (?:""|\d+), )?(read|commit|ask|report) (\d+)\)'
+    r'\bline ([1-9]\d*) \((?:client (?:""|\d+), )?(read|commit|ask|report) (\d+)[ )]'
 )
 # The name of a client, in which a line may seem to be named.
 NAME = re.compile(r'"(?:[^"\\]|\\.)*"')
@@ -50,6 +50,7 @@ REPORTER = re.compile(
     r"which line (\d+) \(.*?\) reported when|after this: .* before line (\d+) began"
 )
 OTHER = re.compile(r"(?:and so did|which) line (\d+) \(")
+LATE = re.compile(r"\d too late: line (\d+) \(")
 LINE_OF_LOG = "'Line' and a number always mean that line of the log, counted from 1."
 MARGIN = """Margin {0}: clocks may be {0} apart, so a call comes before one of another client only
 where it had ended by more than that before."""
@@ -295,7 +296,10 @@ class LogDrawing:
         self.own = self.own_calls()
         for it in self.said:
             version = self.roles(it)[1]
-            if it.kind == "Order" and version and "all began with" not in it.sentence:
+            # (of a key, by which the page has no rule)
+            is_of_key = '":' in it.sentence
+            if (it.kind == "Order" and version and not is_of_key
+                    and "all began with" not in it.sentence):
                 known = self.known_to(it.line)
                 if known != int(version):
                     return [OTHER_MARGIN.format(it.line + 1, known or "nothing", version)]
@@ -337,6 +341,7 @@ class LogDrawing:
         for form, role in (
             (OTHER, "This call got it, too: " if it.kind == "Twice" else "This call got it: "),
             (REPORTER, "The first line that reports it: "),
+            (LATE, "The first to make it late: "),
             (WITNESS, f"By this line {version} was known: "),
         ):
             found = form.search(plain)

@@ -175,7 +175,7 @@ static void refused_calls(fdb_call second, uint8_t wanted, uint8_t member) {
 
 static void refusals(void) {
     refused_log("{\"client\":\"a\",\"read\":1}\n{", FDB_NOT_JSON, 2, 0);
-    refused_log("{\"client\":1,\"read\":1}", FDB_BAD_MEMBER, 1, FDB_CLIENT);
+    refused_log("{\"client\":true,\"read\":1}", FDB_BAD_MEMBER, 1, FDB_CLIENT);
     refused_log("{\"client\":\"a\"}", FDB_NO_CALL, 1, 0);
     refused_log("", FDB_EMPTY, 0, 0);
     refused_log("\n", FDB_NOT_JSON, 1, 0);

@@ -1,4 +1,7 @@
 pub mod Text
+pub mod Counting
+pub mod Objects
+pub mod Totals
 pub mod Judged
 pub mod Program
 pub mod private

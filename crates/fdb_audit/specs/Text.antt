@@ -1,9 +1,9 @@
--- What is printed of a log and its faults. Names are those that are printed of the clients, by number.
--- (this product's own)
-use Rattle.std.specs.Prelude.{ℕ, ◌+◌, ◌-◌, ◌++◌, ◌∷◌, ◌==◌, Bool, true, false, cond, List, [], Option, None, Some, codes, decimal, slice_get}
+-- What is printed of a log and its faults. (this product's own)
+use Rattle.std.specs.Prelude.{ℕ, ◌+◌, ◌-◌, ◌++◌, ◌∷◌, ◌==◌, ◌&&◌, nat_lt, not, Bool, true, false, cond, List, [], Option, None, Some, codes, decimal, option_and_then, slice_get, slice_index_or}
 use Rattle.std.specs.List.{flat_map}
 use Rattle.fdb_lines.specs.declared.act.Act.{Act}
 use Rattle.fdb_lines.specs.declared.act.Act.TheVariants.{Asks, Reports, Reads}
+use Rattle.fdb_lines.specs.declared.late.Late.{Late}
 use Rattle.fdb_lines.specs.declared.line.Call.{Call}
 use Rattle.fdb_lines.specs.declared.line.Call.TheVariants.{Read, Commit, Ask, Report, Learn}
 use Rattle.fdb_lines.specs.declared.line.Line.{Line}
@@ -22,6 +22,24 @@ use Rattle.fdb_lines.specs.Text.{found_text}
 -- a line ends with one newline byte
 abbrev pub line : List ℕ → List ℕ
 line text = text ++ 10 ∷ []
+
+-- ---- what is printed of a log
+
+-- A member that is printed beside each call: its name, its texts, and which of these each line has.
+pub record Beside : Type 0 where
+  pub member : List ℕ
+  pub texts : List (List ℕ)
+  pub numbers : List (Option ℕ)
+
+-- its text at a line; none where the line has none
+abbrev pub text_at : Beside → ℕ → Option (List ℕ)
+text_at it place = option_and_then (slice_get it.texts) (slice_index_or it.numbers place None)
+
+-- the lines, the names of their clients by number, and the members that are printed beside the calls
+pub record Shown : Type 0 where
+  pub lines : List Line
+  pub names : List (List ℕ)
+  pub beside : List Beside
 
 -- ---- a line, as a sentence names it
 
@@ -46,6 +64,19 @@ call_text (Ask version) = codes "ask " ++ decimal version
 call_text (Report version) = codes "report " ++ decimal version
 call_text (Learn client) = codes "learn " ++ decimal client
 
+-- a member's text, behind its name; nothing where the line has none
+abbrev pub member_text : List ℕ → Option (List ℕ) → List ℕ
+member_text member None = []
+member_text member (Some text) = codes " " ++ member ++ codes ":" ++ text
+
+abbrev pub members_text : List Beside → ℕ → List ℕ
+members_text beside place = flat_map (λ it. member_text it.member (text_at it place)) beside
+
+-- a text of a member, by its number; or that there is none
+abbrev pub owner_of : Beside → Option ℕ → List ℕ
+owner_of it None = codes " no " ++ it.member
+owner_of it (Some number) = member_text it.member (slice_get it.texts number)
+
 abbrev pub whose_text : List (List ℕ) → Option ℕ → List ℕ
 whose_text names None = []
 whose_text names (Some client) = client_text names client ++ codes ", "
@@ -54,12 +85,11 @@ whose_text names (Some client) = client_text names client ++ codes ", "
 abbrev pub number_text : ℕ → List ℕ
 number_text place = codes "line " ++ decimal (place + 1)
 
-abbrev pub line_text : List (List ℕ) → ℕ → Line → List ℕ
-line_text names place it =
-    number_text place ++ codes " (" ++ whose_text names it.client ++ call_text it.call ++ codes ")"
-
-abbrev pub mention : List Line → List (List ℕ) → ℕ → List ℕ
-mention lines names place = line_text names place (line_at lines place)
+abbrev pub mention : Shown → ℕ → List ℕ
+mention it place =
+    let this = line_at it.lines place in
+    number_text place ++ codes " (" ++ whose_text it.names this.client ++ call_text this.call
+    ++ members_text it.beside place ++ codes ")"
 
 -- ---- why a fault stands, in one sentence
 
@@ -68,19 +98,24 @@ abbrev pub since : Option ℕ → ℕ → ℕ
 since None moment = 0
 since (Some end) moment = moment - end
 
+abbrev pub wait_text : ℕ → ℕ → List ℕ
+wait_text place wait = codes " had ended " ++ decimal wait ++ codes " before " ++ number_text place ++ codes " began"
+
+-- that a line had ended before the call at a place began, and how long
+abbrev pub ended_text : Shown → ℕ → ℕ → List ℕ
+ended_text it place other =
+    mention it other ++ wait_text place (since (ended (line_at it.lines other)) (began (line_at it.lines place)))
+
 -- how the call at a place knew of a line
-abbrev pub means_text : List Line → List (List ℕ) → ℕ → ℕ → Means → List ℕ
-means_text lines names place other Ended =
-    mention lines names other ++ codes " had ended "
-    ++ decimal (since (ended (line_at lines other)) (began (line_at lines place)))
-    ++ codes " before " ++ number_text place ++ codes " began"
-means_text lines names place other Own = mention lines names other ++ codes " is an earlier call of its client"
-means_text lines names place other (Learnt teller) = number_text teller ++ codes " had learnt of " ++ mention lines names other
+abbrev pub means_text : Shown → ℕ → ℕ → Means → List ℕ
+means_text it place other Ended = ended_text it place other
+means_text it place other Own = mention it other ++ codes " is an earlier call of its client"
+means_text it place other (Learnt teller) = number_text teller ++ codes " had learnt of " ++ mention it other
 
 -- how the call at a place knew of a version
-abbrev pub known_text : List Line → List (List ℕ) → ℕ → ℕ → Option Witness → List ℕ
-known_text lines names place version None = codes "all began with " ++ decimal version
-known_text lines names place version (Some by) = means_text lines names place by.line by.means
+abbrev pub known_text : Shown → ℕ → ℕ → Option Witness → List ℕ
+known_text it place version None = codes "all began with " ++ decimal version
+known_text it place version (Some by) = means_text it place by.line by.means
 
 -- what the caller of a line did: it read, drew or reported its version
 abbrev pub deed_text : Call → List ℕ
@@ -95,37 +130,56 @@ abbrev pub is_by : ℕ → Option Witness → Bool
 is_by place None = false
 is_by place (Some by) = by.line == place
 
--- a clause of plain English, behind what the caller of the line at a place did
-abbrev pub reason_text : List Line → List (List ℕ) → ℕ → Reason → List ℕ
-reason_text lines names place (Known version by) =
-    codes ", but " ++ decimal version ++ codes " was known: " ++ known_text lines names place version by
-reason_text lines names place Unreported = codes ", which nobody reported"
-reason_text lines names place (Reported reporter version by) =
-    cond (is_by place by)
-    (codes ", which was reported only after this: " ++ known_text lines names reporter version by)
-    (codes ", which " ++ mention lines names reporter ++ codes " reported when " ++ decimal version
-    ++ codes " was known: " ++ known_text lines names reporter version by)
-reason_text lines names place (Drawn other) =
-    cond (draws (kind_of (line_at lines place).call)) (codes ", and so did " ++ mention lines names other)
-    (codes ", which " ++ mention lines names other ++ codes " drew")
-reason_text lines names place Undrawn = codes ", which nobody drew"
+abbrev pub had_ended : Means → Bool
+had_ended Ended = true
+had_ended Own = false
+had_ended (Learnt teller) = false
 
-abbrev pub sentence_text : List Line → List (List ℕ) → ℕ → Reason → List ℕ
-sentence_text lines names place reason =
-    caller_text names (line_at lines place).client ++ deed_text (line_at lines place).call
-    ++ reason_text lines names place reason
+-- whether a line is told by its end as how a version was known
+abbrev pub is_told : ℕ → Option Witness → Bool
+is_told place None = false
+is_told place (Some by) = had_ended by.means && by.line == place
+
+-- How late a call was, and after which line: the first that let be known what made it late. Nothing where no such line
+-- had ended before, or where that line is told anyhow.
+abbrev pub late_text : Shown → ℕ → Option Late → Option Witness → List ℕ
+late_text it place None by = codes ", but "
+late_text it place (Some late) by =
+    cond (nat_lt 0 late.by && not (is_told late.line by))
+    (codes ", " ++ decimal late.by ++ codes " too late: " ++ ended_text it place late.line ++ codes ", and ")
+    (codes ", but ")
+
+-- a clause of plain English, behind what the caller of the line at a place did
+abbrev pub reason_text : Shown → ℕ → Option Late → Reason → List ℕ
+reason_text it place late (Known version by) =
+    late_text it place late by ++ decimal version ++ codes " was known: " ++ known_text it place version by
+reason_text it place late Unreported = codes ", which nobody reported"
+reason_text it place late (Reported reporter version by) =
+    cond (is_by place by)
+    (codes ", which was reported only after this: " ++ known_text it reporter version by)
+    (codes ", which " ++ mention it reporter ++ codes " reported when " ++ decimal version ++ codes " was known: "
+    ++ known_text it reporter version by)
+reason_text it place late (Drawn other) =
+    cond (draws (kind_of (line_at it.lines place).call)) (codes ", and so did " ++ mention it other)
+    (codes ", which " ++ mention it other ++ codes " drew")
+reason_text it place late Undrawn = codes ", which nobody drew"
+
+abbrev pub sentence_text : Shown → ℕ → Option Late → Reason → List ℕ
+sentence_text it place late reason =
+    let this = line_at it.lines place in
+    caller_text it.names this.client ++ deed_text this.call ++ members_text it.beside place ++ reason_text it place late reason
 
 -- ---- a fault, on a line of its own
 
 -- a fault by its name and line, and why it stands
-abbrev pub finding_text : List Line → List (List ℕ) → Finding → List ℕ
-finding_text lines names finding =
+abbrev pub finding_text : Shown → Finding → List ℕ
+finding_text it finding =
     codes "audit fault: " ++ found_text finding.found ++ codes ": "
-    ++ sentence_text lines names finding.found.line finding.reason
+    ++ sentence_text it finding.found.line finding.late finding.reason
 
 -- a line for each of some faults
-abbrev pub listing_text : List Line → List (List ℕ) → List Finding → List ℕ
-listing_text lines names found = flat_map (λ finding. line (finding_text lines names finding)) found
+abbrev pub listing_text : Shown → List Finding → List ℕ
+listing_text it found = flat_map (λ finding. line (finding_text it finding)) found
 
 -- ---- a log without a fault: how much that stands on, and an order
 
@@ -146,10 +200,13 @@ ordered_text (Some pairs) = codes " ordered " ++ decimal pairs
 abbrev pub evidence_text : Summary → List ℕ
 evidence_text counts = codes " unreported " ++ decimal counts.unreported ++ ordered_text counts.ordered
 
+-- how much was judged
+abbrev pub counts_text : Summary → List ℕ
+counts_text counts = codes " lines " ++ decimal counts.lines ++ versions_text counts ++ parts_text counts ++ evidence_text counts
+
 -- how much a verdict stands on
 abbrev pub summary_text : Summary → List ℕ
-summary_text counts =
-    codes "audit ok lines " ++ decimal counts.lines ++ versions_text counts ++ parts_text counts ++ evidence_text counts
+summary_text counts = codes "audit ok" ++ counts_text counts
 
 abbrev pub act_text : Act → List ℕ
 act_text (Asks version) = codes "ask " ++ decimal version
@@ -160,23 +217,21 @@ abbrev pub owner_text : List (List ℕ) → Option ℕ → List ℕ
 owner_text names None = []
 owner_text names (Some client) = codes " " ++ client_text names client
 
--- whose turn it is: of a line, with its client where that is known, or of others
-abbrev pub turn_owner : List Line → List (List ℕ) → Option ℕ → List ℕ
-turn_owner lines names None = codes " others"
-turn_owner lines names (Some place) =
-    codes " " ++ number_text place ++ owner_text names (line_at lines place).client
+-- whose turn it is: of a line, with its client where that is known, or of others, with the key of the lines that are in order
+abbrev pub turn_owner : Shown → List ℕ → Option ℕ → List ℕ
+turn_owner it key None = codes " others" ++ key
+turn_owner it key (Some place) =
+    codes " " ++ number_text place ++ owner_text it.names (line_at it.lines place).client ++ members_text it.beside place
 
 abbrev pub shared_text : Bool → List ℕ
 shared_text true = codes " shared"
 shared_text false = []
 
-abbrev pub turn_line : List Line → List (List ℕ) → ℕ → Turn → List ℕ
-turn_line lines names number turn =
-    codes "history " ++ decimal number ++ codes " " ++ act_text turn.act ++ turn_owner lines names turn.line
-    ++ shared_text turn.shared
+abbrev pub turn_line : Shown → List ℕ → ℕ → Turn → List ℕ
+turn_line it key number turn =
+    codes "history " ++ decimal number ++ codes " " ++ act_text turn.act ++ turn_owner it key turn.line ++ shared_text turn.shared
 
 -- a line for each turn of an order, counted on from a number
-abbrev pub history_lines : List Line → List (List ℕ) → ℕ → List Turn → List ℕ
-history_lines lines names number [] = []
-history_lines lines names number (turn ∷ turns) =
-    line (turn_line lines names number turn) ++ history_lines lines names (number + 1) turns
+abbrev pub history_lines : Shown → List ℕ → ℕ → List Turn → List ℕ
+history_lines it key number [] = []
+history_lines it key number (turn ∷ turns) = line (turn_line it key number turn) ++ history_lines it key (number + 1) turns

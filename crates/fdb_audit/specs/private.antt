@@ -1,11 +1,51 @@
--- What a view shows, and what was written behind a text. (this product's own)
-use Rattle.std.specs.Prelude.{ℕ, List, map, string_bytes}
-use Rattle.fdb_lines.specs.declared.line.Line.{Line}
+-- What a view shows, and what is asked of a log. (this product's own)
+use Rattle.std.specs.Prelude.{◌≡◌, ℕ, Bool, List, [], Option, None, Some, IfSome, length, map, option_map, string_bytes}
+use Rattle.fdb_lines.specs.declared.opts.AuditOpts.{AuditOpts}
+use Rattle.fdb_lines.specs.Lines.{Lines}
 use Rattle.fdb_lines.specs.Log.{lines_of}
+use Rattle.fdb_audit.specs.Text.{Beside, Shown}
+use Rattle.fdb_log_reader.specs.Columns.{HasCells}
+use Rattle.fdb_log_reader.specs.Reading.{Reading}
+use Rattle.fdb_audit.specs.Judged.{orders_text, turns_text, AreOrders, IsOrder}
+use Rattle.fdb_audit.specs.declared.asked.Asked.{Asked}
+use Rattle.fdb_audit.specs.declared.asked.Order.{Order}
+use Rattle.fdb_audit.specs.declared.asked.Order.TheVariants.{One, ByKey}
+use Rattle.fdb_audit.specs.declared.beside.MemberBeside.{MemberBeside}
 use Rattle.fdb_audit.specs.declared.view.View.{View}
 
-abbrev pub lines_in : View → List Line
-lines_in view = (lines_of view.log.now).lines
+abbrev pub beside_of : MemberBeside → Beside
+beside_of it = record { member = it.member.now; texts = map string_bytes it.texts.now; numbers = it.numbers.now }
 
-abbrev pub names_in : View → List (List ℕ)
-names_in view = map string_bytes view.names.now
+abbrev pub shown_in : View → Shown
+shown_in view = record {
+  lines = (lines_of view.log.now).lines;
+  names = map string_bytes view.names.now;
+  beside = map beside_of view.beside.now;
+}
+
+-- what is asked of a log
+
+abbrev pub log_in : Asked → Lines
+log_in asked = lines_of asked.view.log.now
+
+abbrev pub keys_in : Asked → Option (List (Option ℕ))
+keys_in asked = option_map (λ keys. keys.now) asked.keys
+
+-- where lines have keys, each has its own
+abbrev pub HasKeys : Asked → Type 0
+HasKeys asked = IfSome (keys_in asked) (λ keys. length keys ≡ length (log_in asked).lines)
+
+-- an order for all lines where they have no keys, and else one for each key
+abbrev pub HasOrders : Lines → Option (List (Option ℕ)) → AuditOpts → Order → Type 0
+HasOrders log None opts (One turns) = IsOrder log opts turns.items
+HasOrders log None opts (ByKey orders) = ⊥
+HasOrders log (Some keys) opts (One turns) = ⊥
+HasOrders log (Some keys) opts (ByKey orders) = AreOrders log keys opts orders.items
+
+abbrev pub order_text : Bool → Shown → Order → List ℕ
+order_text json it (One turns) = turns_text json it [] turns.items
+order_text json it (ByKey orders) = orders_text json it orders.items
+
+-- where keys were kept, each line has its own
+abbrev pub HasOwnKeys : Reading → Type 0
+HasOwnKeys reading = HasCells reading.keys reading.log

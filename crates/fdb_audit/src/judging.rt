@@ -1,36 +1,42 @@
 //! From a log to what is said of it.
 
 ghost use Rattle.std.specs.Prelude.{◌≡◌, ◌⊎◌, ◌↔◌, IfOk, IfErr, IfSome, Err, None, Some, map};
-ghost use Rattle.std.specs.Prelude.{false, option_map, slice_get, string_bytes, true};
+ghost use Rattle.std.specs.Prelude.{option_map};
+ghost use Rattle.std.specs.Prelude.{slice_get, string_bytes};
 ghost use Rattle.std.specs.Thread.{IsSync};
+ghost use Rattle.fdb_lines.specs.Late.{HasLate};
 ghost use Rattle.fdb_lines.specs.Listing.{faults_of};
 ghost use Rattle.fdb_lines.specs.Reasons.{found_of, HasReason};
 ghost use Rattle.fdb_lines.specs.Audit.{AreExplained, case_of};
 ghost use Rattle.fdb_lines.specs.Log.{lines_of};
-ghost use Rattle.fdb_log_reader.specs.Names.{names_of};
-ghost use Rattle.fdb_log_reader.specs.Printed.{printed};
-ghost use Rattle.fdb_log_reader.specs.Reading.{reading_in};
-ghost use Rattle.fdb_audit.specs.Judged.{IsJudgement, IsOrder, IsPassed, IsSummary, IsText};
-ghost use Rattle.fdb_audit.specs.Text.{finding_text, line, summary_text};
-ghost use Rattle.fdb_audit.specs.private.{lines_in, names_in};
+ghost use Rattle.fdb_log_reader.specs.Reading.{reading_in, reading_of, ReadsAs};
+ghost use Rattle.fdb_audit.specs.Judged.{IsJudgement, IsSummary, IsText, IsTextOf};
+ghost use Rattle.fdb_audit.specs.Judged.{IsTextOfReading};
+ghost use Rattle.fdb_audit.specs.private.{keys_in, log_in, shown_in, HasKeys, HasOwnKeys};
 
-use crate::verdict::push_verdict;
+use crate::asked::Asked;
+use crate::beside::MemberBeside;
+use crate::listing::{listed, one_fault};
+use crate::passing::{explained, passed};
 use crate::view::View;
-use fdb_lines::{
-    AuditOpts, Finding, Found, Log, Summary, Turn, findings, first_finding, first_finding_by,
-    order_or_finding, summary, summary_by,
-};
-use fdb_log_reader::{NamedLog, ReadError, Why, read_log};
+use fdb_lines::{AuditOpts, Finding, Found, Log, Summary, first_finding_by, summary_by};
+use fdb_log_reader::{Keys, LogReader, NamedLog, ReadError, Why};
 use std::alloc::{AllocError, Global};
 use std::thread::{Threads, join};
 
 /// What an audit prints besides its verdict. Whether a fault stands decides which of these counts.
 #[derive(Clone, Copy, Debug, PartialEq, Eq)]
 pub struct Wanted {
-    /// An order that explains the lines, where no fault stands.
+    /// An order that explains the lines, where no fault stands; one for each key, where they have
+    /// keys.
     pub history: bool,
     /// All faults, where one stands, and not the first alone.
     pub all: bool,
+    /// Where a fault stands, at the end how much was judged and how many faults there are of each
+    /// kind; without [`Wanted::all`] these alone.
+    pub totals: bool,
+    /// JSON objects, one a line, in place of sentences: docs/FORMATS.md has their members.
+    pub json: bool,
 }
 
 /// What an audit of a log found.
@@ -39,7 +45,7 @@ pub struct Judgement {
     /// The first fault, if there is one.
     pub fault: Option<Found>,
     /// What is printed: how much the verdict stands on, with an order that explains the lines where
-    /// that is wanted; or the first fault, or all, each with why it stands.
+    /// that is wanted; or the first fault, or all, each with why it stands, and totals.
     pub text: String,
 }
 
@@ -47,49 +53,87 @@ pub struct Judgement {
 /// fails only where memory is refused.
 ///
 /// `n log n` in how many lines there are, and linear in what is printed.
-pub fn judge(
+pub fn judge<'x>(
     alloc: Global,
-    log: &Log,
-    names: &[String],
-    opts: &AuditOpts,
+    log: &'x Log,
+    names: &'x [String],
+    opts: &'x AuditOpts,
     wanted: Wanted,
 ) -> Result<Judgement, AllocError>
     ensures { IfOk result (λ found. IsText (lines_of log.now) (map string_bytes names.now)
         opts.now wanted found.fault (string_bytes found.text)) }
 {
-    let view = View { log, names };
+    let view = View::of(log, names);
+    let keys = None;
+    judge_asked(alloc, Asked { view, keys, opts }, wanted)
+}
+
+/// The same, by threads.
+fn judge_by<'x, R: Threads + Sync>(
+    rt: &R,
+    alloc: Global,
+    log: &'x Log,
+    names: &'x [String],
+    opts: &'x AuditOpts,
+    wanted: Wanted,
+) -> Result<Judgement, AllocError>
+    ensures { IfOk result (λ found. IsText (lines_of log.now) (map string_bytes names.now)
+        opts.now wanted found.fault (string_bytes found.text)) }
+{
+    let view = View::of(log, names);
+    let keys = None;
+    judge_asked_by(rt, alloc, Asked { view, keys, opts }, wanted)
+}
+
+/// Audits what is asked.
+pub(crate) fn judge_asked(
+    alloc: Global,
+    asked: Asked<'_>,
+    wanted: Wanted,
+) -> Result<Judgement, AllocError>
+    requires { HasKeys asked }
+    ensures { IfOk result (λ found. IsTextOf (log_in asked.entry) (shown_in asked.entry.view)
+        (keys_in asked.entry) asked.entry.opts.now wanted found.fault (string_bytes found.text)) }
+{
     if wanted.history {
-        return match order_or_finding(alloc, log, opts)? {
-            Ok(turns) => explained(alloc, view, opts, &turns),
-            Err(_) if wanted.all => all_faults(alloc, view, opts),
-            Err(first) => one_fault(alloc, view, first),
+        return match asked.order(alloc)? {
+            Ok(order) => explained(alloc, asked, &order, wanted),
+            Err(_) if wanted.all || wanted.totals => {
+                let found = asked.findings(alloc)?;
+                listed(alloc, asked, &found, wanted)
+            }
+            Err(first) => one_fault(alloc, asked, first, wanted),
         };
     }
-    if wanted.all {
-        return all_faults(alloc, view, opts);
+    if wanted.all || wanted.totals {
+        let found = asked.findings(alloc)?;
+        if found.is_empty() {
+            return passed(alloc, asked, asked.summary(alloc)?, wanted);
+        }
+        return listed(alloc, asked, &found, wanted);
     }
-    match first_finding(alloc, log, opts)? {
-        Some(first) => one_fault(alloc, view, first),
-        None => no_fault(alloc, summary(alloc, log, opts)?),
+    match asked.first(alloc)? {
+        Some(first) => one_fault(alloc, asked, first, wanted),
+        None => passed(alloc, asked, asked.summary(alloc)?, wanted),
     }
 }
 
-/// Audits a log as [`judge`] does. Where the first fault alone is wanted it is looked for in threads,
-/// beside one that counts what a verdict stands on.
-pub(crate) fn judge_by<R: Threads + Sync>(
+/// Audits what is asked as [`judge_asked`] does. Where the first fault alone is wanted, and lines
+/// have no keys, it is looked for in threads, beside one that counts what a verdict stands on.
+pub(crate) fn judge_asked_by<R: Threads + Sync>(
     rt: &R,
     alloc: Global,
-    log: &Log,
-    names: &[String],
-    opts: &AuditOpts,
+    asked: Asked<'_>,
     wanted: Wanted,
 ) -> Result<Judgement, AllocError>
-    ensures { IfOk result (λ found. IsText (lines_of log.now) (map string_bytes names.now)
-        opts.now wanted found.fault (string_bytes found.text)) }
+    requires { HasKeys asked }
+    ensures { IfOk result (λ found. IsTextOf (log_in asked.entry) (shown_in asked.entry.view)
+        (keys_in asked.entry) asked.entry.opts.now wanted found.fault (string_bytes found.text)) }
 {
-    if wanted.all || wanted.history {
-        return judge(alloc, log, names, opts, wanted);
+    if wanted.all || wanted.totals || wanted.history || asked.keys.is_some() {
+        return judge_asked(alloc, asked, wanted);
     }
+    let (log, opts) = (asked.view.log, asked.opts);
     let (first, counts) = join(
         rt,
         || -> Result<Option<Finding>, AllocError>
@@ -100,80 +144,22 @@ pub(crate) fn judge_by<R: Threads + Sync>(
                 ↔ AreExplained (case_of (lines_of log.entry.now) opts.entry.now)) }
             ensures reason { IfOk result
                 (λ first. IfSome first (HasReason (lines_of log.entry.now) opts.entry.now)) }
+            ensures late { IfOk result
+                (λ first. IfSome first (HasLate (lines_of log.entry.now) opts.entry.now)) }
         { first_finding_by(rt, alloc, log, opts) },
         || -> Result<Summary, AllocError>
             requires { IsSync R.row }
-            ensures { IfOk result (IsSummary (lines_of log.entry.now) opts.entry.now) }
+            ensures { IfOk result (IsSummary (lines_of log.entry.now) None opts.entry.now) }
         { summary_by(rt, alloc, log, opts) },
     );
     match first? {
-        Some(first) => one_fault(alloc, View { log, names }, first),
-        None => no_fault(alloc, counts?),
+        Some(first) => one_fault(alloc, asked, first, wanted),
+        None => passed(alloc, asked, counts?, wanted),
     }
 }
 
-/// What is said of a log without a fault, by its counts.
-fn no_fault(alloc: Global, counts: Summary) -> Result<Judgement, AllocError>
-    ensures none { IfOk result (λ found. found.fault ≡ None) }
-    ensures text { IfOk result (λ found. string_bytes found.text ≡ line (summary_text counts)) }
-{
-    let mut text = String::new(alloc);
-    push_verdict(&mut text, counts)?;
-    Ok(Judgement { fault: None, text })
-}
-
-/// The same, with an order that explains the lines.
-fn explained(
-    alloc: Global,
-    view: View<'_>,
-    opts: &AuditOpts,
-    turns: &[Turn],
-) -> Result<Judgement, AllocError>
-    requires order { IsOrder (lines_of view.log.now) opts.now turns.now }
-    ensures none { IfOk result (λ found. found.fault ≡ None) }
-    ensures text { IfOk result (λ found. IsPassed (lines_of view.entry.log.now)
-        (map string_bytes view.entry.names.now) opts.now true (string_bytes found.text)) }
-{
-    let mut text = String::new(alloc);
-    push_verdict(&mut text, summary(alloc, view.log, opts)?)?;
-    view.push_history(&mut text, turns)?;
-    Ok(Judgement { fault: None, text })
-}
-
-/// What is said of a log by its first fault.
-fn one_fault(alloc: Global, view: View<'_>, first: Finding) -> Result<Judgement, AllocError>
-    ensures fault { IfOk result (λ found. found.fault ≡ Some first.found) }
-    ensures text { IfOk result (λ found. string_bytes found.text
-        ≡ line (finding_text (lines_in view.entry) (names_in view.entry) first)) }
-{
-    let mut text = String::new(alloc);
-    view.push_finding(&mut text, first)?;
-    Ok(Judgement {
-        fault: Some(first.found),
-        text,
-    })
-}
-
-/// What is said of a log by all its faults; by its counts where there is none.
-fn all_faults(alloc: Global, view: View<'_>, opts: &AuditOpts) -> Result<Judgement, AllocError>
-    ensures { IfOk result (λ found. IsText (lines_of view.entry.log.now)
-        (map string_bytes view.entry.names.now) opts.now (record { history = false; all = true })
-        found.fault (string_bytes found.text)) }
-{
-    let findings = findings(alloc, view.log, opts)?;
-    let Some(first) = findings.first() else {
-        return no_fault(alloc, summary(alloc, view.log, opts)?);
-    };
-    let mut text = String::new(alloc);
-    view.push_findings(&mut text, &findings)?;
-    Ok(Judgement {
-        fault: Some(first.found),
-        text,
-    })
-}
-
 /// Audits the log that a text of JSON Lines stands for. Its clients are printed as JSON strings, as
-/// [`fdb_log_reader::Names::printed`] has them. It is refused as [`read_log`] refuses it; an error
+/// [`fdb_log_reader::Names::printed`] has them. It is refused as [`fdb_log_reader::read_log`] refuses it; an error
 /// of memory says nothing of the text.
 ///
 /// `n log n` in how many lines there are, and linear in the text and in what is printed.
@@ -188,40 +174,85 @@ pub fn judge_text(
     ensures err { IfErr result
         (λ error. (error.why ≡ Why.Memory) ⊎ (reading_in bytes.now ≡ Err error)) }
 {
-    let named = read_log(alloc, bytes)?;
+    let named = read(alloc, bytes)?;
     judge_named(alloc, &named, opts, wanted).map_err(|_| ReadError {
         line: 0,
         why: Why::Memory,
     })
 }
 
-/// Audits a log whose clients have names, which are printed as JSON strings.
-pub(crate) fn judge_named(
+/// Reads a log as [`fdb_log_reader::read_log`] does.
+fn read(alloc: Global, bytes: &[u8]) -> Result<NamedLog, ReadError>
+    ensures read { ReadsAs bytes.now result }
+    ensures keys { IfOk result (λ named. HasOwnKeys (reading_of named)) }
+{
+    let reader = LogReader::new(alloc).feed(bytes)?;
+    reader.finish()
+}
+
+/// Audits a log that was read: by key, where the keys of its lines were kept. Clients and keys are
+/// printed as JSON strings.
+fn judge_named<'x>(
     alloc: Global,
-    named: &NamedLog,
-    opts: &AuditOpts,
+    named: &'x NamedLog,
+    opts: &'x AuditOpts,
     wanted: Wanted,
 ) -> Result<Judgement, AllocError>
-    ensures { IfOk result (λ found. IsText (lines_of named.now.log)
-        (map printed (names_of named.now.names)) opts.now wanted
+    requires { HasOwnKeys (reading_of named.now) }
+    ensures { IfOk result (λ found. IsTextOfReading (reading_of named.entry.now) opts.entry.now wanted
         found.fault (string_bytes found.text)) }
 {
+    if let Some(keys) = &named.keys {
+        return judge_keyed(alloc, named, keys, opts, wanted);
+    }
     let names = named.names.printed(alloc)?;
     judge(alloc, &named.log, &names, opts, wanted)
 }
 
 /// The same, by threads.
-pub(crate) fn judge_named_by<R: Threads + Sync>(
+pub(crate) fn judge_named_by<'x, R: Threads + Sync>(
     rt: &R,
     alloc: Global,
-    named: &NamedLog,
-    opts: &AuditOpts,
+    named: &'x NamedLog,
+    opts: &'x AuditOpts,
     wanted: Wanted,
 ) -> Result<Judgement, AllocError>
-    ensures { IfOk result (λ found. IsText (lines_of named.now.log)
-        (map printed (names_of named.now.names)) opts.now wanted
+    requires { HasOwnKeys (reading_of named.now) }
+    ensures { IfOk result (λ found. IsTextOfReading (reading_of named.entry.now) opts.entry.now wanted
+        found.fault (string_bytes found.text)) }
+{
+    if let Some(keys) = &named.keys {
+        return judge_keyed(alloc, named, keys, opts, wanted);
+    }
+    let names = named.names.printed(alloc)?;
+    judge_by(rt, alloc, &named.log, &names, opts, wanted)
+}
+
+/// Audits a log by the keys of its lines.
+fn judge_keyed<'x>(
+    alloc: Global,
+    named: &'x NamedLog,
+    keys: &'x Keys,
+    opts: &'x AuditOpts,
+    wanted: Wanted,
+) -> Result<Judgement, AllocError>
+    requires plain { HasOwnKeys (reading_of named.now) }
+    requires keys { named.now.keys ≡ Some keys.now }
+    ensures { IfOk result (λ found. IsTextOfReading (reading_of named.entry.now) opts.entry.now wanted
         found.fault (string_bytes found.text)) }
 {
     let names = named.names.printed(alloc)?;
-    judge_by(rt, alloc, &named.log, &names, opts, wanted)
+    let texts = keys.names().printed(alloc)?;
+    let beside = [MemberBeside {
+        member: "\"key\"",
+        texts: &texts,
+        numbers: keys.numbers(),
+    }];
+    let view = View {
+        log: &named.log,
+        names: &names,
+        beside: &beside,
+    };
+    let keys = Some(keys.numbers());
+    judge_asked(alloc, Asked { view, keys, opts }, wanted)
 }

@@ -4,14 +4,24 @@
 //! the log; [`judge_text`] reads the log from JSON Lines.
 #![tactic(auto)]
 
+mod arguments;
+mod asked;
+mod beside;
 mod judging;
+mod listing;
+mod object;
+mod passing;
 mod program;
 mod reason;
 mod refused;
+mod total_object;
+mod totals;
+mod turn_object;
 mod verdict;
 mod view;
 
+pub use arguments::AuditArguments;
 pub use fdb_command::command_line;
 pub use judging::{Judgement, Wanted, judge, judge_text};
-pub use program::{Audit, AuditArguments, MAX_LOG_BYTES, drive};
+pub use program::{Audit, MAX_LOG_BYTES, drive};
 pub use refused::LogsRefused;

@@ -3,13 +3,13 @@
 ghost use Rattle.std.specs.Prelude.{◌≡◌, ◌++◌, OnOk, string_bytes};
 ghost use Rattle.fdb_lines.specs.Before.{began, ended};
 ghost use Rattle.fdb_lines.specs.Lines.{line_at};
-ghost use Rattle.fdb_audit.specs.Text.{caller_text, deed_text, finding_text, is_by, known_text};
-ghost use Rattle.fdb_audit.specs.Text.{line, listing_text, reason_text, sentence_text};
-ghost use Rattle.fdb_audit.specs.Text.{since};
-ghost use Rattle.fdb_audit.specs.private.{lines_in, names_in};
+ghost use Rattle.fdb_audit.specs.Text.{caller_text, deed_text, ended_text, finding_text, is_by};
+ghost use Rattle.fdb_audit.specs.Text.{is_told, known_text, late_text, line, listing_text};
+ghost use Rattle.fdb_audit.specs.Text.{reason_text, sentence_text, since, wait_text};
+ghost use Rattle.fdb_audit.specs.private.{shown_in};
 
 use crate::view::{View, push_number};
-use fdb_lines::{Call, Finding, Means, Reason, Witness};
+use fdb_lines::{Call, Finding, Late, Means, Reason, Witness};
 use std::alloc::AllocError;
 use std::fmt::Write;
 
@@ -17,7 +17,7 @@ impl View<'_> {
     /// Writes a line for each of some faults, in their order.
     pub(crate) fn push_findings(self, out: &mut String, found: &[Finding]) -> Result<(), AllocError>
         ensures { OnOk result (string_bytes out.new ≡ string_bytes out.old
-            ++ listing_text (lines_in self.entry) (names_in self.entry) found.now) }
+            ++ listing_text (shown_in self.entry) found.now) }
     {
         for finding in found {
             self.push_finding(out, *finding)?;
@@ -28,29 +28,36 @@ impl View<'_> {
     /// Writes a line for a fault, with why it stands.
     pub(crate) fn push_finding(self, out: &mut String, finding: Finding) -> Result<(), AllocError>
         ensures { OnOk result (string_bytes out.new ≡ string_bytes out.old
-            ++ line (finding_text (lines_in self.entry) (names_in self.entry) finding)) }
+            ++ line (finding_text (shown_in self.entry) finding)) }
     {
         let fault = finding.found;
         write!(out, "audit fault: {fault}: ")?;
-        self.push_sentence(out, fault.line, finding.reason)?;
+        self.push_sentence(out, fault.line, finding.late, finding.reason)?;
         writeln!(out)
     }
 
     /// Writes what the caller of the line at a place did, and why that is a fault.
-    fn push_sentence(self, out: &mut String, place: u32, reason: Reason) -> Result<(), AllocError>
+    fn push_sentence(
+        self,
+        out: &mut String,
+        place: u32,
+        late: Option<Late>,
+        reason: Reason,
+    ) -> Result<(), AllocError>
         ensures { OnOk result (string_bytes out.new ≡ string_bytes out.old
-            ++ sentence_text (lines_in self.entry) (names_in self.entry) place reason) }
+            ++ sentence_text (shown_in self.entry) place late reason) }
     {
         let line = self.line(place);
         self.push_caller(out, line.client)?;
         push_deed(out, line.call)?;
-        self.push_reason(out, place, reason)
+        self.push_members(out, place)?;
+        self.push_reason(out, place, late, reason)
     }
 
     /// Writes who made a call: a client, or `its caller` where that is not known.
     fn push_caller(self, out: &mut String, client: Option<u32>) -> Result<(), AllocError>
         ensures { OnOk result (string_bytes out.new
-            ≡ string_bytes out.old ++ caller_text (names_in self.entry) client) }
+            ≡ string_bytes out.old ++ caller_text (shown_in self.entry).names client) }
     {
         match client {
             Some(number) => self.push_client(out, number),
@@ -59,13 +66,20 @@ impl View<'_> {
     }
 
     /// Writes why a fault stands, behind what the caller of the line at a place did.
-    fn push_reason(self, out: &mut String, place: u32, reason: Reason) -> Result<(), AllocError>
+    fn push_reason(
+        self,
+        out: &mut String,
+        place: u32,
+        late: Option<Late>,
+        reason: Reason,
+    ) -> Result<(), AllocError>
         ensures { OnOk result (string_bytes out.new ≡ string_bytes out.old
-            ++ reason_text (lines_in self.entry) (names_in self.entry) place reason) }
+            ++ reason_text (shown_in self.entry) place late reason) }
     {
         match reason {
             Reason::Known { version, by } => {
-                write!(out, ", but {version} was known: ")?;
+                self.push_late(out, place, late, by)?;
+                write!(out, "{version} was known: ")?;
                 self.push_known(out, place, version, by)
             }
             Reason::Unreported => write!(out, ", which nobody reported"),
@@ -94,6 +108,36 @@ impl View<'_> {
         }
     }
 
+    /// Writes how late a call was, and after which line, where that is told by no other line.
+    fn push_late(
+        self,
+        out: &mut String,
+        place: u32,
+        late: Option<Late>,
+        by: Option<Witness>,
+    ) -> Result<(), AllocError>
+        ensures { OnOk result (string_bytes out.new ≡ string_bytes out.old
+            ++ late_text (shown_in self.entry) place late by) }
+    {
+        match late {
+            Some(late) if late.by > 0 && !is_told(late.line, by) => {
+                write!(out, ", {} too late: ", late.by)?;
+                self.push_ended(out, place, late.line)?;
+                write!(out, ", and ")
+            }
+            _ => write!(out, ", but "),
+        }
+    }
+
+    /// Writes that a line had ended before the call at a place began, and how long.
+    fn push_ended(self, out: &mut String, place: u32, other: u32) -> Result<(), AllocError>
+        ensures { OnOk result (string_bytes out.new ≡ string_bytes out.old
+            ++ ended_text (shown_in self.entry) place other) }
+    {
+        self.push_mention(out, other)?;
+        push_wait(out, place, self.wait(other, place))
+    }
+
     /// Writes how the call at a place knew of a version.
     fn push_known(
         self,
@@ -103,19 +147,13 @@ impl View<'_> {
         by: Option<Witness>,
     ) -> Result<(), AllocError>
         ensures { OnOk result (string_bytes out.new ≡ string_bytes out.old
-            ++ known_text (lines_in self.entry) (names_in self.entry) place version by) }
+            ++ known_text (shown_in self.entry) place version by) }
     {
         let Some(by) = by else {
             return write!(out, "all began with {version}");
         };
         match by.means {
-            Means::Ended => {
-                let wait = self.wait(by.line, place);
-                self.push_mention(out, by.line)?;
-                write!(out, " had ended {wait} before ")?;
-                push_number(out, place)?;
-                write!(out, " began")
-            }
+            Means::Ended => self.push_ended(out, place, by.line),
             Means::Own => {
                 self.push_mention(out, by.line)?;
                 write!(out, " is an earlier call of its client")
@@ -130,14 +168,23 @@ impl View<'_> {
 
     /// How long a line had ended when a call began; 0 where its end is not known.
     fn wait(self, other: u32, place: u32) -> u64
-        ensures { result ≡ since (ended (line_at (lines_in self.entry) other))
-            (began (line_at (lines_in self.entry) place)) }
+        ensures { result ≡ since (ended (line_at (shown_in self.entry).lines other))
+            (began (line_at (shown_in self.entry).lines place)) }
     {
         match self.line(other).ended() {
             Some(end) => self.line(place).began().saturating_sub(end),
             None => 0,
         }
     }
+}
+
+/// Writes how long a line had ended when the call at a place began.
+fn push_wait(out: &mut String, place: u32, wait: u64) -> Result<(), AllocError>
+    ensures { OnOk result (string_bytes out.new ≡ string_bytes out.old ++ wait_text place wait) }
+{
+    write!(out, " had ended {wait} before ")?;
+    push_number(out, place)?;
+    write!(out, " began")
 }
 
 /// Writes what a caller did: it read, drew or reported a version.
@@ -157,4 +204,11 @@ fn is_by(place: u32, by: Option<Witness>) -> bool
     ensures { result ≡ is_by place by }
 {
     matches!(by, Some(by) if by.line == place)
+}
+
+/// Whether a line is told by its end as how a version was known.
+fn is_told(place: u32, by: Option<Witness>) -> bool
+    ensures { result ≡ is_told place by }
+{
+    matches!(by, Some(Witness { line, means: Means::Ended }) if line == place)
 }

@@ -36,7 +36,7 @@ fn cause_of(why: Why) -> &'static str {
         Why::NoCall => "no read, commit, ask, report or learn",
         Why::TwoCalls => "more than one of read, commit, ask, report and learn",
         Why::SomeTimes => "began and ended stand in all lines or in none",
-        Why::BadMember(Member::Client) => "no text, or none in a log without times",
+        Why::BadMember(Member::Client) => "no name, or none in a log without times",
         Why::BadMember(Member::Read | Member::Commit | Member::Ask | Member::Report) => {
             "no whole number below 2^64"
         }
@@ -45,6 +45,7 @@ fn cause_of(why: Why) -> &'static str {
         Why::BadMember(Member::Ended) => {
             "no whole number below 2^64 and not null, or before began"
         }
+        Why::BadKey => "no name",
         Why::Memory => "want of memory",
     }
 }

@@ -1,10 +1,11 @@
 //! What is printed of a log without a fault: how much that stands on, and an order.
 
 ghost use Rattle.std.specs.Prelude.{◌≡◌, ◌++◌, OnOk, string_bytes};
-ghost use Rattle.fdb_audit.specs.Text.{act_text, evidence_text, history_lines, line};
+ghost use Rattle.fdb_audit.specs.Text.{act_text, counts_text, evidence_text, history_lines};
+ghost use Rattle.fdb_audit.specs.Text.{line};
 ghost use Rattle.fdb_audit.specs.Text.{ordered_text, owner_text, parts_text, summary_text};
 ghost use Rattle.fdb_audit.specs.Text.{turn_line, turn_owner, versions_text};
-ghost use Rattle.fdb_audit.specs.private.{lines_in, names_in};
+ghost use Rattle.fdb_audit.specs.private.{shown_in};
 
 use crate::view::{View, push_number};
 use fdb_lines::{Act, Summary, Turn};
@@ -16,11 +17,19 @@ pub(crate) fn push_verdict(out: &mut String, counts: Summary) -> Result<(), Allo
     ensures { OnOk result
         (string_bytes out.new ≡ string_bytes out.old ++ line (summary_text counts)) }
 {
-    write!(out, "audit ok lines {}", counts.lines)?;
+    write!(out, "audit ok")?;
+    push_counts(out, counts)?;
+    writeln!(out)
+}
+
+/// Writes how much was judged.
+pub(crate) fn push_counts(out: &mut String, counts: Summary) -> Result<(), AllocError>
+    ensures { OnOk result (string_bytes out.new ≡ string_bytes out.old ++ counts_text counts) }
+{
+    write!(out, " lines {}", counts.lines)?;
     push_versions(out, counts)?;
     push_parts(out, counts)?;
-    push_evidence(out, counts)?;
-    writeln!(out)
+    push_evidence(out, counts)
 }
 
 /// Writes how many lines have times, and how many reads and commits there were.
@@ -58,25 +67,36 @@ fn push_ordered(out: &mut String, pairs: Option<u64>) -> Result<(), AllocError>
 }
 
 impl View<'_> {
-    /// Writes a line for each turn of an order, counted from 0.
-    pub(crate) fn push_history(self, out: &mut String, turns: &[Turn]) -> Result<(), AllocError>
+    /// Writes a line for each turn of an order, counted from 0, with the key of its lines.
+    pub(crate) fn push_history(
+        self,
+        out: &mut String,
+        key: &str,
+        turns: &[Turn],
+    ) -> Result<(), AllocError>
         ensures { OnOk result (string_bytes out.new ≡ string_bytes out.old
-            ++ history_lines (lines_in self.entry) (names_in self.entry) 0 turns.now) }
+            ++ history_lines (shown_in self.entry) key.now 0 turns.now) }
     {
         for (number, turn) in turns.iter().enumerate() {
-            self.push_turn(out, number as u64, turn)?;
+            self.push_turn(out, key, number as u64, turn)?;
         }
         Ok(())
     }
 
     /// Writes a line for a turn of an order, with its number.
-    fn push_turn(self, out: &mut String, number: u64, turn: &Turn) -> Result<(), AllocError>
+    fn push_turn(
+        self,
+        out: &mut String,
+        key: &str,
+        number: u64,
+        turn: &Turn,
+    ) -> Result<(), AllocError>
         ensures { OnOk result (string_bytes out.new ≡ string_bytes out.old
-            ++ line (turn_line (lines_in self.entry) (names_in self.entry) number turn.now)) }
+            ++ line (turn_line (shown_in self.entry) key.now number turn.now)) }
     {
         write!(out, "history {number} ")?;
         push_act(out, turn.act)?;
-        self.push_whose_turn(out, turn.line)?;
+        self.push_whose_turn(out, key, turn.line)?;
         if turn.shared {
             writeln!(out, " shared")
         } else {
@@ -85,25 +105,31 @@ impl View<'_> {
     }
 
     /// Writes whose a turn is: of a line, by number, with its client, or of callers who logged
-    /// nothing.
-    fn push_whose_turn(self, out: &mut String, line: Option<u32>) -> Result<(), AllocError>
+    /// nothing, with the key.
+    fn push_whose_turn(
+        self,
+        out: &mut String,
+        key: &str,
+        line: Option<u32>,
+    ) -> Result<(), AllocError>
         ensures { OnOk result (string_bytes out.new ≡ string_bytes out.old
-            ++ turn_owner (lines_in self.entry) (names_in self.entry) line) }
+            ++ turn_owner (shown_in self.entry) key.now line) }
     {
         match line {
             Some(place) => {
                 write!(out, " ")?;
                 push_number(out, place)?;
-                self.push_owner(out, self.line(place).client)
+                self.push_owner(out, self.line(place).client)?;
+                self.push_members(out, place)
             }
-            None => write!(out, " others"),
+            None => write!(out, " others{key}"),
         }
     }
 
     /// Writes the client of a turn's line, behind a space; nothing where the line names none.
     fn push_owner(self, out: &mut String, client: Option<u32>) -> Result<(), AllocError>
         ensures { OnOk result (string_bytes out.new
-            ≡ string_bytes out.old ++ owner_text (names_in self.entry) client) }
+            ≡ string_bytes out.old ++ owner_text (shown_in self.entry).names client) }
     {
         match client {
             Some(number) => {

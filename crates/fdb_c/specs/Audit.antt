@@ -41,7 +41,7 @@ abbrev pub opts_of : FdbAuditOptions → AuditOpts
 opts_of options = record { complete = complete_of options; margin = options.margin }
 
 abbrev pub wanted_of : FdbAuditOptions → Wanted
-wanted_of options = record { history = options.history; all = options.all }
+wanted_of options = record { history = options.history; all = options.all; totals = false; json = false }
 
 -- ---- the log that an array of calls stands for
 
@@ -100,6 +100,7 @@ status_of why.NoCall = FDB_NO_CALL
 status_of why.TwoCalls = FDB_TWO_CALLS
 status_of why.SomeTimes = FDB_SOME_TIMES
 status_of (why.BadMember _) = FDB_BAD_MEMBER
+status_of why.BadKey = FDB_BAD_MEMBER
 status_of why.Memory = FDB_MEMORY
 
 abbrev pub number_of : Member → ℕ

@@ -90,6 +90,8 @@ pub(crate) fn wanted_of(options: FdbAuditOptions) -> Wanted
     Wanted {
         history: options.history,
         all: options.all,
+        totals: false,
+        json: false,
     }
 }
 
@@ -121,7 +123,7 @@ fn status_of(why: Why) -> u8
         Why::NoCall => FDB_NO_CALL,
         Why::TwoCalls => FDB_TWO_CALLS,
         Why::SomeTimes => FDB_SOME_TIMES,
-        Why::BadMember(_) => FDB_BAD_MEMBER,
+        Why::BadMember(_) | Why::BadKey => FDB_BAD_MEMBER,
         Why::Memory => FDB_MEMORY,
     }
 }

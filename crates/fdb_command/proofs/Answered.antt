@@ -31,51 +31,51 @@ untold program arguments taken silent = go (program.tells arguments) refl
     go true is = absurd (silent (taken, is))
     go false is = is
 
-module _ {O I E F : Type 0} (program : Promise O I E F) (arguments : List Text) (remaining : Option (List ℕ)) (taken : fault_of program.app arguments ≡ []) where
+module _ {O I E F : Type 0} (program : Promise O I E F) (arguments : List Text) (options : O) (asks : program.asks arguments options) (remaining : Option (List ℕ)) (taken : fault_of program.app arguments ≡ []) where
   -- a program stopped while it took the input
-  pub refused_early : (fault : Fault E F) → (fault ≡ Reading) ⊎ MayStop program (file_named program.app arguments) remaining fault → (error : E) → fault ≡ Refused error → MayRefuse program arguments remaining
+  pub refused_early : (fault : Fault E F) → (fault ≡ Reading) ⊎ MayStop program options (file_named program.app arguments) remaining fault → (error : E) → fault ≡ Refused error → MayRefuse program arguments remaining
   refused_early fault (inl reading) error is = absurd (cc)
-  refused_early fault (inr at) error is = (taken, at.bytes, at.read, error, subst (Stops program at.bytes) is at.stops)
+  refused_early fault (inr at) error is = (taken, at.bytes, at.read, error, subst (Stops program arguments at.bytes) is (at.stops arguments asks))
 
-  pub found_early : (fault : Fault E F) → (fault ≡ Reading) ⊎ MayStop program (file_named program.app arguments) remaining fault → (found : F) → fault ≡ Found found → MayFind program arguments remaining
+  pub found_early : (fault : Fault E F) → (fault ≡ Reading) ⊎ MayStop program options (file_named program.app arguments) remaining fault → (found : F) → fault ≡ Found found → MayFind program arguments remaining
   found_early fault (inl reading) found is = absurd (cc)
-  found_early fault (inr at) found is = (taken, at.bytes, at.read, found, subst (Stops program at.bytes) is at.stops)
+  found_early fault (inr at) found is = (taken, at.bytes, at.read, found, subst (Stops program arguments at.bytes) is (at.stops arguments asks))
 
   -- or its body was called on what it took
   module _ (bytes : List ℕ) (few : length bytes ≤ program.most) (read : MayBeRead (file_named program.app arguments) remaining bytes) where
-    pub printed_of : (r : Result (Answer F) (Fault E F)) → MatchResult r (λ answer. program.prints arguments bytes answer.text.items answer.found) (Stops program bytes)
+    pub printed_of : (r : Result (Answer F) (Fault E F)) → MatchResult r (λ answer. program.prints arguments bytes answer.text.items answer.found) (Stops program arguments bytes)
         → IfOk r (λ answer. IsPrinted program arguments remaining answer.found answer.text.items)
     printed_of (Ok answer) prints = record { taken = taken; bytes = bytes; few = few; read = read; printed = prints }
     printed_of (Err fault) stops = tt
 
-    pub refused_of : (r : Result (Answer F) (Fault E F)) → MatchResult r (λ answer. program.prints arguments bytes answer.text.items answer.found) (Stops program bytes)
+    pub refused_of : (r : Result (Answer F) (Fault E F)) → MatchResult r (λ answer. program.prints arguments bytes answer.text.items answer.found) (Stops program arguments bytes)
         → IfErr r (λ fault. (error : E) → fault ≡ Refused error → MayRefuse program arguments remaining)
     refused_of (Ok answer) prints = tt
-    refused_of (Err fault) stops = λ error is. (taken, bytes, read, error, subst (Stops program bytes) is stops)
+    refused_of (Err fault) stops = λ error is. (taken, bytes, read, error, subst (Stops program arguments bytes) is stops)
 
-    pub found_of : (r : Result (Answer F) (Fault E F)) → MatchResult r (λ answer. program.prints arguments bytes answer.text.items answer.found) (Stops program bytes)
+    pub found_of : (r : Result (Answer F) (Fault E F)) → MatchResult r (λ answer. program.prints arguments bytes answer.text.items answer.found) (Stops program arguments bytes)
         → IfErr r (λ fault. (found : F) → fault ≡ Found found → MayFind program arguments remaining)
     found_of (Ok answer) prints = tt
-    found_of (Err fault) stops = λ found is. (taken, bytes, read, found, subst (Stops program bytes) is stops)
+    found_of (Err fault) stops = λ found is. (taken, bytes, read, found, subst (Stops program arguments bytes) is stops)
 
 -- a program's own faults
-stops_own : {O I E F : Type 0} (program : Promise O I E F) (bytes : List ℕ) (fault : Fault E F) → Stops program bytes fault → (fault ≢ Arguments) × (fault ≢ Writing)
-stops_own program bytes (Refused error) stops = ((λ is. cc), (λ is. cc))
-stops_own program bytes Arguments stops = absurd stops
-stops_own program bytes Memory stops = ((λ is. cc), (λ is. cc))
-stops_own program bytes (Found found) stops = ((λ is. cc), (λ is. cc))
-stops_own program bytes Reading stops = absurd stops
-stops_own program bytes Writing stops = absurd stops
+stops_own : {O I E F : Type 0} (program : Promise O I E F) (arguments : List Text) (bytes : List ℕ) (fault : Fault E F) → Stops program arguments bytes fault → (fault ≢ Arguments) × (fault ≢ Writing)
+stops_own program arguments bytes (Refused error) stops = ((λ is. cc), (λ is. cc))
+stops_own program arguments bytes Arguments stops = absurd stops
+stops_own program arguments bytes Memory stops = ((λ is. cc), (λ is. cc))
+stops_own program arguments bytes (Found found) stops = ((λ is. cc), (λ is. cc))
+stops_own program arguments bytes Reading stops = absurd stops
+stops_own program arguments bytes Writing stops = absurd stops
 
-pub own_early : {O I E F : Type 0} (program : Promise O I E F) (file : Option Text) (remaining : Option (List ℕ)) (fault : Fault E F) → (fault ≡ Reading) ⊎ MayStop program file remaining fault
-    → (fault ≢ Arguments) × (fault ≢ Writing)
-own_early program file remaining fault (inl reading) = ((λ is. cc), (λ is. cc))
-own_early program file remaining fault (inr at) = stops_own program at.bytes fault at.stops
+pub own_early : {O I E F : Type 0} (program : Promise O I E F) (arguments : List Text) (options : O) (file : Option Text) (remaining : Option (List ℕ)) (fault : Fault E F) → program.asks arguments options
+    → (fault ≡ Reading) ⊎ MayStop program options file remaining fault → (fault ≢ Arguments) × (fault ≢ Writing)
+own_early program arguments options file remaining fault asks (inl reading) = ((λ is. cc), (λ is. cc))
+own_early program arguments options file remaining fault asks (inr at) = stops_own program arguments at.bytes fault (at.stops arguments asks)
 
-pub own_of : {O I E F : Type 0} (program : Promise O I E F) (bytes : List ℕ) (P : Answer F → Type 0) (r : Result (Answer F) (Fault E F)) → MatchResult r P (Stops program bytes)
+pub own_of : {O I E F : Type 0} (program : Promise O I E F) (arguments : List Text) (bytes : List ℕ) (P : Answer F → Type 0) (r : Result (Answer F) (Fault E F)) → MatchResult r P (Stops program arguments bytes)
     → IfErr r (λ fault. (fault ≢ Arguments) × (fault ≢ Writing))
-own_of program bytes P (Ok answer) prints = tt
-own_of program bytes P (Err fault) stops = stops_own program bytes fault stops
+own_of program arguments bytes P (Ok answer) prints = tt
+own_of program arguments bytes P (Err fault) stops = stops_own program arguments bytes fault stops
 
 -- what was printed was written, whole
 pub written : {O I E F : Type 0} (program : Promise O I E F) (arguments : List Text) (remaining : Option (List ℕ)) (told found : Option F) (text : List ℕ) (before after : Option (List ℕ))

@@ -15,34 +15,35 @@ use Rattle.fdb_command.specs.declared.program.Answer.{Answer}
 use Rattle.fdb_command.specs.declared.fault.Fault.TheVariants.{Refused, Arguments, Memory, Found, Reading, Writing}
 
 -- A program's own: its command, the most bytes that its input may have, what its flags may stand
--- for, where progress is told, which bytes an intake has taken, which texts it may print at some
--- arguments of some bytes, with a fault that it finds or none, which bytes it refuses and why, and
--- which faults it finds in bytes of which it prints nothing.
+-- for, where progress is told, which bytes an intake has taken by what the flags stand for, which
+-- texts it may print at some arguments of some bytes, with a fault that it finds or none, which
+-- bytes it refuses there and why, and which faults it finds in bytes of which it prints nothing.
 pub record Promise (O I E F : Type 0) : Type 1 where
   pub app : App
   pub most : ℕ
   pub asks : List Text → O → Type 0
   pub tells : List Text → Bool
-  pub taken : I → List ℕ → Type 0
+  pub taken : O → I → List ℕ → Type 0
   pub prints : List Text → List ℕ → List ℕ → Option F → Type 0
-  pub refuses : List ℕ → E → Type 0
-  pub finds : List ℕ → F → Type 0
+  pub refuses : List Text → List ℕ → E → Type 0
+  pub finds : List Text → List ℕ → F → Type 0
 
--- why a program prints nothing of these bytes
-abbrev pub Stops : {O I E F : Type 0} → Promise O I E F → List ℕ → Fault E F → Type 0
-Stops program bytes (Refused error) = program.refuses bytes error
-Stops program bytes Arguments = ⊥
-Stops program bytes Memory = ⊤
-Stops program bytes (Found found) = program.finds bytes found
-Stops program bytes Reading = ⊥
-Stops program bytes Writing = ⊥
+-- why a program prints nothing of these bytes, at these arguments
+abbrev pub Stops : {O I E F : Type 0} → Promise O I E F → List Text → List ℕ → Fault E F → Type 0
+Stops program arguments bytes (Refused error) = program.refuses arguments bytes error
+Stops program arguments bytes Arguments = ⊥
+Stops program arguments bytes Memory = ⊤
+Stops program arguments bytes (Found found) = program.finds arguments bytes found
+Stops program arguments bytes Reading = ⊥
+Stops program arguments bytes Writing = ⊥
 
--- The body of a program may be called on what its flags stand for and on an intake of some bytes,
--- by what it says of the calls that may be made of it.
+-- The body of a program may be called on what its flags stand for and on an intake that has taken
+-- some bytes by these, by what it says of the calls that may be made of it.
 abbrev pub IsCallable : {O I E F : Type 0} → Promise O I E F → (O → I → Type 0) → Type 0
 IsCallable {O} {I} program may_call =
     (arguments : List Text) (options : O) (intake : I) (bytes : List ℕ)
-    → program.asks arguments options → program.taken intake bytes → may_call options intake
+    → program.asks arguments options → program.taken options intake bytes
+    → may_call options intake
 
 -- It prints of these what the program promises, or stops as the program does, by what it says that
 -- such a call may answer.
@@ -51,10 +52,10 @@ abbrev pub KeepsPromise : {O I E F : Type 0} → Promise O I E F
 KeepsPromise {O} {I} {E} {F} program may_answer =
     (arguments : List Text) (options : O) (intake : I) (bytes : List ℕ)
     (made : Result (Answer F) (Fault E F))
-    → program.asks arguments options → program.taken intake bytes → may_answer options intake made
-    → MatchResult made
+    → program.asks arguments options → program.taken options intake bytes
+    → may_answer options intake made → MatchResult made
     (λ answer. program.prints arguments bytes answer.text.items answer.found)
-    (Stops program bytes)
+    (Stops program arguments bytes)
 
 -- an input is asked for, and this text may be printed of what may have been read
 pub record IsPrinted {O I E F : Type 0} (program : Promise O I E F) (arguments : List Text)
@@ -100,14 +101,14 @@ abbrev pub MayRefuse : {O I E F : Type 0} → Promise O I E F → List Text → 
 MayRefuse {O} {I} {E} {F} program arguments remaining =
     (fault_of program.app arguments ≡ []) × (bytes : List ℕ)
     × MayBeRead (file_named program.app arguments) remaining bytes
-    × (error : E) × program.refuses bytes error
+    × (error : E) × program.refuses arguments bytes error
 
 -- The same, where a fault is found in what may have been read.
 abbrev pub MayFind : {O I E F : Type 0} → Promise O I E F → List Text → Option (List ℕ) → Type 0
 MayFind {O} {I} {E} {F} program arguments remaining =
     (fault_of program.app arguments ≡ []) × (bytes : List ℕ)
     × MayBeRead (file_named program.app arguments) remaining bytes
-    × (found : F) × program.finds bytes found
+    × (found : F) × program.finds arguments bytes found
 
 -- an input is asked for, and that progress is told
 abbrev pub TellsProgress : {O I E F : Type 0} → Promise O I E F → List Text → Type 0

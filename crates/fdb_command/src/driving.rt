@@ -271,7 +271,9 @@ where
             alloc,
             body,
         } = self;
-        let options = program.options(matches);
+        let Ok(options) = program.options(alloc, matches) else {
+            return Err(Fault::Memory);
+        };
         let taker = Taker {
             program,
             alloc,

@@ -52,11 +52,11 @@ impl<P: Program> Taker<'_, P> {
         input: &mut I,
         err: &mut E,
     ) -> Result<P::Intake, Fault<P::Refusal, P::Finding>>
-        ensures all { IfOk result (IsTaken P.promise (option_map (λ path. path.now) file.entry)
-            (I.remaining input.old)) }
+        ensures all { IfOk result (IsTaken P.promise self.now.options.now
+            (option_map (λ path. path.now) file.entry) (I.remaining input.old)) }
         ensures stops { IfErr result (λ fault. (fault ≡ Fault.Reading)
-            ⊎ MayStop P.promise (option_map (λ path. path.now) file.entry)
-            (I.remaining input.old) fault) }
+            ⊎ MayStop P.promise self.now.options.now
+            (option_map (λ path. path.now) file.entry) (I.remaining input.old) fault) }
         ensures left { is_some file.entry ≡ true → input.new ≡ input.old }
         ensures few { TakesAtMost (P.promise.most + 1)
             (I.remaining input.old) (I.remaining input.new) }
@@ -76,9 +76,9 @@ impl<P: Program> Taker<'_, P> {
         err: &mut E,
     ) -> Result<P::Intake, Fault<P::Refusal, P::Finding>>
         ensures all { IfOk opened (λ file. IfOk result
-            (IsTaken P.promise None (F.remaining file))) }
+            (IsTaken P.promise self.now.options.now None (F.remaining file))) }
         ensures stops { IfOk opened (λ file. IfErr result (λ fault. (fault ≡ Fault.Reading)
-            ⊎ MayStop P.promise None (F.remaining file) fault)) }
+            ⊎ MayStop P.promise self.now.options.now None (F.remaining file) fault)) }
         ensures unopened { IfErr opened (λ error. IsErrAnd result (λ fault.
             (cause : _) × IsCauseOf error cause
             × (cause ≡ InputFault.Reading → fault ≡ Fault.Reading)
@@ -99,9 +99,10 @@ impl<P: Program> Taker<'_, P> {
         input: &mut I,
         err: &mut E,
     ) -> Result<P::Intake, Fault<P::Refusal, P::Finding>>
-        ensures all { IfOk result (IsTaken P.promise None (I.remaining input.old)) }
+        ensures all { IfOk result
+            (IsTaken P.promise self.now.options.now None (I.remaining input.old)) }
         ensures stops { IfErr result (λ fault. (fault ≡ Fault.Reading)
-            ⊎ MayStop P.promise None (I.remaining input.old) fault) }
+            ⊎ MayStop P.promise self.now.options.now None (I.remaining input.old) fault) }
         ensures few { TakesAtMost (P.promise.most + 1)
             (I.remaining input.old) (I.remaining input.new) }
         ensures quiet { (arguments : List Text) → P.promise.asks arguments self.now.options.now
@@ -113,7 +114,9 @@ impl<P: Program> Taker<'_, P> {
         }
         let room = room.as_mut_slice();
         let most = self.program.most();
-        let mut intake = self.program.begin(self.alloc);
+        let Ok(mut intake) = self.program.begin(self.alloc, self.options) else {
+            return Err(Fault::Memory);
+        };
         let mut read = 0;
         // A reader may be interrupted as often as it likes, but a loop has an end.
         for _ in 0..u64::MAX {

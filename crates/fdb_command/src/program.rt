@@ -26,7 +26,8 @@ pub trait Program {
     /// What its flags say, which its body is given.
     type Options: Drop;
 
-    /// What it keeps of the bytes of its input, of which it is given a piece at a time.
+    /// What it keeps of the bytes of its input, of which it is given a piece at a time; and what
+    /// it needs of what its flags say, to take them by.
     type Intake: Drop;
 
     /// Why its input is refused, with status 1; the line to standard error has its text.
@@ -50,27 +51,29 @@ pub trait Program {
         ensures { IfOk result (λ command. app_of command ≡ promise.app) };
 
     /// What its flags say, by the matches of its arguments.
-    fn options(&self, matches: &ArgMatches<'_>) -> Self::Options
+    fn options(&self, alloc: Global, matches: &ArgMatches<'_>) -> Result<Self::Options, AllocError>
         requires { (arguments : List Text) × AreMatches promise.app arguments matches.now }
         ensures { (arguments : List Text) → AreMatches promise.app arguments matches.now
-            → promise.asks arguments result };
+            → IfOk result (promise.asks arguments) };
 
-    /// An intake that has taken no bytes yet.
-    fn begin(&self, alloc: Global) -> Self::Intake
-        ensures { promise.taken result [] };
+    /// An intake that has taken no bytes yet, and that is to take them by what the flags say.
+    fn begin(&self, alloc: Global, options: &Self::Options) -> Result<Self::Intake, AllocError>
+        ensures { IfOk result (λ intake. promise.taken options.now intake []) };
 
-    /// Takes the next bytes. An error is a refusal or a fault that holds whatever bytes come after
-    /// these, or that memory was refused.
+    /// Takes the next bytes, by what the flags say that the intake was begun with. An error is a
+    /// refusal or a fault that holds whatever bytes come after these, or that memory was refused.
     fn take(
         &self,
         intake: Self::Intake,
         bytes: &[u8],
     ) -> Result<Self::Intake, Fault<Self::Refusal, Self::Finding>>
-        ensures taken { IfOk result (λ next. (before : List ℕ) → promise.taken intake before
-            → promise.taken next (before ++ bytes.now)) }
-        ensures stops { IfErr result (λ fault. (before after : List ℕ)
-            → promise.taken intake before
-            → Stops promise (before ++ (bytes.now ++ after)) fault) };
+        ensures taken { IfOk result (λ next. (options : Self.Options) (before : List ℕ)
+            → promise.taken options intake before
+            → promise.taken options next (before ++ bytes.now)) }
+        ensures stops { IfErr result
+            (λ fault. (arguments : List Text) (options : Self.Options) (before after : List ℕ)
+            → promise.asks arguments options → promise.taken options intake before
+            → Stops promise arguments (before ++ (bytes.now ++ after)) fault) };
 
     /// How many calls the intake has, where the arguments ask that progress is told.
     fn progress(&self, options: &Self::Options, intake: &Self::Intake) -> Option<u64>

@@ -27,4 +27,8 @@ pub mod Keyed
 pub mod Merged
 pub mod Slotted
 pub mod First
+pub mod Lateness
 pub mod Kept
+pub mod Parted
+pub mod Placed
+pub mod Totals

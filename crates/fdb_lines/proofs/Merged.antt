@@ -1,5 +1,5 @@
 -- The faults of a log with keys: none exactly where the lines of each key are explained.
-use Rattle.std.proofs.Common.{◌≡◌, ◌≢◌, ◌↔◌, ℕ, zero, suc, ◌+◌, ◌<◌, ◌≤◌, Bool, true, false, cond, List, [], ◌∷◌, ◌++◌, Option, Vec, length, map, slice_index, get_or, refl, ap, sym, subst, ◌∙◌, inl, inr, arith, add-one, length-append}
+use Rattle.std.proofs.Common.{◌≡◌, ◌≢◌, ◌↔◌, ℕ, zero, suc, ◌+◌, ◌<◌, Bool, true, false, cond, List, [], ◌∷◌, ◌++◌, Option, Vec, length, map, slice_index, get_or, refl, ap, sym, subst, ◌∙◌, inl, inr, arith, add-one, length-append}
 use Rattle.std.specs.declared.alloc.Global.{Global}
 use Rattle.std.specs.List.{All}
 use Rattle.std.proofs.lemmas.Bool.{cases_eq, cases_lt}
@@ -11,15 +11,15 @@ use Rattle.fdb_lines.specs.declared.fault.Found.{Found}
 use Rattle.fdb_lines.specs.declared.opts.AuditOpts.{AuditOpts}
 use Rattle.fdb_lines.specs.declared.reason.Finding.{Finding}
 use Rattle.fdb_lines.specs.Audit.{case_of}
-use Rattle.fdb_lines.specs.Keys.{case_of_key, faults_at_by_key, faults_below_by_key, faults_by_key, key_at, lines_of_key, place_among, places_below, places_of, told_at, AreExplainedByKey, HasLateByKey, HasReasonByKey}
+use Rattle.fdb_lines.specs.Keys.{case_of_key, faults_at_by_key, faults_below_by_key, faults_by_key, key_at, keys_of, lines_of_key, place_among, places_below, places_of, told_at, AreExplainedByKey, HasLateByKey, HasReasonByKey}
 use Rattle.fdb_lines.specs.Faults.{stands}
 use Rattle.fdb_lines.specs.Late.{HasLate, IsLateAt}
 use Rattle.fdb_lines.specs.Lines.{Case, Lines, line_at, part_of}
 use Rattle.fdb_lines.specs.Listing.{faults_at, faults_below, found_if}
 use Rattle.fdb_lines.specs.Reasons.{found_of, HasReason, IsReason}
-use Rattle.fdb_lines.specs.private.Keys.{items_at, key_of, placed_at, slot_of, AreFoundAt}
+use Rattle.fdb_lines.specs.private.Keys.{items_at, placed_at, AreFoundAt, AreToldAt}
 use Rattle.fdb_lines.specs.private.Tables.{ListsMore}
-use Rattle.fdb_lines.proofs.Keyed.{has_place, key_back, place_is, same_is, same_self, slot_back}
+use Rattle.fdb_lines.proofs.Keyed.{each_once, has_place, of_key, place_is, same_is, same_self}
 use Rattle.fdb_lines.proofs.Listed.{explained_by_length}
 
 -- ---- lists of faults that are empty
@@ -114,41 +114,47 @@ pub lates_here : (log : Lines) (keys : List (Option ℕ)) (opts : AuditOpts) (k 
 lates_here log keys opts k here are =
     All-map (HasLateByKey log keys opts) (placed_at k (places_of keys (key_at keys k))) here (λ i d lt. ((get_or here i d).late, are.2 i d lt, refl))
 
--- ---- slot by slot
+-- ---- key by key
 
--- what was found at the lines of the first slots, and nothing at others
-pub record AreJudged (log : Lines) (opts : AuditOpts) (keys : List (Option ℕ)) (slot : ℕ) (judged : List (Vec Finding Global)) : Type 0 where
-  pub done : (k : ℕ) → k < length keys → slot_of (key_at keys k) < slot
-      → AreFoundAt log opts (places_of keys (key_at keys k)) (place_among keys k) (items_at judged k)
-  pub rest : (k : ℕ) → slot ≤ slot_of (key_at keys k) → items_at judged k ≡ []
+-- what was found at the lines of the first keys, and nothing at others
+pub record AreJudged (log : Lines) (opts : AuditOpts) (keys : List (Option ℕ)) (n : ℕ) (judged : List (Vec Finding Global)) : Type 0 where
+  pub done : (k i : ℕ) → k < length keys → i < n → key_at (keys_of keys) i ≡ key_at keys k
+      → AreToldAt log opts (places_of keys (key_at keys k)) (place_among keys k) k (items_at judged k)
+  pub rest : (k : ℕ) → ((i : ℕ) → i < n → key_at (keys_of keys) i ≢ key_at keys k) → items_at judged k ≡ []
 
--- a line of another slot is at none of the places
-elsewhere : (keys : List (Option ℕ)) (slot k : ℕ) → slot_of (key_at keys k) ≢ slot
-    → (j : ℕ) → j < length (places_of keys (key_of slot)) → slice_index (places_of keys (key_of slot)) j ≢ k
-elsewhere keys slot k other j lt at =
-    let is = place_is keys (key_of slot) (length keys) j lt in
-    other (ap (λ m. slot_of (key_at keys m)) (sym at) ∙ (ap slot_of (same_is _ _ is.1) ∙ slot_back slot))
+-- a line of another key is at none of the places
+elsewhere : (keys : List (Option ℕ)) (key : Option ℕ) (places : List ℕ) (k : ℕ) → places ≡ places_of keys key → key ≢ key_at keys k
+    → (j : ℕ) → j < length places → slice_index places j ≢ k
+elsewhere keys key places k is other j lt at = other (sym (of_key keys key places is j lt).1 ∙ ap (key_at keys) at)
 
-pub judged_more : (log : Lines) (opts : AuditOpts) (keys : List (Option ℕ)) (slot : ℕ) (before after : List (Vec Finding Global)) (places : List ℕ)
-    → places ≡ places_of keys (key_of slot) → AreJudged log opts keys slot before
-    → ((j : ℕ) → j < length places → AreFoundAt log opts places j (items_at after (slice_index places j)))
+-- nothing was found yet at the lines of the next key
+pub fresh : (log : Lines) (opts : AuditOpts) (keys : List (Option ℕ)) (n : ℕ) (judged : List (Vec Finding Global)) (places : List ℕ)
+    → n < length (keys_of keys) → places ≡ places_of keys (key_at (keys_of keys) n) → AreJudged log opts keys n judged
+    → (j : ℕ) → j < length places → items_at judged (slice_index places j) ≡ []
+fresh log opts keys n judged places next is are j lt = are.rest (slice_index places j) (λ i below same.
+    let once = each_once keys (length keys) i n (omega arith) next (same ∙ (of_key keys (key_at (keys_of keys) n) places is j lt).1) in
+    absurd (omega arith))
+
+pub judged_more : (log : Lines) (opts : AuditOpts) (keys : List (Option ℕ)) (n : ℕ) (before after : List (Vec Finding Global)) (places : List ℕ)
+    → n < length (keys_of keys) → places ≡ places_of keys (key_at (keys_of keys) n) → AreJudged log opts keys n before
+    → ((j : ℕ) → j < length places → AreToldAt log opts places j (slice_index places j) (items_at after (slice_index places j)))
     → ((k : ℕ) → ((j : ℕ) → j < length places → slice_index places j ≢ k) → items_at after k ≡ items_at before k)
-    → AreJudged log opts keys (slot + 1) after
-judged_more log opts keys slot before after places of_slot are found others = record {
-  done = λ k lt below. elim (cases_eq (slot_of (key_at keys k)) slot) [
-    | inl same ↦
-        let key : key_of slot ≡ key_at keys k = ap key_of (sym same) ∙ key_back (key_at keys k) in
-        let all : places ≡ places_of keys (key_at keys k) = of_slot ∙ ap (places_of keys) key in
+    → AreJudged log opts keys (n + 1) after
+judged_more log opts keys n before after places next is are told others = record {
+  done = λ k i lt below same. elim (cases_eq i n) [
+    | inl here ↦
+        let key : key_at (keys_of keys) n ≡ key_at keys k = ap (key_at (keys_of keys)) (sym here) ∙ same in
+        let all : places ≡ places_of keys (key_at keys k) = is ∙ ap (places_of keys) key in
         let has = has_place keys (key_at keys k) (length keys) k (same_self (key_at keys k)) lt in
-        let P = λ (ps : List ℕ). (j : ℕ) → j < length ps → AreFoundAt log opts ps j (items_at after (slice_index ps j)) in
-        rw has.1 at (subst P all found (place_among keys k) has.0)
+        let P = λ (ps : List ℕ). (j : ℕ) → j < length ps → AreToldAt log opts ps j (slice_index ps j) (items_at after (slice_index ps j)) in
+        rw has.1 at (subst P all told (place_among keys k) has.0)
     | inr other ↦
-        let kept = others k (subst (λ (ps : List ℕ). (j : ℕ) → j < length ps → slice_index ps j ≢ k) (sym of_slot) (elsewhere keys slot k other)) in
-        rw kept (are.done k lt (omega arith))
+        let away : key_at (keys_of keys) n ≢ key_at keys k = λ its.
+        other (each_once keys (length keys) i n (omega arith) next (same ∙ sym its)) in
+        rw (others k (elsewhere keys (key_at (keys_of keys) n) places k is away)) (are.done k i lt (omega arith) same)
   ];
-  rest = λ k above.
-      let other : slot_of (key_at keys k) ≢ slot = λ same. omega arith in
-      others k (subst (λ (ps : List ℕ). (j : ℕ) → j < length ps → slice_index ps j ≢ k) (sym of_slot) (elsewhere keys slot k other)) ∙ are.rest k (omega arith);
+  rest = λ k none.
+      others k (elsewhere keys (key_at (keys_of keys) n) places k is (none n (omega arith))) ∙ are.rest k (λ i below. none i (omega arith));
 }
 
 -- ---- line by line among those at some places

@@ -53,7 +53,7 @@ drawn_is_shown Ask drawn other = absurd cc
 drawn_is_shown Report drawn other = refl
 drawn_is_shown Learn drawn other = absurd cc
 
-shown_too : (log : Lines) → has_ask log.lines ≡ false → (j : ℕ) → j < length log.lines → counts_at Drawn log.lines j ≡ true → counts_at Shown log.lines j ≡ true
+pub shown_too : (log : Lines) → has_ask log.lines ≡ false → (j : ℕ) → j < length log.lines → counts_at Drawn log.lines j ≡ true → counts_at Shown log.lines j ≡ true
 shown_too log none j lt drawn =
     let some = list_any_at (λ (line : Line). is_ask (kind_of line.call)) log.lines j nobody lt in
     drawn_is_shown (kind_of (line_at log.lines j).call) drawn (grind arith)

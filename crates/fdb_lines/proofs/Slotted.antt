@@ -1,11 +1,8 @@
 -- Lists of lists: one is made, or grows.
-use Rattle.std.proofs.Common.{◌≡◌, ◌≢◌, ℕ, zero, suc, ◌+◌, ◌<◌, true, false, List, [], ◌∷◌, ◌++◌, Option, Vec, inl, inr, length, map, set, get_or, refl, ap, sym, ◌∙◌, arith, add-one, append-nil}
+use Rattle.std.proofs.Common.{◌≡◌, ◌≢◌, ℕ, zero, suc, ◌<◌, List, [], ◌∷◌, ◌++◌, Vec, length, map, set, get_or, refl, ap, sym, ◌∙◌, arith}
 use Rattle.std.specs.declared.alloc.Global.{Global}
-use Rattle.std.proofs.lemmas.Bool.{cases_eq, cases_lt, false_from_ne_true}
-use Rattle.std.proofs.lemmas.List.{get_or_past, get_or-map, get_or-set_other, get_or-set_same, length-map, map-set, map_push}
-use Rattle.fdb_lines.specs.Keys.{key_at, places_of, same_key}
-use Rattle.fdb_lines.specs.private.Keys.{items_at, key_of, slot_of, ArePlaces}
-use Rattle.fdb_lines.proofs.Keyed.{has_place, key_back, same_is, same_self, slot_back}
+use Rattle.std.proofs.lemmas.List.{get_or-map, get_or-set_other, get_or-set_same, length-map, map-set, map_push}
+use Rattle.fdb_lines.specs.private.Keys.{items_at}
 
 nothing_more : {X : Type 0} (xs : List (List X)) (k : ℕ) → get_or (xs ++ [] ∷ []) k [] ≡ get_or xs k []
 nothing_more [] zero = refl
@@ -38,41 +35,3 @@ pub items_get : {X : Type 0} (lists : List (Vec X Global)) (i : ℕ) (list : Vec
 items_get {X} lists i list lt is =
     let items = λ (v : Vec X Global). v.items in
     get_or-map items lists i list [] lt ∙ ap items (sym is)
-
--- each line's slot is one of them, and has the places of its key
-pub slot_inside : (keys : List (Option ℕ)) (slots : List (Vec ℕ Global)) (k : ℕ) → ArePlaces keys (length keys) slots → k < length keys → slot_of (key_at keys k) < length slots
-slot_inside keys slots k are lt =
-    let items = λ (v : Vec ℕ Global). v.items in
-    let slot = slot_of (key_at keys k) in
-    elim (cases_lt slot (length slots)) [
-      | inl inside ↦ inside
-      | inr past ↦
-          let size = length-map slots items in
-          let none : items_at slots slot ≡ [] = get_or_past (map items slots) slot [] (omega arith) in
-          let has = (has_place keys (key_at keys k) (length keys) k (same_self (key_at keys k)) lt).0 in
-          let all : length (places_of keys (key_at keys k)) ≡ 0 =
-          ap (λ key. length (places_of keys key)) (sym (key_back (key_at keys k))) ∙ (sym (ap length (are slot)) ∙ ap length none) in
-          absurd (omega arith)
-    ]
-
-pub slot_places : (keys : List (Option ℕ)) (slots : List (Vec ℕ Global)) (k : ℕ) (list : Vec ℕ Global) → ArePlaces keys (length keys) slots → k < length keys
-    → list ≡ get_or slots (slot_of (key_at keys k)) list → list.items ≡ places_of keys (key_at keys k)
-slot_places keys slots k list are lt is =
-    let slot = slot_of (key_at keys k) in
-    sym (items_get slots slot list (slot_inside keys slots k are lt) is) ∙ (are slot ∙ ap (places_of keys) (key_back (key_at keys k)))
-
--- one line more, in the slot of its key
-pub places_more : (keys : List (Option ℕ)) (n slot : ℕ) (before after : List (Vec ℕ Global)) → slot ≡ slot_of (key_at keys n) → ArePlaces keys n before
-    → items_at after slot ≡ items_at before slot ++ n ∷ [] → ((other : ℕ) → other ≢ slot → items_at after other ≡ items_at before other)
-    → ArePlaces keys (n + 1) after
-places_more keys n slot before after of_key are there others s =
-    rw add-one (elim (cases_eq s slot) [
-      | inl same ↦
-          let key : key_of s ≡ key_at keys n = ap key_of (same ∙ of_key) ∙ key_back (key_at keys n) in
-          let is : same_key (key_at keys n) (key_of s) ≡ true = ap (same_key (key_at keys n)) key ∙ same_self (key_at keys n) in
-          rw is (ap (items_at after) same ∙ (there ∙ ap (λ (old : List ℕ). old ++ n ∷ []) (ap (items_at before) (sym same) ∙ are s)))
-      | inr other ↦
-          let not_is : same_key (key_at keys n) (key_of s) ≡ false = false_from_ne_true _ (λ is.
-          other (sym (slot_back s) ∙ (ap slot_of (sym (same_is _ _ is)) ∙ sym of_key))) in
-          rw (not_is, append-nil) (others s other ∙ are s)
-    ])

@@ -35,6 +35,18 @@ places_below keys key (suc n) = places_below keys key n ++ cond (same_key (key_a
 abbrev pub places_of : List (Option ℕ) → Option ℕ → List ℕ
 places_of keys key = places_below keys key (length keys)
 
+-- the place of a line among those of its key: how many of them stand above
+abbrev pub place_among : List (Option ℕ) → ℕ → ℕ
+place_among keys k = length (places_below keys (key_at keys k) k)
+
+-- the keys of the lines below n, each once: a key comes in with its first line
+abbrev pub keys_below : List (Option ℕ) → ℕ → List (Option ℕ)
+keys_below keys zero = []
+keys_below keys (suc n) = keys_below keys n ++ cond (place_among keys n == 0) (key_at keys n ∷ []) []
+
+abbrev pub keys_of : List (Option ℕ) → List (Option ℕ)
+keys_of keys = keys_below keys (length keys)
+
 abbrev pub lines_of_key : Lines → List (Option ℕ) → Option ℕ → Lines
 lines_of_key log keys key = part_of log (places_of keys key)
 
@@ -47,10 +59,6 @@ abbrev pub AreExplainedByKey : Lines → List (Option ℕ) → AuditOpts → Typ
 AreExplainedByKey log keys opts = (key : Option ℕ) → AreExplained (case_of_key log keys opts key)
 
 -- ---- their faults, told at the places of the whole log, line by line
-
--- the place of a line among those of its key: how many of them stand above
-abbrev pub place_among : List (Option ℕ) → ℕ → ℕ
-place_among keys k = length (places_below keys (key_at keys k) k)
 
 abbrev pub told_at : ℕ → Found → Found
 told_at k found = record { line = k; fault = found.fault }

@@ -7,6 +7,7 @@ pub mod Order
 pub mod Steps
 pub mod Audit
 pub mod Keys
+pub mod KeyOrders
 pub mod Late
 pub mod Listing
 pub mod Turns

@@ -1,8 +1,11 @@
 -- What a verdict stands on: the lines of a log, counted. (this product's own)
-use Rattle.std.specs.Prelude.{ℕ, zero, suc, ◌+◌, ◌==◌, ◌&&◌, not, Bool, cond, List, length, count_by}
+use Rattle.std.specs.Prelude.{ℕ, zero, suc, ◌+◌, ◌==◌, ◌&&◌, not, Bool, cond, List, Option, length, count_by}
+use Rattle.std.specs.List.{sum_by}
 use Rattle.fdb_lines.specs.declared.line.Line.{Line}
+use Rattle.fdb_lines.specs.declared.opts.AuditOpts.{AuditOpts}
 use Rattle.fdb_lines.specs.Faults.{is_reported, some_below}
-use Rattle.fdb_lines.specs.Lines.{Case, Kind, kind_at, kind_of, version_at, is_read}
+use Rattle.fdb_lines.specs.Keys.{case_of_key, keys_of}
+use Rattle.fdb_lines.specs.Lines.{Case, Kind, Lines, kind_at, kind_of, version_at, is_read}
 
 -- how many of the numbers below n pass a test
 abbrev pub tally : (ℕ → Bool) → ℕ → ℕ
@@ -38,3 +41,11 @@ pairs before n = sum_below (λ k. tally (λ j. before j k) n) n
 -- How many pairs of lines are in order.
 abbrev pub ordered : Case → ℕ
 ordered c = pairs c.before (length c.lines)
+
+-- ---- of a log with keys: what the lines of each key count by themselves, each key once
+
+abbrev pub unreported_by_key : Lines → List (Option ℕ) → AuditOpts → ℕ
+unreported_by_key log keys opts = sum_by (λ key. unreported (case_of_key log keys opts key)) (keys_of keys)
+
+abbrev pub ordered_by_key : Lines → List (Option ℕ) → AuditOpts → ℕ
+ordered_by_key log keys opts = sum_by (λ key. ordered (case_of_key log keys opts key)) (keys_of keys)

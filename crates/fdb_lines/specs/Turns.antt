@@ -27,9 +27,12 @@ abbrev pub HasTurn : List Turn → ℕ → Act → Type 0
 HasTurn [] k act = ⊥
 HasTurn (turn ∷ turns) k act = ((turn.line ≡ Some k) × (turn.act ≡ act)) ⊎ HasTurn turns k act
 
--- each line has a turn for its ask, and one for its read or report
-abbrev pub HaveTurns : Case → List Turn → Type 0
-HaveTurns c turns =
-    (k : ℕ) → k < length c.lines
-    → (IsTrue (draws (kind_at c k)) → HasTurn turns k (Asks (version_at c k)))
+-- a line has a turn for its ask, and one for its read or report
+abbrev pub HasTurns : Case → List Turn → ℕ → Type 0
+HasTurns c turns k =
+    (IsTrue (draws (kind_at c k)) → HasTurn turns k (Asks (version_at c k)))
     × (IsTrue (shows (kind_at c k)) → HasTurn turns k (taken c k))
+
+-- each line has them
+abbrev pub HaveTurns : Case → List Turn → Type 0
+HaveTurns c turns = (k : ℕ) → k < length c.lines → HasTurns c turns k

@@ -9,4 +9,6 @@ pub mod Spots
 pub mod Ended
 pub mod Standing
 pub mod Keys
+pub mod KeyOrders
+pub mod KeySums
 pub mod Late

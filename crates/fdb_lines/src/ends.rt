@@ -4,17 +4,18 @@ ghost use Rattle.std.specs.Prelude.{◌≡◌, ◌<◌, ◌≤◌, ℕ, Bool, If
 ghost use Rattle.std.specs.Prelude.{cond, false, nat_lt, slice_index};
 ghost use Rattle.std.specs.List.Sorted.{IsNonDecreasingBy, IsPermutation};
 ghost use Rattle.std.specs.Ordering.{nat_cmp};
+ghost use Rattle.fdb_lines.specs.Late.{is_outdated};
 ghost use Rattle.fdb_lines.specs.Lines.{line_at};
 ghost use Rattle.fdb_lines.specs.declared.line.Line.{Line};
 ghost use Rattle.fdb_lines.specs.declared.seen.Seen.{Seen};
-ghost use Rattle.fdb_lines.specs.declared.seen.Seen.TheVariants.{Shown};
 ghost use Rattle.fdb_lines.specs.private.Ends.{comes_by, end_at, end_key, AreNewest};
 ghost use Rattle.fdb_lines.specs.private.Ends.{AreSettled, IsFront, IsNewestAt};
 ghost use Rattle.fdb_lines.specs.private.Entries.{IsNewest};
-ghost use Rattle.fdb_lines.specs.private.Late.{IsFirstEnd};
+ghost use Rattle.fdb_lines.specs.private.Late.{outdates_by, sooner, IsFirstEnd};
 ghost use Rattle.fdb_lines.specs.private.Known.{moment, stands_in, version_in, AreEnds};
 
 use crate::end::End;
+use crate::fault::Fault;
 use std::alloc::{AllocError, Global};
 use std::cmp::Ordering;
 
@@ -61,16 +62,19 @@ impl Ends {
         Some(self.ends[newest].place)
     }
 
-    /// The first end of a table of one group that has a version above one, if any has. The newest up
-    /// to each end rises, so that it is a search. Logarithmic.
-    pub(crate) fn first_above(&self, version: u64) -> Option<End>
+    /// The first end of a table of one group that outdates a version, if any does. The newest up to
+    /// each end rises, so that it is a search. Logarithmic.
+    pub(crate) fn first_that(&self, fault: Fault, version: u64) -> Option<End>
         requires { AreSettled self.now }
-        ensures { (lines : List Line) → AreEnds false Shown lines (length lines) self.now.ends.items
-            → IsFirstEnd lines version result }
+        ensures { (seen : Seen) (lines : List Line)
+            → AreEnds false seen lines (length lines) self.now.ends.items
+            → IsFirstEnd (outdates_by fault seen lines version) lines result }
     {
-        let front = self
-            .newest
-            .partition_point(|newest| version_of(&self.ends, *newest) <= version);
+        let front = self.newest.partition_point(|newest| !is_outdated(
+            fault,
+            version,
+            version_of(&self.ends, *newest),
+        ));
         if front < self.ends.len() {
             Some(self.ends[front])
         } else {
@@ -165,6 +169,28 @@ fn version_of(ends: &[End], at: u32) -> u64
     match ends.get(at as usize) {
         Some(end) => end.version,
         None => 0,
+    }
+}
+
+/// Whether another version outdates that of a call.
+fn is_outdated(fault: Fault, version: u64, other: u64) -> bool
+    ensures { result ≡ is_outdated fault version other }
+{
+    match fault {
+        Fault::Order => version < other,
+        Fault::NotAbove => version <= other,
+        Fault::Wrong | Fault::Twice | Fault::Stray => false,
+    }
+}
+
+/// The one of two that ended first, and the first where they ended together.
+pub(crate) fn sooner(one: Option<End>, other: Option<End>) -> Option<End>
+    ensures { result ≡ sooner one other }
+{
+    match (one, other) {
+        (Some(one), Some(other)) => Some(if other.time < one.time { other } else { one }),
+        (Some(one), None) => Some(one),
+        (None, other) => other,
     }
 }
 

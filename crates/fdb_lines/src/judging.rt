@@ -53,8 +53,8 @@ pub fn first_fault(alloc: Global, log: &Log, opts: &AuditOpts) -> Result<Option<
     }
 }
 
-/// The faults of a log, as [`faults`] lists them, each with why it stands, and of a stale read by
-/// how much it is late. An error only where memory is refused.
+/// The faults of a log, as [`faults`] lists them, each with why it stands, and of a stale read or a
+/// version that is not above others by how much it is late. An error only where memory is refused.
 ///
 /// `n log n` in how many lines there are, however many faults.
 pub fn findings(alloc: Global, log: &Log, opts: &AuditOpts) -> Result<Vec<Finding>, AllocError>

@@ -1,38 +1,38 @@
 //! Logs with keys: each key is a register of its own, and its lines are judged by themselves.
 
-ghost use Rattle.std.specs.Prelude.{◌≡◌, ◌≢◌, ◌↔◌, ◌++◌, ℕ, ◌<◌, ◌≤◌, [], All, IfOk, IsTrue, OnOk};
-ghost use Rattle.std.specs.Prelude.{◌∷◌, length, map, slice_index};
+ghost use Rattle.std.specs.Prelude.{◌≡◌, ◌≢◌, ◌↔◌, ◌++◌, ℕ, ◌<◌, ◌≤◌, [], All, IfOk, OnOk};
+ghost use Rattle.std.specs.Prelude.{length, map, slice_index};
 ghost use Rattle.fdb_lines.specs.Keys.{faults_by_key, key_at, place_in, placed_by};
 ghost use Rattle.fdb_lines.specs.Keys.{placed_means, placed_reason, places_of};
 ghost use Rattle.fdb_lines.specs.Keys.{place_among, placed_late, AreExplainedByKey};
 ghost use Rattle.fdb_lines.specs.Keys.{HasLateByKey, HasReasonByKey};
 ghost use Rattle.fdb_lines.specs.Log.{lines_of};
 ghost use Rattle.fdb_lines.specs.Reasons.{found_of};
-ghost use Rattle.fdb_lines.specs.private.Keys.{items_at, placed_at, slot_of, AreFoundAt};
-ghost use Rattle.fdb_lines.specs.private.Keys.{ArePlaces};
+ghost use Rattle.fdb_lines.specs.private.Keys.{items_at, placed_at, AreToldAt};
 
 use crate::fault::Found;
 use crate::judging::add_findings;
 use crate::late::Late;
 use crate::log::Log;
 use crate::opts::AuditOpts;
+use crate::parts::parts_of;
 use crate::reason::{Finding, Means, Reason, Witness};
 use crate::tables_of::tables_of;
 use std::alloc::{AllocError, Global};
 
-/// The faults of a log with times whose lines have keys, or none. Each key is a register of its
-/// own, and lines without one are of one register too: the lines of each are judged as a log of
-/// their own. The faults are told of the whole log, line by line, each with why it stands. There is
-/// none exactly where the lines of each key are explained. An error only where memory is refused.
+/// The faults of a log whose lines have keys, or none. Each key is a register of its own, and lines
+/// without one are of one register too: the lines of each are judged as a log of their own. In a
+/// log without times what is learnt counts within each key alone. The faults are told of the whole
+/// log, line by line, each with why it stands. There is none exactly where the lines of each key
+/// are explained. An error only where memory is refused.
 ///
-/// `n log n` in how many lines there are, and linear in the greatest key.
+/// `n log n` in how many lines there are, whatever the keys.
 pub fn findings_by_key(
     alloc: Global,
     log: &Log,
     keys: &[Option<u32>],
     opts: &AuditOpts,
 ) -> Result<Vec<Finding>, AllocError>
-    requires timed { IsTrue (lines_of log.now).timed }
     requires as_many { length keys.now ≡ length (lines_of log.now).lines }
     ensures listed { IfOk result (λ findings. map found_of findings.items
         ≡ faults_by_key (lines_of log.now) keys.now opts.now) }
@@ -43,80 +43,34 @@ pub fn findings_by_key(
     ensures late { IfOk result
         (λ findings. All (HasLateByKey (lines_of log.now) keys.now opts.now) findings.items) }
 {
-    let slots = places_by_key(alloc, keys)?;
-    let judged = judge_by_key(alloc, log, keys, &slots, opts)?;
+    let judged = judge_by_key(alloc, log, keys, opts)?;
     let mut findings = Vec::new(alloc);
-    for place in 0..judged.len() {
-        let slot = slot_of(keys[place]);
-        add_placed(&mut findings, &judged[place], &slots[slot], place as u32)?;
+    for here in &judged {
+        findings.extend_from_slice(here)?;
     }
     Ok(findings)
 }
 
-/// The places of the lines of each key, by slots. Linear in how many lines there are, and in the
-/// greatest key.
-fn places_by_key(alloc: Global, keys: &[Option<u32>]) -> Result<Vec<Vec<u32>>, AllocError>
-    requires { length keys.now ≤ 4294967295 }
-    ensures { IfOk result (λ slots. ArePlaces keys.now (length keys.now) slots.items) }
-{
-    let mut slots = Vec::new(alloc);
-    for (place, key) in keys.iter().enumerate() {
-        add_place(alloc, &mut slots, slot_of(*key), place as u32)?;
-    }
-    Ok(slots)
-}
-
-/// Adds a place to a slot.
-fn add_place(
-    alloc: Global,
-    slots: &mut Vec<Vec<u32>>,
-    slot: usize,
-    place: u32,
-) -> Result<(), AllocError>
-    requires { slot < 4294967297 }
-    ensures there { OnOk result (items_at slots.new.items slot ≡ items_at slots.old.items slot ++ place ∷ []) }
-    ensures others { OnOk result ((other : ℕ) → other ≢ slot
-        → items_at slots.new.items other ≡ items_at slots.old.items other) }
-{
-    while slots.len() <= slot {
-        slots.push(Vec::new(alloc))?;
-    }
-    slots[slot].push(place)?;
-    Ok(())
-}
-
-/// The slot of a key: the first is that of lines without one.
-fn slot_of(key: Option<u32>) -> usize
-    ensures is { result ≡ slot_of key }
-    ensures few { result < 4294967297 }
-{
-    match key {
-        Some(key) => key as usize + 1,
-        None => 0,
-    }
-}
-
-/// What is found at each line among the lines of its key.
+/// What is found at each line among the lines of its key, told of the whole log.
 fn judge_by_key(
     alloc: Global,
     log: &Log,
     keys: &[Option<u32>],
-    slots: &[Vec<u32>],
     opts: &AuditOpts,
 ) -> Result<Vec<Vec<Finding>>, AllocError>
-    requires as_many { length keys.now ≡ length (lines_of log.now).lines }
-    requires places { ArePlaces keys.now (length keys.now) slots.now }
+    requires { length keys.now ≡ length (lines_of log.now).lines }
     ensures as_many { IfOk result (λ judged. length judged.items ≡ length keys.now) }
-    ensures found { IfOk result (λ judged. (k : ℕ) → k < length keys.now
-        → AreFoundAt (lines_of log.now) opts.now (places_of keys.now (key_at keys.now k))
-        (place_among keys.now k) (items_at judged.items k)) }
+    ensures told { IfOk result (λ judged. (k : ℕ) → k < length keys.now
+        → AreToldAt (lines_of log.now) opts.now (places_of keys.now (key_at keys.now k))
+        (place_among keys.now k) k (items_at judged.items k)) }
 {
+    let parts = parts_of(alloc, keys)?;
     let mut judged = Vec::with_capacity(alloc, keys.len())?;
     for _key in keys {
         judged.push(Vec::new(alloc))?;
     }
-    for slot in 0..slots.len() {
-        judge_part(alloc, log, &slots[slot], opts, &mut judged)?;
+    for part in 0..parts.len() {
+        judge_part(alloc, log, &parts[part].places, opts, &mut judged)?;
     }
     Ok(judged)
 }
@@ -138,20 +92,19 @@ fn judge_part(
     requires fresh { (j : ℕ) → j < length places.now
         → items_at judged.old.items (slice_index places.now j) ≡ [] }
     ensures room { length judged.new.items ≡ length judged.old.items }
-    ensures found { OnOk result ((j : ℕ) → j < length places.now
-        → AreFoundAt (lines_of log.now) opts.now places.now j
+    ensures told { OnOk result ((j : ℕ) → j < length places.now
+        → AreToldAt (lines_of log.now) opts.now places.now j (slice_index places.now j)
         (items_at judged.new.items (slice_index places.now j))) }
     ensures others { OnOk result ((k : ℕ)
         → ((j : ℕ) → j < length places.now → slice_index places.now j ≢ k)
         → items_at judged.new.items k ≡ items_at judged.old.items k) }
 {
-    if places.is_empty() {
-        return Ok(());
-    }
     let part = log.part(alloc, places)?;
     let tables = tables_of(alloc, &part, opts)?;
     for (at, place) in places.iter().enumerate() {
-        add_findings(&mut judged[*place as usize], &tables, &part, opts, at)?;
+        let mut here = Vec::new(alloc);
+        add_findings(&mut here, &tables, &part, opts, at)?;
+        add_placed(&mut judged[*place as usize], &here, places, *place)?;
     }
     Ok(())
 }
@@ -232,7 +185,7 @@ fn placed_late(places: &[u32], late: Option<Late>) -> Option<Late>
 }
 
 /// Where a line of some stands in the whole log; 0 where there is none.
-fn place_in(places: &[u32], line: u32) -> u32
+pub(crate) fn place_in(places: &[u32], line: u32) -> u32
     ensures { result ≡ place_in places.now line }
 {
     match places.get(line as usize) {

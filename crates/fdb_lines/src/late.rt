@@ -1,40 +1,48 @@
-//! By how much a stale read is late.
+//! By how much a call is late.
 
-ghost use Rattle.std.specs.Prelude.{◌≡◌, ◌<◌, false, length, true};
-ghost use Rattle.fdb_lines.specs.Late.{IsLate};
-ghost use Rattle.fdb_lines.specs.Lines.{is_read, kind_of, line_at};
+ghost use Rattle.std.specs.Prelude.{◌≡◌, ◌<◌, length, true};
+ghost use Rattle.fdb_lines.specs.Audit.{case_of};
+ghost use Rattle.fdb_lines.specs.Faults.{stands};
+ghost use Rattle.fdb_lines.specs.Late.{outdates, IsLateAt};
 ghost use Rattle.fdb_lines.specs.Log.{lines_of};
-ghost use Rattle.fdb_lines.specs.declared.seen.Seen.TheVariants.{Shown};
-ghost use Rattle.fdb_lines.specs.private.Ends.{AreSettled};
-ghost use Rattle.fdb_lines.specs.private.Known.{AreEnds};
+ghost use Rattle.fdb_lines.specs.private.Late.{IsFirstEnd};
 
-use crate::ends::Ends;
+use crate::end::End;
+use crate::fault::Fault;
 use crate::log::Log;
 use crate::opts::AuditOpts;
 
-/// By how much a read is late, and by which line.
+/// By how much a call is late, and by which line.
 #[derive(Clone, Copy, Debug, PartialEq, Eq)]
 pub struct Late {
-    /// The line that shows a newer version and ended first, counted from 0.
+    /// The line that outdates it and ended first, counted from 0: it shows a newer version than was
+    /// read, or shows or draws one that the version drawn is not above.
     pub line: u32,
-    /// From its end to where the read began: the read is stale under each lesser margin. 0 where
-    /// it had not ended by then.
+    /// From its end to where the call began: the fault stands under each lesser margin. 0 where it
+    /// had not ended by then.
     pub by: u64,
 }
 
-/// By how much a read is late. Logarithmic.
-pub(crate) fn late_by(firsts: &Ends, log: &Log, opts: &AuditOpts, read: usize) -> Option<Late>
-    requires there { read < length (lines_of log.now).lines }
-    requires read { is_read (kind_of (line_at (lines_of log.now).lines read).call) ≡ true }
-    requires settled { AreSettled firsts.now }
-    requires ends { AreEnds false Shown (lines_of log.now).lines (length (lines_of log.now).lines)
-        firsts.now.ends.items }
-    ensures { IsLate (lines_of log.now) opts.now read result }
+/// By how much the call at a place is late, by the first end of the lines that outdate it.
+pub(crate) fn late_by(
+    log: &Log,
+    opts: &AuditOpts,
+    place: usize,
+    fault: Fault,
+    first: Option<End>,
+) -> Option<Late>
+    requires place { place < length (lines_of log.now).lines }
+    requires stands { stands (case_of (lines_of log.now) opts.now) fault place ≡ true }
+    requires first { let lines = (lines_of log.now).lines in
+        IsFirstEnd (outdates fault lines place) lines first }
+    ensures { IsLateAt (lines_of log.now) opts.now place fault result }
 {
-    let line = &log.lines()[read];
-    let first = firsts.first_above(line.call.version())?;
+    let first = first?;
+    if first.place as usize == place {
+        return None;
+    }
     Some(Late {
         line: first.place,
-        by: line.began().saturating_sub(first.time),
+        by: log.lines()[place].began().saturating_sub(first.time),
     })
 }

@@ -66,35 +66,10 @@ pub fn order_or_finding(
     ensures late { IfOk result (λ it. IfErr it (HasLate (lines_of log.now) opts.now)) }
 {
     let tables = tables_of(alloc, log, opts)?;
-    order_in(alloc, &tables, log, opts)
-}
-
-/// The order of a log, or its first fault, by its tables.
-fn order_in(
-    alloc: Global,
-    tables: &Tables,
-    log: &Log,
-    opts: &AuditOpts,
-) -> Result<Result<Vec<Turn>, Finding>, AllocError>
-    requires { AreTables (lines_of log.now) opts.now tables.now }
-    ensures explains { IfOk result (λ it. IfOk it
-        (λ turns. Explains (case_of (lines_of log.now) opts.now) (acts_of turns.items))) }
-    ensures lines { IfOk result (λ it. IfOk it
-        (λ turns. AreTurnsOf (case_of (lines_of log.now) opts.now) turns.items)) }
-    ensures all { IfOk result (λ it. IfOk it
-        (λ turns. HaveTurns (case_of (lines_of log.now) opts.now) turns.items)) }
-    ensures unexplained { IfOk result
-        (λ it. OnErr it (¬ (AreExplained (case_of (lines_of log.now) opts.now)))) }
-    ensures first { IfOk result (λ it. IfErr it
-        (λ first. Some (found_of first)
-        ≡ slice_get (faults_of (case_of (lines_of log.now) opts.now)) 0)) }
-    ensures reason { IfOk result (λ it. IfErr it (HasReason (lines_of log.now) opts.now)) }
-    ensures late { IfOk result (λ it. IfErr it (HasLate (lines_of log.now) opts.now)) }
-{
-    if let Some(first) = first_in(alloc, tables, log, opts)? {
+    if let Some(first) = first_in(alloc, &tables, log, opts)? {
         return Ok(Err(first));
     }
-    let mut spots = spots_of(alloc, tables, log, opts)?;
+    let mut spots = spots_of(alloc, &tables, log, opts)?;
     // Others come after the lines that share their act.
     spots.sort_unstable_by_key(|spot| (spot.key, spot.line.is_none(), spot.line));
     let turns = turns_in(alloc, &spots)?;

@@ -55,7 +55,7 @@ pub enum Reason {
 pub struct Finding {
     pub found: Found,
     pub reason: Reason,
-    /// Of a stale read: by how much it is late. None of other faults, and where no line whose end
-    /// is known shows a newer version.
+    /// Of `Order` and `NotAbove`: by how much the call is late. None of other faults, and where no
+    /// line that outdates it has a known end, or it is itself the first of them to end.
     pub late: Option<Late>,
 }

@@ -13,7 +13,7 @@ ghost use Rattle.fdb_lines.specs.private.Tables.{IsAnswer};
 
 use crate::fault::Fault;
 use crate::known::version_in;
-use crate::late::Late;
+use crate::late::{Late, late_by};
 use crate::log::Log;
 use crate::opts::AuditOpts;
 use crate::reason::Reason;
@@ -43,7 +43,7 @@ pub(crate) fn reason_of(
     })
 }
 
-/// Of a stale read, by how much it is late; none of another fault that stands at a line.
+/// By how much the call at a line is late at which a fault stands. Logarithmic.
 pub(crate) fn late_of(
     tables: &Tables,
     log: &Log,
@@ -56,13 +56,8 @@ pub(crate) fn late_of(
     requires stands { stands (case_of (lines_of log.now) opts.now) fault place ≡ true }
     ensures { IsLateAt (lines_of log.now) opts.now place fault result }
 {
-    match fault {
-        Fault::Order => tables.late(log, opts, place),
-        Fault::Wrong => None,
-        Fault::NotAbove => None,
-        Fault::Twice => None,
-        Fault::Stray => None,
-    }
+    let first = tables.first_that(log, opts, place, fault);
+    late_by(log, opts, place, fault, first)
 }
 
 /// Whether a fault stands at a line.

@@ -83,7 +83,7 @@ pub fn summary_by<R: Threads + Sync>(
 }
 
 /// The summary of a log, of which two numbers are known.
-fn counted(log: &Log, unreported: u64, ordered: Option<u64>) -> Summary
+pub(crate) fn counted(log: &Log, unreported: u64, ordered: Option<u64>) -> Summary
     ensures lines { (result.lines ≡ length (lines_of log.now).lines) }
     ensures timed { (result.timed ≡ cond (lines_of log.now).timed (length (lines_of log.now).lines) 0) }
     ensures reads { (result.reads ≡ how_many is_read (lines_of log.now).lines) }
@@ -113,7 +113,7 @@ fn counted(log: &Log, unreported: u64, ordered: Option<u64>) -> Summary
 }
 
 /// How many versions were read, other than the start, that no line reports.
-fn unreported(alloc: Global, log: &Log, opts: &AuditOpts) -> Result<u64, AllocError>
+pub(crate) fn unreported(alloc: Global, log: &Log, opts: &AuditOpts) -> Result<u64, AllocError>
     ensures { IfOk result (λ n. n ≡ unreported (case_of (lines_of log.now) opts.now)) }
 {
     let lines = log.lines();

@@ -4,30 +4,39 @@ ghost use Rattle.std.specs.Prelude.{◌≡◌, ◌<◌, ◌≤◌, None, length,
 ghost use Rattle.fdb_lines.specs.Audit.{case_of};
 ghost use Rattle.fdb_lines.specs.Faults.{is_drawn, is_own, is_raised, is_reported, is_twice, knows};
 ghost use Rattle.fdb_lines.specs.Faults.{last};
-ghost use Rattle.fdb_lines.specs.Late.{IsLate};
-ghost use Rattle.fdb_lines.specs.Lines.{is_read, kind_at, version_at};
+ghost use Rattle.fdb_lines.specs.Late.{outdates};
+ghost use Rattle.fdb_lines.specs.Lines.{version_at};
 ghost use Rattle.fdb_lines.specs.Log.{lines_of};
 ghost use Rattle.fdb_lines.specs.Reasons.{draws_again, draws_it, reports_it};
 ghost use Rattle.fdb_lines.specs.declared.seen.Seen.TheVariants.{Drawn, Shown};
 ghost use Rattle.fdb_lines.specs.private.Entries.{other, IsFirstFrom};
 ghost use Rattle.fdb_lines.specs.private.Known.{of_version};
-ghost use Rattle.fdb_lines.specs.private.Tables.{AreTables, IsFoundIn};
+ghost use Rattle.fdb_lines.specs.private.Late.{IsFirstEnd};
+ghost use Rattle.fdb_lines.specs.private.Tables.{AreTables, IsFirstDrawn, IsFoundIn};
 
-use crate::ends::Ends;
+use crate::end::End;
+use crate::ends::{Ends, sooner};
+use crate::fault::Fault;
 use crate::known::{by_at, version_by, version_in};
-use crate::late::{Late, late_by};
 use crate::line::Line;
 use crate::log::Log;
 use crate::marks::{Marks, knows_at};
 use crate::opts::AuditOpts;
 use crate::reason::Witness;
 
+/// What each line knows of what was drawn, and the ends of the lines that draw a version.
+#[derive(Drop)]
+pub(crate) struct DrawTables {
+    pub(crate) known: Vec<Option<Witness>>,
+    pub(crate) firsts: Ends,
+}
+
 /// What each line knows, and which lines report and draw which versions.
 #[derive(Drop)]
 pub(crate) struct Tables {
     pub(crate) shown: Vec<Option<Witness>>,
     /// None where no line is an ask: all that is drawn is shown then.
-    pub(crate) drawn: Option<Vec<Option<Witness>>>,
+    pub(crate) drawn: Option<DrawTables>,
     pub(crate) reports: Marks,
     pub(crate) raises: Marks,
     pub(crate) draws: Marks,
@@ -57,7 +66,7 @@ impl Tables {
     {
         let knows = self.knows(log, opts, place);
         match &self.drawn {
-            Some(drawn) => knows.max(version_by(log.lines(), by_at(drawn, place))),
+            Some(drawn) => knows.max(version_by(log.lines(), by_at(&drawn.known, place))),
             None => knows,
         }
     }
@@ -94,19 +103,44 @@ impl Tables {
         ensures { IsFoundIn (lines_of log.now) opts.now Drawn place version result }
     {
         match &self.drawn {
-            Some(drawn) => of_version(log.lines(), version, by_at(drawn, place)),
+            Some(drawn) => of_version(log.lines(), version, by_at(&drawn.known, place)),
             None => None,
         }
     }
 
-    /// By how much the read at a place is late. Logarithmic.
-    pub(crate) fn late(&self, log: &Log, opts: &AuditOpts, place: usize) -> Option<Late>
-        requires tables { AreTables (lines_of log.now) opts.now self.now }
-        requires place { place < length (lines_of log.now).lines }
-        requires read { is_read (kind_at (case_of (lines_of log.now) opts.now) place) ≡ true }
-        ensures { IsLate (lines_of log.now) opts.now place result }
+    /// The first end of the lines that outdate the call at a place. Logarithmic.
+    pub(crate) fn first_that(
+        &self,
+        log: &Log,
+        opts: &AuditOpts,
+        place: usize,
+        fault: Fault,
+    ) -> Option<End>
+        requires { AreTables (lines_of log.now) opts.now self.now }
+        ensures { let lines = (lines_of log.now).lines in
+            IsFirstEnd (outdates fault lines place) lines result }
     {
-        late_by(&self.firsts, log, opts, place)
+        let version = version_in(log.lines(), place);
+        match fault {
+            Fault::Order => self.firsts.first_that(fault, version),
+            Fault::NotAbove => {
+                let shown = self.firsts.first_that(fault, version);
+                sooner(shown, self.first_drawn(log, opts, version))
+            }
+            Fault::Wrong | Fault::Twice | Fault::Stray => None,
+        }
+    }
+
+    /// The first end of the lines that draw a version as new as one or newer; none where all that is
+    /// drawn is shown.
+    fn first_drawn(&self, log: &Log, opts: &AuditOpts, version: u64) -> Option<End>
+        requires { AreTables (lines_of log.now) opts.now self.now }
+        ensures { let lines = (lines_of log.now).lines in IsFirstDrawn lines version result }
+    {
+        match &self.drawn {
+            Some(drawn) => drawn.firsts.first_that(Fault::NotAbove, version),
+            None => None,
+        }
     }
 
     /// The first line that reports the version of the one at a place. Logarithmic, as all below.

@@ -18,7 +18,7 @@ use crate::opts::AuditOpts;
 use crate::reason::Witness;
 use crate::seen::Seen;
 use crate::sort::Sort;
-use crate::tables::Tables;
+use crate::tables::{DrawTables, Tables};
 use crate::telling::known_by_telling;
 use std::alloc::{AllocError, Global};
 use std::thread::{Threads, join};
@@ -66,23 +66,7 @@ pub(crate) fn tables_by<R: Threads + Sync>(
     let (firsts, own) = two_tables(rt, alloc, lines);
     let firsts = firsts?;
     let own = own?;
-    let (all_ends, own_ends) = (&firsts, &own);
-    let (shown, drawn) = join(
-        rt,
-        || -> Result<Vec<Option<Witness>>, AllocError>
-            requires { AreSettled all_ends.now × AreSettled own_ends.now
-                × AreEnds false Shown (lines_of log.now).lines (length (lines_of log.now).lines)
-                all_ends.now.ends.items
-                × AreEnds true Shown (lines_of log.now).lines (length (lines_of log.now).lines)
-                own_ends.now.ends.items }
-            ensures { IfOk result
-                (λ known. AreKnownIn (lines_of log.entry.now) opts.entry.now Shown known.items) }
-        { known(alloc, log, opts, Seen::Shown, all_ends, own_ends) },
-        || -> Result<Option<Vec<Option<Witness>>>, AllocError>
-            ensures { IfOk result
-                (λ drawn. AreDrawnIn (lines_of log.entry.now) opts.entry.now drawn) }
-        { known_draws(alloc, log, opts) },
-    );
+    let (shown, drawn) = two_known(rt, alloc, log, opts, &firsts, &own);
     drop(own);
     let shown = shown?;
     let drawn = drawn?;
@@ -107,6 +91,46 @@ pub(crate) fn tables_by<R: Threads + Sync>(
         nameless,
         firsts,
     })
+}
+
+/// What each line knows of what was shown, and of what was drawn, made in two threads.
+fn two_known<R: Threads + Sync>(
+    rt: &R,
+    alloc: Global,
+    log: &Log,
+    opts: &AuditOpts,
+    ends: &Ends,
+    own: &Ends,
+) -> (
+    Result<Vec<Option<Witness>>, AllocError>,
+    Result<Option<DrawTables>, AllocError>,
+)
+    requires settled { AreSettled ends.now }
+    requires ends { let lines = (lines_of log.now).lines in
+        AreEnds false Shown lines (length lines) ends.now.ends.items }
+    requires own_settled { AreSettled own.now }
+    requires own { let lines = (lines_of log.now).lines in
+        AreEnds true Shown lines (length lines) own.now.ends.items }
+    ensures shown { IfOk result.0
+        (λ known. AreKnownIn (lines_of log.now) opts.now Shown known.items) }
+    ensures drawn { IfOk result.1 (λ drawn. AreDrawnIn (lines_of log.now) opts.now drawn) }
+{
+    join(
+        rt,
+        || -> Result<Vec<Option<Witness>>, AllocError>
+            requires { AreSettled ends.now × AreSettled own.now
+                × AreEnds false Shown (lines_of log.now).lines (length (lines_of log.now).lines)
+                ends.now.ends.items
+                × AreEnds true Shown (lines_of log.now).lines (length (lines_of log.now).lines)
+                own.now.ends.items }
+            ensures { IfOk result
+                (λ known. AreKnownIn (lines_of log.entry.now) opts.entry.now Shown known.items) }
+        { known(alloc, log, opts, Seen::Shown, ends, own) },
+        || -> Result<Option<DrawTables>, AllocError>
+            ensures { IfOk result
+                (λ drawn. AreDrawnIn (lines_of log.entry.now) opts.entry.now drawn) }
+        { known_draws(alloc, log, opts) },
+    )
 }
 
 /// The ends of the lines that show a version, of all lines and by client, made in two threads.
@@ -234,23 +258,19 @@ fn known(
     }
 }
 
-/// For each line the newest of the lines before it that draw a version; none where no line is an
-/// ask.
-fn known_draws(
-    alloc: Global,
-    log: &Log,
-    opts: &AuditOpts,
-) -> Result<Option<Vec<Option<Witness>>>, AllocError>
+/// For each line the newest of the lines before it that draw a version, and the ends of those; none
+/// where no line is an ask.
+fn known_draws(alloc: Global, log: &Log, opts: &AuditOpts) -> Result<Option<DrawTables>, AllocError>
     ensures { IfOk result (λ drawn. AreDrawnIn (lines_of log.now) opts.now drawn) }
 {
     let lines = log.lines();
     if !has_ask(lines) {
         return Ok(None);
     }
-    let ends = table_of(alloc, lines, Seen::Drawn, false)?;
+    let firsts = table_of(alloc, lines, Seen::Drawn, false)?;
     let own = table_of(alloc, lines, Seen::Drawn, true)?;
-    let drawn = known(alloc, log, opts, Seen::Drawn, &ends, &own)?;
-    Ok(Some(drawn))
+    let known = known(alloc, log, opts, Seen::Drawn, &firsts, &own)?;
+    Ok(Some(DrawTables { known, firsts }))
 }
 
 /// Whether a line is an ask.

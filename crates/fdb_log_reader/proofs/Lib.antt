@@ -1,6 +1,9 @@
+pub mod Digits
 pub mod Naming
+pub mod Room
 pub mod Splitting
 pub mod Escapes
 pub mod ReadsBack
 pub mod Scanned
 pub mod UsualForm
+pub mod ShownTexts

@@ -1,5 +1,5 @@
 -- A line in the usual form is read as the value that its members tell.
-use Rattle.std.proofs.Common.{◌≡◌, ℕ, ◌<◌, ◌≤◌, true, false, List, [], ◌∷◌, ◌++◌, Some, None, Err, option_map, option_and_then, decimal, length, nat_le, nat_lt, if◌then◌else◌, refl, sym, ap, ◌∙◌, arith, append_assoc, append-nil}
+use Rattle.std.proofs.Common.{◌≡◌, ℕ, ◌<◌, ◌≤◌, true, false, List, [], ◌∷◌, ◌++◌, Some, None, Option, Result, Ok, Err, option_map, option_and_then, is_some, decimal, length, nat_le, nat_lt, ◌==◌, if◌then◌else◌, refl, sym, ap, ap₂, map, ◌∙◌, arith, append_assoc, append-nil}
 use Rattle.std.proofs.lemmas.Slice.Eq.{bytes_eq-Decides}
 use Rattle.std.proofs.lemmas.Bool.{false≢true}
 use Rattle.std.proofs.lemmas.Bool.Decides.{nat_tests}
@@ -12,12 +12,14 @@ use Rattle.json.specs.Tree.{HasNumbers, MembersHaveNumbers, depth, json_tokens, 
 use Rattle.json.proofs.Printed.Decimals.{IsNumber-decimal}
 use Rattle.json.proofs.Printed.Tokens.{tokens-print}
 use Rattle.json.proofs.Printed.Trees.{ArePrintable-json_tokens, value-json_tokens}
-use Rattle.serde_json.specs.Data.{Members, no_members, number, object, put}
-use Rattle.serde_json.specs.Find.{get_member}
+use Rattle.serde_json.specs.Data.{Data, Members, no_members, number, object, put}
+use Rattle.serde_json.specs.Find.{get, get_member}
 use Rattle.serde_json.specs.Read.{max_depth, of_json, of_members, read}
 use Rattle.serde_json.proofs.Numbers.{number_of-decimal}
 use Rattle.serde_json.proofs.Views.{get_member-put, get_member-put_other}
 use Rattle.fdb_log_reader.specs.declared.error.Why.TheVariants.{TooLong, TooMany}
+use Rattle.fdb_log_reader.specs.declared.error.Why.{Why}
+use Rattle.fdb_lines.specs.declared.line.Call.{Call}
 use Rattle.fdb_log_reader.specs.declared.member.Member.{Member}
 use Rattle.fdb_log_reader.specs.declared.member.Member.TheVariants.{Client, Read, Commit, Ask, Report, Learn, Began, Ended}
 use Rattle.fdb_log_reader.specs.declared.usual.Told.{Told}
@@ -25,8 +27,12 @@ use Rattle.fdb_log_reader.specs.declared.usual.Told.TheVariants.{Number, Text, N
 use Rattle.fdb_log_reader.specs.declared.usual.Usual.{Usual}
 use Rattle.fdb_lines.specs.declared.log.TheConstants.{MAX_LINES}
 use Rattle.fdb_log_reader.specs.declared.reader.TheConstants.{MAX_LINE_BYTES}
-use Rattle.fdb_log_reader.specs.Members.{and_then, name_of}
-use Rattle.fdb_log_reader.specs.Reading.{Reading, or_not_json, value_of, with_line, with_said, with_value}
+use Rattle.fdb_log_reader.specs.Members.{and_then, call_of, client_of, name_of, times_of}
+use Rattle.fdb_log_reader.specs.Columns.{KeyColumn, ShownColumn, all_shown, column_of, keyed, shown_of}
+use Rattle.fdb_log_reader.specs.declared.keys.Keys.{Keys}
+use Rattle.fdb_log_reader.specs.declared.shown.Shown.{Shown}
+use Rattle.fdb_log_reader.specs.Numbers.{client_in, with_client}
+use Rattle.fdb_log_reader.specs.Reading.{Reading, or_not_json, pushed, value_of, with_line, with_said, with_value}
 use Rattle.fdb_log_reader.specs.private.Usual.{IsReadAs, IsSmall, Reads, Says, StandsFor, says_of, told_data, told_json, told_text, with_told}
 
 told_reads : (told : Told) → IsSmall told → of_json (told_json told) ≡ Some (told_data told)
@@ -194,6 +200,21 @@ ended bytes rest after name told line next reads is small says comes =
 
 -- ---- the whole line
 
+-- where no keys are kept, what further members say is not read
+beside_nothing : (reading : Reading) (says : Member → Option Data) (beside : List ℕ → Option Data) → reading.keys ≡ None → reading.shown ≡ []
+    → with_said reading says beside ≡ with_said reading says (λ _. None)
+beside_nothing reading says beside none hidden =
+    ap₂ (λ (keys_with : Call → Result (Option KeyColumn) Why) (shown : List ShownColumn).
+    and_then (client_of says) (λ client.
+    and_then (call_of reading.names says) (λ call.
+    and_then (times_of says) (λ times.
+    and_then (keys_with call) (λ keys.
+    let names = with_client reading.names client in
+    and_then (pushed reading.log (record { client = client_in names client; call = call; times = times })) (λ log.
+    Ok (record { log = log; names = names; keys = keys; shown = shown })))))))
+    (λ i call. (ap (λ keys. keyed keys call beside) none ∙ sym (ap (λ keys. keyed keys call (λ _. None)) none)) i)
+    (ap (all_shown beside) hidden ∙ sym (ap (all_shown (λ _. None)) hidden))
+
 pub stands : (bytes : List ℕ) (line : Usual) → IsUtf8 bytes → IsReadAs bytes line → StandsFor bytes line
 stands bytes line text is = (
   is.0,
@@ -201,12 +222,21 @@ stands bytes line text is = (
   λ i m. is.2 m i,
 )
 
--- what has been read with such a line more
-pub with_usual : (reading : Reading) (bytes : List ℕ) (line : Usual) → length bytes ≤ MAX_LINE_BYTES → length reading.log.lines < MAX_LINES → StandsFor bytes line
-    → with_line reading bytes ≡ with_said reading (says_of line)
-with_usual reading bytes line short few is =
+pub none_kept : (keys : Option Keys) → is_some keys ≡ false → option_map column_of keys ≡ None
+none_kept None none = refl
+none_kept (Some keys) none = absurd (false≢true (sym none))
+
+pub none_shown : (shown : List Shown) → (length shown == 0) ≡ true → map shown_of shown ≡ []
+none_shown [] none = refl
+none_shown (one ∷ more) none = absurd (grind (arith, nat_tests))
+
+-- what has been read with such a line more, where no keys are kept
+pub with_usual : (reading : Reading) (bytes : List ℕ) (line : Usual) → reading.keys ≡ None → reading.shown ≡ [] → length bytes ≤ MAX_LINE_BYTES → length reading.log.lines < MAX_LINES → StandsFor bytes line
+    → with_line reading bytes ≡ with_said reading (says_of line) (λ _. None)
+with_usual reading bytes line none hidden short few is =
     let short_enough : nat_lt MAX_LINE_BYTES (length bytes) ≡ false = grind (arith, nat_tests) in
     let few_enough : nat_le MAX_LINES (length reading.log.lines) ≡ false = grind (arith, nat_tests) in
     ap (λ b. if b then Err TooLong else (if nat_le MAX_LINES (length reading.log.lines) then Err TooMany else and_then (value_of bytes) (with_value reading))) short_enough
     ∙ ap (λ b. if b then Err TooMany else and_then (value_of bytes) (with_value reading)) few_enough
-    ∙ ap (λ value. and_then value (with_value reading)) is.1 ∙ ap (with_said reading) is.2
+    ∙ ap (λ value. and_then value (with_value reading)) is.1
+    ∙ (ap (λ says. with_said reading says (λ name. get name is.0)) is.2 ∙ beside_nothing reading (says_of line) (λ name. get name is.0) none hidden)

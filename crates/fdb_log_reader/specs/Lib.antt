@@ -2,6 +2,7 @@ pub mod Numbers
 pub mod Names
 pub mod Printed
 pub mod Members
+pub mod Columns
 pub mod Reading
 pub mod Text
 pub mod Reader

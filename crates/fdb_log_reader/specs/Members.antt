@@ -1,5 +1,8 @@
 -- What a line says by its members, over the JSON value that `serde_json` reads. (this product's own)
-use Rattle.std.specs.Prelude.{◌≡◌, ℕ, ◌==◌, ◌||◌, Bool, true, false, nat_le, nat_lt, List, [], ◌∷◌, count_by, Option, None, Some, is_some, option_and_then, option_map, Result, Ok, Err, codes, if◌then◌else◌}
+use Rattle.std.specs.Prelude.{◌≡◌, ℕ, ◌^◌, ◌==◌, ◌&&◌, ◌||◌, Bool, true, false, nat_le, nat_lt, List, [], ◌∷◌, count_by, length, decimal, Option, None, Some, is_some, option_and_then, option_map, Result, Ok, Err, codes, if◌then◌else◌}
+use Rattle.std.specs.Char.{is_digit}
+use Rattle.std.specs.Option.{option_or}
+use Rattle.std.specs.Str.Parse.{digits_value}
 use Rattle.std.proofs.Common.{leb-true}
 use Rattle.serde_json.specs.Data.{Data}
 use Rattle.serde_json.specs.Find.{get, as_number, as_u64, as_null, as_str}
@@ -44,15 +47,33 @@ and_then (Err why) next = Err why
 abbrev pub whole : Data → Option ℕ
 whole value = option_and_then as_u64 (as_number value)
 
--- a member that has to be there, and is a whole number
-abbrev pub number_of : (Member → Option Data) → Member → Result ℕ Why
-number_of says member = or_bad member (option_and_then whole (says member))
+abbrev pub are_digits : List ℕ → Bool
+are_digits [] = true
+are_digits (byte ∷ bytes) = is_digit byte 10 && are_digits bytes
 
--- ---- whose call it was: a text, which may be left out
+-- the number that a text writes: by digits alone, at least one, below 2^64; zeros may stand before them
+abbrev pub written : List ℕ → Option ℕ
+written text =
+    if nat_lt 0 (length text) && (are_digits text && nat_lt (digits_value 10 text) (2 ^ 64))
+    then Some (digits_value 10 text) else None
+
+-- a version or a time: a whole number, or a text that writes one
+abbrev pub as_count : Data → Option ℕ
+as_count value = option_or (option_and_then written (as_str value)) (whole value)
+
+-- a name: a text, or a whole number, which is its decimal text
+abbrev pub as_name : Data → Option (List ℕ)
+as_name value = option_or (as_str value) (option_map decimal (whole value))
+
+-- a member that has to be there, and is a version or a time
+abbrev pub number_of : (Member → Option Data) → Member → Result ℕ Why
+number_of says member = or_bad member (option_and_then as_count (says member))
+
+-- ---- whose call it was: a name, which may be left out
 
 abbrev pub client_with : Option Data → Result (Option (List ℕ)) Why
 client_with None = Ok None
-client_with (Some name) = or_bad Client (option_map Some (as_str name))
+client_with (Some name) = or_bad Client (option_map Some (as_name name))
 
 abbrev pub client_of : (Member → Option Data) → Result (Option (List ℕ)) Why
 client_of says = client_with (says Client)
@@ -65,7 +86,7 @@ call_count says = count_by (has says) (Read ∷ Commit ∷ Ask ∷ Report ∷ Le
 -- from whom a line has learnt: a client whose name a line above has
 abbrev pub teller_of : List (List ℕ) → (Member → Option Data) → Result ℕ Why
 teller_of names says =
-    or_bad Learn (option_and_then (number_in names) (option_and_then as_str (says Learn)))
+    or_bad Learn (option_and_then (number_in names) (option_and_then as_name (says Learn)))
 
 abbrev pub call_named : List (List ℕ) → (Member → Option Data) → Result Call Why
 call_named names says =
@@ -83,9 +104,9 @@ call_of names says =
 
 -- ---- when a call began and ended: both members, or none
 
--- when a call ended: a whole number, or null where that is not known
+-- when a call ended: a time, or null where that is not known
 abbrev pub end_of : Data → Option (Option ℕ)
-end_of value = if is_some (as_null value) then Some None else option_map Some (whole value)
+end_of value = if is_some (as_null value) then Some None else option_map Some (as_count value)
 
 -- times, unless the call ended before it began
 abbrev pub times_if : (began end : ℕ) (in_order : Bool) → nat_le began end ≡ in_order → Option Times

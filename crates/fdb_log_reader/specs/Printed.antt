@@ -28,9 +28,13 @@ escaped c = codes "\\u" ++ hex_digit_at 0x1000 c ∷ hex_digit_at 0x100 c ∷ he
 abbrev pub shown : ℕ → List ℕ
 shown c = if is_unprintable c then escaped c else encode_utf8 c
 
+-- a text with these characters escaped
+abbrev pub shown_text : List ℕ → List ℕ
+shown_text text = flat_map shown (chars text)
+
 -- a name: its JSON string, as `serde_json` writes it, with these characters escaped too
 abbrev pub printed : List ℕ → List ℕ
-printed name = flat_map shown (chars (quoted name))
+printed name = shown_text (quoted name)
 
 -- what a JSON string stands for, behind its opening quote (RFC 8259, section 7)
 abbrev pub read_back : List ℕ → Option (List ℕ)

@@ -1,8 +1,9 @@
 -- The log that a text of JSON Lines stands for. (this product's own)
-use Rattle.std.specs.Prelude.{◌≡◌, ◌⊎◌, ℕ, ◌+◌, ◌==◌, Bool, false, nat_le, nat_lt, List, [], ◌∷◌, length, Option, None, Some, Result, Ok, Err, if◌then◌else◌}
+use Rattle.std.specs.Prelude.{◌≡◌, ◌⊎◌, ℕ, ◌+◌, ◌==◌, Bool, false, nat_le, nat_lt, List, [], ◌∷◌, length, map, Option, None, Some, option_map, Result, Ok, Err, if◌then◌else◌}
 use Rattle.std.specs.List.{slice_split}
 use Rattle.std.specs.Str.{is_utf8}
 use Rattle.serde_json.specs.Data.{Data}
+use Rattle.serde_json.specs.Find.{get}
 use Rattle.serde_json.specs.Read.{read}
 use Rattle.fdb_lines.specs.declared.line.Line.{Line}
 use Rattle.fdb_lines.specs.declared.log.LineError.{LineError}
@@ -17,6 +18,7 @@ use Rattle.fdb_log_reader.specs.declared.member.Member.{Member}
 use Rattle.fdb_log_reader.specs.declared.member.Member.TheVariants.{Client, Learn}
 use Rattle.fdb_log_reader.specs.declared.named_log.NamedLog.{NamedLog}
 use Rattle.fdb_log_reader.specs.declared.reader.TheConstants.{MAX_LINE_BYTES}
+use Rattle.fdb_log_reader.specs.Columns.{KeyColumn, ShownColumn, all_shown, column_of, keyed, no_keys, shown_of}
 use Rattle.fdb_log_reader.specs.Members.{and_then, call_of, client_of, member_of, times_of}
 use Rattle.fdb_log_reader.specs.Names.{names_of}
 use Rattle.fdb_log_reader.specs.Numbers.{client_in, with_client}
@@ -37,10 +39,13 @@ lines_in bytes = without_empty_end (slice_split is_line_feed bytes)
 
 -- ---- what has been read with a line more, or why that is refused
 
--- what has been read: the lines of a log, and the names of its clients
+-- what has been read: the lines of a log, the names of its clients, the lines' keys if they are kept, and what is shown
+-- beside them
 pub record Reading : Type 0 where
   pub log : Lines
   pub names : List (List ℕ)
+  pub keys : Option KeyColumn
+  pub shown : List ShownColumn
 
 -- why a line is refused that the log does not take
 abbrev pub why_of : LineError → Why
@@ -57,19 +62,20 @@ added_unless (Some error) log line = Err (why_of error)
 abbrev pub pushed : Lines → Line → Result Lines Why
 pushed log line = added_unless (refusal_of log line) log line
 
--- what has been read with a line more, by what its members say
-abbrev pub with_said : Reading → (Member → Option Data) → Result Reading Why
-with_said reading says =
+-- what has been read with a line more, by what its members say, and those beside them
+abbrev pub with_said : Reading → (Member → Option Data) → (List ℕ → Option Data) → Result Reading Why
+with_said reading says beside =
     and_then (client_of says) (λ client.
     and_then (call_of reading.names says) (λ call.
     and_then (times_of says) (λ times.
+    and_then (keyed reading.keys call beside) (λ keys.
     let names = with_client reading.names client in
     and_then (pushed reading.log (record { client = client_in names client; call = call; times = times })) (λ log.
-    Ok (record { log = log; names = names })))))
+    Ok (record { log = log; names = names; keys = keys; shown = all_shown beside reading.shown }))))))
 
 -- and by its JSON value
 abbrev pub with_value : Reading → Data → Result Reading Why
-with_value reading value = with_said reading (member_of value)
+with_value reading value = with_said reading (member_of value) (λ name. get name value)
 
 abbrev pub or_not_json : Option Data → Result Data Why
 or_not_json None = Err NotJson
@@ -103,16 +109,21 @@ with_lines reading [] = at_end reading
 with_lines reading (line ∷ lines) =
     or_refused (length reading.log.lines + 1) (with_line reading line) (λ more. with_lines more lines)
 
-abbrev pub nothing : Reading
-nothing = record { log = record { timed = false; lines = [] }; names = [] }
+-- of nothing, where a member has the keys, if they are kept, and these columns are shown
+abbrev pub nothing : Option (List ℕ) → List ShownColumn → Reading
+nothing key shown = record { log = record { timed = false; lines = [] }; names = []; keys = option_map no_keys key; shown = shown }
 
 -- what a text stands for: what is read of all its lines, of which it needs one, or the first that is refused
+abbrev pub reading_with : Option (List ℕ) → List ShownColumn → List ℕ → Result Reading ReadError
+reading_with key shown bytes = with_lines (nothing key shown) (lines_in bytes)
+
+-- and where none are kept
 abbrev pub reading_in : List ℕ → Result Reading ReadError
-reading_in bytes = with_lines nothing (lines_in bytes)
+reading_in bytes = reading_with None [] bytes
 
 -- what a log with names stands for
 abbrev pub reading_of : NamedLog → Reading
-reading_of named = record { log = lines_of named.log; names = names_of named.names }
+reading_of named = record { log = lines_of named.log; names = names_of named.names; keys = option_map column_of named.keys; shown = map shown_of named.shown.items }
 
 -- the result stands for this, unless memory was refused
 abbrev pub StandsFor : Result NamedLog ReadError → Result Reading ReadError → Type 0

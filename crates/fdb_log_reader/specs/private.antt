@@ -1,15 +1,35 @@
 -- What a log and its names owe each other, and what a line has not. (this product's own)
 pub mod Feeding
+pub mod Texts
 pub mod Usual
-use Rattle.std.specs.Prelude.{◌≡◌, ℕ, ◌≤◌, false, List, All, length}
+use Rattle.std.specs.Prelude.{◌≡◌, ℕ, ◌≤◌, false, List, ◌++◌, All, length, Option, IfSome, option_map}
+use Rattle.serde_json.specs.Data.{Data, depth}
+use Rattle.serde_json.specs.Read.{max_depth}
+use Rattle.fdb_lines.specs.Lines.{Lines}
 use Rattle.fdb_lines.specs.Log.{lines_of}
 use Rattle.fdb_log_reader.specs.declared.named_log.NamedLog.{NamedLog}
+use Rattle.fdb_log_reader.specs.Columns.{HasCells, KeyColumn, column_of}
 use Rattle.fdb_log_reader.specs.Names.{names_of}
 use Rattle.fdb_log_reader.specs.Reading.{is_line_feed}
 
--- There are no more names than lines, and no more lines than a log may have.
+-- there are no more keys than lines
+abbrev pub HasFewKeys : Option KeyColumn → Lines → Type 0
+HasFewKeys column log = IfSome column (λ column. length column.keys ≤ length log.lines)
+
+-- There are no more names and keys than lines, and each line has its cell.
 abbrev pub HasRoom : NamedLog → Type 0
-HasRoom named = length (names_of named.names) ≤ length (lines_of named.log).lines
+HasRoom named =
+    (length (names_of named.names) ≤ length (lines_of named.log).lines)
+    × HasFewKeys (option_map column_of named.keys) (lines_of named.log)
+    × HasCells (option_map column_of named.keys) (lines_of named.log)
+
+-- names of which the first are these
+abbrev pub IsMore : List (List ℕ) → List (List ℕ) → Type 0
+IsMore names more = (new : List (List ℕ)) × (more ≡ names ++ new)
+
+-- no member nests deeper than a JSON text may that is read
+abbrev pub IsFlat : (List ℕ → Option Data) → Type 0
+IsFlat says = (name : List ℕ) → IfSome (says name) (λ said. depth said ≤ max_depth)
 
 -- none of some bytes is a line feed
 abbrev pub IsOneLine : List ℕ → Type 0

@@ -27,6 +27,8 @@ pub enum Why {
     SomeTimes,
     /// A member is missing, of another kind, or not one that may stand there.
     BadMember(Member),
+    /// Keys are kept, and the member that names its key is no name.
+    BadKey,
     /// Memory was refused, which says nothing of the line.
     Memory,
 }
@@ -84,6 +86,7 @@ impl fmt::Display for ReadError {
             Why::TwoCalls => write!(f, "TwoCalls {line}"),
             Why::SomeTimes => write!(f, "SomeTimes {line}"),
             Why::BadMember(member) => write!(f, "BadMember {line} {member}"),
+            Why::BadKey => write!(f, "BadMember {line} key"),
             Why::Memory => write!(f, "want of memory"),
         }
     }

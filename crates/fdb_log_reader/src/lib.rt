@@ -6,6 +6,7 @@
 #![tactic(auto)]
 
 mod error;
+mod keys;
 mod member;
 mod named_log;
 mod names;
@@ -14,10 +15,14 @@ mod printing;
 mod reader;
 mod said;
 mod scanning;
+mod showing;
+mod shown;
 mod usual;
 
 pub use error::{ReadError, Why};
+pub use keys::Keys;
 pub use member::Member;
 pub use named_log::NamedLog;
 pub use names::Names;
 pub use reader::{LogReader, MAX_LINE_BYTES, read_log};
+pub use shown::Shown;

@@ -1,19 +1,25 @@
 //! A log with the names of its clients, and how a line is added to it.
 
-ghost use Rattle.std.specs.Prelude.{◌≡◌, ◌⊎◌, ◌≤◌, ◌<◌, Err, Ok, IfOk, MatchResult, OnOk, length};
-ghost use Rattle.std.specs.Prelude.{option_map};
+ghost use Rattle.std.specs.Prelude.{◌≡◌, ◌⊎◌, ◌≤◌, ◌<◌, Err, Ok, IfOk, IfSome, MatchResult, OnOk};
+ghost use Rattle.std.specs.Prelude.{length, option_map};
+ghost use Rattle.fdb_log_reader.specs.Columns.{column_of, keyed};
 ghost use Rattle.fdb_log_reader.specs.Names.{names_of};
 ghost use Rattle.fdb_log_reader.specs.Numbers.{client_in, with_client};
 ghost use Rattle.fdb_log_reader.specs.Reading.{reading_of, with_line, with_said};
-ghost use Rattle.fdb_log_reader.specs.private.{HasRoom};
+ghost use Rattle.fdb_log_reader.specs.private.{HasRoom, IsFlat};
 
 use crate::error::Why;
+use crate::keys::Keys;
+use crate::member::Member;
 use crate::names::Names;
-use crate::parsing::{call_of, client_of, times_of, value_of};
+use crate::parsing::{call_of, client_of, key_in, times_of, value_of};
 use crate::reader::MAX_LINE_BYTES;
 use crate::said::Said;
+use crate::showing::add_shown;
+use crate::shown::Shown;
 use crate::usual::usual_of;
-use fdb_lines::{Line, Log, MAX_LINES};
+use fdb_lines::{Call, Line, Log, MAX_LINES};
+use itoa::Buffer;
 use std::alloc::{AllocError, Global};
 
 /// A log, and the names of its clients, as a text has them.
@@ -22,9 +28,14 @@ pub struct NamedLog {
     pub log: Log,
     /// The names of the log's clients, each at its client's number.
     pub names: Names,
+    /// The keys of its lines, if they are kept.
+    pub keys: Option<Keys>,
+    /// What is shown beside them.
+    pub shown: Vec<Shown>,
 }
 
 /// Adds a line, by its bytes. After an error the log is not to be read on.
+#[tactic(auto, using(crate::proofs::ShownTexts::flat_value))]
 pub(crate) fn add_line(named: &mut NamedLog, alloc: Global, bytes: &[u8]) -> Result<(), Why>
     requires has_room { HasRoom named.old }
     requires short { length bytes.now ≤ MAX_LINE_BYTES }
@@ -36,7 +47,10 @@ pub(crate) fn add_line(named: &mut NamedLog, alloc: Global, bytes: &[u8]) -> Res
     if named.log.lines().len() >= MAX_LINES {
         return Err(Why::TooMany);
     }
-    if let Some(line) = usual_of(bytes) {
+    if named.keys.is_none()
+        && named.shown.is_empty()
+        && let Some(line) = usual_of(bytes)
+    {
         return add_said(named, alloc, &line);
     }
     let value = value_of(alloc, bytes)?;
@@ -47,15 +61,21 @@ pub(crate) fn add_line(named: &mut NamedLog, alloc: Global, bytes: &[u8]) -> Res
 fn add_said<S: Said>(named: &mut NamedLog, alloc: Global, line: &S) -> Result<(), Why>
     requires has_room { HasRoom named.old }
     requires few { length (reading_of named.old).log.lines < MAX_LINES }
+    requires flat { IsFlat (S.says_beside line.now) }
     ensures has_room { OnOk result (HasRoom named.new) }
     ensures read { MatchResult result
-        (λ _. with_said (reading_of named.old) (S.says line.now) ≡ Ok (reading_of named.new))
+        (λ _. with_said (reading_of named.old) (S.says line.now) (S.says_beside line.now)
+        ≡ Ok (reading_of named.new))
         (λ why. (why ≡ Why.Memory)
-        ⊎ (with_said (reading_of named.old) (S.says line.now) ≡ Err why)) }
+        ⊎ (with_said (reading_of named.old) (S.says line.now) (S.says_beside line.now)
+        ≡ Err why)) }
 {
-    let name = client_of(line)?;
+    let mut digits = Buffer::new();
+    let name = client_of(line, &mut digits)?;
     let call = call_of(line, &named.names)?;
     let times = times_of(line)?;
+    add_key(&mut named.keys, alloc, &call, line)?;
+    add_shown(&mut named.shown, alloc, line)?;
     let client = add_client(&mut named.names, alloc, name)?;
     named.log.push(Line {
         client,
@@ -65,8 +85,34 @@ fn add_said<S: Said>(named: &mut NamedLog, alloc: Global, line: &S) -> Result<()
     Ok(())
 }
 
+/// Adds the key of a line, where keys are kept.
+fn add_key<S: Said>(
+    keys: &mut Option<Keys>,
+    alloc: Global,
+    call: &Call,
+    line: &S,
+) -> Result<(), Why>
+    requires few { IfSome keys.old (λ keys. length (column_of keys).keys < MAX_LINES) }
+    ensures { MatchResult result
+        (λ _. keyed (option_map column_of keys.old) call.now (S.says_beside line.now)
+        ≡ Ok (option_map column_of keys.new))
+        (λ why. (why ≡ Why.Memory)
+        ⊎ (keyed (option_map column_of keys.old) call.now (S.says_beside line.now) ≡ Err why)) }
+{
+    let Some(keys) = keys else {
+        return Ok(());
+    };
+    if matches!(call, Call::Learn(_)) {
+        return Err(Why::BadMember(Member::Learn));
+    }
+    let mut digits = Buffer::new();
+    let key = key_in(line, keys.member(), &mut digits)?;
+    keys.add(alloc, key)?;
+    Ok(())
+}
+
 /// Adds the name of the client of a line, if it has one. Answers the client's number.
-fn add_client(
+pub(crate) fn add_client(
     names: &mut Names,
     alloc: Global,
     name: Option<&str>,

@@ -1,7 +1,7 @@
 //! The names of clients, and their numbers in the log.
 
-ghost use Rattle.std.specs.Prelude.{◌≡◌, ◌<◌, ℕ, List, [], IfOk, IfSome, OnOk, Some, length, map};
-ghost use Rattle.std.specs.Prelude.{option_map, slice_get, string_bytes};
+ghost use Rattle.std.specs.Prelude.{◌≡◌, ◌<◌, ℕ, List, [], IfOk, IfSome, OnErr, OnOk, Some, length};
+ghost use Rattle.std.specs.Prelude.{map, option_map, slice_get, string_bytes};
 ghost use Rattle.std.specs.BTreeMap.{get_by_text};
 ghost use Rattle.fdb_log_reader.specs.Numbers.{number_in, with_name};
 ghost use Rattle.fdb_log_reader.specs.Printed.{printed, read_back};
@@ -43,7 +43,14 @@ impl Names {
     pub fn name(&self, client: u32) -> Option<&str>
         ensures { option_map (λ name. name.now) result ≡ slice_get (names_of self.now) client }
     {
-        let text = self.texts.get(client as usize)?;
+        self.text(client as usize)
+    }
+
+    /// The name at a place.
+    pub(crate) fn text(&self, place: usize) -> Option<&str>
+        ensures { option_map (λ name. name.now) result ≡ slice_get (names_of self.now) place }
+    {
+        let text = self.texts.get(place)?;
         Some(text.as_str())
     }
 
@@ -80,6 +87,7 @@ impl Names {
         ensures number { IfOk result
             (λ number. number_in (names_of self.new) name.now ≡ Some number) }
         ensures within { IfOk result (λ number. number < length (names_of self.new)) }
+        ensures kept { OnErr result (names_of self.new ≡ names_of self.old) }
     {
         if let Some(number) = self.number(name) {
             return Ok(number);

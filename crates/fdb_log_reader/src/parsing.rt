@@ -1,8 +1,12 @@
 //! What a line says, by the members of its JSON value.
 
-ghost use Rattle.std.specs.Prelude.{◌≡◌, ◌⊎◌, ◌≤◌, MatchResult, length, option_and_then};
-ghost use Rattle.std.specs.Prelude.{option_map};
+ghost use Rattle.std.specs.Prelude.{◌≡◌, ◌⊎◌, ◌≤◌, IfOk, MatchResult, length};
+ghost use Rattle.std.specs.Prelude.{option_and_then, option_map};
+ghost use Rattle.serde_json.specs.Data.{depth};
+ghost use Rattle.serde_json.specs.Read.{max_depth};
 ghost use Rattle.serde_json.specs.View.{view};
+ghost use Rattle.fdb_log_reader.specs.Columns.{key_in};
+ghost use Rattle.fdb_log_reader.specs.Members.{as_count, as_name, written};
 ghost use Rattle.fdb_log_reader.specs.Members.{call_count, call_named, call_of, client_of};
 ghost use Rattle.fdb_log_reader.specs.Members.{end_of, number_of, teller_of};
 ghost use Rattle.fdb_log_reader.specs.Members.{times_of, times_with};
@@ -14,6 +18,7 @@ use crate::member::Member;
 use crate::names::Names;
 use crate::said::Said;
 use fdb_lines::{Call, MAX_LINES, Times};
+use itoa::Buffer;
 use serde_json::Value;
 use std::alloc::Global;
 
@@ -28,8 +33,9 @@ const CALLS: [Member; 5] = [
 
 /// The JSON value of a line, as `serde_json` reads it from all of the bytes.
 pub(crate) fn value_of(alloc: Global, bytes: &[u8]) -> Result<Value, Why>
-    ensures { MatchResult result (λ value. value_of bytes.now ≡ Ok (view value))
+    ensures value { MatchResult result (λ value. value_of bytes.now ≡ Ok (view value))
         (λ why. (why ≡ Why.Memory) ⊎ (value_of bytes.now ≡ Err why)) }
+    ensures flat { IfOk result (λ value. depth (view value) ≤ max_depth) }
 {
     match Value::from_slice(alloc, bytes) {
         Ok(value) => Ok(value),
@@ -38,15 +44,88 @@ pub(crate) fn value_of(alloc: Global, bytes: &[u8]) -> Result<Value, Why>
     }
 }
 
-/// A member that has to be there, and is a whole number.
+/// The number that a text writes: by digits alone, below 2^64. Zeros may stand before them.
+#[tactic(auto, using(crate::proofs::Digits::with_plus, crate::proofs::Digits::without_plus))]
+fn written(text: &str) -> Option<u64>
+    ensures { result ≡ written text.now }
+{
+    let first = text.as_bytes().first().copied();
+    if first == Some(b'+') {
+        return None;
+    }
+    text.parse::<u64>().ok()
+}
+
+/// A version or a time that a member says, as a whole number or in a text.
+#[tactic(auto, using(crate::proofs::Digits::count_said))]
+fn count_in<S: Said>(line: &S, member: Member) -> Option<u64>
+    ensures { result ≡ option_and_then as_count (S.says line.now member) }
+{
+    match line.text(member) {
+        Some(text) => written(text),
+        None => line.number(member),
+    }
+}
+
+/// A name that a member says: a text, or a whole number, whose digits go to the buffer.
+#[tactic(auto, using(crate::proofs::Digits::name_said))]
+fn name_in<'a, S: Said>(line: &'a S, member: Member, digits: &'a mut Buffer) -> Option<&'a str>
+    ensures { option_map (λ name. name.now) result
+        ≡ option_and_then as_name (S.says line.now member) }
+{
+    match line.text(member) {
+        Some(text) => Some(text),
+        None => {
+            let number = line.number(member)?;
+            Some(digits.format(number))
+        }
+    }
+}
+
+/// The key that a line names by a further member; none where that is left out.
+pub(crate) fn key_in<'a, S: Said>(
+    line: &'a S,
+    member: &str,
+    digits: &'a mut Buffer,
+) -> Result<Option<&'a str>, Why>
+    ensures { MatchResult result
+        (λ key. key_in (S.says_beside line.now member.now) ≡ Ok (option_map (λ key. key.now) key))
+        (λ why. key_in (S.says_beside line.now member.now) ≡ Err why) }
+{
+    let Some(said) = line.further(member) else {
+        return Ok(None);
+    };
+    match name_from(said, digits) {
+        Some(key) => Ok(Some(key)),
+        None => Err(Why::BadKey),
+    }
+}
+
+/// The name that a value is: a text, or a whole number, whose digits go to the buffer.
+fn name_from<'a>(said: &'a Value, digits: &'a mut Buffer) -> Option<&'a str>
+    ensures { option_map (λ name. name.now) result ≡ as_name (view said.now) }
+{
+    match said.as_str() {
+        Some(text) => Some(text),
+        None => {
+            let number = said.as_u64()?;
+            Some(digits.format(number))
+        }
+    }
+}
+
+/// A member that has to be there, and is a version or a time.
 fn number_of<S: Said>(line: &S, member: Member) -> Result<u64, Why>
     ensures { result ≡ number_of (S.says line.now) member }
 {
-    line.number(member).ok_or(Why::BadMember(member))
+    count_in(line, member).ok_or(Why::BadMember(member))
 }
 
 /// The name of the client whose call it was; none where that is left out.
-pub(crate) fn client_of<S: Said>(line: &S) -> Result<Option<&str>, Why>
+pub(crate) fn client_of<'a, S: Said>(
+    line: &'a S,
+    digits: &'a mut Buffer,
+) -> Result<Option<&'a str>, Why>
     ensures { MatchResult result
         (λ client. client_of (S.says line.now) ≡ Ok (option_map (λ name. name.now) client))
         (λ why. client_of (S.says line.now) ≡ Err why) }
@@ -54,7 +133,7 @@ pub(crate) fn client_of<S: Said>(line: &S) -> Result<Option<&str>, Why>
     if !line.has(Member::Client) {
         return Ok(None);
     }
-    match line.text(Member::Client) {
+    match name_in(line, Member::Client, digits) {
         Some(name) => Ok(Some(name)),
         None => Err(Why::BadMember(Member::Client)),
     }
@@ -101,7 +180,8 @@ fn teller_of<S: Said>(line: &S, names: &Names) -> Result<u32, Why>
     requires { length (names_of names.now) ≤ MAX_LINES }
     ensures { result ≡ teller_of (names_of names.now) (S.says line.now) }
 {
-    let name = line.text(Member::Learn);
+    let mut digits = Buffer::new();
+    let name = name_in(line, Member::Learn, &mut digits);
     let teller = name.and_then(|name| names.number(name));
     let teller = teller.ok_or(Why::BadMember(Member::Learn))?;
     Ok(teller as u32)
@@ -135,5 +215,5 @@ fn end_of<S: Said>(line: &S) -> Option<Option<u64>>
     if line.is_null(Member::Ended) {
         return Some(None);
     }
-    line.number(Member::Ended).map(Some)
+    count_in(line, Member::Ended).map(Some)
 }

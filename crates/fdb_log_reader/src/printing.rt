@@ -3,7 +3,7 @@
 ghost use Rattle.std.specs.Prelude.{◌≡◌, ◌++◌, IfOk, OnOk, string_bytes};
 ghost use Rattle.json.specs.Print.{quoted};
 ghost use Rattle.fdb_log_reader.specs.Printed.{is_bidi_control, is_separator, is_unprintable};
-ghost use Rattle.fdb_log_reader.specs.Printed.{printed, shown};
+ghost use Rattle.fdb_log_reader.specs.Printed.{printed, shown, shown_text};
 
 use serde_json::Value;
 use std::alloc::{AllocError, Global};
@@ -16,6 +16,15 @@ pub(crate) fn printed_name(alloc: Global, name: &str) -> Result<String, AllocErr
     ensures { IfOk result (λ text. string_bytes text ≡ printed name.now) }
 {
     let text = quoted_name(alloc, name)?;
+    shown_text(alloc, &text)
+}
+
+/// A text, in which what is no text of its line is escaped as in a JSON string.
+///
+/// Linear in the text.
+pub(crate) fn shown_text(alloc: Global, text: &str) -> Result<String, AllocError>
+    ensures { IfOk result (λ out. string_bytes out ≡ shown_text text.now) }
+{
     let mut out = String::new(alloc);
     for c in text.chars() {
         push_shown(&mut out, c)?;

@@ -1,13 +1,19 @@
 //! A log that is read piece by piece.
 
 ghost use Rattle.std.specs.Prelude.{◌≡◌, ◌⊎◌, ◌++◌, ◌∷◌, ◌+◌, ◌≤◌, ℕ, List, [], Err, IfOk};
-ghost use Rattle.std.specs.Prelude.{MatchOption, MatchResult, length};
+ghost use Rattle.std.specs.Prelude.{MatchOption, MatchResult, length, map, option_map};
+ghost use Rattle.std.specs.Prelude.{string_bytes};
+ghost use Rattle.fdb_log_reader.specs.Columns.{HasCells, shown_of};
 ghost use Rattle.fdb_log_reader.specs.Reading.{ReadsAs, StandsFor, reading_in, reading_of};
+ghost use Rattle.fdb_log_reader.specs.Reading.{reading_with};
 ghost use Rattle.fdb_log_reader.specs.private.{HasRoom, IsOneLine};
+ghost use Rattle.std.proofs.Props.{props};
 
 use crate::error::{ReadError, Why};
+use crate::keys::Keys;
 use crate::named_log::{NamedLog, add_line};
 use crate::names::Names;
+use crate::shown::Shown;
 use fdb_lines::Log;
 use memchr::memchr;
 use std::alloc::Global;
@@ -21,7 +27,7 @@ pub struct LogReader {
     alloc: Global,
     named: NamedLog,
     front: Vec<u8>,
-    ghost has_room: { HasRoom named },
+    ghost has_room: { HasRoom named } by { Prim.hlevel props },
     ghost one_line: { IsOneLine front.items },
     ghost short: { length front.items ≤ 1048576 },
 }
@@ -34,11 +40,26 @@ impl LogReader {
     pub fn new(alloc: Global) -> Self
         ensures { (text : List ℕ) → reads_on result text ≡ reading_in text }
     {
+        LogReader::with_columns(alloc, None, Vec::new(alloc))
+    }
+
+    /// The same, where the member of a name has the keys of lines, if they are to be kept, and
+    /// others are to be shown.
+    pub fn with_columns(alloc: Global, key: Option<String>, shown: Vec<Shown>) -> Self
+        ensures { (text : List ℕ) → reads_on result text
+            ≡ reading_with (option_map string_bytes key) (map shown_of shown.items) text }
+    {
+        let keys = match key {
+            Some(member) => Some(Keys::new(alloc, member)),
+            None => None,
+        };
         LogReader {
             alloc,
             named: NamedLog {
                 log: Log::new(alloc),
                 names: Names::new(alloc),
+                keys,
+                shown,
             },
             front: Vec::new(alloc),
         }
@@ -71,7 +92,9 @@ impl LogReader {
     /// where the text had no line.
     #[tactic(auto, using(crate::proofs::Splitting::fed_last))]
     pub fn finish(self) -> Result<NamedLog, ReadError>
-        ensures { StandsFor result (reads_on self []) }
+        ensures read { StandsFor result (reads_on self []) }
+        ensures cells { IfOk result (λ named.
+            HasCells (reading_of named).keys (reading_of named).log) }
     {
         if self.front.is_empty() {
             return self.at_end();
@@ -82,7 +105,9 @@ impl LogReader {
     /// The log, where the text ends here behind a line feed or has no line.
     fn at_end(self) -> Result<NamedLog, ReadError>
         requires { self.front.items ≡ [] }
-        ensures { StandsFor result (reads_on self []) }
+        ensures read { StandsFor result (reads_on self []) }
+        ensures cells { IfOk result (λ named.
+            HasCells (reading_of named).keys (reading_of named).log) }
     {
         if self.named.log.lines().is_empty() {
             return Err(ReadError {

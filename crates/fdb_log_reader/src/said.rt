@@ -1,7 +1,7 @@
 //! What the members of a line say, however it was read.
 
 ghost use Rattle.std.specs.Prelude.{◌≡◌, is_some, option_and_then, option_map};
-ghost use Rattle.serde_json.specs.Find.{as_null, as_str};
+ghost use Rattle.serde_json.specs.Find.{as_null, as_str, get};
 ghost use Rattle.serde_json.specs.View.{view};
 ghost use Rattle.fdb_log_reader.specs.Members.{has, member_of, whole};
 
@@ -10,11 +10,13 @@ use serde_json::Value;
 
 /// A line, by what its members say.
 pub(crate) trait Said {
-    ghost use Rattle.std.specs.Prelude.{Option};
+    ghost use Rattle.std.specs.Prelude.{ℕ, List, Option};
     ghost use Rattle.serde_json.specs.Data.{Data};
     ghost use Rattle.fdb_log_reader.specs.declared.member.Member.{Member};
 
     ghost says: { Self → Member → Option Data };
+
+    ghost says_beside: { Self → List ℕ → Option Data };
 
     /// Whether a member is there.
     fn has(&self, member: Member) -> bool
@@ -32,10 +34,16 @@ pub(crate) trait Said {
     /// Whether a member says null.
     fn is_null(&self, member: Member) -> bool
         ensures { result ≡ is_some (option_and_then as_null (says self.now member)) };
+
+    /// What a further member says, by its name.
+    fn further(&self, name: &str) -> Option<&Value>
+        ensures { option_map (λ value. view value.now) result ≡ says_beside self.now name.now };
 }
 
 impl Said for Value {
     ghost says = { λ value. member_of (view value) };
+
+    ghost says_beside = { λ value name. get name (view value) };
 
     fn has(&self, member: Member) -> bool {
         self.get(member.name()).is_some()
@@ -54,5 +62,9 @@ impl Said for Value {
             Some(said) => said.is_null(),
             None => false,
         }
+    }
+
+    fn further(&self, name: &str) -> Option<&Value> {
+        self.get(name)
     }
 }

@@ -10,6 +10,7 @@ ghost use Rattle.fdb_log_reader.specs.declared.member.Member.{Member};
 use crate::member::Member;
 use crate::said::Said;
 use crate::scanning::{split_member, strip};
+use serde_json::Value;
 
 /// What a member says.
 #[derive(Clone, Copy, Debug)]
@@ -106,6 +107,9 @@ impl<'a> Usual<'a> {
 impl Said for Usual<'_> {
     ghost says = { says_of };
 
+    // A line is read so only where no further member is kept.
+    ghost says_beside = { λ _ _. None };
+
     fn has(&self, member: Member) -> bool {
         self.told(member).is_some()
     }
@@ -126,6 +130,10 @@ impl Said for Usual<'_> {
 
     fn is_null(&self, member: Member) -> bool {
         matches!(self.told(member), Some(Told::Null))
+    }
+
+    fn further(&self, _name: &str) -> Option<&Value> {
+        None
     }
 }
 

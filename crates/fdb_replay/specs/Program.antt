@@ -44,9 +44,10 @@ replay = record {
   most = MAX_SCRIPT_BYTES;
   asks = IsAsked;
   tells = λ arguments. false;
-  taken = λ script bytes. script.items ≡ bytes;
+  taken = λ opts script bytes. script.items ≡ bytes;
   prints = λ arguments bytes text found. (found ≡ None)
       × Replays bytes (is_set (codes "history") command arguments) text;
-  refuses = λ bytes refused. (refused.error ≢ Memory) × ReadsAs bytes (Err refused.error);
-  finds = λ bytes found. ⊥;
+  refuses = λ arguments bytes refused.
+      (refused.error ≢ Memory) × ReadsAs bytes (Err refused.error);
+  finds = λ arguments bytes found. ⊥;
 }

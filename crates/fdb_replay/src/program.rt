@@ -78,15 +78,15 @@ impl Program for Replay {
         command(alloc)
     }
 
-    fn options(&self, matches: &ArgMatches<'_>) -> ReplayOpts {
-        ReplayOpts {
+    fn options(&self, _alloc: Global, matches: &ArgMatches<'_>) -> Result<ReplayOpts, AllocError> {
+        Ok(ReplayOpts {
             proxies: proxies_of(matches),
             with_history: wants_history(matches),
-        }
+        })
     }
 
-    fn begin(&self, alloc: Global) -> Vec<u8> {
-        Vec::new(alloc)
+    fn begin(&self, alloc: Global, _opts: &ReplayOpts) -> Result<Vec<u8>, AllocError> {
+        Ok(Vec::new(alloc))
     }
 
     fn take(
@@ -124,10 +124,10 @@ pub fn drive<R: Threads + Wait + Sync + Files, I: Read, O: Write, E: Write>(
     let body = move |opts: ReplayOpts, script: Vec<u8>| -> Made
         requires some_proxy { 1 ≤ opts.proxies }
         requires few_proxies { opts.proxies ≤ MAX_GRV_PROXIES }
-        ensures { MatchResult result
+        ensures { (arguments : List Text) → MatchResult result
             (λ answer. (answer.found ≡ None)
             × Replays script.items opts.with_history answer.text.items)
-            (Stops replay script.items) }
+            (Stops replay arguments script.items) }
     { answer_of(rt, alloc, opts, &script) };
     fdb_command::drive(&Replay, rt, alloc, arguments, input, out, err, body)
 }
@@ -141,10 +141,10 @@ fn answer_of<R: Threads + Wait + Sync>(
 ) -> Made
     requires some_proxy { 1 ≤ opts.proxies }
     requires few_proxies { opts.proxies ≤ MAX_GRV_PROXIES }
-    ensures { MatchResult result
+    ensures { (arguments : List Text) → MatchResult result
         (λ answer. (answer.found ≡ None)
         × Replays script.now opts.with_history answer.text.items)
-        (Stops replay script.now) }
+        (Stops replay arguments script.now) }
 {
     match replayed_text(rt, alloc, script, opts, &OpenGate) {
         Ok(text) => Ok(Answer { text, found: None }),
@@ -191,8 +191,8 @@ fn wants_history(matches: &ArgMatches) -> bool
 
 /// The fault that a replay with no text ends with.
 fn fault_of(cause: ReplayFault) -> Fault<ScriptRefused, Infallible>
-    ensures stops { (bytes : List _) → Refuses bytes cause → cause ≢ ReplayFault.Write
-        → Stops replay bytes result }
+    ensures stops { (arguments : List Text) (bytes : List _) → Refuses bytes cause
+        → cause ≢ ReplayFault.Write → Stops replay arguments bytes result }
     ensures memory { result ≡ Fault.Memory → (cause ≡ ReplayFault.Script ScriptError.Memory)
         ⊎ (cause ≡ ReplayFault.Memory) }
 {

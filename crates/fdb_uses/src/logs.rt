@@ -27,6 +27,8 @@ fn said_of(alloc: Global, log: &Log, margin: u64) -> Result<String, AllocError> 
     let wanted = Wanted {
         history: false,
         all: true,
+        totals: false,
+        json: false,
     };
     Ok(judge(alloc, log, &[], &opts, wanted)?.text)
 }

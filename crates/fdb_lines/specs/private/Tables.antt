@@ -1,8 +1,9 @@
 -- The tables of a log.
-use Rattle.std.specs.Prelude.{◌≡◌, ℕ, ◌++◌, ◌∷◌, ◌==◌, ◌&&◌, ◌||◌, not, nat_le, Bool, true, false, cond, List, Option, None, Some, Vec, length, map}
-use Rattle.std.specs.declared.alloc.Global.{Global}
+use Rattle.std.specs.Prelude.{◌≡◌, ◌⊎◌, ℕ, ◌++◌, ◌∷◌, ◌==◌, ◌&&◌, ◌||◌, not, nat_le, Bool, true, false, cond, List, Option, None, Some, length, map}
 use Rattle.std.specs.List.{All, list_any}
+use Rattle.fdb_lines.specs.declared.end.End.{End}
 use Rattle.fdb_lines.specs.declared.fault.Fault.{Fault}
+use Rattle.fdb_lines.specs.declared.fault.Fault.TheVariants.{NotAbove}
 use Rattle.fdb_lines.specs.declared.line.Line.{Line}
 use Rattle.fdb_lines.specs.declared.opts.AuditOpts.{AuditOpts}
 use Rattle.fdb_lines.specs.declared.reason.Reason.{Reason}
@@ -11,6 +12,7 @@ use Rattle.fdb_lines.specs.declared.seen.Seen.{Seen}
 use Rattle.fdb_lines.specs.declared.seen.Seen.TheVariants.{Shown, Drawn}
 use Rattle.fdb_lines.specs.declared.sort.Sort.{Sort}
 use Rattle.fdb_lines.specs.declared.sort.Sort.TheVariants.{Reports, Raises, Draws, Asks, Owned, Nameless}
+use Rattle.fdb_lines.specs.declared.tables.DrawTables.{DrawTables}
 use Rattle.fdb_lines.specs.declared.tables.Tables.{Tables}
 use Rattle.fdb_lines.specs.declared.fault.Found.{Found}
 use Rattle.fdb_lines.specs.declared.reason.Finding.{Finding}
@@ -25,6 +27,7 @@ use Rattle.fdb_lines.specs.Listing.{faults_below}
 use Rattle.fdb_lines.specs.Reasons.{found_of, HasReason, IsReason}
 use Rattle.fdb_lines.specs.private.Ends.{AreSettled}
 use Rattle.fdb_lines.specs.private.Known.{AreEnds, AreKnown, IsFound}
+use Rattle.fdb_lines.specs.private.Late.{outdates_by, IsFirstEnd}
 use Rattle.fdb_lines.specs.private.Marks.{AreMarks}
 
 abbrev pub AreKnownIn : Lines → AuditOpts → Seen → List (Option Witness) → Type 0
@@ -36,10 +39,17 @@ AreMarksIn log opts sort known = AreMarks sort (start_of opts.complete) log.line
 abbrev pub has_ask : List Line → Bool
 has_ask lines = list_any (λ (line : Line). is_ask (kind_of line.call)) lines
 
--- What is known of draws; nothing is kept where no line is an ask.
-abbrev pub AreDrawnIn : Lines → AuditOpts → Option (Vec (Option Witness) Global) → Type 0
+-- What is known of draws, and their ends; nothing is kept where no line is an ask.
+abbrev pub AreDrawnIn : Lines → AuditOpts → Option DrawTables → Type 0
 AreDrawnIn log opts None = has_ask log.lines ≡ false
-AreDrawnIn log opts (Some drawn) = AreKnownIn log opts Drawn drawn.items
+AreDrawnIn log opts (Some drawn) =
+    AreKnownIn log opts Drawn drawn.known.items × AreSettled drawn.firsts
+    × AreEnds false Drawn log.lines (length log.lines) drawn.firsts.ends.items
+
+-- the first end of the draws that outdate a draw; none is named where no line is an ask
+abbrev pub IsFirstDrawn : List Line → ℕ → Option End → Type 0
+IsFirstDrawn lines version first =
+    IsFirstEnd (outdates_by NotAbove Drawn lines version) lines first ⊎ ((has_ask lines ≡ false) × (first ≡ None))
 
 pub record AreTables (log : Lines) (opts : AuditOpts) (tables : Tables) : Type 0 where
   pub shown : AreKnownIn log opts Shown tables.shown.items

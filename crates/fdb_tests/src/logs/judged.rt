@@ -1,4 +1,4 @@
-//! How late reads are, by all lines and by those of each client as a key's, and what a watch tells.
+//! How late calls are, by all lines and by those of each client as a key's, and what a watch tells.
 
 ghost use Rattle.std.specs.Prelude.{◌≡◌};
 
@@ -49,15 +49,19 @@ fn push_findings(text: &mut String, findings: &[Finding]) -> Result<(), AllocErr
 }
 
 /// 57 - 14 is 43. Of two lines that show a newer version the first to end counts, 30 - 14 and not 30 - 19;
-/// of client a alone that is the second.
+/// of client a alone that is the second. A commit version is late by what was drawn too, 30 - 14 by the ask
+/// and not 30 - 20, and by as new a one, 5 - 2; of a version that is not above the start no other ended first.
 const LATE: &str =
     r#"{"client":"a","commit":200,"began":10,"ended":14}|{"client":"b","read":100,"began":57,"ended":60} => Order 2 Late { line: 0, by: 43 }; |
 {"client":"b","commit":5,"began":10,"ended":14}|{"client":"a","commit":9,"began":15,"ended":19}|{"client":"a","read":3,"began":30,"ended":31} => Order 3 Late { line: 0, by: 16 }; | Order 3 Late { line: 1, by: 11 };
 {"client":"a","read":7,"began":1,"ended":null}|{"client":"b","commit":7,"began":2,"ended":3} => |
-{"client":"a","commit":9,"began":1,"ended":2}|{"client":"b","commit":8,"began":3,"ended":4} => NotAbove 2; |"#;
+{"client":"a","commit":9,"began":1,"ended":2}|{"client":"b","commit":8,"began":3,"ended":4} => NotAbove 2 Late { line: 0, by: 1 }; |
+{"client":"b","ask":9,"began":10,"ended":14}|{"client":"c","commit":8,"began":12,"ended":20}|{"client":"a","commit":7,"began":30,"ended":31} => NotAbove 3 Late { line: 0, by: 16 }; |
+{"client":"a","commit":9,"began":1,"ended":2}|{"client":"b","commit":9,"began":5,"ended":6} => NotAbove 2 Late { line: 0, by: 3 }; |
+{"client":"a","commit":0,"began":1,"ended":2} => NotAbove 1; | NotAbove 1;"#;
 
 #[test]
-fn how_late_reads_are(rt: HostRuntime) -> Result<(), Fail> {
+fn how_late_calls_are(rt: HostRuntime) -> Result<(), Fail> {
     let alloc = rt.alloc();
     for case in LATE.lines() {
         let (text, wanted) = parts(alloc, case)?;

@@ -1,43 +1,48 @@
-use Rattle.std.proofs.Common.{◌≡◌, sym, ◌∙◌, arith}
-use Rattle.fdb_lines.specs.Keys.{places_of}
+use Rattle.std.proofs.Common.{◌≡◌, ap, length, sym, ◌∙◌, arith}
+use Rattle.std.proofs.lemmas.List.{length-map}
+use Rattle.fdb_lines.specs.declared.parts.Part.{Part}
+use Rattle.fdb_lines.specs.Keys.{key_at, keys_of}
 use Rattle.fdb_lines.specs.Log.{lines_of}
-use Rattle.fdb_lines.specs.private.Keys.{key_of}
-use Rattle.fdb_lines.proofs.Keyed.{apart_in_slot, few_in_slot, in_slot}
-use Rattle.fdb_lines.proofs.Merged.{judged_more}
-use Rattle.fdb_lines.proofs.Slotted.{items_get, slot_inside}
+use Rattle.fdb_lines.proofs.Keyed.{apart_of_key, few_of_key, has_key, of_key}
+use Rattle.fdb_lines.proofs.Merged.{fresh, judged_more}
+use Rattle.fdb_lines.proofs.Parted.{part_at}
 use Rattle.fdb_lines.proofs.keys.judge_by_key.Goals as goal
 
 pub judge_part-requires : goal.judge_part-requires
 judge_part-requires c =
     let keys = c.args.keys.now in
-    let slot = c.loop-slot.slot in
+    let n = c.loop-part.part in
     let places = c.deref.result.now in
-    let of_slot : places ≡ places_of keys (key_of slot) =
-    c.deref.ensures.value ∙ (sym (items_get c.args.slots.now slot c.index-slots-slot.result c.loop-slot-test.true c.index-slots-slot.is) ∙ c.requires.places slot) in
-    let as_many = c.requires.as_many in
+    let parts = c.in_ok-parts.ensures in
+    let part = part_at keys c.in_ok-parts.parts.items n c.index.result.now parts.keys parts.places (omega arith) c.index.ensures in
+    let its = c.deref.ensures.value ∙ part.1 in
+    let as_many = c.requires in
     record {
-      few = (let few = few_in_slot keys slot places of_slot in let all = c.args.log.now.few in omega arith);
-      room = c.loop-slot.invariant.as_many ∙ as_many;
-      within = λ j lt. let inside = (in_slot keys slot places of_slot j lt).0 in omega arith;
-      apart = apart_in_slot keys slot places of_slot;
-      fresh = λ j lt. c.loop-slot.invariant.judged.rest _ (let here = (in_slot keys slot places of_slot j lt).1 in omega arith);
+      few = (let few = few_of_key keys (key_at (keys_of keys) n) places its in let all = c.args.log.now.few in omega arith);
+      room = c.loop-part.invariant.as_many ∙ as_many;
+      within = λ j lt. let inside = (of_key keys (key_at (keys_of keys) n) places its j lt).0 in omega arith;
+      apart = apart_of_key keys (key_at (keys_of keys) n) places its;
+      fresh = fresh (lines_of c.args.log.now) c.args.opts.now keys n c.loop-part.judged.items places part.0 its c.loop-part.invariant.judged;
     }
 
-pub loop-slot-preserved : goal.loop-slot-preserved
-loop-slot-preserved c =
+pub loop-part-preserved : goal.loop-part-preserved
+loop-part-preserved c =
     let keys = c.args.keys.now in
-    let slot = c.loop-slot.slot in
-    let places = c.deref.result.now in
-    let of_slot : places ≡ places_of keys (key_of slot) =
-    c.deref.ensures.value ∙ (sym (items_get c.args.slots.now slot c.index-slots-slot.result c.loop-slot-test.true c.index-slots-slot.is) ∙ c.requires.places slot) in
+    let n = c.loop-part.part in
+    let parts = c.in_ok-parts.ensures in
+    let part = part_at keys c.in_ok-parts.parts.items n c.index.result.now parts.keys parts.places (omega arith) c.index.ensures in
     record {
-      as_many = c.in_ok-judge_part.ensures.room ∙ c.loop-slot.invariant.as_many;
-      judged = judged_more (lines_of c.args.log.now) c.args.opts.now keys slot c.loop-slot.judged.items c.judge_part.new.judged.items places
-          of_slot c.loop-slot.invariant.judged c.in_ok-judge_part.ensures.found c.in_ok-judge_part.ensures.others;
+      as_many = c.in_ok-judge_part.ensures.room ∙ c.loop-part.invariant.as_many;
+      judged = judged_more (lines_of c.args.log.now) c.args.opts.now keys n c.loop-part.judged.items c.judge_part.new.judged.items c.deref.result.now
+          part.0 (c.deref.ensures.value ∙ part.1) c.loop-part.invariant.judged c.in_ok-judge_part.ensures.told c.in_ok-judge_part.ensures.others;
     }
 
-pub returns-clause-found : goal.returns-clause-found
-returns-clause-found c = λ k lt.
-    let test = c.loop-slot-test.false in
-    let inside = slot_inside c.args.keys.now c.args.slots.now k c.requires.places lt in
-    c.loop-slot.invariant.judged.done k lt (omega arith)
+pub returns-clause-told : goal.returns-clause-told
+returns-clause-told c = λ k lt.
+    let keys = c.args.keys.now in
+    let test = c.loop-part-test.false in
+    let has = has_key keys (length keys) k lt in
+    let within = has.1 in
+    let size : length (keys_of keys) ≡ length c.in_ok-parts.parts.items =
+    ap length (sym c.in_ok-parts.ensures.keys) ∙ length-map c.in_ok-parts.parts.items (λ (part : Part). part.key) in
+    c.loop-part.invariant.judged.done k has.0 lt (omega arith) has.2

@@ -10,8 +10,8 @@ invariant-loop-key l = record {
   none : (k : ℕ) → items_at l.judged.items k ≡ [];
 }
 
-abbrev pub invariant-loop-slot : goal.invariant-loop-slot
-invariant-loop-slot l = record {
+abbrev pub invariant-loop-part : goal.invariant-loop-part
+invariant-loop-part l = record {
   as_many : length l.judged.items ≡ length l.keys;
-  judged : AreJudged (lines_of l.log) l.opts l.keys l.slot l.judged.items;
+  judged : AreJudged (lines_of l.log) l.opts l.keys l.part l.judged.items;
 }

@@ -7,8 +7,8 @@ use Rattle.fdb_log_reader.specs.declared.error.Why.TheVariants.{NotJson}
 use Rattle.fdb_log_reader.specs.Reading.{or_not_json, value_of}
 use Rattle.fdb_log_reader.proofs.parsing.value_of.Goals as goal
 
-pub returns-in-Ok : goal.returns-in-Ok
-returns-in-Ok c = let text = is_utf8-from_IsUtf8 c.args.bytes.now c.in-Ok.ensures.ok.0 in rw (text, c.in-Ok.ensures.ok.1)
+pub returns-in-Ok-clause-value : goal.returns-in-Ok-clause-value
+returns-in-Ok-clause-value c = let text = is_utf8-from_IsUtf8 c.args.bytes.now c.in-Ok.ensures.ok.0 in rw (text, c.in-Ok.ensures.ok.1)
 
 no_value : (bytes : List ℕ) → (IsUtf8 bytes → read bytes ≡ None) → value_of bytes ≡ Err NotJson
 no_value bytes none =
@@ -17,6 +17,6 @@ no_value bytes none =
       | false ↦ λ e. refl
     ] refl
 
-pub returns-in-Err-2 : goal.returns-in-Err-2
-returns-in-Err-2 c =
+pub returns-in-Err-2-clause-value : goal.returns-in-Err-2-clause-value
+returns-in-Err-2-clause-value c =
     inr (no_value c.args.bytes.now (λ text. c.in-Err.ensures.err (λ memory. true≢false (sym (subst IsTrue c.if-is_memory.false (c.is_memory.ensures.1 memory)))) text))

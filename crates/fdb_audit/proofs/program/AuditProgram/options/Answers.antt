@@ -9,7 +9,7 @@ returns c = λ arguments matches. record {
   complete = number_of 0 9223372036854775807 _ _ (c.number.ensures command arguments matches 0 9223372036854775807 (omega arith) (refl, refl, refl));
   margin = c.unwrap_or.ensures ∙ ap (λ found. unwrap_or found 0)
       (number_of 0 9223372036854775807 _ _ (c.number-2.ensures command arguments matches 0 9223372036854775807 (omega arith) (refl, refl, refl)));
-  all = c.is_given-2.ensures command arguments matches (refl, refl, refl);
-  history = c.is_given.ensures command arguments matches (refl, refl, refl);
-  progress = c.is_given-3.ensures command arguments matches (refl, refl, refl);
+  wanted = c.wanted_of.ensures arguments matches;
+  key = c.in_ok-owned.ensures ∙ c.text.ensures command arguments matches;
+  progress = c.is_given.ensures command arguments matches (refl, refl, refl);
 }

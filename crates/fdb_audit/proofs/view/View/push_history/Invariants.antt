@@ -1,10 +1,10 @@
 use Rattle.std.proofs.Common.{◌≡◌, ◌++◌, drop, string_bytes}
 use Rattle.fdb_audit.specs.Text.{history_lines}
-use Rattle.fdb_audit.specs.private.{lines_in, names_in}
+use Rattle.fdb_audit.specs.private.{shown_in}
 use Rattle.fdb_audit.proofs.view.View.push_history.Given as goal
 
 -- what is written, and the lines of what is left, are all lines
 abbrev pub invariant-loop-number : goal.invariant-loop-number
 invariant-loop-number l =
-    string_bytes l.out ++ history_lines (lines_in l.self) (names_in l.self) l.number (drop l.number l.turns)
-    ≡ string_bytes l.fn.out ++ history_lines (lines_in l.self) (names_in l.self) 0 l.turns
+    string_bytes l.out ++ history_lines (shown_in l.self) l.key l.number (drop l.number l.turns)
+    ≡ string_bytes l.fn.out ++ history_lines (shown_in l.self) l.key 0 l.turns

@@ -5,7 +5,9 @@ use Rattle.fdb_audit.proofs.view.View.push_reason.Goals as goal
 
 pub returns-in_ok-write-in-Known : goal.returns-in_ok-write-in-Known
 returns-in_ok-write-in-Known c =
-    rw c.in-Known.is (on_ok_weaker c.push_known.result (λ e. e ∙ rw c.in_ok-write-in-Known.ensures.bytes (simp append_assoc)) c.push_known.ensures)
+    rw c.in-Known.is
+    (on_ok_weaker c.push_known.result (λ e. e ∙ rw (c.in_ok-write-in-Known.ensures.bytes, c.in_ok-push_late-in-Known.ensures) (simp append_assoc))
+    c.push_known.ensures)
 
 pub returns-in-Unreported : goal.returns-in-Unreported
 returns-in-Unreported c = rw c.in-Unreported.is c.write-in-Unreported.ensures.bytes

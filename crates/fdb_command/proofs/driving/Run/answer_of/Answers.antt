@@ -13,24 +13,25 @@ returns-in_err-intake-clause-refused g c = λ arguments matches.
     let promise = g.P.Program.promise in
     let remaining = g.I.Read.remaining c.args.input.now in
     let fault = c.in_err-intake.field-0.0 in
-    let stops = subst (λ (file : Option Text). (fault ≡ Reading) ⊎ MayStop promise file remaining fault) (c.file_of.ensures promise.app arguments matches) c.in_err-intake.ensures.stops in
+    let stops = subst (λ (file : Option Text). (fault ≡ Reading) ⊎ MayStop promise c.in-Ok.options file remaining fault) (c.file_of.ensures promise.app arguments matches) c.in_err-intake.ensures.stops in
     passed_on c.from_residual.result fault (λ fault. (error : _) → fault ≡ Refused error → MayRefuse promise arguments remaining) c.from_residual.ensures.1
-    (refused_early promise arguments remaining matches.taken fault stops)
+    (refused_early promise arguments c.in-Ok.options (c.in-Ok.ensures arguments matches) remaining matches.taken fault stops)
 
 pub returns-in_err-intake-clause-faulty : goal.returns-in_err-intake-clause-faulty
 returns-in_err-intake-clause-faulty g c = λ arguments matches.
     let promise = g.P.Program.promise in
     let remaining = g.I.Read.remaining c.args.input.now in
     let fault = c.in_err-intake.field-0.0 in
-    let stops = subst (λ (file : Option Text). (fault ≡ Reading) ⊎ MayStop promise file remaining fault) (c.file_of.ensures promise.app arguments matches) c.in_err-intake.ensures.stops in
+    let stops = subst (λ (file : Option Text). (fault ≡ Reading) ⊎ MayStop promise c.in-Ok.options file remaining fault) (c.file_of.ensures promise.app arguments matches) c.in_err-intake.ensures.stops in
     passed_on c.from_residual.result fault (λ fault. (found : _) → fault ≡ Found found → MayFind promise arguments remaining) c.from_residual.ensures.1
-    (found_early promise arguments remaining matches.taken fault stops)
+    (found_early promise arguments c.in-Ok.options (c.in-Ok.ensures arguments matches) remaining matches.taken fault stops)
 
 pub returns-in_err-intake-clause-own : goal.returns-in_err-intake-clause-own
 returns-in_err-intake-clause-own g c =
+    let (arguments, matches) = c.requires.matches in
     let fault = c.in_err-intake.field-0.0 in
     passed_on c.from_residual.result fault (λ fault. (fault ≢ Arguments) × (fault ≢ Writing)) c.from_residual.ensures.1
-    (own_early g.P.Program.promise _ (g.I.Read.remaining c.args.input.now) fault c.in_err-intake.ensures.stops)
+    (own_early g.P.Program.promise arguments c.in-Ok.options _ (g.I.Read.remaining c.args.input.now) fault (c.in-Ok.ensures arguments matches) c.in_err-intake.ensures.stops)
 
 pub returns-in_err-intake-clause-left : goal.returns-in_err-intake-clause-left
 returns-in_err-intake-clause-left g c = λ arguments matches unread.
@@ -39,7 +40,7 @@ returns-in_err-intake-clause-left g c = λ arguments matches unread.
 
 pub returns-in_err-intake-clause-quiet : goal.returns-in_err-intake-clause-quiet
 returns-in_err-intake-clause-quiet g c = λ arguments matches silent.
-    c.take_input.ensures.quiet arguments (c.options-options.ensures arguments matches) (untold g.P.Program.promise arguments matches.taken silent)
+    c.take_input.ensures.quiet arguments (c.in-Ok.ensures arguments matches) (untold g.P.Program.promise arguments matches.taken silent)
 
 pub returns-clause-printed : goal.returns-clause-printed
 returns-clause-printed g c = λ arguments matches.
@@ -47,8 +48,8 @@ returns-clause-printed g c = λ arguments matches.
     let remaining = g.I.Read.remaining c.args.input.now in
     let all = c.in_ok-intake.ensures.all in
     let read = subst (λ (file : Option Text). MayBeRead file remaining all.bytes) (c.file_of.ensures promise.app arguments matches) all.read in
-    printed_of promise arguments remaining matches.taken all.bytes all.few read c.body.result
-    (c.requires.promised arguments c.options-options.result c.in_ok-intake.intake all.bytes c.body.result (c.options-options.ensures arguments matches) all.taken c.body.ensures)
+    printed_of promise arguments c.in-Ok.options (c.in-Ok.ensures arguments matches) remaining matches.taken all.bytes all.few read c.body.result
+    (c.requires.promised arguments c.in-Ok.options c.in_ok-intake.intake all.bytes c.body.result (c.in-Ok.ensures arguments matches) all.taken c.body.ensures)
 
 pub returns-clause-refused : goal.returns-clause-refused
 returns-clause-refused g c = λ arguments matches.
@@ -56,8 +57,8 @@ returns-clause-refused g c = λ arguments matches.
     let remaining = g.I.Read.remaining c.args.input.now in
     let all = c.in_ok-intake.ensures.all in
     let read = subst (λ (file : Option Text). MayBeRead file remaining all.bytes) (c.file_of.ensures promise.app arguments matches) all.read in
-    refused_of promise arguments remaining matches.taken all.bytes all.few read c.body.result
-    (c.requires.promised arguments c.options-options.result c.in_ok-intake.intake all.bytes c.body.result (c.options-options.ensures arguments matches) all.taken c.body.ensures)
+    refused_of promise arguments c.in-Ok.options (c.in-Ok.ensures arguments matches) remaining matches.taken all.bytes all.few read c.body.result
+    (c.requires.promised arguments c.in-Ok.options c.in_ok-intake.intake all.bytes c.body.result (c.in-Ok.ensures arguments matches) all.taken c.body.ensures)
 
 pub returns-clause-faulty : goal.returns-clause-faulty
 returns-clause-faulty g c = λ arguments matches.
@@ -65,15 +66,15 @@ returns-clause-faulty g c = λ arguments matches.
     let remaining = g.I.Read.remaining c.args.input.now in
     let all = c.in_ok-intake.ensures.all in
     let read = subst (λ (file : Option Text). MayBeRead file remaining all.bytes) (c.file_of.ensures promise.app arguments matches) all.read in
-    found_of promise arguments remaining matches.taken all.bytes all.few read c.body.result
-    (c.requires.promised arguments c.options-options.result c.in_ok-intake.intake all.bytes c.body.result (c.options-options.ensures arguments matches) all.taken c.body.ensures)
+    found_of promise arguments c.in-Ok.options (c.in-Ok.ensures arguments matches) remaining matches.taken all.bytes all.few read c.body.result
+    (c.requires.promised arguments c.in-Ok.options c.in_ok-intake.intake all.bytes c.body.result (c.in-Ok.ensures arguments matches) all.taken c.body.ensures)
 
 pub returns-clause-own : goal.returns-clause-own
 returns-clause-own g c =
     let (arguments, matches) = c.requires.matches in
     let all = c.in_ok-intake.ensures.all in
-    own_of g.P.Program.promise all.bytes (λ answer. g.P.Program.promise.prints arguments all.bytes answer.text.items answer.found) c.body.result
-    (c.requires.promised arguments c.options-options.result c.in_ok-intake.intake all.bytes c.body.result (c.options-options.ensures arguments matches) all.taken c.body.ensures)
+    own_of g.P.Program.promise arguments all.bytes (λ answer. g.P.Program.promise.prints arguments all.bytes answer.text.items answer.found) c.body.result
+    (c.requires.promised arguments c.in-Ok.options c.in_ok-intake.intake all.bytes c.body.result (c.in-Ok.ensures arguments matches) all.taken c.body.ensures)
 
 pub returns-clause-left : goal.returns-clause-left
 returns-clause-left g c = λ arguments matches unread.
@@ -82,10 +83,10 @@ returns-clause-left g c = λ arguments matches unread.
 
 pub returns-clause-quiet : goal.returns-clause-quiet
 returns-clause-quiet g c = λ arguments matches silent.
-    c.take_input.ensures.quiet arguments (c.options-options.ensures arguments matches) (untold g.P.Program.promise arguments matches.taken silent)
+    c.take_input.ensures.quiet arguments (c.in-Ok.ensures arguments matches) (untold g.P.Program.promise arguments matches.taken silent)
 
 pub body-requires : goal.body-requires
 body-requires g c =
     let (arguments, matches) = c.requires.matches in
     let all = c.in_ok-intake.ensures.all in
-    c.requires.callable arguments c.options-options.result c.in_ok-intake.intake all.bytes (c.options-options.ensures arguments matches) all.taken
+    c.requires.callable arguments c.in-Ok.options c.in_ok-intake.intake all.bytes (c.in-Ok.ensures arguments matches) all.taken

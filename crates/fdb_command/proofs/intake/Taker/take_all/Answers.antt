@@ -7,14 +7,17 @@ use Rattle.fdb_command.proofs.Pieces.{passed_on, stops_there, stops_unread, take
 use Rattle.fdb_command.proofs.intake.Taker.take_all.Goals as goal
 
 pub returns-then-is_err-clause-stops : goal.returns-then-is_err-clause-stops
-returns-then-is_err-clause-stops g c = inr (stops_unread g.P.Program.promise (g.I.Read.remaining c.args.input.now))
+returns-then-is_err-clause-stops g c = inr (stops_unread g.P.Program.promise c.args.self.now.options.now (g.I.Read.remaining c.args.input.now))
+
+pub returns-in_default-clause-stops : goal.returns-in_default-clause-stops
+returns-in_default-clause-stops g c = inr (stops_unread g.P.Program.promise c.args.self.now.options.now (g.I.Read.remaining c.args.input.now))
 
 pub returns-in_err-piece-clause-stops : goal.returns-in_err-piece-clause-stops
 returns-in_err-piece-clause-stops g c =
     let (bytes, counted, gone, taken) = c.loop.invariant.taken in
     let fault = c.in_err-piece.field-0.0 in
-    passed_on c.from_residual.result fault (λ fault. (fault ≡ Reading) ⊎ MayStop g.P.Program.promise None (g.I.Read.remaining c.args.input.now) fault) c.from_residual.ensures.1
-    (stops_there g.P.Program.promise (g.I.Read.remaining c.args.input.now) (g.I.Read.remaining c.loop.input) (g.I.Read.remaining c.take_piece.new.input) c.loop.intake bytes _ fault gone taken c.in_err-piece.ensures.stops)
+    passed_on c.from_residual.result fault (λ fault. (fault ≡ Reading) ⊎ MayStop g.P.Program.promise c.args.self.now.options.now None (g.I.Read.remaining c.args.input.now) fault) c.from_residual.ensures.1
+    (stops_there g.P.Program.promise c.args.self.now.options.now (g.I.Read.remaining c.args.input.now) (g.I.Read.remaining c.loop.input) (g.I.Read.remaining c.take_piece.new.input) c.loop.intake bytes _ fault gone taken c.in_err-piece.ensures.stops)
 
 pub returns-in_err-piece-clause-few : goal.returns-in_err-piece-clause-few
 returns-in_err-piece-clause-few g c =
@@ -32,8 +35,8 @@ pub returns-then-piece-clause-all : goal.returns-then-piece-clause-all
 returns-then-piece-clause-all g c =
     let (bytes, counted, gone, taken) = c.loop.invariant.taken in
     let (short, on) = c.in_ok-piece.ensures.taken in
-    taken_whole g.P.Program.promise (g.I.Read.remaining c.args.input.now) (g.I.Read.remaining c.take_piece.new.input) c.in_ok-piece.piece.intake (bytes ++ on.bytes) (omega (arith, length-append bytes on.bytes, counted, on.counted, c.most-most.ensures))
-    (Consumes-trans (g.I.Read.remaining c.args.input.now) (g.I.Read.remaining c.loop.input) (g.I.Read.remaining c.take_piece.new.input) bytes on.bytes gone on.gone) (c.in_ok-piece.ensures.last c.if-piece.true) (on.taken bytes taken)
+    taken_whole g.P.Program.promise c.args.self.now.options.now (g.I.Read.remaining c.args.input.now) (g.I.Read.remaining c.take_piece.new.input) c.in_ok-piece.piece.intake (bytes ++ on.bytes) (omega (arith, length-append bytes on.bytes, counted, on.counted, c.most-most.ensures))
+    (Consumes-trans (g.I.Read.remaining c.args.input.now) (g.I.Read.remaining c.loop.input) (g.I.Read.remaining c.take_piece.new.input) bytes on.bytes gone on.gone) (c.in_ok-piece.ensures.last c.if-piece.true) (on.taken c.args.self.now.options.now bytes taken)
 
 pub returns-then-piece-clause-few : goal.returns-then-piece-clause-few
 returns-then-piece-clause-few g c =
@@ -48,7 +51,7 @@ loop-preserved g c =
     record {
       in_range = omega arith;
       room = simp (length-append, length-drop) (omega (arith, c.take_piece.ensures.room, length-take c.room_at.result c.loop.room));
-      taken = (bytes ++ on.bytes, omega (arith, length-append bytes on.bytes, counted, on.counted), Consumes-trans (g.I.Read.remaining c.args.input.now) (g.I.Read.remaining c.loop.input) (g.I.Read.remaining c.take_piece.new.input) bytes on.bytes gone on.gone, on.taken bytes taken);
+      taken = (bytes ++ on.bytes, omega (arith, length-append bytes on.bytes, counted, on.counted), Consumes-trans (g.I.Read.remaining c.args.input.now) (g.I.Read.remaining c.loop.input) (g.I.Read.remaining c.take_piece.new.input) bytes on.bytes gone on.gone, on.taken c.args.self.now.options.now bytes taken);
       quiet = λ arguments asks tells. c.tell_stride.ensures arguments asks tells ∙ c.loop.invariant.quiet arguments asks tells;
     }
 

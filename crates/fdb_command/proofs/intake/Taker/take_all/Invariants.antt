@@ -9,6 +9,6 @@ abbrev pub invariant-loop : goal.invariant-loop
 invariant-loop g l = record {
   in_range : l.read ≤ l.most;
   room : length l.room ≡ PIECE;
-  taken : (bytes : List ℕ) × (length bytes ≡ l.read) × Consumes (g.I.Read.remaining l.initial.input) (g.I.Read.remaining l.input) bytes × g.P.Program.promise.taken l.intake bytes;
+  taken : (bytes : List ℕ) × (length bytes ≡ l.read) × Consumes (g.I.Read.remaining l.initial.input) (g.I.Read.remaining l.input) bytes × g.P.Program.promise.taken l.self.options.now l.intake bytes;
   quiet : (arguments : List Text) → g.P.Program.promise.asks arguments l.self.options.now → g.P.Program.promise.tells arguments ≡ false → l.err ≡ l.initial.err;
 }

@@ -5,9 +5,9 @@ use Rattle.fdb_lines.proofs.tables.Tables.drawn.Goals as goal
 
 pub returns-in-Some : goal.returns-in-Some
 returns-in-Some c =
-    let are = rw c.in-Some.is at c.requires.tables.drawn in
+    let are = (rw c.in-Some.is at c.requires.tables.drawn).0 in
     rw (c.of_version.ensures, c.by_at.ensures, c.lines.ensures, c.deref.ensures.value)
-    (known_is (lines_of c.args.log.now) c.args.opts.now Drawn c.in-Some.drawn.items c.args.place c.args.version are c.requires.place c.requires.newest)
+    (known_is (lines_of c.args.log.now) c.args.opts.now Drawn c.in-Some.drawn.known.items c.args.place c.args.version are c.requires.place c.requires.newest)
 
 pub returns-in-None : goal.returns-in-None
 returns-in-None c =

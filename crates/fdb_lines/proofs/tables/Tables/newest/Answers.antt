@@ -11,9 +11,9 @@ returns-in-Some c =
     let log = lines_of c.args.log.now in
     let opts = c.args.opts.now in
     let k = c.args.place in
-    let are = rw c.in-Some.is at c.requires.tables.drawn in
+    let are = (rw c.in-Some.is at c.requires.tables.drawn).0 in
     rw (c.max.ensures, c.knows-knows.ensures, c.version_by.ensures, c.by_at.ensures, c.lines.ensures, c.deref.ensures.value)
-    (ap (max (knows (case_of log opts) k)) (newest_is log opts Drawn c.in-Some.drawn.items k are c.requires.place))
+    (ap (max (knows (case_of log opts) k)) (newest_is log opts Drawn c.in-Some.drawn.known.items k are c.requires.place))
 
 pub returns-in-None : goal.returns-in-None
 returns-in-None c =

@@ -1,9 +1,10 @@
 use Rattle.std.proofs.Common.{◌≡◌, ◌∙◌, [], ℕ, Vec, Global, string_bytes, ap, sym, append-nil}
-use Rattle.fdb_log_reader.specs.Reading.{reading_in, reading_of}
+use Rattle.fdb_log_reader.specs.Reading.{reading_of, reading_with}
+use Rattle.fdb_audit.specs.Program.{key_asked}
 use Rattle.fdb_audit.proofs.program.fn.drive.body.Goals as goal
 
 -- what was read to its end is what the bytes stand for
 pub returns-in-Ok-judge_named_by : goal.returns-in-Ok-judge_named_by
-returns-in-Ok-judge_named_by g c = λ bytes has.
+returns-in-Ok-judge_named_by g c = λ arguments bytes is has.
     let same : c.into_bytes.result.items ≡ string_bytes c.in-Ok-judge_named_by.field-0.text = ap (λ (v : Vec ℕ Global). v.items) c.into_bytes.ensures.value in
-    (reading_of c.in-Ok.named, ap reading_in (sym (append-nil bytes)) ∙ (sym (has []) ∙ c.in-Ok.ensures), rw same c.in-Ok-judge_named_by.ensures)
+    (reading_of c.in-Ok.named, ap (reading_with (key_asked c.args.asked) []) (sym (append-nil bytes)) ∙ (sym (has []) ∙ c.in-Ok.ensures.read), rw same c.in-Ok-judge_named_by.ensures)

@@ -1,0 +1,145 @@
+//! The command, and what its arguments say.
+
+ghost use Rattle.std.specs.Prelude.{◌≡◌, ◌&&◌, ◌||◌, false, not, IfOk, List, option_map};
+ghost use Rattle.std.specs.Prelude.{string_bytes};
+ghost use Rattle.clap.specs.Words.{Text, app_of, first_of, matches_of, rule_of, App};
+ghost use Rattle.fdb_command.specs.Arguments.{AreMatches};
+ghost use Rattle.fdb_audit.specs.Program.{command, text_rule, IsWanted};
+
+use crate::judging::Wanted;
+use clap::{Arg, ArgMatches, Command};
+use fdb_command::{file_argument, flag_argument, is_given, new_command, number_argument};
+use fdb_lines::AuditOpts;
+use std::alloc::{AllocError, Global};
+
+/// What the help ends with: the statuses, and where a log's format is told.
+const AFTER_HELP: &str = "Exit status:
+  0  no fault was found, or this is the help
+  1  the log is refused: Empty, TooLong, TooMany, NotJson, NoCall, TwoCalls, SomeTimes or BadMember
+  2  the words are refused
+  3  want of memory
+  4  the audit found a fault
+  5  reading or writing failed
+
+docs/FORMATS.md has the format of the log, and what each refusal and fault means.";
+
+const COMPLETE_HELP: &str = "The log has the calls of all clients, and all began at version START";
+
+const MARGIN_HELP: &str = "How far the clocks of two clients may be apart [default: 0]";
+
+const KEY_HELP: &str = "The member that names a line's key: each key is judged by itself";
+
+/// What the flags say: `opts` by `--complete` and `--margin`, `wanted` by `--history`, `--all`,
+/// `--summary` and `--json`.
+#[derive(Debug, Drop)]
+pub struct AuditArguments {
+    pub opts: AuditOpts,
+    pub wanted: Wanted,
+    /// The member that names a line's key, if each key is to be judged by itself.
+    pub key: Option<String>,
+    /// Whether `--progress` is given: then standard error tells how far the log has been read.
+    pub progress: bool,
+}
+
+/// What the flags say that are no numbers: what is printed.
+pub(crate) fn wanted_of(matches: &ArgMatches<'_>) -> Wanted
+    ensures { (arguments : List Text) → AreMatches command arguments matches.now
+        → IsWanted arguments result }
+{
+    let all = is_given(matches, "all");
+    let summary = is_given(matches, "summary");
+    let json = is_given(matches, "json");
+    let history = is_given(matches, "history");
+    Wanted {
+        history,
+        all: lists_all(all, json, summary),
+        totals: has_totals(all, json, summary),
+        json,
+    }
+}
+
+/// Whether all faults are told.
+fn lists_all(all: bool, json: bool, summary: bool) -> bool
+    ensures { result ≡ (all || json) && not summary }
+{
+    (all || json) && !summary
+}
+
+/// Whether totals are told.
+fn has_totals(all: bool, json: bool, summary: bool) -> bool
+    ensures { result ≡ all || (json || summary) }
+{
+    all || json || summary
+}
+
+/// An argument that gives a text, by its name.
+fn text_argument<'a>(alloc: Global, name: &'a str, value_name: &'a str, help: &'a str) -> Arg<'a>
+    ensures rule { rule_of result ≡ text_rule name.now }
+    ensures own { result.global ≡ false }
+{
+    Arg::new(alloc, name)
+        .long(name)
+        .value_name(value_name)
+        .help(help)
+}
+
+/// The text that an argument gives; none where it is not given.
+pub(crate) fn text<'a>(matches: &ArgMatches<'a>, argument: &str) -> Option<&'a str>
+    ensures { (app : App) (arguments : List Text) → AreMatches app arguments matches.now
+        → option_map (λ text. text.now) result ≡ first_of argument.now (matches_of app arguments) }
+{
+    matches.get_str(argument)
+}
+
+/// A text of one's own.
+pub(crate) fn owned(alloc: Global, text: Option<&str>) -> Result<Option<String>, AllocError>
+    ensures { IfOk result (λ own. option_map string_bytes own
+        ≡ option_map (λ text. text.now) text.entry) }
+{
+    match text {
+        Some(text) => Ok(Some(String::from_str(alloc, text)?)),
+        None => Ok(None),
+    }
+}
+
+/// The command that clap is given: one file, two numbers from 0 to 2^63 - 1, a text, and
+/// five flags.
+pub(crate) fn command<'a>(alloc: Global) -> Result<Command<'a>, AllocError>
+    ensures { IfOk result (λ made. app_of made ≡ command) }
+{
+    new_command(
+        alloc,
+        "fdb_audit",
+        "Audits a log of read versions and commit versions",
+        AFTER_HELP,
+    )
+    .arg(file_argument(
+        alloc,
+        "LOGS",
+        "The file that has the log, JSON Lines; standard input, if left out",
+    ))?
+    .arg(number_argument(alloc, "complete", 0, i64::MAX, "START", COMPLETE_HELP))?
+    .arg(number_argument(alloc, "margin", 0, i64::MAX, "N", MARGIN_HELP))?
+    .arg(text_argument(alloc, "key", "MEMBER", KEY_HELP))?
+    .arg(flag_argument(
+        alloc,
+        "all",
+        "Write all faults, and not the first alone, and totals",
+    ))?
+    .arg(flag_argument(alloc, "summary", "Write totals in place of faults"))?
+    .arg(flag_argument(
+        alloc,
+        "json",
+        "Write JSON objects, one a line, of all faults",
+    ))?
+    .arg(flag_argument(
+        alloc,
+        "history",
+        "Write an order that explains the lines, too",
+    ))?
+    .arg(flag_argument(
+        alloc,
+        "progress",
+        "Tell on standard error how far the log has been read",
+    ))
+}

@@ -1,0 +1,291 @@
+//! Faults and lines as JSON objects.
+
+ghost use Rattle.std.specs.Prelude.{◌≡◌, ◌++◌, OnOk, codes, map, option_map, slice_get};
+ghost use Rattle.std.specs.Prelude.{string_bytes};
+ghost use Rattle.std.specs.List.{flat_map};
+ghost use Rattle.fdb_audit.specs.Objects.{by_field, call_field, client_field, fault_object};
+ghost use Rattle.fdb_audit.specs.Objects.{fault_objects, fault_word, late_field, line_object};
+ghost use Rattle.fdb_audit.specs.Objects.{means_field, member_field, members_field};
+ghost use Rattle.fdb_audit.specs.Objects.{name_or_number, number_or_null, reason_field};
+ghost use Rattle.fdb_audit.specs.Objects.{reported_field, text_or_null, times_field, truth};
+ghost use Rattle.fdb_audit.specs.Text.{line};
+ghost use Rattle.fdb_audit.specs.private.{beside_of, shown_in};
+
+use crate::beside::MemberBeside;
+use crate::view::View;
+use fdb_lines::{Call, Fault, Finding, Late, Means, Reason, Times, Witness};
+use std::alloc::AllocError;
+use std::fmt::Write;
+
+impl View<'_> {
+    /// Writes an object for each of some faults, in their order.
+    pub(crate) fn push_fault_objects(
+        self,
+        out: &mut String,
+        found: &[Finding],
+    ) -> Result<(), AllocError>
+        ensures { OnOk result (string_bytes out.new
+            ≡ string_bytes out.old ++ fault_objects (shown_in self.entry) found.now) }
+    {
+        for finding in found {
+            self.push_fault_object(out, *finding)?;
+        }
+        Ok(())
+    }
+
+    /// Writes an object for a fault.
+    fn push_fault_object(self, out: &mut String, finding: Finding) -> Result<(), AllocError>
+        ensures { OnOk result (string_bytes out.new
+            ≡ string_bytes out.old ++ line (fault_object (shown_in self.entry) finding)) }
+    {
+        let word = fault_word(finding.found.fault);
+        write!(out, "{{\"fault\":\"{word}\",\"at\":")?;
+        self.push_line_object(out, finding.found.line)?;
+        self.push_late_field(out, finding.late)?;
+        self.push_reason_field(out, finding.reason)?;
+        writeln!(out, "}}")
+    }
+
+    /// Writes a line of the log as an object.
+    pub(crate) fn push_line_object(self, out: &mut String, place: u32) -> Result<(), AllocError>
+        ensures { OnOk result (string_bytes out.new
+            ≡ string_bytes out.old ++ line_object (shown_in self.entry) place) }
+    {
+        let line = self.line(place);
+        let number = place as u64 + 1;
+        write!(out, "{{\"line\":{number}")?;
+        self.push_client_field(out, line.client)?;
+        self.push_call_field(out, line.call)?;
+        push_times_field(out, line.times)?;
+        push_members_field(out, self.beside, place)?;
+        write!(out, "}}")
+    }
+
+    /// Writes whose a call was; nothing where that is not known.
+    fn push_client_field(self, out: &mut String, client: Option<u32>) -> Result<(), AllocError>
+        ensures { OnOk result (string_bytes out.new
+            ≡ string_bytes out.old ++ client_field (shown_in self.entry).names client) }
+    {
+        match client {
+            Some(number) => {
+                write!(out, ",\"client\":")?;
+                self.push_name(out, number)
+            }
+            None => Ok(()),
+        }
+    }
+
+    /// Writes the name of a client, or its number where it has none.
+    fn push_name(self, out: &mut String, number: u32) -> Result<(), AllocError>
+        ensures { let names = (shown_in self.entry).names in OnOk result (string_bytes out.new
+            ≡ string_bytes out.old ++ name_or_number number (slice_get names number)) }
+    {
+        match self.name(number) {
+            Some(name) => write!(out, "{name}"),
+            None => write!(out, "{number}"),
+        }
+    }
+
+    /// Writes what was done.
+    fn push_call_field(self, out: &mut String, call: Call) -> Result<(), AllocError>
+        ensures { OnOk result (string_bytes out.new
+            ≡ string_bytes out.old ++ call_field (shown_in self.entry).names call) }
+    {
+        match call {
+            Call::Read(version) => write!(out, ",\"read\":{version}"),
+            Call::Commit(version) => write!(out, ",\"commit\":{version}"),
+            Call::Ask(version) => write!(out, ",\"ask\":{version}"),
+            Call::Report(version) => write!(out, ",\"report\":{version}"),
+            Call::Learn(client) => {
+                write!(out, ",\"learn\":")?;
+                self.push_name(out, client)
+            }
+        }
+    }
+
+    /// Writes how late a call was, and which line first let be known what made it late.
+    fn push_late_field(self, out: &mut String, late: Option<Late>) -> Result<(), AllocError>
+        ensures { OnOk result (string_bytes out.new
+            ≡ string_bytes out.old ++ late_field (shown_in self.entry) late) }
+    {
+        match late {
+            Some(late) => {
+                write!(out, ",\"late\":{},\"first\":", late.by)?;
+                self.push_line_object(out, late.line)
+            }
+            None => Ok(()),
+        }
+    }
+
+    /// Writes why a fault stands.
+    fn push_reason_field(self, out: &mut String, reason: Reason) -> Result<(), AllocError>
+        ensures { OnOk result (string_bytes out.new
+            ≡ string_bytes out.old ++ reason_field (shown_in self.entry) reason) }
+    {
+        match reason {
+            Reason::Known { version, by } => {
+                write!(out, ",\"reason\":\"known\",\"known\":{version}")?;
+                self.push_by_field(out, by)
+            }
+            Reason::Unreported => write!(out, ",\"reason\":\"unreported\""),
+            Reason::Reported { line, version, by } => {
+                self.push_reported_field(out, line, version, by)
+            }
+            Reason::Drawn { line } => {
+                write!(out, ",\"reason\":\"drawn\",\"drawn\":")?;
+                self.push_line_object(out, line)
+            }
+            Reason::Undrawn => write!(out, ",\"reason\":\"undrawn\""),
+        }
+    }
+
+    /// Writes which line reported a version first, and what it knew.
+    fn push_reported_field(
+        self,
+        out: &mut String,
+        reporter: u32,
+        version: u64,
+        by: Option<Witness>,
+    ) -> Result<(), AllocError>
+        ensures { OnOk result (string_bytes out.new
+            ≡ string_bytes out.old ++ reported_field (shown_in self.entry) reporter version by) }
+    {
+        write!(out, ",\"reason\":\"reported\",\"reported\":")?;
+        self.push_line_object(out, reporter)?;
+        write!(out, ",\"known\":{version}")?;
+        self.push_by_field(out, by)
+    }
+
+    /// Writes by which line a version was known, and how.
+    fn push_by_field(self, out: &mut String, by: Option<Witness>) -> Result<(), AllocError>
+        ensures { OnOk result (string_bytes out.new
+            ≡ string_bytes out.old ++ by_field (shown_in self.entry) by) }
+    {
+        let Some(by) = by else {
+            return write!(out, ",\"by\":null");
+        };
+        write!(out, ",\"by\":")?;
+        self.push_line_object(out, by.line)?;
+        self.push_means_field(out, by.means)
+    }
+
+    /// Writes how a call knew of a line.
+    fn push_means_field(self, out: &mut String, means: Means) -> Result<(), AllocError>
+        ensures { OnOk result (string_bytes out.new
+            ≡ string_bytes out.old ++ means_field (shown_in self.entry) means) }
+    {
+        match means {
+            Means::Ended => write!(out, ",\"means\":\"ended\""),
+            Means::Own => write!(out, ",\"means\":\"own\""),
+            Means::Learnt(teller) => {
+                write!(out, ",\"means\":\"learnt\",\"teller\":")?;
+                self.push_line_object(out, teller)
+            }
+        }
+    }
+}
+
+/// The name of a kind of fault.
+fn fault_word(fault: Fault) -> &'static str
+    ensures { result.now ≡ fault_word fault }
+{
+    match fault {
+        Fault::Order => "Order",
+        Fault::Wrong => "Wrong",
+        Fault::NotAbove => "NotAbove",
+        Fault::Twice => "Twice",
+        Fault::Stray => "Stray",
+    }
+}
+
+/// Writes when a call began and ended; nothing where that is not known.
+fn push_times_field(out: &mut String, times: Option<Times>) -> Result<(), AllocError>
+    ensures { OnOk result (string_bytes out.new ≡ string_bytes out.old ++ times_field times) }
+{
+    match times {
+        Some(times) => {
+            write!(out, ",\"began\":{},\"ended\":", times.began)?;
+            push_number_or_null(out, times.ended)
+        }
+        None => Ok(()),
+    }
+}
+
+/// Writes what is printed beside a line, as an object.
+fn push_members_field(
+    out: &mut String,
+    beside: &[MemberBeside<'_>],
+    place: u32,
+) -> Result<(), AllocError>
+    ensures { OnOk result (string_bytes out.new
+        ≡ string_bytes out.old ++ members_field (map beside_of beside.now) place) }
+{
+    let Some((first, more)) = beside.split_first() else {
+        return Ok(());
+    };
+    write!(out, ",\"members\":{{")?;
+    push_member_field(out, first, place)?;
+    push_more_fields(out, more, place)?;
+    write!(out, "}}")
+}
+
+/// Writes members of an object that go on behind a comma.
+fn push_more_fields(
+    out: &mut String,
+    more: &[MemberBeside<'_>],
+    place: u32,
+) -> Result<(), AllocError>
+    ensures { OnOk result (string_bytes out.new ≡ string_bytes out.old
+        ++ flat_map (λ other. codes "," ++ member_field other place) (map beside_of more.now)) }
+{
+    for member in more {
+        write!(out, ",")?;
+        push_member_field(out, member, place)?;
+    }
+    Ok(())
+}
+
+/// Writes a member's text at a line, or null.
+fn push_member_field(
+    out: &mut String,
+    member: &MemberBeside<'_>,
+    place: u32,
+) -> Result<(), AllocError>
+    ensures { OnOk result (string_bytes out.new
+        ≡ string_bytes out.old ++ member_field (beside_of member.now) place) }
+{
+    write!(out, "{}:", member.member)?;
+    push_or_null(out, member.text(place))
+}
+
+/// Writes a text that is JSON by itself, or null.
+pub(crate) fn push_or_null(out: &mut String, value: Option<&str>) -> Result<(), AllocError>
+    ensures { OnOk result (string_bytes out.new
+        ≡ string_bytes out.old ++ text_or_null (option_map (λ text. text.now) value.entry)) }
+{
+    match value {
+        Some(text) => write!(out, "{text}"),
+        None => write!(out, "null"),
+    }
+}
+
+/// Writes a number, or null.
+pub(crate) fn push_number_or_null(out: &mut String, number: Option<u64>) -> Result<(), AllocError>
+    ensures { OnOk result (string_bytes out.new ≡ string_bytes out.old ++ number_or_null number) }
+{
+    match number {
+        Some(number) => write!(out, "{number}"),
+        None => write!(out, "null"),
+    }
+}
+
+/// Writes whether something holds.
+pub(crate) fn push_truth(out: &mut String, holds: bool) -> Result<(), AllocError>
+    ensures { OnOk result (string_bytes out.new ≡ string_bytes out.old ++ truth holds) }
+{
+    if holds {
+        write!(out, "true")
+    } else {
+        write!(out, "false")
+    }
+}

@@ -1,0 +1,42 @@
+use Rattle.std.proofs.Common.{◌≡◌, ◌+◌, length, ap, subst, sym, ◌∙◌, add-one, arith}
+use Rattle.std.specs.BTreeMap.{get}
+use Rattle.std.specs.List.{All}
+use Rattle.std.specs.Ordering.{nat_cmp}
+use Rattle.fdb_lines.specs.Keys.{keys_below}
+use Rattle.fdb_lines.specs.private.Keys.{AreNumbered}
+use Rattle.fdb_lines.proofs.Parted.{line_more, parts_more, same_keys, IsPart}
+use Rattle.fdb_lines.proofs.parts.parts_of.Goals as goal
+
+pub loop-place-preserved : goal.loop-place-preserved
+loop-place-preserved c =
+    let keys = c.args.keys.now in
+    let n = c.loop-place.place in
+    let number = c.in_ok-number.number in
+    let old = c.loop-place.parts.items in
+    let mid = c.part_of_key.new.parts.items in
+    let new = c.add_place.new.parts.items in
+    let its = c.in_ok-number.ensures in
+    let inv = c.loop-place.invariant in
+    let place = c.in_ok-add_place.ensures in
+    let more = parts_more keys n number old mid new inv.keys inv.places its.more its.within its.key place in
+    record {
+      numbered = subst (AreNumbered (λ q. get nat_cmp c.part_of_key.new.numbers q)) (sym (same_keys mid new number n place)) its.numbered;
+      keys = rw add-one more.0;
+      places = rw add-one more.1;
+      lines = line_more _ n number old mid new its.more its.within place ∙ ap (λ m. m + 1) inv.lines;
+    }
+
+pub returns-clause-keys : goal.returns-clause-keys
+returns-clause-keys c =
+    let all : c.loop-place.place ≡ length c.args.keys.now = (let end = c.loop-place.auto.place-end in let test = c.loop-place-test.false in omega arith) in
+    c.loop-place.invariant.keys ∙ ap (keys_below c.args.keys.now) all
+
+pub returns-clause-places : goal.returns-clause-places
+returns-clause-places c =
+    let all : c.loop-place.place ≡ length c.args.keys.now = (let end = c.loop-place.auto.place-end in let test = c.loop-place-test.false in omega arith) in
+    subst (λ n. All (IsPart c.args.keys.now n) c.loop-place.parts.items) all c.loop-place.invariant.places
+
+pub returns-clause-lines : goal.returns-clause-lines
+returns-clause-lines c =
+    let all : c.loop-place.place ≡ length c.args.keys.now = (let end = c.loop-place.auto.place-end in let test = c.loop-place-test.false in omega arith) in
+    c.loop-place.invariant.lines ∙ all

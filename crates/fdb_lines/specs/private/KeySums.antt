@@ -1,0 +1,24 @@
+-- What is counted of the lines of each part of a log.
+use Rattle.std.specs.Prelude.{ℕ, ◌<◌, ◌≤◌, List, All, length, slice_index}
+use Rattle.std.specs.List.{sum_by}
+use Rattle.fdb_lines.specs.declared.opts.AuditOpts.{AuditOpts}
+use Rattle.fdb_lines.specs.declared.parts.Part.{Part}
+use Rattle.fdb_lines.specs.Audit.{case_of}
+use Rattle.fdb_lines.specs.Lines.{Lines, part_of}
+use Rattle.fdb_lines.specs.Summary.{ordered, unreported}
+
+abbrev pub unreported_of : Lines → AuditOpts → Part → ℕ
+unreported_of log opts part = unreported (case_of (part_of log part.places.items) opts)
+
+abbrev pub ordered_of : Lines → AuditOpts → Part → ℕ
+ordered_of log opts part = ordered (case_of (part_of log part.places.items) opts)
+
+abbrev pub lines_in_all : List Part → ℕ
+lines_in_all parts = sum_by (λ (part : Part). length part.places.items) parts
+
+-- the places of a part are of lines of the log
+abbrev pub IsWithin : Lines → Part → Type 0
+IsWithin log part = (j : ℕ) → j < length part.places.items → slice_index part.places.items j < length log.lines
+
+abbrev pub ArePartsOf : Lines → List Part → Type 0
+ArePartsOf log parts = (lines_in_all parts ≤ 4294967295) × All (IsWithin log) parts

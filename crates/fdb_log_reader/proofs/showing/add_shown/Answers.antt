@@ -1,0 +1,13 @@
+use Rattle.std.proofs.Common.{◌≡◌, ◌∙◌, ◌<◌, ap, slice_index_or, subst, sym}
+use Rattle.fdb_log_reader.specs.Columns.{shown_of, with_shown}
+use Rattle.fdb_log_reader.proofs.ShownTexts.{column_added}
+use Rattle.fdb_log_reader.proofs.showing.add_shown.Goals as goal
+
+pub loop-column-preserved : goal.loop-column-preserved
+loop-column-preserved g c =
+    let says = g.S.Said.says_beside c.args.line.now in
+    let item = slice_index_or c.loop-column.columns c.loop-column.column-index c.column-item.result in
+    let more : shown_of c.add.new.self ≡ with_shown (shown_of item) (says (shown_of item).member) =
+    c.in_ok-add.ensures.added ∙ ap (with_shown (shown_of item)) (c.further-said.ensures ∙ ap says c.member.ensures) in
+    column_added says c.loop-column.columns c.args.columns.now c.loop-column.column-index c.column-item.result c.add.new.self
+    (subst (λ n. c.loop-column.column-index < n) (sym c.loop-column.auto.columns) c.loop-column-test.true) c.loop-column-test.true c.loop-column.invariant more

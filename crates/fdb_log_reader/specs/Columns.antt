@@ -1,0 +1,92 @@
+-- Members that are kept beside the calls, a cell for each line. (this product's own)
+use Rattle.std.specs.Prelude.{◌≡◌, ℕ, List, [], ◌∷◌, ◌++◌, length, map, slice_get, string_bytes, Option, None, Some, IfSome, option_and_then, option_map, Result, Ok, Err, if◌then◌else◌}
+use Rattle.std.specs.Option.{ok_or}
+use Rattle.serde_json.specs.Data.{Data}
+use Rattle.serde_json.specs.Read.{read}
+use Rattle.fdb_lines.specs.declared.line.Call.{Call}
+use Rattle.fdb_lines.specs.Lines.{Lines, is_learn, kind_of}
+use Rattle.fdb_log_reader.specs.declared.error.Why.{Why}
+use Rattle.fdb_log_reader.specs.declared.error.Why.TheVariants.{BadKey, BadMember}
+use Rattle.fdb_log_reader.specs.declared.keys.Keys.{Keys}
+use Rattle.fdb_log_reader.specs.declared.shown.Shown.{Shown}
+use Rattle.fdb_log_reader.specs.declared.member.Member.TheVariants.{Learn}
+use Rattle.fdb_log_reader.specs.Members.{and_then, as_name}
+use Rattle.fdb_log_reader.specs.Names.{names_of}
+use Rattle.fdb_log_reader.specs.Numbers.{client_in, with_client}
+use Rattle.fdb_log_reader.specs.Printed.{shown_text}
+
+-- the keys of lines: the member that names them, the keys in the order in which they came, and for each line the number
+-- of its key, if it has one
+pub record KeyColumn : Type 0 where
+  pub member : List ℕ
+  pub keys : List (List ℕ)
+  pub numbers : List (Option ℕ)
+
+-- what keys are kept as
+abbrev pub column_of : Keys → KeyColumn
+column_of keys = record { member = string_bytes keys.member; keys = names_of keys.names; numbers = keys.numbers.items }
+
+-- no line's keys
+abbrev pub no_keys : List ℕ → KeyColumn
+no_keys member = record { member = member; keys = []; numbers = [] }
+
+-- the keys, with that of a line more
+abbrev pub with_key : KeyColumn → Option (List ℕ) → KeyColumn
+with_key column key =
+    let keys = with_client column.keys key in
+    record { member = column.member; keys = keys; numbers = column.numbers ++ client_in keys key ∷ [] }
+
+-- the key that a line names, as it names a client; it may leave it out
+abbrev pub key_in : Option Data → Result (Option (List ℕ)) Why
+key_in None = Ok None
+key_in (Some said) = ok_or (option_map Some (as_name said)) BadKey
+
+-- The keys, if they are kept, with that of a line more, by what its members say. Beside keys no line has learnt.
+abbrev pub keyed : Option KeyColumn → Call → (List ℕ → Option Data) → Result (Option KeyColumn) Why
+keyed None call says = Ok None
+keyed (Some column) call says =
+    if is_learn (kind_of call) then Err (BadMember Learn)
+    else and_then (key_in (says column.member)) (λ key. Ok (Some (with_key column key)))
+
+-- ---- what is shown of lines
+
+-- what a further member of the lines says, where it is there
+pub record ShownColumn : Type 0 where
+  pub member : List ℕ
+  pub values : List (Option Data)
+
+-- what the text that has a number says as JSON
+abbrev pub value_in : List (List ℕ) → Option ℕ → Option Data
+value_in texts number = option_and_then (λ n. option_and_then read (slice_get texts n)) number
+
+-- what is shown: the texts are JSON, and are read
+abbrev pub shown_of : Shown → ShownColumn
+shown_of shown = record { member = string_bytes shown.member; values = map (value_in (names_of shown.texts)) shown.numbers.items }
+
+-- of no line
+abbrev pub nothing_shown : List ℕ → ShownColumn
+nothing_shown member = record { member = member; values = [] }
+
+-- with what a line more says, if it says something
+abbrev pub with_shown : ShownColumn → Option Data → ShownColumn
+with_shown column said = record { member = column.member; values = column.values ++ said ∷ [] }
+
+-- each column, with what a line more says
+abbrev pub all_shown : (List ℕ → Option Data) → List ShownColumn → List ShownColumn
+all_shown says columns = map (λ column. with_shown column (says column.member)) columns
+
+-- the JSON text of what a line says: it is read as that
+abbrev pub IsText : Option Data → Option (List ℕ) → Type 0
+IsText said None = said ≡ None
+IsText said (Some text) = (value : Data) × (said ≡ Some value) × (read text ≡ Some value)
+
+-- What a line says, as it is printed: by a JSON text that is read as that, in which is escaped what steers a terminal,
+-- parts the line or turns text round.
+abbrev pub IsPrinted : Option Data → Option (List ℕ) → Type 0
+IsPrinted said text = (json : Option (List ℕ)) × IsText said json × (text ≡ option_map shown_text json)
+
+-- ---- for each line a cell
+
+-- where keys are kept, each line has its cell
+abbrev pub HasCells : Option KeyColumn → Lines → Type 0
+HasCells column log = IfSome column (λ column. length column.numbers ≡ length log.lines)

@@ -1,0 +1,91 @@
+//! What a further member of each line says, to be shown beside the line.
+
+ghost use Rattle.std.specs.Prelude.{◌≡◌, ◌≤◌, ◌<◌, IfOk, IfSome, OnOk, length, option_and_then};
+ghost use Rattle.std.specs.Prelude.{option_map, slice_get, string_bytes};
+ghost use Rattle.std.specs.Option.{option_flatten};
+ghost use Rattle.std.proofs.Props.{props};
+ghost use Rattle.serde_json.specs.Data.{depth};
+ghost use Rattle.serde_json.specs.Read.{max_depth, read};
+ghost use Rattle.serde_json.specs.View.{view};
+ghost use Rattle.fdb_log_reader.specs.Names.{names_of};
+ghost use Rattle.fdb_log_reader.specs.private.Texts.{AreJson, AreWithin, text_at};
+
+use crate::names::Names;
+use crate::printing::shown_text;
+use crate::showing::add_text;
+use serde_json::Value;
+use std::alloc::{AllocError, Global};
+
+/// What a member says in the lines of a log, as JSON: each text once, and each line's number.
+#[derive(Drop)]
+pub struct Shown {
+    member: String,
+    texts: Names,
+    numbers: Vec<Option<usize>>,
+    ghost within: { AreWithin (names_of texts) numbers.items } by { Prim.hlevel props },
+    ghost json: { AreJson (names_of texts) },
+}
+
+impl Shown {
+    ghost use Rattle.fdb_log_reader.specs.Columns.{IsPrinted, IsText, nothing_shown, shown_of};
+    ghost use Rattle.fdb_log_reader.specs.Columns.{with_shown};
+
+    /// What the member of this name says in no line yet.
+    pub fn new(alloc: Global, member: String) -> Self
+        ensures { shown_of result ≡ nothing_shown (string_bytes member) }
+    {
+        Shown {
+            member,
+            texts: Names::new(alloc),
+            numbers: Vec::new(alloc),
+        }
+    }
+
+    /// The name of the member.
+    pub fn member(&self) -> &str
+        ensures { result.now ≡ (shown_of self.now).member }
+    {
+        self.member.as_str()
+    }
+
+    /// The JSON text of what the line at a place says, counted from 0; none where it has no such
+    /// member, or there is no such line. `serde_json` writes it, without white space.
+    pub fn text(&self, line: usize) -> Option<&str>
+        ensures { IsText (option_flatten (slice_get (shown_of self.now).values line))
+            (option_map (λ text. text.now) result) }
+    {
+        self.kept(line)
+    }
+
+    fn kept(&self, line: usize) -> Option<&str>
+        ensures { option_map (λ text. text.now) result
+            ≡ text_at (names_of self.now.texts) self.now.numbers.items line }
+    {
+        let number = (*self.numbers.get(line)?)?;
+        self.texts.text(number)
+    }
+
+    /// The same as it is printed: safe on a terminal and within a line.
+    pub fn printed(&self, alloc: Global, line: usize) -> Result<Option<String>, AllocError>
+        ensures { IfOk result (λ text. IsPrinted
+            (option_flatten (slice_get (shown_of self.now).values line)) (option_map string_bytes text)) }
+    {
+        let Some(text) = self.text(line) else {
+            return Ok(None);
+        };
+        let printed = shown_text(alloc, text)?;
+        Ok(Some(printed))
+    }
+
+    /// Adds what a line says, if it says something.
+    #[tactic(auto, using(crate::proofs::ShownTexts::values_more, crate::proofs::ShownTexts::within_more))]
+    pub(crate) fn add(&mut self, alloc: Global, said: Option<&Value>) -> Result<(), AllocError>
+        requires flat { IfSome said (λ value. depth (view value.now) ≤ max_depth) }
+        ensures added { OnOk result (shown_of self.new
+            ≡ with_shown (shown_of self.old) (option_map (λ value. view value.now) said.entry)) }
+    {
+        let number = add_text(&mut self.texts, alloc, said)?;
+        self.numbers.push(number)?;
+        Ok(())
+    }
+}

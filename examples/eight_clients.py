@@ -1,0 +1,212 @@
+"""Eight clients of a system's servers on loopback: the log of their calls, and its audit.
+
+Beside the README.md of each system a script says how its servers are started, and how a client of
+them reads and commits. This runs them in a folder, logs each call that is answered, with its times,
+and stops them; then it audits the log, and compares that with what README.md says.
+"""
+import collections
+import contextlib
+import json
+import multiprocessing
+import os
+import random
+import re
+import shutil
+import signal
+import socket
+import subprocess
+import sys
+import tempfile
+import time
+
+AUDIT = os.environ.get("FDB_AUDIT") or os.path.realpath(f"{__file__}/../../fdb_audit")
+SECONDS = float(os.environ.get("SECONDS") or 4)
+ALL_RIGHT = bool(os.environ.get("RIGHT"))
+CLIENTS = "abcdefgh"
+# The one that only reads, and not in the right way unless all do.
+READER = CLIENTS[-1]
+FAULT = re.compile(r"^audit fault: (\w+) (\d+)", re.MULTILINE)
+ENDING = [signal.SIGINT, signal.SIGTERM, signal.SIGHUP]
+
+
+class Servers:
+    """Servers in a folder; where the block ends they have stopped, whatever ended it."""
+
+    def __init__(self, folder):
+        self.folder, self.started = folder, {}
+
+    def __enter__(self):
+        for it in ENDING:
+            signal.signal(it, lambda *_: sys.exit(1))
+        return self
+
+    def write(self, path, text):
+        os.makedirs(os.path.dirname(path), exist_ok=True)
+        with open(path, "w") as out:
+            out.write(text)
+
+    def start(self, name, *words, user=None, ended_by=signal.SIGKILL, **how):
+        """Starts one, as this user. It ends where this process does, even where that is killed."""
+        own = ["--reuid", user, "--regid", user, "--init-groups"] if user else []
+        words = ["setpriv", "--pdeathsig", "KILL", *own, *words]
+        with open(f"{self.folder}/{name}.out", "wb") as out:
+            how = {"stdin": subprocess.DEVNULL, "stdout": out, "stderr": out, **how}
+            server = subprocess.Popen(words, start_new_session=True, cwd=self.folder, **how)
+        self.started[name] = server, ended_by
+        return server
+
+    def run(self, name, *words, user=None):
+        """Runs a program to its end."""
+        if self.start(name, *words, user=user).wait():
+            self.tell(name)
+        del self.started[name]
+
+    def pause(self, name, after, seconds):
+        """Lets one run for a while, and then stops it for so long."""
+        server, _ = self.started[name]
+        time.sleep(after)
+        server.send_signal(signal.SIGSTOP)
+        time.sleep(seconds)
+        server.send_signal(signal.SIGCONT)
+
+    def until(self, holds, what):
+        """Waits until this holds, and gives what it gave."""
+        late = time.monotonic() + 60
+        while time.monotonic() < late:
+            with contextlib.suppress(OSError, ValueError, LookupError, TypeError):
+                given = holds()
+                if given:
+                    return given
+            for name, (server, _) in self.started.items():
+                if server.poll() is not None:
+                    self.tell(name)
+            time.sleep(0.05)
+        sys.exit(f"it took too long until {what}")
+
+    def tell(self, name):
+        """Ends, since this one failed, with the last that it said."""
+        with open(f"{self.folder}/{name}.out", errors="replace") as out:
+            sys.exit(f"{name} failed:\n{''.join(out.readlines()[-5:])}")
+
+    def __exit__(self, *_):
+        signal.pthread_sigmask(signal.SIG_BLOCK, ENDING)
+        for server, ended_by in self.started.values():
+            if server.poll() is None:
+                os.killpg(server.pid, signal.SIGCONT)
+                os.killpg(server.pid, ended_by)
+        for server, _ in self.started.values():
+            try:
+                server.wait(5)
+            except subprocess.TimeoutExpired:
+                os.killpg(server.pid, signal.SIGKILL)
+                server.wait()
+        signal.pthread_sigmask(signal.SIG_UNBLOCK, ENDING)
+
+
+def needed(package, *files):
+    """Ends with status 2 where one of these is not there."""
+    for it in files:
+        if not shutil.which(it) and not os.path.exists(it):
+            print(f"there is no {it} here: apt-get install {package}", file=sys.stderr)
+            sys.exit(2)
+
+
+def free_ports(count):
+    """Ports at which nobody listens, below those that the system gives to callers."""
+    free = []
+    while len(free) < count:
+        port = random.randrange(20_000, 32_000)
+        with contextlib.suppress(OSError), socket.socket() as it:
+            it.bind(("127.0.0.1", port))
+            free += [port] * (port not in free)
+    return free
+
+
+def run_client(client, name, log, end):
+    """Reads, or reads and commits, and logs the calls that are answered."""
+    signal.signal(signal.SIGINT, signal.SIG_IGN)
+    dice = random.Random(name)
+    with open(log, "w") as out:
+        while time.monotonic() < end:
+            call = "read" if name == READER else dice.choice(["read", "commit"])
+            began = time.monotonic_ns() // 1000
+            version = client.read() if call == "read" else client.commit()
+            ended = -(-time.monotonic_ns() // 1000)
+            if version is None:
+                # A call that failed has no version, and is left out.
+                time.sleep(0.05)
+                continue
+            line = {"client": name, call: version, "began": began, "ended": ended}
+            out.write(json.dumps({**line, "node": client.node}) + "\n")
+
+
+def run_clients(system, folder):
+    """Runs them side by side, each a process of its own, and gives the log of all."""
+    logs = [f"{folder}/{name}.jsonl" for name in CLIENTS]
+    clients = [system.client(name, ALL_RIGHT or name != READER) for name in CLIENTS]
+    end = time.monotonic() + SECONDS
+    run = multiprocessing.get_context("fork").Process
+    running = [run(target=run_client, args=(*it, end)) for it in zip(clients, CLIENTS, logs)]
+    try:
+        for it in running:
+            it.start()
+        system.meanwhile(end)
+        for it in running:
+            it.join()
+    finally:
+        for it in running:
+            if it.pid:
+                it.kill()
+    if any(it.exitcode for it in running):
+        sys.exit("a client failed")
+    with open(f"{folder}/log.jsonl", "w") as out:
+        for it in logs:
+            with open(it) as log:
+                shutil.copyfileobj(log, out)
+    return out.name
+
+
+def is_as_said(log):
+    """Audits a log, prints what comes of it, and gives whether README.md says that."""
+    with open(log) as it:
+        lines = [json.loads(line) for line in it]
+    reads = collections.Counter(it["client"] for it in lines if "read" in it)
+    print(f"logged: {len(lines)} calls, {sum(reads.values())} of them reads", flush=True)
+    ran = subprocess.run([AUDIT, log, "--all"], stdout=subprocess.PIPE)
+    if ran.returncode not in (0, 4):
+        return False
+    said = ran.stdout.decode()
+    with open(os.path.join(os.path.dirname(log), "said"), "w") as out:
+        out.write(said)
+    print(*[it for it in said.splitlines() if " total " not in it][:2], sep="\n")
+    faults = FAULT.findall(said)
+    of_order = [int(number) - 1 for kind, number in faults if kind == "Order"]
+    stale = collections.Counter(lines[it]["client"] for it in of_order)
+    by, of = stale.pop(READER, 0), reads.pop(READER, 0)
+    others = f"{sum(stale.values())} of {sum(reads.values())} by the others"
+    print(f"stale reads: {by} of {of} by client {READER}, {others}")
+    compared = 0 < of and 0 < sum(reads.values()) < len(lines) - of
+    return compared and len(faults) == by and (by == 0) == ALL_RIGHT
+
+
+def main(start, about):
+    """Runs an example, in the folder that is named, which is made and kept, or in one that goes."""
+    if len(sys.argv) > 2 or sys.argv[1:2] and sys.argv[1].startswith("-"):
+        sys.exit(about)
+    kept = sys.argv[1:]
+    try:
+        folder = os.path.abspath(kept[0]) if kept else tempfile.mkdtemp()
+        if kept:
+            os.makedirs(folder)
+    except OSError as error:
+        sys.exit(str(error))
+    try:
+        with Servers(folder) as servers:
+            system = start(servers)
+            way = system.RIGHT if ALL_RIGHT else system.WRONG
+            print(f"{folder}: eight clients run for {SECONDS:g} s; {way}", flush=True)
+            log = run_clients(system, folder)
+        sys.exit(0 if is_as_said(log) else 1)
+    finally:
+        if not kept:
+            shutil.rmtree(folder, ignore_errors=True)
